@@ -1,0 +1,21 @@
+use Rattle.std.proofs.Common.{◌∙◌, ◌≡◌, ◌<◌, List, [], ℕ, Ok, Some, length, ap, arith}
+use Rattle.dbl_base.specs.declared.input.TheConstants.{INPUT_LIMIT}
+use Rattle.dbl_base.proofs.Readings.{reading_begins, reading_goes_on, reading_ends, nothing_left, reading_passed}
+use Rattle.dbl_base.proofs.input.read_all.Goals as goal
+
+pub pieces-init : goal.pieces-init
+pieces-init g c = (reading_begins _ _ c.new-bytes.ensures.items, omega arith)
+
+pub pieces-preserved : goal.pieces-preserved
+pieces-preserved g c = (reading_goes_on _ _ _ _ _ c.in_ok-count.count c.pieces.invariant.0 c.in_ok-count.ensures.left c.in_ok-count.ensures.moved, omega arith)
+
+pub returns-then-count-eq0-clause-all : goal.returns-then-count-eq0-clause-all
+returns-then-count-eq0-clause-all g c = λ bytes is.
+    c.make.ensures ∙ reading_ends _ _ _ _ c.in_ok-count.count c.pieces.invariant.0 (λ rest told. c.in_ok-count.ensures.end rest told (ap Ok c.if-count-eq0.true)) c.in_ok-count.ensures.moved bytes is
+
+pub returns-then-count-eq0-clause-end : goal.returns-then-count-eq0-clause-end
+returns-then-count-eq0-clause-end g c =
+    nothing_left _ _ _ _ c.in_ok-count.count c.pieces.invariant.0 (λ rest told. c.in_ok-count.ensures.end rest told (ap Ok c.if-count-eq0.true)) c.in_ok-count.ensures.left
+
+pub returns-clause-too_long : goal.returns-clause-too_long
+returns-clause-too_long g c = λ bytes is _. reading_passed _ _ _ INPUT_LIMIT c.pieces.invariant.0 (omega arith) bytes is

@@ -1,0 +1,24 @@
+//! Texts, lists and byte streams: what every crate above stands on.
+#![tactic(auto)]
+
+mod failed;
+mod fault_plan;
+mod input;
+mod lsn;
+mod memory;
+mod output;
+mod seq;
+mod standard;
+#[cfg(test)]
+mod tests;
+mod text;
+
+pub use failed::Failed;
+pub use fault_plan::FaultPlan;
+pub use input::{INPUT_LIMIT, Input, InputError, read_all};
+pub use lsn::Lsn;
+pub use memory::{MemInput, MemOutput};
+pub use output::Output;
+pub use seq::{Bytes, Seq};
+pub use standard::{StdInput, StdOutput};
+pub use text::Text;

@@ -1,0 +1,16 @@
+use std::fmt;
+
+/// A log sequence number: a place in the source's log, as PostgreSQL's `pg_lsn`. It prints as a decimal number.
+#[derive(Clone, Copy, Debug, PartialEq, Eq, PartialOrd, Ord, Hash)]
+pub struct Lsn(pub u64);
+
+impl fmt::Display for Lsn {
+    ghost use Rattle.std.specs.Prelude.{Some, decimal};
+
+    ghost output = { λ lsn. Some (decimal lsn.0) };
+
+    fn fmt<W: fmt::Write>(&self, f: &mut fmt::Formatter<W>) -> fmt::Result {
+        let number = self.0;
+        write!(f, "{number}")
+    }
+}

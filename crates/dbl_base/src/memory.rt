@@ -1,0 +1,129 @@
+ghost use Rattle.std.specs.Prelude.{◌≡◌, ◌<◌, ◌≤◌, ◌++◌, ◌↔◌, ℕ, List, [], Some, Ok, length, drop, take, min, IsErr, OnOk, OnErr, IfOk, Contains};
+ghost use Rattle.dbl_base.specs.Streams.{Rose, MovesFront, raised};
+ghost use Rattle.dbl_base.specs.Memory.{new_plan};
+
+use crate::{Failed, FaultPlan, Input, Output};
+use std::alloc::Global;
+use std::marker::Model;
+
+/// An input of bytes in memory.
+#[derive(Debug, Drop)]
+pub struct MemInput {
+    bytes: Vec<u8>,
+    place: usize,
+    plan: FaultPlan,
+}
+
+impl Model for MemInput {
+    ghost use Rattle.std.specs.Prelude.{drop, length, ◌≤◌};
+    ghost use Rattle.dbl_base.specs.Memory.{Unread};
+
+    ghost Value = { Unread };
+
+    ghost view = { λ i. record { left = drop i.place i.bytes.items; plan = i.plan } };
+
+    ghost invariant = { λ i. i.place ≤ length i.bytes.items };
+}
+
+impl MemInput {
+    /// An input with these bytes left, whose listed calls, counted from 1, are to fail. Takes no memory.
+    pub fn make(bytes: Vec<u8>, fails: Vec<u64>) -> MemInput
+        ensures { result ≡ record { left = bytes.items; plan = new_plan fails.items } }
+    {
+        MemInput {
+            bytes,
+            place: 0,
+            plan: FaultPlan::make(fails),
+        }
+    }
+}
+
+impl Input for MemInput {
+    ghost use Rattle.std.specs.Prelude.{Some};
+
+    ghost left = { λ i. Some i.left };
+
+    ghost faults = { λ i. i.plan.faults };
+
+    fn read(&mut self, buffer: &mut [u8]) -> Result<usize, Failed>
+        ensures bound { IfOk result (λ n. n ≤ length buffer.old) }
+        ensures moves { (bytes : List ℕ) → Some self.old.left ≡ Some bytes → IfOk result (λ n. MovesFront n bytes buffer.new (Some self.new.left)) }
+        ensures end { (bytes : List ℕ) → Some self.old.left ≡ Some bytes → 0 < length buffer.old → result ≡ Ok 0 → bytes ≡ [] }
+        ensures kept { (bytes : List ℕ) → Some self.old.left ≡ Some bytes → OnErr result (Some self.new.left ≡ Some bytes) }
+        ensures later { self.old.plan.faults ≤ self.new.plan.faults }
+        ensures cause { OnErr result (Rose self.old.plan.faults self.new.plan.faults) }
+
+        // A call fails exactly where it is planned to.
+        ensures planned { IsErr result ↔ Contains self.old.plan.planned (raised self.old.plan.calls) }
+        ensures calls { self.new.plan.calls ≡ raised self.old.plan.calls }
+        ensures plan { self.new.plan.planned ≡ self.old.plan.planned }
+    {
+        self.plan.call()?;
+        let rest = &self.bytes[self.place..];
+        let count = rest.len().min(buffer.len());
+        buffer[..count].copy_from_slice(&rest[..count]);
+        self.place += count;
+        Ok(count)
+    }
+}
+
+/// An output that keeps its bytes in memory. Where it finds no room it counts a fault of its own.
+#[derive(Debug, Drop)]
+pub struct MemOutput {
+    bytes: Vec<u8>,
+    plan: FaultPlan,
+}
+
+impl Model for MemOutput {
+    ghost use Rattle.dbl_base.specs.Memory.{Kept};
+
+    ghost Value = { Kept };
+
+    ghost view = { λ o. record { written = o.bytes.items; plan = o.plan } };
+}
+
+impl MemOutput {
+    /// An empty output, whose listed calls, counted from 1, are to fail. Takes no memory; later calls use the allocator.
+    pub fn make(alloc: Global, fails: Vec<u64>) -> MemOutput
+        ensures { result ≡ record { written = []; plan = new_plan fails.items } }
+    {
+        MemOutput {
+            bytes: Vec::new(alloc),
+            plan: FaultPlan::make(fails),
+        }
+    }
+
+    /// The bytes written.
+    pub fn bytes(&self) -> &Vec<u8>
+        ensures { result.now.items ≡ self.now.written }
+    {
+        &self.bytes
+    }
+}
+
+impl Output for MemOutput {
+    ghost use Rattle.std.specs.Prelude.{Some};
+
+    ghost written = { λ o. Some o.written };
+
+    ghost faults = { λ o. o.plan.faults };
+
+    fn write(&mut self, piece: &[u8]) -> Result<(), Failed>
+        ensures ok { (bytes : List ℕ) → Some self.old.written ≡ Some bytes → OnOk result (Some self.new.written ≡ Some (bytes ++ piece.now)) }
+        ensures front { (bytes : List ℕ) → Some self.old.written ≡ Some bytes → OnErr result ((n : ℕ) × (Some self.new.written ≡ Some (bytes ++ take n piece.now))) }
+        ensures later { self.old.plan.faults ≤ self.new.plan.faults }
+        ensures cause { OnErr result (Rose self.old.plan.faults self.new.plan.faults) }
+
+        // A call that is planned to fail does, and only a want of room makes another one fail.
+        ensures planned { Contains self.old.plan.planned (raised self.old.plan.calls) → IsErr result }
+        ensures calls { self.new.plan.calls ≡ raised self.old.plan.calls }
+        ensures plan { self.new.plan.planned ≡ self.old.plan.planned }
+        ensures unchanged { OnErr result (self.new.written ≡ self.old.written) }
+    {
+        self.plan.call()?;
+        if self.bytes.extend_from_slice(piece).is_err() {
+            return Err(self.plan.fault());
+        }
+        Ok(())
+    }
+}

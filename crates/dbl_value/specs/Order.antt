@@ -1,0 +1,24 @@
+-- The order of values.
+use Rattle.std.specs.Prelude.{ℕ, List}
+use Rattle.std.specs.Ordering.{nat_cmp, int_cmp}
+use Rattle.std.specs.Cmp.Lexicographic.{slice_cmp}
+use Rattle.std.specs.declared.cmp.Ordering.{Ordering}
+use Rattle.std.specs.declared.cmp.Ordering.TheVariants.{Less, Equal, Greater}
+use Rattle.dbl_value.specs.declared.value.Val.{Val}
+use Rattle.dbl_value.specs.declared.value.Val.TheVariants.{Null, Int, Text}
+
+-- texts by their bytes
+abbrev pub text_cmp : List ℕ → List ℕ → Ordering
+text_cmp = slice_cmp nat_cmp
+
+-- Null first, then integers by value, then texts by their bytes
+abbrev pub val_cmp : Val → Val → Ordering
+val_cmp Null Null = Equal
+val_cmp Null (Int z) = Less
+val_cmp Null (Text t) = Less
+val_cmp (Int y) Null = Greater
+val_cmp (Int y) (Int z) = int_cmp y z
+val_cmp (Int y) (Text t) = Less
+val_cmp (Text s) Null = Greater
+val_cmp (Text s) (Int z) = Greater
+val_cmp (Text s) (Text t) = text_cmp s t

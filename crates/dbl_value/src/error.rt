@@ -1,0 +1,34 @@
+use std::alloc::{AllocError, AllocFailed};
+use thiserror::Error;
+
+/// Why a value isn't read, printed or written.
+#[derive(Debug, Drop, PartialEq, Eq, Error)]
+pub enum ValueError {
+    /// The text spells no value of the type.
+    #[error("the text spells no value of its type")]
+    BadText,
+    #[error("out of memory")]
+    Memory,
+}
+
+impl From<AllocError> for ValueError {
+    ghost use Rattle.std.specs.Prelude.{◌≡◌};
+    ghost use Rattle.dbl_value.specs.declared.error.ValueError.TheVariants.{Memory};
+
+    ghost from_gives = { λ _ e. e ≡ Memory };
+
+    fn from(_error: AllocError) -> ValueError {
+        ValueError::Memory
+    }
+}
+
+impl<T: Drop> From<AllocFailed<T>> for ValueError {
+    ghost use Rattle.std.specs.Prelude.{◌≡◌};
+    ghost use Rattle.dbl_value.specs.declared.error.ValueError.TheVariants.{Memory};
+
+    ghost from_gives = { λ _ e. e ≡ Memory };
+
+    fn from(_error: AllocFailed<T>) -> ValueError {
+        ValueError::Memory
+    }
+}

@@ -1,0 +1,31 @@
+ghost use Rattle.dbl_value.specs.Laws.{OidsNameTypes, TextsSpellOneValue, DecimalsSpellInt4, TextsReadBack, JsonTellsCells, ValuesAreOrdered};
+
+/// An OID is that of at most one type, and each type has one.
+pub fn oids_name_types()
+    ensures { OidsNameTypes }
+{}
+
+/// A text spells one value of a type at most.
+pub fn texts_spell_one_value()
+    ensures { TextsSpellOneValue }
+{}
+
+/// A text spells an int4 exactly where it is the decimal text of an integer of 32 bits.
+pub fn decimals_spell_int4()
+    ensures { DecimalsSpellInt4 }
+{}
+
+/// The text of a value spells it.
+pub fn texts_read_back()
+    ensures { TextsReadBack }
+{}
+
+/// Cells of one column that have the same JSON text are the same.
+pub fn json_tells_cells()
+    ensures { JsonTellsCells }
+{}
+
+/// Values have a total order, and only a value itself is equal to it.
+pub fn values_are_ordered()
+    ensures { ValuesAreOrdered }
+{}

@@ -1,0 +1,31 @@
+use std::alloc::{AllocError, AllocFailed};
+use thiserror::Error;
+
+/// Why a record isn't written.
+#[derive(Debug, Drop, PartialEq, Eq, Error)]
+pub enum RecordError {
+    #[error("out of memory")]
+    Memory,
+}
+
+impl From<AllocError> for RecordError {
+    ghost use Rattle.std.specs.Prelude.{◌≡◌};
+    ghost use Rattle.dbl_record.specs.declared.error.RecordError.TheVariants.{Memory};
+
+    ghost from_gives = { λ _ e. e ≡ Memory };
+
+    fn from(_error: AllocError) -> RecordError {
+        RecordError::Memory
+    }
+}
+
+impl<T: Drop> From<AllocFailed<T>> for RecordError {
+    ghost use Rattle.std.specs.Prelude.{◌≡◌};
+    ghost use Rattle.dbl_record.specs.declared.error.RecordError.TheVariants.{Memory};
+
+    ghost from_gives = { λ _ e. e ≡ Memory };
+
+    fn from(_error: AllocFailed<T>) -> RecordError {
+        RecordError::Memory
+    }
+}

@@ -1,0 +1,10 @@
+pub mod EventLemmas
+pub mod Lists
+pub mod Making
+pub mod KeyLemmas
+pub mod RowLemmas
+pub mod InfoLemmas
+pub mod MomentLemmas
+pub mod PlainLemmas
+pub mod ImageLemmas
+pub mod RowKeys

@@ -1,0 +1,62 @@
+-- What the definitions come to: each relation has at most one thing in it.
+use Rattle.std.specs.Prelude.{◌≡◌, ◌≤◌, ℕ, IsTrue, Option, Some, List, [], ◌∷◌, ◌++◌, length, map, take}
+use Rattle.std.specs.Bool.{Decides}
+use Rattle.std.specs.Cmp.{IsTotalOrder}
+use Rattle.dbl_value.specs.declared.value.Val.{Val}
+use Rattle.dbl_model.specs.declared.row.Key.{Key}
+use Rattle.dbl_model.specs.declared.table.RawTable.{RawTable}
+use Rattle.dbl_model.specs.declared.table.TableInfo.{TableInfo}
+use Rattle.dbl_model.specs.declared.change.Change.{Change}
+use Rattle.dbl_model.specs.declared.change.Commit.{Commit}
+use Rattle.dbl_model.specs.declared.identity.Identity.{Identity}
+use Rattle.dbl_model.specs.Tables.{same_name, are_distinct}
+use Rattle.dbl_model.specs.Infos.{IsInfoOf, topic_of}
+use Rattle.dbl_model.specs.Keys.{key_cmp, same_key}
+use Rattle.dbl_model.specs.Rows.{Rows, no_rows, rows_from, rows_at, rows, changes_of, all_changes, moment_of, moment_at}
+use Rattle.dbl_model.specs.History.{AreRising}
+use Rattle.dbl_model.specs.Fit.{IsKeyOf, AreFit, IsRowOf}
+use Rattle.dbl_model.specs.Image.{key_text, IsImage}
+
+-- the order of keys is total, and the test of two keys says whether they are equal
+abbrev pub KeysAreOrdered : Type 0
+KeysAreOrdered = IsTotalOrder key_cmp × ((a b : Key) → Decides (same_key a b) (a ≡ b))
+
+-- a catalogue entry has at most one info
+abbrev pub EntriesHaveOneInfo : Type 0
+EntriesHaveOneInfo = (raw : RawTable) (a b : TableInfo) → IsInfoOf raw a → IsInfoOf raw b → a ≡ b
+
+-- tables of one topic have one name
+abbrev pub TopicsNameTables : Type 0
+TopicsNameTables = (identity : Identity) (a b : TableInfo) → topic_of identity a ≡ topic_of identity b → a.name ≡ b.name
+
+-- LSNs of commits rise and are above 0
+abbrev pub CommitsRise : List Commit → Type 0
+CommitsRise history = AreRising 0 (map (λ commit. commit.lsn.0) history)
+
+-- the position 0 is the moment before all commits, and a commit's LSN the moment after that whole commit
+abbrev pub PositionsAreMoments : Type 0
+PositionsAreMoments = (before : List Commit) (commit : Commit) (later : List Commit) → CommitsRise (before ++ commit ∷ later)
+    → (moment_at (before ++ commit ∷ later) 0 ≡ 0) × (moment_at (before ++ commit ∷ later) commit.lsn.0 ≡ length (all_changes (before ++ commit ∷ [])))
+
+-- the rows after some whole commits and some changes of the next one are those after these changes in order
+abbrev pub MomentsAreChanges : Type 0
+MomentsAreChanges = (infos : List TableInfo) (before : List Commit) (commit : Commit) (later : List Commit) (n : ℕ) → n ≤ length (changes_of commit)
+    → rows infos (before ++ commit ∷ later) (moment_of (before ++ commit ∷ later) (length before) n) ≡ rows_from infos no_rows (all_changes before ++ take n (changes_of commit))
+
+-- no two of the captured tables have one name
+abbrev pub AreDistinctTables : List TableInfo → Type 0
+AreDistinctTables infos = IsTrue (are_distinct same_name (map (λ info. info.name) infos))
+
+-- keys of a table with one text are one key
+abbrev pub KeyTextsNameKeys : Type 0
+KeyTextsNameKeys = (info : TableInfo) (a b : Key) → IsKeyOf info a → IsKeyOf info b → key_text info a ≡ key_text info b → a ≡ b
+
+-- a topic and a text are of at most one table and key, and the image has one thing there at most
+abbrev pub RowsHaveOneImage : Type 0
+RowsHaveOneImage = (identity : Identity) (infos : List TableInfo) (at : Rows) (topic text : List ℕ) (a b : Option (List ℕ → Option (List ℕ))) → AreDistinctTables infos
+    → IsImage identity infos at topic text a → IsImage identity infos at topic text b → a ≡ b
+
+-- at each moment of a fit history a row is as wide as its table, and stands at its own key
+abbrev pub FitRowsAreRows : Type 0
+FitRowsAreRows = (infos : List TableInfo) (changes : List Change) (moment : ℕ) → AreFit infos no_rows changes
+    → (table : ℕ) (key : Key) (row : List Val) → rows_at infos changes moment table key ≡ Some row → IsRowOf infos table key row

@@ -1,0 +1,15 @@
+pub mod Tables
+pub mod Infos
+pub mod Keys
+pub mod Rows
+pub mod History
+pub mod Typed
+pub mod Fit
+pub mod Image
+pub mod Made
+pub mod Laws
+pub mod Events
+pub mod EventJson
+pub mod EventLaws
+pub mod WorkedEvents
+pub mod PlainRows

@@ -1,0 +1,56 @@
+-- Tables that can be captured.
+use Rattle.std.specs.Prelude.{ℕ, ◌==◌, ◌&&◌, ◌||◌, nat_eq, nat_lt, nat_le, not, Bool, true, option_map, unwrap_or, List, [], ◌∷◌, ◌++◌, length, map, slice_get, codes, bytes_eq}
+use Rattle.std.specs.List.{list_any, list_all}
+use Rattle.std.specs.Char.{is_ascii_digit, is_ascii_lowercase, is_ascii_uppercase}
+use Rattle.dbl_value.specs.declared.column_type.PgType.{PgType}
+use Rattle.dbl_value.specs.declared.column_type.PgType.TheVariants as type
+use Rattle.dbl_model.specs.declared.table.TableName.{TableName}
+use Rattle.dbl_model.specs.declared.table.Column.{Column}
+
+-- a letter, a digit, `_` or `-`: what stands in a topic's name as it is (Debezium PostgreSQL connector, "Topic names")
+abbrev pub is_name_byte : ℕ → Bool
+is_name_byte c = is_ascii_lowercase c || is_ascii_uppercase c || is_ascii_digit c || (c == 95) || (c == 45)
+
+-- 1 to 63 of these bytes: PostgreSQL's names have at most 63
+abbrev pub is_name : List ℕ → Bool
+is_name text = nat_lt 0 (length text) && nat_le (length text) 63 && list_all is_name_byte text
+
+-- the table of the watermarks
+abbrev pub is_watermark : TableName → Bool
+is_watermark table = bytes_eq table.schema (codes "public") && bytes_eq table.name (codes "dblog_watermark")
+
+-- names that a captured table may have: its topic is never the progress topic, and it isn't the watermark table
+abbrev pub is_good_name : TableName → Bool
+is_good_name table = is_name table.schema && is_name table.name && not (bytes_eq table.name (codes "dblog-progress")) && not (is_watermark table)
+
+abbrev pub same_name : TableName → TableName → Bool
+same_name a b = bytes_eq a.schema b.schema && bytes_eq a.name b.name
+
+-- `<schema>.<table>`
+abbrev pub full_name : TableName → List ℕ
+full_name table = table.schema ++ codes "." ++ table.name
+
+-- no item of the list is there twice
+abbrev pub are_distinct : {X : Type 0} → (X → X → Bool) → List X → Bool
+are_distinct same [] = true
+are_distinct same (x ∷ xs) = not (list_any (same x) xs) && are_distinct same xs
+
+abbrev pub column_names : List Column → List (List ℕ)
+column_names columns = map (λ column. column.name) columns
+
+-- the type of the column at a place, and text where there is none
+abbrev pub type_at : List Column → ℕ → PgType
+type_at columns place = unwrap_or (option_map (λ column. column.ty) (slice_get columns place)) type.Text
+
+-- the types that a key column may have
+abbrev pub is_key_type : PgType → Bool
+is_key_type type.Int4 = true
+is_key_type type.Text = true
+
+-- a key has some columns of the table, none twice, each of a key type
+abbrev pub is_key : List Column → List ℕ → Bool
+is_key columns key = nat_lt 0 (length key) && list_all (λ place. nat_lt place (length columns)) key && are_distinct nat_eq key && list_all (λ place. is_key_type (type_at columns place)) key
+
+-- a table that can be captured: a good name, columns of distinct names, a key
+abbrev pub is_table : TableName → List Column → List ℕ → Bool
+is_table name columns key = is_good_name name && are_distinct bytes_eq (column_names columns) && is_key columns key

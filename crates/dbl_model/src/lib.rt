@@ -1,0 +1,31 @@
+//! Tables, changes and commits, and the definitions that every promise speaks of.
+#![tactic(auto)]
+
+mod change;
+mod error;
+mod event_laws;
+mod identity;
+mod laws;
+mod made;
+mod plain_image;
+mod plain_rows;
+mod row;
+mod table;
+mod time;
+
+pub use change::{Body, Cell, Change, Commit};
+pub use error::ModelError;
+pub use event_laws::{commits_are_numbered, small_inserts_are, worked_commits};
+pub use identity::Identity;
+pub use laws::{
+    entries_have_one_info, fit_rows_are_rows, key_texts_name_keys, keys_are_ordered,
+    moments_are_changes, positions_are_moments, rows_have_one_image, topics_name_tables,
+};
+pub use plain_image::image_text;
+pub use plain_rows::row_at;
+pub use row::{Key, Row, compare};
+pub use table::{Column, RawColumn, RawRow, RawTable, TableInfo, TableName};
+pub use time::milliseconds;
+
+#[cfg(test)]
+mod tests;

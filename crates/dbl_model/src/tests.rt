@@ -1,0 +1,305 @@
+ghost use Rattle.std.specs.Prelude.{IsSome, IfOk};
+ghost use Rattle.dbl_value.specs.Values.{type_of};
+
+use crate::*;
+use dbl_base::{Lsn, Seq, Text};
+use dbl_value::{PgType, Val};
+use std::alloc::{AllocError, Global};
+use std::cmp::Ordering;
+use std::process::Abort;
+use std::test::Fail;
+
+fn name(alloc: Global, schema: &str, table: &str) -> Result<TableName, AllocError> {
+    Ok(TableName {
+        schema: Text::of(alloc, schema)?,
+        name: Text::of(alloc, table)?,
+    })
+}
+
+/// A number where the word is one, else a text.
+fn value(alloc: Global, word: &str) -> Result<Val, AllocError> {
+    match word.parse::<i64>() {
+        Ok(number) => Ok(Val::Int(number)),
+        Err(_) => Ok(Val::Text(Text::of(alloc, word)?)),
+    }
+}
+
+fn row_of(alloc: Global, words: &str) -> Result<Row, AllocError> {
+    let mut cells = Vec::new(alloc);
+    for word in words.split(' ') {
+        cells.push(value(alloc, word)?)?;
+    }
+    Ok(Row {
+        cells: Seq::make(cells),
+    })
+}
+
+fn key_of(alloc: Global, words: &str) -> Result<Key, AllocError> {
+    Ok(Key {
+        cells: row_of(alloc, words)?.cells,
+    })
+}
+
+fn raw_column(alloc: Global, column: &str) -> Result<RawColumn, AllocError>
+    ensures { IfOk result (λ c. IsSome (type_of c.oid)) }
+{
+    Ok(RawColumn {
+        name: Text::of(alloc, column)?,
+        oid: if column == "ID" || column == "N" {
+            23
+        } else {
+            25
+        },
+    })
+}
+
+/// A table of the columns of these names, whose key is the columns of those. `ID` and `N` are numbers.
+fn table(
+    alloc: Global,
+    table_name: TableName,
+    columns: &str,
+    key: &str,
+) -> Result<TableInfo, ModelError> {
+    let mut raw_columns = Vec::new(alloc);
+    for column in columns.split(' ') {
+        raw_columns.push(raw_column(alloc, column)?)?;
+    }
+    let mut raw_key = Vec::new(alloc);
+    for column in key.split(' ') {
+        if !column.is_empty() {
+            raw_key.push(Text::of(alloc, column)?)?;
+        }
+    }
+    let raw = RawTable {
+        name: table_name,
+        columns: Seq::make(raw_columns),
+        key: Seq::make(raw_key),
+    };
+    TableInfo::make(alloc, &raw)
+}
+
+#[test]
+fn captures_tables(rt: HostRuntime) -> Result<(), Fail> {
+    let alloc = rt.alloc();
+    let users = name(alloc, "public", "users")?;
+    assert!(rt; users.is_good() && !users.is_watermark());
+    let info = table(alloc, users, "ID name", "name ID")?.copy(alloc)?;
+    assert_eq!(rt; info.columns.items().len(), 2);
+    assert_eq!(rt; info.columns.items()[1].ty, PgType::Text);
+    assert_eq!(rt; info.key.items().as_slice(), [1, 0].as_slice());
+    assert_eq!(rt; info.name.to_string(alloc)?.as_str(), "public.users");
+    Ok(())
+}
+
+fn fault(alloc: Global, kind: u8, table: TableName) -> Result<ModelError, AllocError> {
+    match kind {
+        0 => Ok(ModelError::BadName { name: table }),
+        1 => Ok(ModelError::DuplicateColumn {
+            table,
+            column: Text::of(alloc, "ID")?,
+        }),
+        _ => Ok(ModelError::NoKey { table }),
+    }
+}
+
+fn refuses(rt: &impl Abort, alloc: Global, cases: &[(&str, &str, &str, u8)]) -> Result<(), Fail> {
+    for (relation, columns, key, kind) in cases {
+        let answer = table(alloc, name(alloc, "public", relation)?, columns, key).err();
+        let error = fault(alloc, *kind, name(alloc, "public", relation)?)?;
+        assert_eq!(rt; answer, Some(error));
+    }
+    Ok(())
+}
+
+#[test]
+fn refuses_tables(rt: HostRuntime) -> Result<(), Fail> {
+    refuses(
+        &rt,
+        rt.alloc(),
+        &[
+            ("a.b", "ID name", "ID", 0),
+            ("dblog-progress", "ID name", "ID", 0),
+            ("dblog_watermark", "ID ID", "", 0),
+            ("users", "ID name ID", "", 1),
+            ("users", "ID name", "", 2),
+            ("users", "ID name", "key", 2),
+            ("users", "ID name", "ID ID", 2),
+        ],
+    )
+}
+
+fn is_below(alloc: Global, lower: &str, upper: &str) -> Result<bool, AllocError> {
+    Ok(compare(&key_of(alloc, lower)?, &key_of(alloc, upper)?.copy(alloc)?) == Ordering::Less)
+}
+
+#[test]
+fn compares_and_copies(rt: HostRuntime) -> Result<(), Fail> {
+    let alloc = rt.alloc();
+    assert!(rt; is_below(alloc, "-2", "1")?);
+    assert!(rt; is_below(alloc, "9", "10")?);
+    assert!(rt; is_below(alloc, "B", "a")?);
+    let identity = Identity {
+        prefix: Text::of(alloc, "demo")?,
+        db: Text::of(alloc, "shop")?,
+        placeholder: Text::of(alloc, "__debezium_unavailable_value")?,
+    };
+    assert_eq!(rt; identity.copy(alloc)?.db.as_str(), "shop");
+    Ok(())
+}
+
+fn cells(alloc: Global, words: &str) -> Result<Seq<Cell>, AllocError> {
+    let mut cells = Vec::new(alloc);
+    for word in words.split(' ') {
+        cells.push(match word {
+            "-" => Cell::Unchanged,
+            word => Cell::Given(value(alloc, word)?),
+        })?;
+    }
+    Ok(Seq::make(cells))
+}
+
+/// An insert (`i`), an update (`u`), a delete (`d`) or a truncate; `-` is an unsent cell.
+fn change(
+    alloc: Global,
+    kind: char,
+    table: u32,
+    key: &str,
+    words: &str,
+) -> Result<Change, AllocError> {
+    match kind {
+        'i' => Ok(Change::Insert {
+            table,
+            row: row_of(alloc, words)?,
+        }),
+        'u' => Ok(Change::Update {
+            table,
+            key: key_of(alloc, key)?,
+            old: None,
+            cells: cells(alloc, words)?,
+        }),
+        'd' => Ok(Change::Delete {
+            table,
+            key: key_of(alloc, key)?,
+            old: row_of(alloc, words)?,
+        }),
+        _ => Ok(Change::Clear { table }),
+    }
+}
+
+fn commit(
+    alloc: Global,
+    lsn: u64,
+    steps: &[(char, u32, &str, &str)],
+) -> Result<Commit, AllocError> {
+    let mut changes = Vec::new(alloc);
+    for (kind, table, key, words) in steps {
+        changes.push(change(alloc, *kind, *table, key, words)?)?;
+    }
+    Ok(Commit {
+        lsn: Lsn(lsn),
+        end_lsn: Lsn(lsn),
+        time: 0,
+        xid: 1,
+        body: Body::Changes(Seq::make(changes)),
+    })
+}
+
+/// Rows are inserted and updated with unsent cells, one moves to another key, one is deleted, and a table is truncated.
+fn history(alloc: Global) -> Result<Vec<Commit>, AllocError> {
+    let mut commits = Vec::new(alloc);
+    commits.push(commit(
+        alloc,
+        256,
+        &[('i', 0, "1", "1 Ann"), ('i', 1, "1", "1 long 1")],
+    )?)?;
+    commits.push(commit(
+        alloc,
+        512,
+        &[
+            ('u', 0, "1", "1 -"),
+            ('u', 1, "1", "1 - 2"),
+            ('u', 0, "1", "2 Ann"),
+        ],
+    )?)?;
+    commits.push(commit(alloc, 768, &[('d', 1, "1", "1 long 2"), ('t', 0, "", "")])?)?;
+    Ok(commits)
+}
+
+fn tables(alloc: Global) -> Result<Vec<TableInfo>, ModelError> {
+    let mut infos = Vec::new(alloc);
+    infos.push(table(alloc, name(alloc, "public", "users")?, "ID name", "ID")?)?;
+    infos.push(table(alloc, name(alloc, "public", "docs")?, "ID body N", "ID")?)?;
+    Ok(infos)
+}
+
+fn has_row(
+    alloc: Global,
+    infos: &Vec<TableInfo>,
+    commits: &Vec<Commit>,
+    moment: u64,
+    table: u32,
+    key: &str,
+) -> Result<bool, AllocError> {
+    Ok(row_at(alloc, infos, commits, moment, table, &key_of(alloc, key)?)?.is_some())
+}
+
+/// The text of a cell, and `nothing` where there is none.
+fn cell_text(
+    alloc: Global,
+    infos: &Vec<TableInfo>,
+    commits: &Vec<Commit>,
+    moment: u64,
+    table: u32,
+    key: &str,
+    column: &str,
+) -> Result<Text, ModelError> {
+    let key = key_of(alloc, key)?;
+    let column = Text::of(alloc, column)?;
+    match image_text(alloc, infos, commits, moment, table, &key, &column)? {
+        Some(text) => Ok(text),
+        None => Ok(Text::of(alloc, "nothing")?),
+    }
+}
+
+fn has_texts(
+    rt: &impl Abort,
+    alloc: Global,
+    infos: &Vec<TableInfo>,
+    commits: &Vec<Commit>,
+    cases: &[(u64, u32, &str, &str, &str)],
+) -> Result<(), Fail> {
+    for (moment, table, key, column, want) in cases {
+        let text = cell_text(alloc, infos, commits, *moment, *table, key, column)?;
+        assert_eq!(rt; text.as_str(), *want);
+        let is_there = has_row(alloc, infos, commits, *moment, *table, key)?;
+        assert_eq!(rt; is_there, *want != "nothing");
+    }
+    Ok(())
+}
+
+#[test]
+fn rows_follow_the_changes(rt: HostRuntime) -> Result<(), Fail> {
+    let infos = tables(rt.alloc())?;
+    let commits = history(rt.alloc())?;
+    has_texts(
+        &rt,
+        rt.alloc(),
+        &infos,
+        &commits,
+        &[
+            (0, 0, "1", "name", "nothing"),
+            (1, 0, "1", "name", "\"Ann\""),
+            (1, 1, "1", "body", "nothing"),
+            (2, 1, "1", "N", "1"),
+            (3, 0, "1", "name", "\"Ann\""),
+            (4, 1, "1", "body", "\"long\""),
+            (4, 1, "1", "ID", "1"),
+            (4, 1, "1", "N", "2"),
+            (5, 0, "1", "name", "nothing"),
+            (5, 0, "2", "name", "\"Ann\""),
+            (6, 0, "2", "name", "\"Ann\""),
+            (6, 1, "1", "body", "nothing"),
+            (7, 0, "2", "name", "nothing"),
+        ],
+    )
+}

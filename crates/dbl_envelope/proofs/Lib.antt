@@ -1,0 +1,4 @@
+pub mod LayoutLemmas
+pub mod TokenLemmas
+pub mod InsertLemmas
+pub mod CommitLemmas

@@ -1,0 +1,31 @@
+use std::alloc::{AllocError, AllocFailed};
+use thiserror::Error;
+
+/// Why no records are made of a commit.
+#[derive(Debug, Drop, PartialEq, Eq, Error)]
+pub enum EnvelopeError {
+    #[error("out of memory")]
+    Memory,
+}
+
+impl From<AllocError> for EnvelopeError {
+    ghost use Rattle.std.specs.Prelude.{◌≡◌};
+    ghost use Rattle.dbl_envelope.specs.declared.error.EnvelopeError.TheVariants.{Memory};
+
+    ghost from_gives = { λ _ e. e ≡ Memory };
+
+    fn from(_error: AllocError) -> EnvelopeError {
+        EnvelopeError::Memory
+    }
+}
+
+impl<T: Drop> From<AllocFailed<T>> for EnvelopeError {
+    ghost use Rattle.std.specs.Prelude.{◌≡◌};
+    ghost use Rattle.dbl_envelope.specs.declared.error.EnvelopeError.TheVariants.{Memory};
+
+    ghost from_gives = { λ _ e. e ≡ Memory };
+
+    fn from(_error: AllocFailed<T>) -> EnvelopeError {
+        EnvelopeError::Memory
+    }
+}

@@ -1,0 +1,67 @@
+ghost use Rattle.std.specs.Prelude.{◌≡◌, ◌++◌, [], ◌∷◌, codes, OnOk};
+ghost use Rattle.std.specs.Fmt.{signed_decimal};
+ghost use Rattle.json.specs.Token.{begin_object, key, number};
+ghost use Rattle.json.specs.Tree.{json_tokens};
+ghost use Rattle.serde_json.specs.Written.{outline};
+ghost use Rattle.dbl_model.specs.EventJson.{source_data, milliseconds_of};
+ghost use Rattle.dbl_envelope.specs.Tokens.{first_tokens, last_tokens};
+
+use crate::tokens::{null_member, text_member, u64_member};
+use dbl_model::{Commit, Identity, TableName, milliseconds};
+use json::Writer;
+use std::alloc::AllocError;
+
+fn write_names(
+    writer: &mut Writer,
+    identity: &Identity,
+    table: &TableName,
+    commit: &Commit,
+) -> Result<(), AllocError>
+    ensures ok { OnOk result (writer.new.tokens
+        ≡ writer.old.tokens ++ begin_object ∷ first_tokens identity.now table.now commit.now) }
+    ensures before { writer.new.before ≡ writer.old.before }
+{
+    writer.begin_object()?;
+    text_member(writer, "connector", "postgresql")?;
+    text_member(writer, "db", identity.db.as_str())?;
+    u64_member(writer, "lsn", commit.lsn.0)?;
+    text_member(writer, "name", identity.prefix.as_str())?;
+    text_member(writer, "schema", table.schema.as_str())
+}
+
+fn time_member(writer: &mut Writer, time: &i64) -> Result<(), AllocError>
+    ensures ok { OnOk result (writer.new.tokens
+        ≡ writer.old.tokens ++ key (codes "ts_ms") ∷ number (signed_decimal (milliseconds_of time.now)) ∷ []) }
+    ensures before { writer.new.before ≡ writer.old.before }
+{
+    writer.key("ts_ms")?;
+    writer.i64(milliseconds(*time))
+}
+
+fn write_place(writer: &mut Writer, table: &TableName, commit: &Commit) -> Result<(), AllocError>
+    ensures ok { OnOk result (writer.new.tokens ≡ writer.old.tokens ++ last_tokens table.now commit.now) }
+    ensures before { writer.new.before ≡ writer.old.before }
+{
+    text_member(writer, "snapshot", "false")?;
+    text_member(writer, "table", table.name.as_str())?;
+    time_member(writer, &commit.time)?;
+    u64_member(writer, "txId", commit.xid as u64)?;
+    text_member(writer, "version", "1.0")?;
+    null_member(writer, "xmin")?;
+    writer.end_object()
+}
+
+/// The `source` of a commit's events of a table.
+pub(crate) fn write_source(
+    writer: &mut Writer,
+    identity: &Identity,
+    table: &TableName,
+    commit: &Commit,
+) -> Result<(), AllocError>
+    ensures ok { OnOk result (writer.new.tokens ≡ writer.old.tokens
+        ++ json_tokens (outline (source_data identity.now table.now commit.now (codes "false")))) }
+    ensures before { writer.new.before ≡ writer.old.before }
+{
+    write_names(writer, identity, table, commit)?;
+    write_place(writer, table, commit)
+}

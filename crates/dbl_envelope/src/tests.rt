@@ -1,0 +1,125 @@
+ghost use Rattle.std.specs.Prelude.{◌≡◌, [], ◌∷◌, All, IsSome, IfOk, length};
+ghost use Rattle.dbl_value.specs.Values.{type_of};
+ghost use Rattle.dbl_model.specs.Infos.{width};
+ghost use Rattle.dbl_model.specs.Rows.{changes_of};
+ghost use Rattle.dbl_model.specs.declared.change.Change.TheVariants.{Insert};
+
+use super::{Layout, Stamp, insert_record, records};
+use dbl_base::{Lsn, Seq, Text};
+use dbl_model::{
+    Body, Change, Commit, Identity, ModelError, RawColumn, RawTable, Row, TableInfo, TableName,
+};
+use dbl_record::line;
+use dbl_value::Val;
+use std::alloc::{AllocError, Global};
+use std::test::Fail;
+
+fn demo(alloc: Global) -> Result<Identity, AllocError> {
+    Ok(Identity {
+        prefix: Text::of(alloc, "demo")?,
+        db: Text::of(alloc, "demo")?,
+        placeholder: Text::of(alloc, "__debezium_unavailable_value")?,
+    })
+}
+
+fn raw_column(alloc: Global, column: &str, is_number: bool) -> Result<RawColumn, AllocError>
+    ensures { IfOk result (λ c. IsSome (type_of c.oid)) }
+{
+    Ok(RawColumn {
+        name: Text::of(alloc, column)?,
+        oid: if is_number { 23 } else { 25 },
+    })
+}
+
+/// The table `public.users` of these columns, each a number or a text, whose key is the columns of these names.
+fn users(alloc: Global, columns: &[(&str, bool)], key: &[&str]) -> Result<TableInfo, ModelError> {
+    let mut raw_columns = Vec::new(alloc);
+    for (column, is_number) in columns {
+        raw_columns.push(raw_column(alloc, column, *is_number)?)?;
+    }
+    let mut raw_key = Vec::new(alloc);
+    for column in key {
+        raw_key.push(Text::of(alloc, column)?)?;
+    }
+    let name = TableName {
+        schema: Text::of(alloc, "public")?,
+        name: Text::of(alloc, "users")?,
+    };
+    let raw = RawTable {
+        name,
+        columns: Seq::make(raw_columns),
+        key: Seq::make(raw_key),
+    };
+    TableInfo::make(alloc, &raw)
+}
+
+fn insert_into_first(alloc: Global, row: Row) -> Result<Commit, AllocError>
+    ensures { IfOk result (λ c. changes_of c ≡ Insert 0 row ∷ []) }
+{
+    Ok(Commit {
+        lsn: Lsn(256),
+        end_lsn: Lsn(296),
+        time: 0,
+        xid: 7,
+        body: Body::Changes(Seq::make(vec![in alloc; Change::Insert { table: 0, row }]?)),
+    })
+}
+
+#[test]
+fn one_insert(rt: HostRuntime) -> Result<(), Fail> {
+    let alloc = rt.alloc();
+    let identity = demo(alloc)?;
+    let info = users(alloc, &[("id", true), ("name", false)], &["id"])?;
+    let cells = vec![in alloc; Val::Int(1), Val::Text(Text::of(alloc, "Ann")?)]?;
+    assert_eq!(rt; cells.len(), info.columns.items().len());
+    let layouts = vec![in alloc; Layout::make(alloc, &identity, &info)?]?;
+    let infos = vec![in alloc; info]?;
+    let commit = insert_into_first(
+        alloc,
+        Row {
+            cells: Seq::make(cells),
+        },
+    )?;
+    let made = records(alloc, &identity, &infos, &layouts, &commit, 0)?;
+    assert_eq!(rt; made.len(), 1);
+    assert_eq!(rt;
+        line(alloc, &made[0])?.as_str(),
+        "{\"headers\":{\"dblog.last\":true,\"dblog.ordinal\":0,\"dblog.position\":256},\"key\":{\"id\":1},\"topic\":\"demo.public.users\",\"value\":{\"after\":{\"id\":1,\"name\":\"Ann\"},\"before\":null,\"op\":\"c\",\"source\":{\"connector\":\"postgresql\",\"db\":\"demo\",\"lsn\":256,\"name\":\"demo\",\"schema\":\"public\",\"snapshot\":\"false\",\"table\":\"users\",\"ts_ms\":946684800000,\"txId\":7,\"version\":\"1.0\",\"xmin\":null},\"transaction\":null,\"ts_ms\":0}}"
+    );
+    Ok(())
+}
+
+#[test]
+fn a_row_of_hard_cells(rt: HostRuntime) -> Result<(), Fail> {
+    let alloc = rt.alloc();
+    let identity = demo(alloc)?;
+    let info = users(
+        alloc,
+        &[("zeta", false), ("id", true), ("Alpha", false)],
+        &["zeta", "id"],
+    )?;
+    let layout = Layout::make(alloc, &identity, &info)?;
+    let text = Val::Text(Text::of(alloc, "q\"\\\u{1}\n")?);
+    let row = Row {
+        cells: Seq::make(vec![in alloc; text, Val::Int(-5), Val::Null]?),
+    };
+    let commit = Commit {
+        lsn: Lsn(18446744073709551615),
+        end_lsn: Lsn(18446744073709551615),
+        time: -1,
+        xid: 4294967295,
+        body: Body::Changes(Seq::make(Vec::new(alloc))),
+    };
+    assert_eq!(rt; row.cells.items().len(), info.columns.items().len());
+    let stamp = Stamp {
+        ordinal: 3,
+        last: false,
+        now_ms: -9,
+    };
+    let made = insert_record(alloc, &identity, &info, &layout, &commit, &row, &stamp)?;
+    assert_eq!(rt;
+        line(alloc, &made)?.as_str(),
+        "{\"headers\":{\"dblog.last\":false,\"dblog.ordinal\":3,\"dblog.position\":18446744073709551615},\"key\":{\"id\":-5,\"zeta\":\"q\\\"\\\\\\u0001\\n\"},\"topic\":\"demo.public.users\",\"value\":{\"after\":{\"Alpha\":null,\"id\":-5,\"zeta\":\"q\\\"\\\\\\u0001\\n\"},\"before\":null,\"op\":\"c\",\"source\":{\"connector\":\"postgresql\",\"db\":\"demo\",\"lsn\":18446744073709551615,\"name\":\"demo\",\"schema\":\"public\",\"snapshot\":\"false\",\"table\":\"users\",\"ts_ms\":946684799999,\"txId\":4294967295,\"version\":\"1.0\",\"xmin\":null},\"transaction\":null,\"ts_ms\":-9}}"
+    );
+    Ok(())
+}

@@ -1,0 +1,66 @@
+ghost use Rattle.std.specs.Prelude.{◌≡◌, ◌<◌, ◌++◌, [], ◌∷◌, OnOk, All, length, decimal};
+ghost use Rattle.std.specs.Fmt.{signed_decimal};
+ghost use Rattle.json.specs.Token.{begin_object, key, string, number, null};
+ghost use Rattle.json.specs.Tree.{json_tokens};
+ghost use Rattle.serde_json.specs.Data.{object};
+ghost use Rattle.serde_json.specs.Written.{outline};
+ghost use Rattle.dbl_envelope.specs.Layouts.{members_at};
+
+use crate::layout::Place;
+use dbl_base::Seq;
+use dbl_value::{Val, write_json};
+use json::Writer;
+use std::alloc::AllocError;
+
+pub(crate) fn text_member(writer: &mut Writer, name: &str, text: &str) -> Result<(), AllocError>
+    ensures ok { OnOk result (writer.new.tokens ≡ writer.old.tokens ++ key name.now ∷ string text.now ∷ []) }
+    ensures before { writer.new.before ≡ writer.old.before }
+{
+    writer.key(name)?;
+    writer.string(text)
+}
+
+pub(crate) fn u64_member(writer: &mut Writer, name: &str, value: u64) -> Result<(), AllocError>
+    ensures ok { OnOk result (writer.new.tokens ≡ writer.old.tokens ++ key name.now ∷ number (decimal value) ∷ []) }
+    ensures before { writer.new.before ≡ writer.old.before }
+{
+    writer.key(name)?;
+    writer.u64(value)
+}
+
+pub(crate) fn i64_member(writer: &mut Writer, name: &str, value: &i64) -> Result<(), AllocError>
+    ensures ok { OnOk result (writer.new.tokens
+        ≡ writer.old.tokens ++ key name.now ∷ number (signed_decimal value.now) ∷ []) }
+    ensures before { writer.new.before ≡ writer.old.before }
+{
+    writer.key(name)?;
+    writer.i64(*value)
+}
+
+pub(crate) fn null_member(writer: &mut Writer, name: &str) -> Result<(), AllocError>
+    ensures ok { OnOk result (writer.new.tokens ≡ writer.old.tokens ++ key name.now ∷ null ∷ []) }
+    ensures before { writer.new.before ≡ writer.old.before }
+{
+    writer.key(name)?;
+    writer.null()
+}
+
+/// The object of the cells at these places, under their names.
+pub(crate) fn write_cells(
+    writer: &mut Writer,
+    order: &Seq<Place>,
+    cells: &Seq<Val>,
+) -> Result<(), AllocError>
+    requires places { All (λ p. p.index < length cells.now) order.now }
+    ensures ok { OnOk result (writer.new.tokens
+        ≡ writer.old.tokens ++ json_tokens (outline (object (members_at cells.now order.now)))) }
+    ensures before { writer.new.before ≡ writer.old.before }
+{
+    let cells = cells.items();
+    writer.begin_object()?;
+    for place in order.items() {
+        writer.key(place.name.as_str())?;
+        write_json(writer, &cells[place.index])?;
+    }
+    writer.end_object()
+}

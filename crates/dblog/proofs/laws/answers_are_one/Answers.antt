@@ -1,0 +1,5 @@
+use Rattle.dblog.proofs.RunLemmas.{means_one}
+use Rattle.dblog.proofs.laws.answers_are_one.Goals as goal
+
+pub returns : goal.returns
+returns c = means_one

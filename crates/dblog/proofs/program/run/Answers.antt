@@ -1,0 +1,40 @@
+use Rattle.std.proofs.Common.{◌≢◌, ℤ, refl, subst, rules}
+use Rattle.std.proofs.Math.Facts.{to_z-of_z}
+use Rattle.dblog.specs.declared.halt.Halt.TheVariants.{Usage, OutputFailed}
+use Rattle.dblog.specs.Run.{usage, Wrote, PrintFails, text_of, lines_in}
+use Rattle.dblog.proofs.RunLemmas.{said_runs, halt_runs, printed_runs, cut_runs, print_fails_runs, printing_is_no_input}
+use Rattle.dblog.proofs.program.run.Goals as goal
+
+pub returns-then-not-is_replay-clause-told : goal.returns-then-not-is_replay-clause-told
+returns-then-not-is_replay-clause-told g c = λ bytes told. said_runs _ c.args.now_ms bytes Usage _ _ _ (usage (λ same. cc (c.if-not-is_replay.ensures.1 same)) refl) c.say.ensures.says
+
+pub returns-then-not-is_replay-clause-usage : goal.returns-then-not-is_replay-clause-usage
+returns-then-not-is_replay-clause-usage g c = λ other. c.say.ensures.says
+
+pub returns-in-Err-clause-told : goal.returns-in-Err-clause-told
+returns-in-Err-clause-told g c = λ bytes told. halt_runs _ c.args.now_ms bytes c.in-Err.halt _ _ _ (c.if-not-is_replay.ensures.0 refl) (c.in-Err.ensures.halts bytes c.args.now_ms told) c.say-in-Err.ensures.says
+
+pub returns-in-Ok-write_commits-clause-told : goal.returns-in-Ok-write_commits-clause-told
+returns-in-Ok-write_commits-clause-told g c = λ bytes told.
+    let before = g.O.Output.written c.args.output.now in
+    let after = g.O.Output.written c.write_commits.new.output in
+    let prints = subst (λ (m : ℤ). Wrote before after (text_of (lines_in c.in-Ok.stated.infos.items c.in-Ok.stated.commits.items m))) (to_z-of_z c.ranges.now_ms) c.in-Ok-write_commits.ensures.prints in
+    printed_runs _ c.args.now_ms bytes _ _ _ (c.if-not-is_replay.ensures.0 refl) (c.in-Ok.ensures.ok bytes c.args.now_ms told) prints
+
+pub returns-in-Err-OutputFailed-clause-told : goal.returns-in-Err-OutputFailed-clause-told
+returns-in-Err-OutputFailed-clause-told g c = λ bytes told.
+    let before = g.O.Output.written c.args.output.now in
+    let after = g.O.Output.written c.write_commits.new.output in
+    let fails = subst (λ (m : ℤ). PrintFails (lines_in c.in-Ok.stated.infos.items c.in-Ok.stated.commits.items m) c.in-Err-OutputFailed.field-0 before after) (to_z-of_z c.ranges.now_ms) c.in-Err-OutputFailed.ensures.prints in
+    cut_runs _ c.args.now_ms bytes _ _ _ _ (c.if-not-is_replay.ensures.0 refl) (c.in-Ok.ensures.ok bytes c.args.now_ms told) c.status.ensures (rw c.in-Err-OutputFailed.field-0-is at fails)
+
+pub returns-clause-told : goal.returns-clause-told
+returns-clause-told g c = λ bytes told.
+    let before = g.O.Output.written c.args.output.now in
+    let after = g.O.Output.written c.write_commits.new.output in
+    let fails = subst (λ (m : ℤ). PrintFails (lines_in c.in-Ok.stated.infos.items c.in-Ok.stated.commits.items m) c.in-Err-write_commits.halt before after) (to_z-of_z c.ranges.now_ms) c.in-Err-write_commits.ensures.prints in
+    let other : c.in-Err-write_commits.halt ≢ OutputFailed = search rules in
+    print_fails_runs _ c.args.now_ms bytes _ _ _ _ _ _ other (c.if-not-is_replay.ensures.0 refl) (c.in-Ok.ensures.ok bytes c.args.now_ms told) fails c.say-in-Err-write_commits.ensures.says
+
+pub returns-clause-input_failed : goal.returns-clause-input_failed
+returns-clause-input_failed g c = λ is. absurd (printing_is_no_input _ _ _ _ _ _ c.in-Err-write_commits.ensures.prints c.say-in-Err-write_commits.ensures.says is)

@@ -1,0 +1,67 @@
+ghost use Rattle.std.specs.Prelude.{◌≡◌, ◌∷◌, [], IfOk};
+ghost use Rattle.std.specs.String.{string_bytes};
+ghost use Rattle.dblog.specs.Faults.{status_of, fault_line};
+ghost use Rattle.dblog.specs.Run.{text_of};
+
+use dbl_base::{Failed, InputError};
+use std::alloc::{AllocError, Global};
+
+/// Why a run ended before it was done.
+#[derive(Clone, Copy, Debug, PartialEq, Eq)]
+pub enum Halt {
+    Usage,
+    InputFailed,
+    OutputFailed,
+    Memory,
+    /// The line's number, counted from 1.
+    BadLine { number: u64 },
+    InputTooLong,
+    /// Messages that this stage of the program doesn't replay.
+    NotBuilt,
+}
+
+impl Halt {
+    /// The program's exit status.
+    pub fn status(self) -> u8
+        ensures { result ≡ status_of self }
+    {
+        match self {
+            Halt::Usage => 2,
+            Halt::InputFailed => 10,
+            Halt::OutputFailed => 11,
+            Halt::Memory => 12,
+            Halt::BadLine { number: _ } => 13,
+            Halt::InputTooLong => 13,
+            Halt::NotBuilt => 16,
+        }
+    }
+
+    /// The fault's line with its newline.
+    pub fn text(self, alloc: Global) -> Result<String, AllocError>
+        ensures { IfOk result (λ s. string_bytes s ≡ text_of (fault_line self ∷ [])) }
+    {
+        let line = match self {
+            Halt::Usage => "dblog: usage\n",
+            Halt::InputFailed => "dblog: input failed\n",
+            Halt::OutputFailed => "dblog: output failed\n",
+            Halt::Memory => "dblog: out of memory\n",
+            Halt::BadLine { number } => return format!(in alloc;
+                "dblog: line {number}: bad line\n"
+            ),
+            Halt::InputTooLong => "dblog: input too long\n",
+            Halt::NotBuilt => "dblog: not built\n",
+        };
+        String::from_str(alloc, line)
+    }
+}
+
+impl From<AllocError> for Halt {
+    ghost use Rattle.std.specs.Prelude.{◌≡◌};
+    ghost use Rattle.dblog.specs.declared.halt.Halt.TheVariants.{Memory};
+
+    ghost from_gives = { λ _ e. e ≡ Memory };
+
+    fn from(_error: AllocError) -> Halt {
+        Halt::Memory
+    }
+}

@@ -114,7 +114,7 @@ impl Output for MemOutput {
         ensures later { self.old.plan.faults ≤ self.new.plan.faults }
         ensures cause { OnErr result (Rose self.old.plan.faults self.new.plan.faults) }
 
-        // A call that is planned to fail does, and only a want of room makes another one fail.
+        // A call that is planned to fail does. Where there is no room another one fails too.
         ensures planned { Contains self.old.plan.planned (raised self.old.plan.calls) → IsErr result }
         ensures calls { self.new.plan.calls ≡ raised self.old.plan.calls }
         ensures plan { self.new.plan.planned ≡ self.old.plan.planned }

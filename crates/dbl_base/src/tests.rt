@@ -48,13 +48,21 @@ fn a_fault_in_the_middle_is_answered(rt: HostRuntime) -> Result<(), Fail> {
 }
 
 #[test]
-fn the_standard_streams_are_passed_on(rt: HostRuntime) -> Result<(), Fail> {
+fn a_reader_is_read_through(rt: HostRuntime) -> Result<(), Fail> {
     let mut input = StdInput::make(b"some bytes".as_slice());
     let mut buffer = [0u8; 16];
     assert_eq!(rt; input.read(&mut buffer).ok(), Some(10));
     assert_eq!(rt; &buffer[..10], b"some bytes".as_slice());
     assert_eq!(rt; input.read(&mut buffer).ok(), Some(0));
-    let mut output = StdOutput::make(Vec::new(rt.alloc()));
-    assert!(rt; output.write(b"some bytes").is_ok());
+    Ok(())
+}
+
+#[test]
+fn a_writer_gets_each_piece(rt: HostRuntime) -> Result<(), Fail> {
+    let mut written = Vec::new(rt.alloc());
+    let mut output = StdOutput::make(&mut written);
+    assert!(rt; output.write(b"some ").is_ok());
+    assert!(rt; output.write(b"bytes").is_ok());
+    assert_eq!(rt; written.as_slice(), b"some bytes".as_slice());
     Ok(())
 }

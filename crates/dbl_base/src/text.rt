@@ -85,11 +85,10 @@ impl Eq for Text {
 
 impl Ord for Text {
     ghost use Rattle.std.specs.Cmp.Rules.{comparing};
-    ghost use Rattle.std.specs.Cmp.Lexicographic.{slice_cmp};
-    ghost use Rattle.std.specs.Ordering.{nat_cmp};
+    ghost use Rattle.dbl_base.specs.Texts.{text_cmp};
     ghost use Rattle.std.proofs.Common.{rules};
 
-    ghost cmp = { slice_cmp nat_cmp };
+    ghost cmp = { text_cmp };
 
     ghost total = { Prim.search (comparing, rules) };
 
@@ -105,11 +104,11 @@ impl Ord for Text {
 impl PartialOrd for Text {
     ghost use Rattle.std.specs.Cmp.{partial_order_from_own_ties};
     ghost use Rattle.std.specs.Cmp.Rules.{comparing};
-    ghost use Rattle.std.specs.Cmp.Lexicographic.{slice_cmp};
-    ghost use Rattle.std.specs.Ordering.{nat_cmp, as_partial_cmp};
+    ghost use Rattle.dbl_base.specs.Texts.{text_cmp};
+    ghost use Rattle.std.specs.Ordering.{as_partial_cmp};
     ghost use Rattle.std.proofs.Common.{rules};
 
-    ghost partial_cmp = { as_partial_cmp (slice_cmp nat_cmp) };
+    ghost partial_cmp = { as_partial_cmp text_cmp };
 
     ghost laws = { partial_order_from_own_ties (Prim.search (comparing, rules)) (Prim.search (comparing, rules)) };
 

@@ -42,8 +42,8 @@ use Rattle.dbl_model.proofs.InfoLemmas.{key_names_distinct, topic_one, true_fals
 whole_value : (ty : PgType) (v : Val) → IsOf ty v → IsWhole (json_data v)
 whole_value ty val.Null is = tt
 whole_value ty (val.Text text) is = tt
-whole_value type.Text (val.Int z) is = let other = is.1 in cc
-whole_value type.Int4 (val.Int z) is = number_whole z (int4-IsRead is.0 z is.1).within
+whole_value type.Text (val.Int z) is = let other = is.spells in cc
+whole_value type.Int4 (val.Int z) is = number_whole z (int4-IsRead is.text z is.spells).within
   where
     number_whole : (z : ℤ) → is_within (2 ^ 31) z ≡ true → IsWhole (json_data (val.Int z))
     number_whole (pos n) within = let small : n < 2 ^ 31 = (Decides-ltb n (2 ^ 31)).0 within in omega arith

@@ -43,12 +43,12 @@ is_some_value (Some x) h = (x, refl)
 -- ---- cells of an update and the row under them
 
 not_null : (ty : PgType) → IsOf ty val.Null → ⊥
-not_null type.Int4 is = let e = is.1 in null_int _ e
+not_null type.Int4 is = let e = is.spells in null_int _ e
   where
     null_int : (o : Option _) → option_map val.Int o ≡ Some val.Null → ⊥
     null_int None e = cc
     null_int (Some z) e = cc
-not_null type.Text is = let e = is.1 in cc
+not_null type.Text is = let e = is.spells in cc
 
 overlaid_cell : (cells : List Cell) (row : List Val) (place : ℕ) → place < length row → cell_or_null (map given_or_null cells) place ≢ val.Null → cell_or_null (overlay cells row) place ≡ cell_or_null (map given_or_null cells) place
 overlaid_cell [] row place lt given = absurd (given refl)

@@ -192,9 +192,9 @@ pub int4-Int : (text : List ℕ) (v : Val) → SpellsValue type.Int4 text v → 
 int4-Int text v e = int_alone (is_plain text && is_within (2 ^ 31) (signed_digits_value 10 text)) (signed_digits_value 10 text) v e
 
 pub texts_read_back : TextsReadBack
-texts_read_back type.Int4 val.Null (text, e) = let other = int4-Int text val.Null e in cc
-texts_read_back type.Int4 (val.Int z) (text, e) = int4_spelled z (int4-IsRead text z e).within
-texts_read_back type.Int4 (val.Text t) (text, e) = let other = int4-Int text (val.Text t) e in cc
-texts_read_back type.Text val.Null (text, e) = cc
-texts_read_back type.Text (val.Int z) (text, e) = cc
-texts_read_back type.Text (val.Text t) (text, e) = refl
+texts_read_back type.Int4 val.Null is = let other = int4-Int is.text val.Null is.spells in cc
+texts_read_back type.Int4 (val.Int z) is = int4_spelled z (int4-IsRead is.text z is.spells).within
+texts_read_back type.Int4 (val.Text t) is = let other = int4-Int is.text (val.Text t) is.spells in cc
+texts_read_back type.Text val.Null is = let e = is.spells in cc
+texts_read_back type.Text (val.Int z) is = let e = is.spells in cc
+texts_read_back type.Text (val.Text t) is = refl

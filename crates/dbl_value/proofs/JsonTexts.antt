@@ -44,7 +44,7 @@ small_of ty text (Text t) e = tt
 
 small_cell : (ty : PgType) (v : Val) → IsCellOf ty v → IsSmall v
 small_cell ty v (inl e) = rw e tt
-small_cell ty v (inr p) = small_of ty p.0 v p.1
+small_cell ty v (inr is) = small_of ty is.text v is.spells
 
 numbers : (v : Val) → IsSmall v → HasNumbers (outline (json_data v))
 numbers Null h = tt

@@ -3,7 +3,7 @@ use Rattle.std.specs.Prelude.{ℕ, ℤ, pos, negsuc, ◌==◌, ◌&&◌, ◌||�
 use Rattle.std.specs.List.{list_all}
 use Rattle.std.specs.Char.{is_ascii_digit}
 use Rattle.std.specs.Fmt.{signed_decimal}
-use Rattle.std.specs.Str.{bytes_eq}
+use Rattle.std.specs.Str.{bytes_eq, IsUtf8}
 use Rattle.std.specs.Str.Parse.{starts_with_minus, signed_digits_value}
 use Rattle.serde_json.specs.Data.{Data, null, number, string}
 use Rattle.serde_json.specs.Find.{of_integer}
@@ -40,6 +40,7 @@ abbrev pub integer_of : ℕ → List ℕ → Option ℤ
 integer_of limit text = if is_plain text && is_within limit (signed_digits_value 10 text) then Some (signed_digits_value 10 text) else None
 
 -- The value that a text spells at a type, if it spells one: an int4 is an integer of 32 bits, and each text is a text.
+-- That the text is UTF-8 isn't asked here but by `IsOf`.
 -- PostgreSQL's manual, "Numeric Types" and "Character Types".
 abbrev pub value_of : PgType → List ℕ → Option Val
 value_of type.Int4 text = option_map val.Int (integer_of (2 ^ 31) text)
@@ -49,11 +50,13 @@ value_of type.Text text = Some (val.Text text)
 abbrev pub SpellsValue : PgType → List ℕ → Val → Type 0
 SpellsValue ty text v = value_of ty text ≡ Some v
 
--- some text spells the value at the type; no text spells Null
-abbrev pub IsOf : PgType → Val → Type 0
-IsOf ty v = (text : List ℕ) × SpellsValue ty text v
+-- some UTF-8 text spells the value at the type; no text spells Null
+pub record IsOf (ty : PgType) (v : Val) : Type 0 where
+  pub text : List ℕ
+  pub utf8 : IsUtf8 text
+  pub spells : SpellsValue ty text v
 
--- the text that PostgreSQL sends for the value; none is sent for Null
+-- the text that PostgreSQL sends for the value; none is sent for Null, which has the empty one here
 abbrev pub text_of : Val → List ℕ
 text_of val.Null = []
 text_of (val.Int z) = signed_decimal z

@@ -9,7 +9,8 @@ use Rattle.std.proofs.lemmas.Map.Text.{is_eq-slice_cmp}
 use Rattle.std.proofs.lemmas.Slice.Eq.{bytes_eq-Decides}
 use Rattle.dbl_value.specs.declared.value.Val.{Val}
 use Rattle.dbl_value.specs.declared.value.Val.TheVariants.{Null, Int, Text}
-use Rattle.dbl_value.specs.Order.{val_cmp, text_cmp}
+use Rattle.dbl_base.specs.Texts.{text_cmp}
+use Rattle.dbl_value.specs.Order.{val_cmp}
 use Rattle.dbl_value.specs.Laws.{ValuesAreOrdered}
 
 abbrev rank : Val → ℕ

@@ -3,8 +3,8 @@ ghost use Rattle.std.specs.Prelude.{◌≡◌, IfOk};
 use dbl_base::Text;
 use std::alloc::{AllocError, Global};
 
-/// The value of a cell. Values of one type are ordered as PostgreSQL orders them under the collation "C": integers by
-/// value, texts by bytes.
+/// The value of a cell. Null comes before integers, which are ordered by value, and these before texts, which are ordered
+/// by their bytes.
 #[derive(Debug, Drop, PartialEq, Eq, PartialOrd, Ord)]
 pub enum Val {
     Null,

@@ -12,7 +12,7 @@ use Rattle.dbl_model.specs.declared.change.Commit.{Commit}
 use Rattle.dbl_model.specs.declared.table.TableInfo.{TableInfo}
 use Rattle.dbl_model.specs.Keys.{given_or_null}
 use Rattle.dbl_model.specs.Rows.{all_given, overlay, effect_of, row_after, Rows, no_rows, rows_after, rows_from, rows, changes_of, all_changes}
-use Rattle.dbl_model.specs.PlainRows.{is_given, over, row_from}
+use Rattle.dbl_model.specs.PlainRows.{is_sent, over, row_from}
 use Rattle.dbl_model.proofs.RowLemmas.{all_changes-append}
 
 drop-none : {A : Type 0} (i : ℕ) → drop {A = A} i [] ≡ []
@@ -45,12 +45,12 @@ pub overlay_whole : (cells : List Cell) (row done : List Val) (i : ℕ) → leng
 overlay_whole cells row done i le so_far =
     sym (append-nil done) ∙ (ap (λ (l : List Val). done ++ l) (sym (overlay-none (drop i cells)) ∙ ap (overlay (drop i cells)) (sym (drop_all i row le))) ∙ so_far)
 
-pub given_all : (cells : List Cell) → list_all is_given cells ≡ true → all_given cells ≡ Some (map given_or_null cells)
+pub given_all : (cells : List Cell) → list_all is_sent cells ≡ true → all_given cells ≡ Some (map given_or_null cells)
 given_all [] h = refl
 given_all (Given v ∷ cells) h = ap (option_map (λ (row : List Val). v ∷ row)) (given_all cells h)
 given_all (Unchanged ∷ cells) h = cc
 
-pub given_not : (cells : List Cell) → list_all is_given cells ≡ false → all_given cells ≡ None
+pub given_not : (cells : List Cell) → list_all is_sent cells ≡ false → all_given cells ≡ None
 given_not [] h = cc
 given_not (Given v ∷ cells) h = ap (option_map (λ (row : List Val). v ∷ row)) (given_not cells h)
 given_not (Unchanged ∷ cells) h = refl

@@ -14,7 +14,7 @@ use Rattle.dbl_model.specs.declared.change.Commit.{Commit}
 use Rattle.dbl_model.specs.declared.table.TableInfo.{TableInfo}
 use Rattle.dbl_model.specs.Infos.{key_places}
 use Rattle.dbl_model.specs.Keys.{same_key, key_at, given_or_null}
-use Rattle.dbl_model.specs.Rows.{Effect, all_given, updated, at_key, at_keys, effect_of, overlay, Rows, no_rows, rows_after, rows_from, rows_at, rows, changes_of, all_changes}
+use Rattle.dbl_model.specs.Rows.{Effect, all_given, updated, at_key, at_keys, effect_of, overlay, Rows, no_rows, rows_after, rows_from, rows_at, rows, table_of, changes_of, all_changes}
 use Rattle.dbl_model.specs.Rows.Effect.{Stays, Whole, Ends}
 use Rattle.dbl_model.specs.Fit.{IsFit, AreFit}
 use Rattle.dbl_model.proofs.KeyLemmas.{same_key-other}
@@ -57,13 +57,6 @@ other_table t u other = step (t == u) (λ h. other ((Decides-eqb t u).0 h))
     step : (b : Bool) → (b ≡ true → ⊥) → b ≡ false
     step true no_case = absurd (no_case refl)
     step false no_case = refl
-
--- the table that a change is of
-abbrev pub table_of : Change → ℕ
-table_of (Insert table row) = table
-table_of (Update table key old cells) = table
-table_of (Delete table key old) = table
-table_of (Clear table) = table
 
 pub effect_of-other_table : (infos : List TableInfo) (c : Change) (table : ℕ) (key : Key) → table_of c ≢ table → effect_of infos c table key ≡ Stays
 effect_of-other_table infos (Insert t row) table key other = ap (λ (b : Bool). at_key b (same_key (key_at (key_places infos t) row.cells) key) (Whole row.cells)) (other_table t table other)

@@ -23,7 +23,7 @@ AreNumbered position records = (i : ℕ) (r : Record) → slice_get records i �
 abbrev pub CommitsAreNumbered : Type 0
 CommitsAreNumbered = (identity : Identity) (infos : List TableInfo) (commit : Commit) (now : ℤ) → AreNumbered commit.lsn.0 (envelopes identity infos commit now)
 
--- the JSON of a row of the number `id` and the text `name`, byte for byte
+-- the JSON of a row of the number `id` and the text `name`, written out
 abbrev pub small_row_text : ℤ → List ℕ → List ℕ
 small_row_text id name = codes "{\"id\":" ++ signed_decimal id ++ codes ",\"name\":" ++ quoted name ++ codes "}"
 

@@ -9,7 +9,7 @@ use Rattle.dbl_model.specs.declared.change.Change.{Change}
 use Rattle.dbl_model.specs.declared.change.Change.TheVariants.{Insert, Update, Delete, Clear}
 use Rattle.dbl_model.specs.declared.change.Commit.{Commit}
 use Rattle.dbl_model.specs.Keys.{key_of, new_key_of, same_key, given_or_null}
-use Rattle.dbl_model.specs.Rows.{changes_of}
+use Rattle.dbl_model.specs.Rows.{table_of, changes_of}
 
 -- What an event tells. The old row is None where none was sent. An updated row's cells may be left unsent. A tombstone
 -- follows a delete, so that a log which keeps the last record of each key can drop the key.
@@ -63,13 +63,6 @@ change_notices table info (Update _ key old cells) =
     else move_notices table info key (new_key_of info cells) old (record { cells = map given_or_null cells })
 change_notices table info (Delete _ key old) = notice table info (Some key) (Deleted (Some old)) ∷ notice table info (Some key) Tombstone ∷ []
 change_notices table info (Clear _) = notice table info None Truncated ∷ []
-
--- the place of the table that a change is of
-abbrev pub table_of : Change → ℕ
-table_of (Insert table row) = table
-table_of (Update table key old cells) = table
-table_of (Delete table key old) = table
-table_of (Clear table) = table
 
 -- what a change tells, and nothing where no table is captured at its place
 abbrev pub notices : List TableInfo → Change → List Notice

@@ -1,4 +1,4 @@
--- Histories that a database can have.
+-- Fit histories: what is asked of a source's history, and of each of its changes by the rows just before it.
 use Rattle.std.specs.Prelude.{ℕ, ◌≡◌, ◌⊎◌, IsTrue, Option, Some, None, IsSomeAnd, IfSome, IsSome, List, [], ◌∷◌, length, map, slice_get}
 use Rattle.std.specs.List.{AllByRecursion}
 use Rattle.dbl_value.specs.declared.column_type.PgType.{PgType}

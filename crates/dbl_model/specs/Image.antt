@@ -53,7 +53,8 @@ pub record HasRow (identity : Identity) (infos : List TableInfo) (rows : Rows) (
   pub names : Names identity infos topic text table key
   pub row : image_row infos rows table key ≡ Some texts
 
--- the image of rows: what it holds at a topic and a key's text. Nothing where they are of no key, or of one without a row
+-- The image of rows: what it holds at a topic and a key's text. It holds nothing where no table and key that they name has a
+-- row. Where the tables have distinct names at most one thing is held (law RowsHaveOneImage).
 abbrev pub IsImage : Identity → List TableInfo → Rows → List ℕ → List ℕ → Option (List ℕ → Option (List ℕ)) → Type 0
 IsImage identity infos rows topic text (Some texts) = HasRow identity infos rows topic text texts
 IsImage identity infos rows topic text None = (table : ℕ) (key : Key) → Names identity infos topic text table key → rows table key ≡ None

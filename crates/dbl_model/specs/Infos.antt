@@ -14,7 +14,7 @@ use Rattle.dbl_model.specs.Tables.{same_name, type_at, column_names, full_name}
 abbrev pub raw_column : Column → RawColumn
 raw_column column = record { name = column.name; oid = oid_of column.ty }
 
--- the name of the column at a place, and no name where there is none
+-- the name of the column at a place, and the empty one where there is no column
 abbrev pub name_at : List Column → ℕ → List ℕ
 name_at columns place = unwrap_or (option_map (λ column. column.name) (slice_get columns place)) []
 
@@ -29,7 +29,7 @@ key_types info = map (type_at info.columns) info.key
 abbrev pub catalogue_of : TableInfo → RawTable
 catalogue_of info = record { name = info.name; columns = map raw_column info.columns; key = key_names info }
 
--- what is captured of a table is read off its catalogue entry
+-- the info is of the table with this catalogue entry: of its name, its columns and its key
 abbrev pub IsInfoOf : RawTable → TableInfo → Type 0
 IsInfoOf raw info = catalogue_of info ≡ raw
 

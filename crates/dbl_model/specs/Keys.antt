@@ -15,13 +15,15 @@ use Rattle.dbl_model.specs.declared.table.TableInfo.{TableInfo}
 abbrev pub key_cmp : Key → Key → Ordering
 key_cmp a b = slice_cmp val_cmp a.cells b.cells
 
+-- whether two keys compare as equal, which is whether they are equal (law KeysAreOrdered)
 abbrev pub same_key : Key → Key → Bool
 same_key a b = is_eq (key_cmp a b)
 
--- the cells at the key columns' places, Null where there is none
+-- the cell at a place, Null where there is none
 abbrev pub cell_or_null : List Val → ℕ → Val
 cell_or_null cells place = unwrap_or (slice_get cells place) val.Null
 
+-- the key whose cells stand at these places
 abbrev pub key_at : List ℕ → List Val → Key
 key_at places cells = record { cells = map (cell_or_null cells) places }
 

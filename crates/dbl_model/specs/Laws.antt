@@ -1,4 +1,4 @@
--- What the definitions come to: each relation has at most one thing in it.
+-- What the definitions come to.
 use Rattle.std.specs.Prelude.{◌≡◌, ◌≤◌, ℕ, IsTrue, Option, Some, List, [], ◌∷◌, ◌++◌, length, map, take}
 use Rattle.std.specs.Bool.{Decides}
 use Rattle.std.specs.Cmp.{IsTotalOrder}

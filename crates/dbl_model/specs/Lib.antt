@@ -1,4 +1,5 @@
 pub mod Tables
+pub mod Identities
 pub mod Infos
 pub mod Keys
 pub mod Rows

@@ -12,9 +12,9 @@ use Rattle.dbl_model.specs.Rows.{effect_of, row_after}
 abbrev pub cells_of : Option Row → Option (List Val)
 cells_of row = option_map (λ r. r.cells) row
 
-abbrev pub is_given : Cell → Bool
-is_given (Given v) = true
-is_given Unchanged = false
+abbrev pub is_sent : Cell → Bool
+is_sent (Given v) = true
+is_sent Unchanged = false
 
 -- a cell of an update over the row's cell
 abbrev pub over : Option Cell → Val → Val

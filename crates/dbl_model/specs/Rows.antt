@@ -42,7 +42,8 @@ at_keys true false true effect = Ends
 at_keys true false false effect = Stays
 at_keys false new old effect = Stays
 
--- the one place where keys are looked at. The new key of an update is that of its cells, an unsent one read as Null
+-- What a change does to the row at a table and key. Of the words for rows this alone compares keys. The new key of an update
+-- is that of its cells, an unsent one read as Null.
 abbrev pub effect_of : List TableInfo → Change → ℕ → Key → Effect
 effect_of infos (Insert t row) table key = at_key (t == table) (same_key (key_at (key_places infos t) row.cells) key) (Whole row.cells)
 effect_of infos (Update t old_key old cells) table key =
@@ -91,12 +92,19 @@ rows_from infos rows (change ∷ changes) = rows_from infos (rows_after infos ch
 abbrev pub rows_at : List TableInfo → List Change → ℕ → Rows
 rows_at infos changes moment = rows_from infos no_rows (take moment changes)
 
--- the cell of a row in the column at a place
+-- the cell of a row in the column at a place; none where there is no row
 abbrev pub cell_of : Option (List Val) → ℕ → Option Val
 cell_of row column = option_and_then (λ cells. slice_get cells column) row
 
 abbrev pub cell_at : List TableInfo → List Change → ℕ → Key → ℕ → ℕ → Option Val
 cell_at infos changes table key column moment = cell_of (rows_at infos changes moment table key) column
+
+-- the place, among the captured tables, of the table that a change is of
+abbrev pub table_of : Change → ℕ
+table_of (Insert table row) = table
+table_of (Update table key old cells) = table
+table_of (Delete table key old) = table
+table_of (Clear table) = table
 
 -- a mark has no changes
 abbrev pub changes_of : Commit → List Change
@@ -111,11 +119,12 @@ all_changes (commit ∷ commits) = changes_of commit ++ all_changes commits
 abbrev pub rows : List TableInfo → List Commit → ℕ → Rows
 rows infos history moment = rows_at infos (all_changes history) moment
 
--- the moment after some number of whole commits and some number of changes of the next one
+-- the moment after some number of whole commits and some number of changes of the next one, which has as many
 abbrev pub moment_of : List Commit → ℕ → ℕ → ℕ
 moment_of history commits changes = length (all_changes (take commits history)) + changes
 
--- the moment that a position names: after all commits up to this LSN, and so after the whole commit whose LSN it is
+-- the moment that a position names where LSNs rise: after all commits up to this LSN, and so after the whole commit whose LSN
+-- it is
 abbrev pub moment_at : List Commit → ℕ → ℕ
 moment_at [] position = 0
 moment_at (commit ∷ commits) position = if nat_le commit.lsn.0 position then length (changes_of commit) + moment_at commits position else 0

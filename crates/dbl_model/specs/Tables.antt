@@ -19,7 +19,8 @@ is_name text = nat_lt 0 (length text) && nat_le (length text) 63 && list_all is_
 abbrev pub is_watermark : TableName → Bool
 is_watermark table = bytes_eq table.schema (codes "public") && bytes_eq table.name (codes "dblog_watermark")
 
--- names that a captured table may have: its topic is never the progress topic, and it isn't the watermark table
+-- Names that a captured table may have. It isn't `dblog-progress`, since a topic that ends in `.dblog-progress` is one of
+-- progress records, and it isn't the watermark table.
 abbrev pub is_good_name : TableName → Bool
 is_good_name table = is_name table.schema && is_name table.name && not (bytes_eq table.name (codes "dblog-progress")) && not (is_watermark table)
 
@@ -30,7 +31,7 @@ same_name a b = bytes_eq a.schema b.schema && bytes_eq a.name b.name
 abbrev pub full_name : TableName → List ℕ
 full_name table = table.schema ++ codes "." ++ table.name
 
--- no item of the list is there twice
+-- no item of the list is the same as a later one
 abbrev pub are_distinct : {X : Type 0} → (X → X → Bool) → List X → Bool
 are_distinct same [] = true
 are_distinct same (x ∷ xs) = not (list_any (same x) xs) && are_distinct same xs

@@ -6,7 +6,7 @@ pub fn commits_are_numbered()
     ensures { CommitsAreNumbered }
 {}
 
-/// The record of an insert, byte for byte.
+/// The record of an insert of a number and a text, with its JSON written out.
 pub fn small_inserts_are()
     ensures { SmallInsertsAre }
 {}

@@ -5,22 +5,22 @@ pub fn keys_are_ordered()
     ensures { KeysAreOrdered }
 {}
 
-/// What is captured of a table is determined by its catalogue entry.
+/// A catalogue entry has one info at most.
 pub fn entries_have_one_info()
     ensures { EntriesHaveOneInfo }
 {}
 
-/// A topic is of one table.
+/// Tables of one topic have one name.
 pub fn topics_name_tables()
     ensures { TopicsNameTables }
 {}
 
-/// The LSN of a commit names the moment after it, and 0 the first moment.
+/// Where LSNs rise, the LSN of a commit names the moment after it, and 0 the first moment.
 pub fn positions_are_moments()
     ensures { PositionsAreMoments }
 {}
 
-/// Rows within a commit are those after its first changes.
+/// The rows after some commits and some changes of the next one are those after these changes, one by one.
 pub fn moments_are_changes()
     ensures { MomentsAreChanges }
 {}
@@ -30,7 +30,7 @@ pub fn key_texts_name_keys()
     ensures { KeyTextsNameKeys }
 {}
 
-/// Rows have one image.
+/// At a topic and a text the image of rows of distinct tables has one thing at most.
 pub fn rows_have_one_image()
     ensures { RowsHaveOneImage }
 {}

@@ -32,7 +32,7 @@ fn columns_of(infos: &Vec<TableInfo>, table: u32) -> &[Column]
     }
 }
 
-fn text_of(alloc: Global, cell: &Val) -> Result<Text, ModelError>
+fn cell_text(alloc: Global, cell: &Val) -> Result<Text, ModelError>
     ensures ok { IfOk result (λ text. text ≡ json_of cell.now) }
     ensures err { IfErr result (λ e. e ≡ ModelError.Memory) }
 {
@@ -57,7 +57,7 @@ fn row_text(
     let Some(cell) = row.cells.items().get(place) else {
         return Ok(None);
     };
-    Ok(Some(text_of(alloc, cell)?))
+    Ok(Some(cell_text(alloc, cell)?))
 }
 
 /// The JSON text that the image at a moment has in a column at a table and key. It only serves tests of what the image is.

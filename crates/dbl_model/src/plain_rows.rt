@@ -6,7 +6,7 @@ ghost use Rattle.std.specs.Option.{option_copied};
 ghost use Rattle.dbl_model.specs.Infos.{key_places};
 ghost use Rattle.dbl_model.specs.Keys.{same_key, key_at, cell_or_null, given_or_null};
 ghost use Rattle.dbl_model.specs.Rows.{all_given, updated, at_key, at_keys, overlay, effect_of, row_after, changes_of, rows};
-ghost use Rattle.dbl_model.specs.PlainRows.{cells_of, is_given, over, row_from};
+ghost use Rattle.dbl_model.specs.PlainRows.{cells_of, is_sent, over, row_from};
 
 use crate::row::compare;
 use crate::{Body, Cell, Change, Commit, Key, Row, TableInfo};
@@ -74,8 +74,8 @@ fn given_or_nulls(alloc: Global, cells: &Seq<Cell>) -> Result<Seq<Val>, AllocErr
     Ok(Seq::make(row))
 }
 
-fn is_given(cell: &Cell) -> bool
-    ensures { result ≡ is_given cell.now }
+fn is_sent(cell: &Cell) -> bool
+    ensures { result ≡ is_sent cell.now }
 {
     match cell {
         Cell::Given(_) => true,
@@ -83,10 +83,10 @@ fn is_given(cell: &Cell) -> bool
     }
 }
 
-fn are_given(cells: &Seq<Cell>) -> bool
-    ensures { result ≡ list_all is_given cells.now }
+fn are_sent(cells: &Seq<Cell>) -> bool
+    ensures { result ≡ list_all is_sent cells.now }
 {
-    cells.items().iter().all(is_given)
+    cells.items().iter().all(is_sent)
 }
 
 fn cell_over(alloc: Global, cells: &Seq<Cell>, i: usize, old: &Val) -> Result<Val, AllocError>
@@ -117,7 +117,7 @@ fn row_updated(
 ) -> Result<Option<Row>, AllocError>
     ensures { IfOk result (λ new. cells_of new ≡ row_after (updated (all_given cells.now) cells.now) (cells_of row)) }
 {
-    if are_given(cells) {
+    if are_sent(cells) {
         return Ok(Some(Row {
             cells: given_or_nulls(alloc, cells)?,
         }));

@@ -244,7 +244,7 @@ fn has_row(
 }
 
 /// The text of a cell, and `nothing` where there is none.
-fn cell_text(
+fn text_at(
     alloc: Global,
     infos: &Vec<TableInfo>,
     commits: &Vec<Commit>,
@@ -269,7 +269,7 @@ fn has_texts(
     cases: &[(u64, u32, &str, &str, &str)],
 ) -> Result<(), Fail> {
     for (moment, table, key, column, want) in cases {
-        let text = cell_text(alloc, infos, commits, *moment, *table, key, column)?;
+        let text = text_at(alloc, infos, commits, *moment, *table, key, column)?;
         assert_eq!(rt; text.as_str(), *want);
         let is_there = has_row(alloc, infos, commits, *moment, *table, key)?;
         assert_eq!(rt; is_there, *want != "nothing");

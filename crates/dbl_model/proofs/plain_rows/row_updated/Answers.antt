@@ -6,18 +6,18 @@ use Rattle.dbl_model.specs.PlainRows.{cells_of}
 use Rattle.dbl_model.proofs.PlainLemmas.{given_all, given_not}
 use Rattle.dbl_model.proofs.plain_rows.row_updated.Goals as goal
 
-pub returns-then-are_given : goal.returns-then-are_given
-returns-then-are_given c =
+pub returns-then-are_sent : goal.returns-then-are_sent
+returns-then-are_sent c =
     ap Some c.in_ok-given_or_nulls.ensures
-    ∙ sym (ap (λ (o : Option (List Val)). row_after (updated o c.args.cells.now) (cells_of c.args.row)) (given_all c.args.cells.now (sym c.are_given.ensures ∙ c.if-are_given.true)))
+    ∙ sym (ap (λ (o : Option (List Val)). row_after (updated o c.args.cells.now) (cells_of c.args.row)) (given_all c.args.cells.now (sym c.are_sent.ensures ∙ c.if-are_sent.true)))
 
 pub returns-in_ok-overlaid-in-Some : goal.returns-in_ok-overlaid-in-Some
 returns-in_ok-overlaid-in-Some c =
     ap Some c.in_ok-overlaid-in-Some.ensures
-    ∙ sym (ap (λ (o : Option (List Val)). row_after (updated o c.args.cells.now) (cells_of c.args.row)) (given_not c.args.cells.now (sym c.are_given.ensures ∙ c.if-are_given.false))
+    ∙ sym (ap (λ (o : Option (List Val)). row_after (updated o c.args.cells.now) (cells_of c.args.row)) (given_not c.args.cells.now (sym c.are_sent.ensures ∙ c.if-are_sent.false))
     ∙ ap (λ row. option_map (overlay c.args.cells.now) (cells_of row)) c.in-Some.is)
 
 pub returns-in-None : goal.returns-in-None
 returns-in-None c =
-    sym (ap (λ (o : Option (List Val)). row_after (updated o c.args.cells.now) (cells_of c.args.row)) (given_not c.args.cells.now (sym c.are_given.ensures ∙ c.if-are_given.false))
+    sym (ap (λ (o : Option (List Val)). row_after (updated o c.args.cells.now) (cells_of c.args.row)) (given_not c.args.cells.now (sym c.are_sent.ensures ∙ c.if-are_sent.false))
     ∙ ap (λ row. option_map (overlay c.args.cells.now) (cells_of row)) c.in-None.is)

@@ -17,8 +17,8 @@ use Rattle.dbl_value.specs.declared.column_type.PgType.{PgType}
 use Rattle.dbl_value.specs.declared.column_type.PgType.TheVariants as type
 use Rattle.dbl_value.specs.declared.value.Val.{Val}
 use Rattle.dbl_value.specs.declared.value.Val.TheVariants.{Null, Int, Text}
-use Rattle.dbl_value.specs.Values.{is_within, json_data, json_of, SpellsValue}
-use Rattle.dbl_value.specs.Laws.{IsCellOf, JsonTellsCells}
+use Rattle.dbl_value.specs.Values.{is_within, json_data, json_of, SpellsValue, IsCellOf}
+use Rattle.dbl_value.specs.Laws.{JsonTellsCells}
 use Rattle.dbl_value.proofs.Decimals.{int4-IsRead}
 
 -- an integer's JSON text is its decimal text

@@ -1,5 +1,5 @@
 -- Column types and their OIDs, which value a text spells at a type, its text and its JSON.
-use Rattle.std.specs.Prelude.{ℕ, ℤ, pos, negsuc, ◌==◌, ◌&&◌, ◌||◌, ◌^◌, ◌≡◌, nat_lt, Bool, if◌then◌else◌, Option, Some, None, option_map, List, [], slice_index, drop, codes}
+use Rattle.std.specs.Prelude.{ℕ, ℤ, pos, negsuc, ◌==◌, ◌&&◌, ◌||◌, ◌^◌, ◌≡◌, ◌⊎◌, nat_lt, Bool, if◌then◌else◌, Option, Some, None, option_map, List, [], slice_index, drop, codes}
 use Rattle.std.specs.List.{list_all}
 use Rattle.std.specs.Char.{is_ascii_digit}
 use Rattle.std.specs.Fmt.{signed_decimal}
@@ -55,6 +55,10 @@ pub record IsOf (ty : PgType) (v : Val) : Type 0 where
   pub text : List ℕ
   pub utf8 : IsUtf8 text
   pub spells : SpellsValue ty text v
+
+-- what stands in a column of the type, Null among it
+abbrev pub IsCellOf : PgType → Val → Type 0
+IsCellOf ty v = (v ≡ val.Null) ⊎ IsOf ty v
 
 -- the text that PostgreSQL sends for the value; none is sent for Null, which has the empty one here
 abbrev pub text_of : Val → List ℕ

@@ -57,7 +57,7 @@ columns_one (c ∷ a) (d ∷ b) h =
     let rest : map raw_column a ≡ map raw_column b = cc in
     ap (λ (x : Column). x ∷ a) (column_one c d first) ∙ ap (λ (l : List Column). d ∷ l) (columns_one a b rest)
 
-has_name : (columns : List Column) (i : ℕ) → i < length columns → list_any (bytes_eq (name_at columns i)) (column_names columns) ≡ true
+pub has_name : (columns : List Column) (i : ℕ) → i < length columns → list_any (bytes_eq (name_at columns i)) (column_names columns) ≡ true
 has_name [] i lt = absurd (omega arith)
 has_name (c ∷ columns) zero lt = ap (λ (b : Bool). b || list_any (bytes_eq c.name) (column_names columns)) ((bytes_eq-Decides c.name c.name).1 refl)
 has_name (c ∷ columns) (suc i) lt = step (bytes_eq (name_at columns i) c.name) (has_name columns i (omega arith))
@@ -66,7 +66,7 @@ has_name (c ∷ columns) (suc i) lt = step (bytes_eq (name_at columns i) c.name)
     step true h = refl
     step false h = h
 
-not_true : (b : Bool) → not b ≡ true → b ≡ false
+pub not_true : (b : Bool) → not b ≡ true → b ≡ false
 not_true true h = sym h
 not_true false h = refl
 

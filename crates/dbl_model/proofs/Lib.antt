@@ -8,3 +8,6 @@ pub mod MomentLemmas
 pub mod PlainLemmas
 pub mod ImageLemmas
 pub mod RowKeys
+pub mod RangeLemmas
+pub mod Capturable
+pub mod FitsInfosLemmas

@@ -130,7 +130,7 @@ oid_of-type_of oid ty h = elim (bool_case (nat_eq oid 23)) [
 
 -- ---- the table is one that can be captured
 
-names_made : (columns : List Column) (raws : List RawColumn) → map raw_column columns ≡ raws → column_names columns ≡ raw_names raws
+pub names_made : (columns : List Column) (raws : List RawColumn) → map raw_column columns ≡ raws → column_names columns ≡ raw_names raws
 names_made columns raws h = same columns ∙ ap raw_names h
   where
     same : (cs : List Column) → column_names cs ≡ raw_names (map raw_column cs)

@@ -78,6 +78,8 @@ numbered position ordinal [] = []
 numbered position ordinal (n ∷ ns) =
     record { notice = n; position = position; ordinal = ordinal; last = is_nil ns } ∷ numbered position (ordinal + 1) ns
 
--- the events of a commit, change by change
+-- The events of a commit, change by change. They are meant for changes that fit the infos (`FitsInfos`). What is said of others
+-- means nothing: a change at whose place no table is captured tells nothing, an unsent cell of a row that moves is read as
+-- Null, and so on.
 abbrev pub events_of : List TableInfo → Commit → List Event
 events_of infos commit = numbered commit.lsn.0 0 (flat_map (notices infos) (changes_of commit))

@@ -14,7 +14,8 @@ use Rattle.dbl_model.specs.Tables.{same_name, are_distinct}
 use Rattle.dbl_model.specs.Infos.{IsInfoOf, key_types, width}
 use Rattle.dbl_model.specs.Keys.{key_of, new_key_of}
 use Rattle.dbl_model.specs.Rows.{Rows, no_rows, rows_after, all_given, all_changes}
-use Rattle.dbl_model.specs.History.{History, entry_of, IsRising}
+use Rattle.dbl_model.specs.History.{History, name_of, raw_changes_of, entry_of, IsRising}
+use Rattle.dbl_model.specs.Ranges.{HasRanges}
 use Rattle.dbl_model.specs.Typed.{typed}
 
 -- as many values as types, each one that some text spells at its type, so none is Null
@@ -74,7 +75,14 @@ pub record AreInfosOf (history : History) (infos : List TableInfo) : Type 0 wher
   pub distinct : IsTrue (are_distinct same_name (map (λ info. info.name) infos))
   pub each : AllByRecursion (λ info. IsSomeAnd (entry_of history info.name) (λ raw. IsInfoOf raw info)) infos
 
--- LSNs rise, and whatever is captured, the changes are fit from the first on
 pub record IsFitHistory (history : History) : Type 0 where
+  -- numbers and texts are in the ranges that PostgreSQL gives them
+  pub ranges : HasRanges history
+  -- LSNs are above 0 and rise from commit to commit
   pub rising : IsRising history
+  -- the catalogue has one entry of a table at most
+  pub distinct : IsTrue (are_distinct same_name (map (λ raw. raw.name) history.tables))
+  -- each change is of a table of the catalogue
+  pub known : AllByRecursion (λ commit. AllByRecursion (λ change. IsSome (entry_of history (name_of change))) (raw_changes_of commit.body)) history.commits
+  -- whatever is captured, the changes are fit from the first on, one after the other
   pub fit : (infos : List TableInfo) → AreInfosOf history infos → AreFit infos no_rows (all_changes (typed infos history))

@@ -23,6 +23,13 @@ pub data RawChange : Type 0 where
   Delete : TableName → RawKey → RawRow → RawChange
   Clear : TableName → RawChange
 
+-- the table that a change is of
+abbrev pub name_of : RawChange → TableName
+name_of (Insert name row) = name
+name_of (Update name key old cells) = name
+name_of (Delete name key old) = name
+name_of (Clear name) = name
+
 -- changes, or the watermark's new value
 pub data RawBody : Type 0 where
   Changes : List RawChange → RawBody
@@ -34,6 +41,11 @@ pub record RawCommit : Type 0 where
   pub time : ℤ
   pub xid : ℕ
   pub body : RawBody
+
+-- a mark has no changes
+abbrev pub raw_changes_of : RawBody → List RawChange
+raw_changes_of (Changes changes) = changes
+raw_changes_of (Mark value) = []
 
 -- the catalogue's entry of each table, and the commits
 pub record History : Type 0 where
@@ -49,6 +61,6 @@ AreRising below (lsn ∷ lsns) = (below < lsn) × AreRising lsn lsns
 abbrev pub IsRising : History → Type 0
 IsRising history = AreRising 0 (map (λ commit. commit.lsn.0) history.commits)
 
--- the catalogue's entry of a table
+-- the catalogue's entry of a table, the first of its name
 abbrev pub entry_of : History → TableName → Option RawTable
 entry_of history name = find (λ raw. same_name raw.name name) history.tables

@@ -18,6 +18,10 @@ raw_column column = record { name = column.name; oid = oid_of column.ty }
 abbrev pub name_at : List Column → ℕ → List ℕ
 name_at columns place = unwrap_or (option_map (λ column. column.name) (slice_get columns place)) []
 
+-- the columns' types
+abbrev pub column_types : TableInfo → List PgType
+column_types info = map (λ column. column.ty) info.columns
+
 -- the key columns' names and types, in key order
 abbrev pub key_names : TableInfo → List (List ℕ)
 key_names info = map (name_at info.columns) info.key

@@ -1,8 +1,10 @@
 -- What the definitions come to.
-use Rattle.std.specs.Prelude.{◌≡◌, ◌≤◌, ℕ, IsTrue, Option, Some, List, [], ◌∷◌, ◌++◌, length, map, take}
+use Rattle.std.specs.Prelude.{◌≡◌, ◌≤◌, ◌↔◌, ℕ, IsTrue, All, IsSome, Option, Some, None, List, [], ◌∷◌, ◌++◌, length, map, take}
+use Rattle.std.specs.List.{AllByRecursion}
 use Rattle.std.specs.Bool.{Decides}
 use Rattle.std.specs.Cmp.{IsTotalOrder}
 use Rattle.dbl_value.specs.declared.value.Val.{Val}
+use Rattle.dbl_value.specs.Values.{type_of}
 use Rattle.dbl_model.specs.declared.row.Key.{Key}
 use Rattle.dbl_model.specs.declared.table.RawTable.{RawTable}
 use Rattle.dbl_model.specs.declared.table.TableInfo.{TableInfo}
@@ -11,10 +13,14 @@ use Rattle.dbl_model.specs.declared.change.Commit.{Commit}
 use Rattle.dbl_model.specs.declared.identity.Identity.{Identity}
 use Rattle.dbl_model.specs.Tables.{same_name, are_distinct}
 use Rattle.dbl_model.specs.Infos.{IsInfoOf, topic_of}
+use Rattle.dbl_model.specs.Made.{table_fault}
 use Rattle.dbl_model.specs.Keys.{key_cmp, same_key}
 use Rattle.dbl_model.specs.Rows.{Rows, no_rows, rows_from, rows_at, rows, changes_of, all_changes, moment_of, moment_at}
-use Rattle.dbl_model.specs.History.{AreRising}
-use Rattle.dbl_model.specs.Fit.{IsKeyOf, AreFit, IsRowOf}
+use Rattle.dbl_model.specs.History.{History, AreRising}
+use Rattle.dbl_model.specs.Ranges.{HasRanges, IsCommitInRange, IsInfoInRange}
+use Rattle.dbl_model.specs.Typed.{typed}
+use Rattle.dbl_model.specs.Fit.{IsKeyOf, AreFit, IsRowOf, AreInfosOf, IsFitHistory}
+use Rattle.dbl_model.specs.FitsInfos.{FitsInfos, IsReadableHistory}
 use Rattle.dbl_model.specs.Image.{key_text, IsImage}
 
 -- the order of keys is total, and the test of two keys says whether they are equal
@@ -24,6 +30,10 @@ KeysAreOrdered = IsTotalOrder key_cmp × ((a b : Key) → Decides (same_key a b)
 -- a catalogue entry has at most one info
 abbrev pub EntriesHaveOneInfo : Type 0
 EntriesHaveOneInfo = (raw : RawTable) (a b : TableInfo) → IsInfoOf raw a → IsInfoOf raw b → a ≡ b
+
+-- where the columns' types are all known, an entry has no fault exactly where it has an info
+abbrev pub CapturableEntriesHaveAnInfo : Type 0
+CapturableEntriesHaveAnInfo = (raw : RawTable) → All (λ column. IsSome (type_of column.oid)) raw.columns → (table_fault raw ≡ None) ↔ ((info : TableInfo) × IsInfoOf raw info)
 
 -- tables of one topic have one name
 abbrev pub TopicsNameTables : Type 0
@@ -60,3 +70,16 @@ RowsHaveOneImage = (identity : Identity) (infos : List TableInfo) (at : Rows) (t
 abbrev pub FitRowsAreRows : Type 0
 FitRowsAreRows = (infos : List TableInfo) (changes : List Change) (moment : ℕ) → AreFit infos no_rows changes
     → (table : ℕ) (key : Key) (row : List Val) → rows_at infos changes moment table key ≡ Some row → IsRowOf infos table key row
+
+-- the typed commits of a history in range are in range, whatever is captured
+abbrev pub TypedCommitsAreInRange : Type 0
+TypedCommitsAreInRange = (infos : List TableInfo) (history : History) → HasRanges history → AllByRecursion IsCommitInRange (typed infos history)
+
+-- what is captured of a history in range is in range
+abbrev pub InfosAreInRange : Type 0
+InfosAreInRange = (infos : List TableInfo) (history : History) → HasRanges history → AreInfosOf history infos → AllByRecursion IsInfoInRange infos
+
+-- each change of a fit history fits what is captured of it, where its cells are readable
+abbrev pub FitChangesFitInfos : Type 0
+FitChangesFitInfos = (infos : List TableInfo) (history : History) → IsFitHistory history → AreInfosOf history infos → IsReadableHistory infos history
+    → AllByRecursion (FitsInfos infos) (all_changes (typed infos history))

@@ -4,8 +4,10 @@ pub mod Infos
 pub mod Keys
 pub mod Rows
 pub mod History
+pub mod Ranges
 pub mod Typed
 pub mod Fit
+pub mod FitsInfos
 pub mod Image
 pub mod Made
 pub mod Laws

@@ -1,4 +1,4 @@
-ghost use Rattle.dbl_model.specs.Laws.{KeysAreOrdered, EntriesHaveOneInfo, TopicsNameTables, PositionsAreMoments, MomentsAreChanges, KeyTextsNameKeys, RowsHaveOneImage, FitRowsAreRows};
+ghost use Rattle.dbl_model.specs.Laws.{KeysAreOrdered, EntriesHaveOneInfo, CapturableEntriesHaveAnInfo, TopicsNameTables, PositionsAreMoments, MomentsAreChanges, KeyTextsNameKeys, RowsHaveOneImage, FitRowsAreRows, TypedCommitsAreInRange, InfosAreInRange, FitChangesFitInfos};
 
 /// Keys are totally ordered, and equal exactly where they compare as equal.
 pub fn keys_are_ordered()
@@ -8,6 +8,11 @@ pub fn keys_are_ordered()
 /// A catalogue entry has one info at most.
 pub fn entries_have_one_info()
     ensures { EntriesHaveOneInfo }
+{}
+
+/// A catalogue entry whose columns' types are all known has an info exactly where it has no fault.
+pub fn capturable_entries_have_an_info()
+    ensures { CapturableEntriesHaveAnInfo }
 {}
 
 /// Tables of one topic have one name.
@@ -38,4 +43,19 @@ pub fn rows_have_one_image()
 /// The rows of a fit history are rows of their tables, each at its own key.
 pub fn fit_rows_are_rows()
     ensures { FitRowsAreRows }
+{}
+
+/// Commits that are typed from a history whose numbers and texts are in range are in range.
+pub fn typed_commits_are_in_range()
+    ensures { TypedCommitsAreInRange }
+{}
+
+/// What is captured of such a history is in range.
+pub fn infos_are_in_range()
+    ensures { InfosAreInRange }
+{}
+
+/// The changes of a fit history fit what is captured of it, where their cells are readable.
+pub fn fit_changes_fit_infos()
+    ensures { FitChangesFitInfos }
 {}

@@ -18,8 +18,10 @@ pub use error::ModelError;
 pub use event_laws::{commits_are_numbered, small_inserts_are, worked_commits};
 pub use identity::Identity;
 pub use laws::{
-    entries_have_one_info, fit_rows_are_rows, key_texts_name_keys, keys_are_ordered,
+    capturable_entries_have_an_info, entries_have_one_info, fit_changes_fit_infos,
+    fit_rows_are_rows, infos_are_in_range, key_texts_name_keys, keys_are_ordered,
     moments_are_changes, positions_are_moments, rows_have_one_image, topics_name_tables,
+    typed_commits_are_in_range,
 };
 pub use plain_image::image_text;
 pub use plain_rows::row_at;

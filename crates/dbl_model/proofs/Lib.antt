@@ -6,6 +6,8 @@ pub mod RowLemmas
 pub mod InfoLemmas
 pub mod MomentLemmas
 pub mod PlainLemmas
+pub mod PlainJsonLemmas
+pub mod PlainEventLemmas
 pub mod ImageLemmas
 pub mod RowKeys
 pub mod RangeLemmas

@@ -1,5 +1,5 @@
 -- What the definitions of change events come to.
-use Rattle.std.specs.Prelude.{◌≡◌, ℕ, ◌+◌, ℤ, List, [], ◌∷◌, ◌++◌, ◌==◌, length, true, Some, None, slice_get, decimal, codes}
+use Rattle.std.specs.Prelude.{◌≡◌, ℕ, ◌+◌, ℤ, pos, negsuc, List, [], ◌∷◌, ◌++◌, ◌==◌, length, true, Some, None, slice_get, decimal, codes}
 use Rattle.std.specs.Fmt.{signed_decimal}
 use Rattle.json.specs.Print.{quoted}
 use Rattle.dbl_value.specs.declared.value.Val.TheVariants as val
@@ -61,3 +61,7 @@ SmallInsertsAre = (identity : Identity) (info : TableInfo) (commit : Commit) (no
       newkey = None;
       oldkey = None;
     } ∷ []
+
+-- a commit at one microsecond before 2000 is at the last whole millisecond before it
+abbrev pub TimesAreRoundedDown : Type 0
+TimesAreRoundedDown = milliseconds_of (negsuc 0) ≡ pos 946684799999

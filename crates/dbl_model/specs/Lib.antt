@@ -14,5 +14,5 @@ pub mod Laws
 pub mod Events
 pub mod EventJson
 pub mod EventLaws
-pub mod WorkedEvents
 pub mod PlainRows
+pub mod PlainEvents

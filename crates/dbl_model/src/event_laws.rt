@@ -1,5 +1,4 @@
-ghost use Rattle.dbl_model.specs.EventLaws.{CommitsAreNumbered, SmallInsertsAre};
-ghost use Rattle.dbl_model.specs.WorkedEvents.{UnsentCellIs, MovedKeyIs, FullIdentityIs, TruncatesAre, TimeIs};
+ghost use Rattle.dbl_model.specs.EventLaws.{CommitsAreNumbered, SmallInsertsAre, TimesAreRoundedDown};
 
 /// The records of a commit are numbered from 0, and the last alone says that it is the last.
 pub fn commits_are_numbered()
@@ -11,11 +10,7 @@ pub fn small_inserts_are()
     ensures { SmallInsertsAre }
 {}
 
-/// The records of commits that were worked out by hand: an unsent cell, a moved key, a whole old row, two truncates, and a time.
-pub fn worked_commits()
-    ensures unsent { UnsentCellIs }
-    ensures moved { MovedKeyIs }
-    ensures whole { FullIdentityIs }
-    ensures truncated { TruncatesAre }
-    ensures time { TimeIs }
+/// A time before a whole millisecond is that of the millisecond before it.
+pub fn times_are_rounded_down()
+    ensures { TimesAreRoundedDown }
 {}

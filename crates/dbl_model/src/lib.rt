@@ -8,6 +8,8 @@ mod identity;
 mod laws;
 mod made;
 mod plain_image;
+mod plain_json;
+mod plain_records;
 mod plain_rows;
 mod row;
 mod table;
@@ -15,7 +17,7 @@ mod time;
 
 pub use change::{Body, Cell, Change, Commit};
 pub use error::ModelError;
-pub use event_laws::{commits_are_numbered, small_inserts_are, worked_commits};
+pub use event_laws::{commits_are_numbered, small_inserts_are, times_are_rounded_down};
 pub use identity::Identity;
 pub use laws::{
     capturable_entries_have_an_info, entries_have_one_info, fit_changes_fit_infos,
@@ -24,6 +26,7 @@ pub use laws::{
     typed_commits_are_in_range,
 };
 pub use plain_image::image_text;
+pub use plain_records::plain_envelopes;
 pub use plain_rows::row_at;
 pub use row::{Key, Row, compare};
 pub use table::{Column, RawColumn, RawRow, RawTable, TableInfo, TableName};

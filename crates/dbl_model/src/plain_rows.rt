@@ -32,6 +32,19 @@ fn cell_or_null(alloc: Global, cells: &Seq<Val>, place: u32) -> Result<Val, Allo
     }
 }
 
+/// The key whose cells stand at these places of a row's.
+pub(crate) fn key_at(alloc: Global, places: &[u32], cells: &Seq<Val>) -> Result<Key, AllocError>
+    ensures { IfOk result (λ key. key ≡ key_at places.now cells.now) }
+{
+    let mut key = Vec::new(alloc);
+    for place in places {
+        key.push(cell_or_null(alloc, cells, *place)?)?;
+    }
+    Ok(Key {
+        cells: Seq::make(key),
+    })
+}
+
 fn key_of_cells(
     alloc: Global,
     infos: &Vec<TableInfo>,
@@ -40,16 +53,10 @@ fn key_of_cells(
 ) -> Result<Key, AllocError>
     ensures { IfOk result (λ key. key ≡ key_at (key_places infos.now.items table) cells.now) }
 {
-    let mut key = Vec::new(alloc);
-    for place in key_places(infos, table) {
-        key.push(cell_or_null(alloc, cells, *place)?)?;
-    }
-    Ok(Key {
-        cells: Seq::make(key),
-    })
+    key_at(alloc, key_places(infos, table), cells)
 }
 
-fn is_same(a: &Key, b: &Key) -> bool
+pub(crate) fn is_same(a: &Key, b: &Key) -> bool
     ensures { result ≡ same_key a.now b.now }
 {
     compare(a, b).is_eq()
@@ -64,7 +71,7 @@ fn given_or_null(alloc: Global, cell: &Cell) -> Result<Val, AllocError>
     }
 }
 
-fn given_or_nulls(alloc: Global, cells: &Seq<Cell>) -> Result<Seq<Val>, AllocError>
+pub(crate) fn given_or_nulls(alloc: Global, cells: &Seq<Cell>) -> Result<Seq<Val>, AllocError>
     ensures { IfOk result (λ row. row ≡ map given_or_null cells.now) }
 {
     let mut row = Vec::new(alloc);

@@ -3,6 +3,7 @@ ghost use Rattle.dbl_value.specs.Values.{type_of};
 
 use crate::*;
 use dbl_base::{Lsn, Seq, Text};
+use dbl_record::line;
 use dbl_value::{PgType, Val};
 use std::alloc::{AllocError, Global};
 use std::cmp::Ordering;
@@ -16,12 +17,23 @@ fn name(alloc: Global, schema: &str, table: &str) -> Result<TableName, AllocErro
     })
 }
 
-/// A number where the word is one, else a text.
+/// Null where the word is `~`, a number where it is one, else a text.
 fn value(alloc: Global, word: &str) -> Result<Val, AllocError> {
+    if word == "~" {
+        return Ok(Val::Null);
+    }
     match word.parse::<i64>() {
         Ok(number) => Ok(Val::Int(number)),
         Err(_) => Ok(Val::Text(Text::of(alloc, word)?)),
     }
+}
+
+fn demo(alloc: Global) -> Result<Identity, AllocError> {
+    Ok(Identity {
+        prefix: Text::of(alloc, "demo")?,
+        db: Text::of(alloc, "shop")?,
+        placeholder: Text::of(alloc, "__debezium_unavailable_value")?,
+    })
 }
 
 fn row_of(alloc: Global, words: &str) -> Result<Row, AllocError> {
@@ -45,7 +57,7 @@ fn raw_column(alloc: Global, column: &str) -> Result<RawColumn, AllocError>
 {
     Ok(RawColumn {
         name: Text::of(alloc, column)?,
-        oid: if column == "ID" || column == "N" {
+        oid: if column == "id" || column == "n" {
             23
         } else {
             25
@@ -53,7 +65,7 @@ fn raw_column(alloc: Global, column: &str) -> Result<RawColumn, AllocError>
     })
 }
 
-/// A table of the columns of these names, whose key is the columns of those. `ID` and `N` are numbers.
+/// A table of the columns of these names, whose key is the columns of those. `id` and `n` are numbers.
 fn table(
     alloc: Global,
     table_name: TableName,
@@ -83,7 +95,7 @@ fn captures_tables(rt: HostRuntime) -> Result<(), Fail> {
     let alloc = rt.alloc();
     let users = name(alloc, "public", "users")?;
     assert!(rt; users.is_good() && !users.is_watermark());
-    let info = table(alloc, users, "ID name", "name ID")?.copy(alloc)?;
+    let info = table(alloc, users, "id name", "name id")?.copy(alloc)?;
     assert_eq!(rt; info.columns.items().len(), 2);
     assert_eq!(rt; info.columns.items()[1].ty, PgType::Text);
     assert_eq!(rt; info.key.items().as_slice(), [1, 0].as_slice());
@@ -96,7 +108,7 @@ fn fault(alloc: Global, kind: u8, table: TableName) -> Result<ModelError, AllocE
         0 => Ok(ModelError::BadName { name: table }),
         1 => Ok(ModelError::DuplicateColumn {
             table,
-            column: Text::of(alloc, "ID")?,
+            column: Text::of(alloc, "id")?,
         }),
         _ => Ok(ModelError::NoKey { table }),
     }
@@ -117,13 +129,13 @@ fn refuses_tables(rt: HostRuntime) -> Result<(), Fail> {
         &rt,
         rt.alloc(),
         &[
-            ("a.b", "ID name", "ID", 0),
-            ("dblog-progress", "ID name", "ID", 0),
-            ("dblog_watermark", "ID ID", "", 0),
-            ("users", "ID name ID", "", 1),
-            ("users", "ID name", "", 2),
-            ("users", "ID name", "key", 2),
-            ("users", "ID name", "ID ID", 2),
+            ("a.b", "id name", "id", 0),
+            ("dblog-progress", "id name", "id", 0),
+            ("dblog_watermark", "id id", "", 0),
+            ("users", "id name id", "", 1),
+            ("users", "id name", "", 2),
+            ("users", "id name", "key", 2),
+            ("users", "id name", "id id", 2),
         ],
     )
 }
@@ -138,12 +150,7 @@ fn compares_and_copies(rt: HostRuntime) -> Result<(), Fail> {
     assert!(rt; is_below(alloc, "-2", "1")?);
     assert!(rt; is_below(alloc, "9", "10")?);
     assert!(rt; is_below(alloc, "B", "a")?);
-    let identity = Identity {
-        prefix: Text::of(alloc, "demo")?,
-        db: Text::of(alloc, "shop")?,
-        placeholder: Text::of(alloc, "__debezium_unavailable_value")?,
-    };
-    assert_eq!(rt; identity.copy(alloc)?.db.as_str(), "shop");
+    assert_eq!(rt; demo(alloc)?.copy(alloc)?.db.as_str(), "shop");
     Ok(())
 }
 
@@ -158,7 +165,8 @@ fn cells(alloc: Global, words: &str) -> Result<Seq<Cell>, AllocError> {
     Ok(Seq::make(cells))
 }
 
-/// An insert (`i`), an update (`u`), a delete (`d`) or a truncate; `-` is an unsent cell.
+/// An insert (`i`), an update (`u`), a delete (`d`) or a truncate; `-` is an unsent cell. An update with its old row (`o`) has
+/// this row in place of the key, which is its first cell.
 fn change(
     alloc: Global,
     kind: char,
@@ -175,6 +183,12 @@ fn change(
             table,
             key: key_of(alloc, key)?,
             old: None,
+            cells: cells(alloc, words)?,
+        }),
+        'o' => Ok(Change::Update {
+            table,
+            key: key_of(alloc, key.split(' ').next().unwrap_or(""))?,
+            old: Some(row_of(alloc, key)?),
             cells: cells(alloc, words)?,
         }),
         'd' => Ok(Change::Delete {
@@ -199,7 +213,7 @@ fn commit(
         lsn: Lsn(lsn),
         end_lsn: Lsn(lsn),
         time: 0,
-        xid: 1,
+        xid: 7,
         body: Body::Changes(Seq::make(changes)),
     })
 }
@@ -227,8 +241,8 @@ fn history(alloc: Global) -> Result<Vec<Commit>, AllocError> {
 
 fn tables(alloc: Global) -> Result<Vec<TableInfo>, ModelError> {
     let mut infos = Vec::new(alloc);
-    infos.push(table(alloc, name(alloc, "public", "users")?, "ID name", "ID")?)?;
-    infos.push(table(alloc, name(alloc, "public", "docs")?, "ID body N", "ID")?)?;
+    infos.push(table(alloc, name(alloc, "public", "users")?, "id name", "id")?)?;
+    infos.push(table(alloc, name(alloc, "public", "docs")?, "id body n", "id")?)?;
     Ok(infos)
 }
 
@@ -290,11 +304,11 @@ fn rows_follow_the_changes(rt: HostRuntime) -> Result<(), Fail> {
             (0, 0, "1", "name", "nothing"),
             (1, 0, "1", "name", "\"Ann\""),
             (1, 1, "1", "body", "nothing"),
-            (2, 1, "1", "N", "1"),
+            (2, 1, "1", "n", "1"),
             (3, 0, "1", "name", "\"Ann\""),
             (4, 1, "1", "body", "\"long\""),
-            (4, 1, "1", "ID", "1"),
-            (4, 1, "1", "N", "2"),
+            (4, 1, "1", "id", "1"),
+            (4, 1, "1", "n", "2"),
             (5, 0, "1", "name", "nothing"),
             (5, 0, "2", "name", "\"Ann\""),
             (6, 0, "2", "name", "\"Ann\""),
@@ -302,4 +316,163 @@ fn rows_follow_the_changes(rt: HostRuntime) -> Result<(), Fail> {
             (7, 0, "2", "name", "nothing"),
         ],
     )
+}
+
+/// The line of a record of a commit at LSN 256, at 2000-01-01 UTC, of the transaction 7: its table, its headers before the
+/// position, its key, and its value's `after`, `before` and `op`. Without an `op` it is a tombstone.
+fn line_of(
+    alloc: Global,
+    want: &(&str, &str, &str, &str, &str, &str),
+) -> Result<String, AllocError> {
+    let (table, headers, key, after, before, op) = *want;
+    let mut line = String::new(alloc);
+    for piece in [
+        r#"{"headers":{"#,
+        headers,
+        r#","dblog.position":256},"key":"#,
+        key,
+        r#","topic":"demo.public."#,
+        table,
+        r#"","value":"#,
+    ] {
+        line.push_str(piece)?;
+    }
+    if op.is_empty() {
+        line.push_str("null}")?;
+        return Ok(line);
+    }
+    for piece in [
+        r#"{"after":"#,
+        after,
+        r#","before":"#,
+        before,
+        r#","op":""#,
+        op,
+        r#"","source":{"connector":"postgresql","db":"shop","lsn":256,"name":"demo","schema":"public","snapshot":"false","table":""#,
+        table,
+        r#"","ts_ms":946684800000,"txId":7,"version":"1.0","xmin":null},"transaction":null,"ts_ms":5}}"#,
+    ] {
+        line.push_str(piece)?;
+    }
+    Ok(line)
+}
+
+/// The steps' commit has these records.
+fn tells(
+    rt: &impl Abort,
+    alloc: Global,
+    steps: &[(char, u32, &str, &str)],
+    wanted: &[(&str, &str, &str, &str, &str, &str)],
+) -> Result<(), Fail> {
+    let commit = commit(alloc, 256, steps)?;
+    let records = plain_envelopes(alloc, &demo(alloc)?, &tables(alloc)?, &commit, 5)?;
+    assert_eq!(rt; records.len(), wanted.len());
+    for (record, want) in records.iter().zip(wanted.iter()) {
+        assert_eq!(rt;
+            line(alloc, record)?.as_str(),
+            line_of(alloc, want)?.as_str()
+        );
+    }
+    Ok(())
+}
+
+const ONE: &str = r#"{"id":1}"#;
+
+const ANN: &str = r#"{"id":1,"name":"Ann"}"#;
+
+const ALONE: &str = r#""dblog.last":true,"dblog.ordinal":0"#;
+
+const FIRST: &str = r#""dblog.last":false,"dblog.ordinal":0"#;
+
+const SECOND: &str = r#""dblog.last":true,"dblog.ordinal":1"#;
+
+#[test]
+fn changes_have_their_records(rt: HostRuntime) -> Result<(), Fail> {
+    let alloc = rt.alloc();
+    tells(
+        &rt,
+        alloc,
+        &[('i', 0, "", "1 Ann")],
+        &[("users", ALONE, ONE, ANN, "null", "c")],
+    )?;
+    let unsent = r#"{"id":1,"name":"__debezium_unavailable_value"}"#;
+    tells(
+        &rt,
+        alloc,
+        &[('u', 0, "1", "1 -")],
+        &[("users", ALONE, ONE, unsent, "null", "u")],
+    )?;
+    tells(
+        &rt,
+        alloc,
+        &[('o', 0, "1 Ann", "1 Ann")],
+        &[("users", ALONE, ONE, ANN, ANN, "u")],
+    )?;
+    tells(
+        &rt,
+        alloc,
+        &[('d', 0, "1", "1 Ann")],
+        &[
+            ("users", FIRST, ONE, "null", ANN, "d"),
+            ("users", SECOND, ONE, "", "", ""),
+        ],
+    )?;
+    tells(
+        &rt,
+        alloc,
+        &[('t', 0, "", ""), ('t', 1, "", "")],
+        &[
+            ("users", FIRST, "null", "null", "null", "t"),
+            ("docs", SECOND, "null", "null", "null", "t"),
+        ],
+    )
+}
+
+#[test]
+fn a_moved_key_has_three_records(rt: HostRuntime) -> Result<(), Fail> {
+    tells(
+        &rt,
+        rt.alloc(),
+        &[('o', 0, "1 ~", "2 Ann")],
+        &[
+            (
+                "users",
+                r#""__debezium.newkey":{"id":2},"dblog.last":false,"dblog.ordinal":0"#,
+                ONE,
+                "null",
+                r#"{"id":1,"name":null}"#,
+                "d",
+            ),
+            (
+                "users",
+                r#""dblog.last":false,"dblog.ordinal":1"#,
+                ONE,
+                "",
+                "",
+                "",
+            ),
+            (
+                "users",
+                r#""__debezium.oldkey":{"id":1},"dblog.last":true,"dblog.ordinal":2"#,
+                r#"{"id":2}"#,
+                r#"{"id":2,"name":"Ann"}"#,
+                "null",
+                "c",
+            ),
+        ],
+    )
+}
+
+#[test]
+fn some_commits_have_no_record(rt: HostRuntime) -> Result<(), Fail> {
+    let alloc = rt.alloc();
+    tells(&rt, alloc, &[], &[])?;
+    tells(&rt, alloc, &[('i', 2, "", "1 Ann")], &[])?;
+    let mark = Commit {
+        body: Body::Mark(Text::of(alloc, "1-1-L")?),
+        ..commit(alloc, 256, &[])?
+    };
+    let records = plain_envelopes(alloc, &demo(alloc)?, &tables(alloc)?, &mark, 5)?;
+    assert!(rt; records.is_empty());
+    Ok(())
 }

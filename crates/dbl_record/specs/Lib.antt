@@ -1,3 +1,7 @@
 pub mod Line
 pub mod Whole
 pub mod Laws
+pub mod Acts
+pub mod Consumers
+pub mod Reading
+pub mod Places

@@ -1,9 +1,12 @@
 use std::alloc::{AllocError, AllocFailed};
 use thiserror::Error;
 
-/// Why a record isn't written.
-#[derive(Debug, Drop, PartialEq, Eq, Error)]
+/// Why a record isn't read or written. Writing answers `Memory` alone.
+#[derive(Clone, Copy, Debug, Drop, PartialEq, Eq, Error)]
 pub enum RecordError {
+    /// The text isn't a JSON object with a string `topic`. The place is 0.
+    #[error("bad record at {at}")]
+    BadRecord { at: u64 },
     #[error("out of memory")]
     Memory,
 }

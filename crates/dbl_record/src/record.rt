@@ -4,7 +4,7 @@ use dbl_base::Text;
 use std::alloc::{AllocError, Global};
 
 /// A record of a topic: a change event, a tombstone or a progress record. `key`, `value`, `newkey` and `oldkey` are
-/// compact JSON texts.
+/// meant as compact JSON texts; the type itself lets any text stand there.
 #[derive(Debug, Drop, PartialEq, Eq)]
 pub struct Record {
     pub topic: Text,

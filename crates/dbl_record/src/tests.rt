@@ -1,4 +1,4 @@
-use super::{Record, append_line, line};
+use super::{Record, RecordError, append_line, line, read_line};
 use dbl_base::Text;
 use std::alloc::{AllocError, Global};
 use std::test::Fail;
@@ -44,5 +44,25 @@ fn lines_follow_one_another(rt: HostRuntime) -> Result<(), Fail> {
     let wanted =
         b"first\n{\"headers\":{\"__debezium.newkey\":{\"id\":2},\"__debezium.oldkey\":{\"id\":1},\"dblog.last\":false,\"dblog.ordinal\":2,\"dblog.position\":18446744073709551615},\"key\":null,\"topic\":\"a\\\"b\",\"value\":null}";
     assert_eq!(rt; out.as_slice(), wanted.as_slice());
+    Ok(())
+}
+
+fn is_bad(alloc: Global, text: &str) -> Result<bool, Fail> {
+    Ok(read_line(alloc, &Text::of(alloc, text)?) == Err(RecordError::BadRecord { at: 0 }))
+}
+
+#[test]
+fn a_line_is_read(rt: HostRuntime) -> Result<(), Fail> {
+    let text = Text::of(
+        rt.alloc(),
+        " {\"value\": {\"z\" : [1, \"\\u00e9\"], \"a\":-5}, \"topic\":\"a\\\"b\", \"other\":1.5}",
+    )?;
+    let read = read_line(rt.alloc(), &text)?;
+    assert_eq!(rt; read.topic.as_str(), "a\"b");
+    assert_eq!(rt; read.key.as_str(), "null");
+    assert_eq!(rt; read.value.as_str(), "{\"a\":-5,\"z\":[1,\"é\"]}");
+    assert!(rt; is_bad(rt.alloc(), "{\"topic\":1}")?);
+    assert!(rt; is_bad(rt.alloc(), "\"topic\"")?);
+    assert!(rt; is_bad(rt.alloc(), "{\"topic\":\"t\"")?);
     Ok(())
 }

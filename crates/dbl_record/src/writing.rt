@@ -1,22 +1,23 @@
-ghost use Rattle.std.specs.Prelude.{◌≡◌, ◌++◌, OnOk, IfOk, decimal};
+ghost use Rattle.std.specs.Prelude.{◌≡◌, ◌++◌, OnOk, IfOk, IfErr, decimal};
 ghost use Rattle.std.specs.Str.{IsUtf8};
 ghost use Rattle.json.specs.Print.{quoted};
+ghost use Rattle.dbl_record.specs.declared.error.RecordError.TheVariants.{Memory};
 ghost use Rattle.dbl_record.specs.Line.{Appends, line_of, truth_text, text_or_null, key_piece, place_pieces, headers_pieces, head_pieces, tail_pieces};
 
 use crate::error::RecordError;
 use crate::record::Record;
 use dbl_base::Text;
 use json::Writer;
-use std::alloc::Global;
+use std::alloc::{AllocError, Global};
 
-fn append(out: &mut Vec<u8>, text: &str) -> Result<(), RecordError>
+fn append(out: &mut Vec<u8>, text: &str) -> Result<(), AllocError>
     ensures { OnOk result (Appends out.old.items out.new.items text.now) }
 {
     out.extend_from_slice(text.as_bytes())?;
     Ok(())
 }
 
-fn append_truth(out: &mut Vec<u8>, truth: bool) -> Result<(), RecordError>
+fn append_truth(out: &mut Vec<u8>, truth: bool) -> Result<(), AllocError>
     ensures { OnOk result (Appends out.old.items out.new.items (truth_text truth)) }
 {
     if truth {
@@ -27,7 +28,7 @@ fn append_truth(out: &mut Vec<u8>, truth: bool) -> Result<(), RecordError>
 }
 
 /// A name with its punctuation, and a number.
-fn append_number(out: &mut Vec<u8>, name: &str, number: u64) -> Result<(), RecordError>
+fn append_number(out: &mut Vec<u8>, name: &str, number: u64) -> Result<(), AllocError>
     ensures { OnOk result (Appends out.old.items out.new.items (name.now ++ decimal number)) }
 {
     let mut buffer = itoa::Buffer::new();
@@ -35,7 +36,7 @@ fn append_number(out: &mut Vec<u8>, name: &str, number: u64) -> Result<(), Recor
     append(out, buffer.format(number))
 }
 
-fn append_or_null(out: &mut Vec<u8>, text: &Option<Text>) -> Result<(), RecordError>
+fn append_or_null(out: &mut Vec<u8>, text: &Option<Text>) -> Result<(), AllocError>
     ensures { OnOk result (Appends out.old.items out.new.items (text_or_null text.now)) }
 {
     match text {
@@ -45,7 +46,7 @@ fn append_or_null(out: &mut Vec<u8>, text: &Option<Text>) -> Result<(), RecordEr
 }
 
 /// A header that holds a key, where there is one, with the comma behind it. `name` is quoted and has its colon.
-fn append_key_header(out: &mut Vec<u8>, name: &str, key: &Option<Text>) -> Result<(), RecordError>
+fn append_key_header(out: &mut Vec<u8>, name: &str, key: &Option<Text>) -> Result<(), AllocError>
     ensures { OnOk result (Appends out.old.items out.new.items (key_piece name.now key.now)) }
 {
     match key {
@@ -58,7 +59,7 @@ fn append_key_header(out: &mut Vec<u8>, name: &str, key: &Option<Text>) -> Resul
     }
 }
 
-fn append_place(out: &mut Vec<u8>, item: &Record) -> Result<(), RecordError>
+fn append_place(out: &mut Vec<u8>, item: &Record) -> Result<(), AllocError>
     ensures { OnOk result (Appends out.old.items out.new.items (place_pieces item.now)) }
 {
     append(out, "\"dblog.last\":")?;
@@ -68,7 +69,7 @@ fn append_place(out: &mut Vec<u8>, item: &Record) -> Result<(), RecordError>
     append(out, "}")
 }
 
-fn append_headers(out: &mut Vec<u8>, item: &Record) -> Result<(), RecordError>
+fn append_headers(out: &mut Vec<u8>, item: &Record) -> Result<(), AllocError>
     ensures { OnOk result (Appends out.old.items out.new.items (headers_pieces item.now)) }
 {
     append(out, "{")?;
@@ -77,7 +78,7 @@ fn append_headers(out: &mut Vec<u8>, item: &Record) -> Result<(), RecordError>
     append_place(out, item)
 }
 
-fn append_head(out: &mut Vec<u8>, item: &Record) -> Result<(), RecordError>
+fn append_head(out: &mut Vec<u8>, item: &Record) -> Result<(), AllocError>
     ensures { OnOk result (Appends out.old.items out.new.items (head_pieces item.now)) }
 {
     append(out, "{\"headers\":")?;
@@ -87,7 +88,7 @@ fn append_head(out: &mut Vec<u8>, item: &Record) -> Result<(), RecordError>
     append(out, ",\"topic\":")
 }
 
-fn append_quoted(out: Vec<u8>, text: &str) -> Result<Vec<u8>, RecordError>
+fn append_quoted(out: Vec<u8>, text: &str) -> Result<Vec<u8>, AllocError>
     ensures { IfOk result (λ done. Appends out.items done.items (quoted text.now)) }
 {
     let mut writer = Writer::new(out);
@@ -95,7 +96,7 @@ fn append_quoted(out: Vec<u8>, text: &str) -> Result<Vec<u8>, RecordError>
     Ok(writer.into_inner())
 }
 
-fn append_tail(out: &mut Vec<u8>, item: &Record) -> Result<(), RecordError>
+fn append_tail(out: &mut Vec<u8>, item: &Record) -> Result<(), AllocError>
     ensures { OnOk result (Appends out.old.items out.new.items (tail_pieces item.now)) }
 {
     append(out, ",\"value\":")?;
@@ -107,6 +108,7 @@ fn append_tail(out: &mut Vec<u8>, item: &Record) -> Result<(), RecordError>
 pub fn append_line(mut out: Vec<u8>, item: &Record) -> Result<Vec<u8>, RecordError>
     ensures line { IfOk result (λ done. done.items ≡ out.items ++ line_of item.now) }
     ensures utf8 { OnOk result (IsUtf8 (line_of item.now)) }
+    ensures memory { IfErr result (λ error. error ≡ Memory) }
 {
     append_head(&mut out, item)?;
     let mut quoted = append_quoted(out, item.topic.as_str())?;
@@ -116,7 +118,8 @@ pub fn append_line(mut out: Vec<u8>, item: &Record) -> Result<Vec<u8>, RecordErr
 
 /// A record's line form, without its newline.
 pub fn line(alloc: Global, item: &Record) -> Result<Text, RecordError>
-    ensures { IfOk result (λ text. text ≡ line_of item.now) }
+    ensures line { IfOk result (λ text. text ≡ line_of item.now) }
+    ensures memory { IfErr result (λ error. error ≡ Memory) }
 {
     let bytes = append_line(Vec::new(alloc), item)?;
     match String::from_utf8(bytes) {

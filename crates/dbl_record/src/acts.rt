@@ -1,0 +1,92 @@
+use dbl_base::{Seq, Text};
+use std::alloc::{AllocError, AllocFailed};
+use thiserror::Error;
+
+/// What a consumer holds of a cell.
+#[derive(Debug, Drop, PartialEq, Eq)]
+pub enum HeldCell {
+    /// The compact JSON text of its value.
+    Known(Text),
+    /// The cell wasn't sent, and none was held.
+    Unknown,
+}
+
+/// A cell of an event's row, and its compact JSON text. None where its value wasn't sent: it is the placeholder of
+/// unavailable values.
+#[derive(Debug, Drop, PartialEq, Eq)]
+pub struct GivenCell {
+    pub column: Text,
+    pub text: Option<Text>,
+}
+
+/// What an event tells of. A create, a read of a snapshot and an update put a row.
+#[derive(Clone, Copy, Debug, Drop, PartialEq, Eq)]
+pub enum Operation {
+    Put,
+    Delete,
+    Truncate,
+    Message,
+}
+
+/// What a record does to the rows of its topic.
+#[derive(Debug, Drop, PartialEq, Eq)]
+pub enum Act {
+    Nothing,
+    /// The row of the key has these cells, in byte order of their columns.
+    Set { key: Text, cells: Seq<GivenCell> },
+    Remove { key: Text },
+    /// All rows of the topic are gone.
+    Wipe,
+}
+
+/// Why a consumer refuses a record.
+#[derive(Debug, Drop, PartialEq, Eq, Error)]
+pub enum ConsumeError {
+    /// The key or the value isn't JSON.
+    #[error("bad json")]
+    BadJson,
+    /// The value isn't an object with a string `op`.
+    #[error("no op")]
+    NoOp,
+    /// The `op` is none of `c`, `r`, `u`, `d`, `t` and `m`.
+    #[error("unknown op")]
+    UnknownOp,
+    /// The key isn't an object, or one of its members is an array, an object or a number that isn't an integer of 64
+    /// bits.
+    #[error("no key")]
+    NoKey,
+    /// `after` isn't an object.
+    #[error("bad after")]
+    BadAfter,
+    /// The first column in byte order whose cell no consumer holds: here the cell is a number that isn't an integer of
+    /// 64 bits.
+    #[error("float cell {column}")]
+    FloatCell { column: Text },
+    /// Here it is an array or an object.
+    #[error("nested cell {column}")]
+    NestedCell { column: Text },
+    #[error("out of memory")]
+    Memory,
+}
+
+impl From<AllocError> for ConsumeError {
+    ghost use Rattle.std.specs.Prelude.{◌≡◌};
+    ghost use Rattle.dbl_record.specs.declared.acts.ConsumeError.TheVariants.{Memory};
+
+    ghost from_gives = { λ _ e. e ≡ Memory };
+
+    fn from(_error: AllocError) -> ConsumeError {
+        ConsumeError::Memory
+    }
+}
+
+impl<T: Drop> From<AllocFailed<T>> for ConsumeError {
+    ghost use Rattle.std.specs.Prelude.{◌≡◌};
+    ghost use Rattle.dbl_record.specs.declared.acts.ConsumeError.TheVariants.{Memory};
+
+    ghost from_gives = { λ _ e. e ≡ Memory };
+
+    fn from(_error: AllocFailed<T>) -> ConsumeError {
+        ConsumeError::Memory
+    }
+}

@@ -62,7 +62,7 @@ below_put l k d (member m e ms) lt below = step (slice_cmp nat_cmp k m) (below_p
     step Equal later = (below.0, below.1)
     step Greater later = (below.0, later)
 
-put_whole : (k : List ℕ) (d : Data) (ms : Members) → IsWhole d → MembersAreWhole ms → MembersAreWhole (put k d ms)
+pub put_whole : (k : List ℕ) (d : Data) (ms : Members) → IsWhole d → MembersAreWhole ms → MembersAreWhole (put k d ms)
 put_whole k d no_members whole rest = (whole, tt, tt)
 put_whole k d (member l e ms) whole rest = step (slice_cmp nat_cmp k l) refl (put_whole k d ms whole rest.2)
   where
@@ -98,7 +98,7 @@ members_shallow (name ∷ names) (v ∷ values) = put_shallow name (json_data v)
 
 -- ---- what the members say of the cells
 
-members_none : (names : List (List ℕ)) (values : List Val) (q : List ℕ) → list_any (bytes_eq q) names ≡ false → get_member q (members_of names values) ≡ None
+pub members_none : (names : List (List ℕ)) (values : List Val) (q : List ℕ) → list_any (bytes_eq q) names ≡ false → get_member q (members_of names values) ≡ None
 members_none [] values q new = refl
 members_none (name ∷ names) [] q new = refl
 members_none (name ∷ names) (v ∷ values) q new =
@@ -162,7 +162,7 @@ named (x ∷ infos) (suc i) info name at is = step (same_name name x.name) (name
     step true h = refl
     step false h = h
 
-table_one : (infos : List TableInfo) (i j : ℕ) (x y : TableInfo) → AreDistinctTables infos → slice_get infos i ≡ Some x → slice_get infos j ≡ Some y → x.name ≡ y.name → i ≡ j
+pub table_one : (infos : List TableInfo) (i j : ℕ) (x y : TableInfo) → AreDistinctTables infos → slice_get infos i ≡ Some x → slice_get infos j ≡ Some y → x.name ≡ y.name → i ≡ j
 table_one [] i j x y apart at_x at_y same = cc
 table_one (z ∷ infos) zero zero x y apart at_x at_y same = refl
 table_one (z ∷ infos) zero (suc j) x y apart at_x at_y same =

@@ -69,7 +69,7 @@ overlaid_key (ty ∷ types) (place ∷ places) cells row long same within are =
     ap (λ (v : Val). v ∷ map (cell_or_null (overlay cells row)) places) first
     ∙ ap (λ (l : List Val). cell_or_null (map given_or_null cells) place ∷ l) (overlaid_key types places cells row long same (and_right (nat_lt place long) _ within) are.1)
 
-given_row : (cells : List Cell) (row : List Val) → all_given cells ≡ Some row → map given_or_null cells ≡ row
+pub given_row : (cells : List Cell) (row : List Val) → all_given cells ≡ Some row → map given_or_null cells ≡ row
 given_row [] row h = cc
 given_row (Given v ∷ cells) row h = step (all_given cells) h (given_row cells)
   where

@@ -1,0 +1,9 @@
+mod Wholes
+mod Notices
+mod Lines
+mod Topics
+mod Acts
+mod Held
+mod Steps
+mod Consumers
+mod Named

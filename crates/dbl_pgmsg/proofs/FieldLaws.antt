@@ -20,10 +20,10 @@ use Rattle.dbl_pgmsg.proofs.Texts.{utf8_taken}
 abbrev pub IsBytes : List ℕ → Type 0
 IsBytes bytes = (i : ℕ) → get_or bytes i 0 < 256
 
-IsBytes-drop : (n : ℕ) (bytes : List ℕ) → IsBytes bytes → IsBytes (drop n bytes)
+pub IsBytes-drop : (n : ℕ) (bytes : List ℕ) → IsBytes bytes → IsBytes (drop n bytes)
 IsBytes-drop n bytes h i = rw get_or-drop (h (n + i))
 
-IsBytes-take : (n : ℕ) (bytes : List ℕ) → IsBytes bytes → IsBytes (take n bytes)
+pub IsBytes-take : (n : ℕ) (bytes : List ℕ) → IsBytes bytes → IsBytes (take n bytes)
 IsBytes-take n bytes h i =
     elim (cases_lt i n) [
       | inl lt ↦ rw (get_or-take n bytes i 0 lt) (h i)
@@ -224,7 +224,7 @@ utf8_is at bytes text e =
     let same = ok_is bytes text g.1 in
     (same, subst IsUtf8 same (IsUtf8-from_is_utf8 bytes g.0))
 
-before_zero_again : (text rest : List ℕ) → AllByRecursion (λ b. b ≢ 0) text → before_zero (text ++ 0 ∷ rest) ≡ Some (text, rest)
+pub before_zero_again : (text rest : List ℕ) → AllByRecursion (λ b. b ≢ 0) text → before_zero (text ++ 0 ∷ rest) ≡ Some (text, rest)
 before_zero_again [] rest h = refl
 before_zero_again (zero ∷ text) rest h = absurd (h.0 refl)
 before_zero_again (suc b ∷ text) rest h = rw (before_zero_again text rest h.1) refl
@@ -236,7 +236,7 @@ mapped_some : {A B : Type 0} (f : A → B) (o : Option A) (y : B) → option_map
 mapped_some f None y e = absurd cc
 mapped_some f (Some x) y e = (x, refl, some_is (f x) y e)
 
-before_zero_is : (bytes : List ℕ) (x : List ℕ × List ℕ) → before_zero bytes ≡ Some x → (bytes ≡ x.0 ++ 0 ∷ x.1) × AllByRecursion (λ b. b ≢ 0) x.0
+pub before_zero_is : (bytes : List ℕ) (x : List ℕ × List ℕ) → before_zero bytes ≡ Some x → (bytes ≡ x.0 ++ 0 ∷ x.1) × AllByRecursion (λ b. b ≢ 0) x.0
 before_zero_is [] x e = absurd cc
 before_zero_is (zero ∷ bytes) x e =
     subst (λ (y : List ℕ × List ℕ). (zero ∷ bytes ≡ y.0 ++ 0 ∷ y.1) × AllByRecursion (λ b. b ≢ 0) y.0) (some_is ([], bytes) x e) (refl, tt)

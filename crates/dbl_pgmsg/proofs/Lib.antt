@@ -3,3 +3,7 @@ pub mod Many
 pub mod FieldLaws
 pub mod RowLaws
 pub mod MessageLaws
+pub mod Walks
+pub mod KindWalks
+pub mod FaultLaws
+pub mod PrefixLaws

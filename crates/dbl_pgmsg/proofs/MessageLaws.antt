@@ -1,21 +1,21 @@
 -- Messages: what is read was written, and what was written is read again.
-use Rattle.std.proofs.Common.{◌≡◌, ◌⊎◌, ℕ, ℤ, ◌^◌, ◌<◌, ◌≤◌, true, false, eqb, ltb, List, [], ◌∷◌, ◌++◌, length, Option, Some, None, Result, Ok, Err, refl, sym, ap, subst, ◌∙◌, append_assoc, arith, inl, inr}
-use Rattle.std.specs.Prelude.{IsTrue, IfOk, IfErr}
-use Rattle.std.specs.List.{flat_map}
+use Rattle.std.proofs.Common.{◌≡◌, ℕ, ℤ, ◌^◌, ◌<◌, ◌≤◌, true, false, eqb, ltb, List, [], ◌∷◌, ◌++◌, length, take, drop, Option, Some, None, Ok, refl, sym, ap, subst, ◌∙◌, append_assoc, arith, inl, inr}
+use Rattle.std.specs.Prelude.{IsTrue}
+use Rattle.std.specs.List.{flat_map, AllByRecursion}
+use Rattle.std.specs.Int.{w32}
 use Rattle.std.proofs.lemmas.Bool.{eqb-true, le-ltb, ltb-false}
-use Rattle.std.proofs.lemmas.List.{take_at, drop_at, length-append, append-nil, nil_from_length}
+use Rattle.std.proofs.lemmas.List.{take_at, drop_at, take-append-drop, length-append, length-take}
 use Rattle.dbl_base.specs.declared.lsn.Lsn.{Lsn}
-use Rattle.dbl_pgmsg.specs.declared.error.MsgError.{MsgError}
-use Rattle.dbl_pgmsg.specs.declared.error.MsgError.TheVariants.{Memory}
+use Rattle.dbl_pgmsg.specs.declared.error.MsgError.TheVariants.{Truncated}
 use Rattle.dbl_pgmsg.specs.declared.messages.Message.{Message}
 use Rattle.dbl_pgmsg.specs.declared.messages.Message.TheVariants.{Begin, Commit, Origin, TypeName, Relation, Insert, Update, Delete, Truncate, Logical}
 use Rattle.dbl_pgmsg.specs.declared.messages.RelationColumn.{RelationColumn}
 use Rattle.dbl_pgmsg.specs.declared.messages.Tuple.{Tuple}
 use Rattle.dbl_pgmsg.specs.declared.messages.OldTuple.{OldTuple}
 use Rattle.dbl_pgmsg.specs.declared.messages.OldTuple.TheVariants.{Key, Whole}
-use Rattle.dbl_pgmsg.specs.Grammar.{int16, int32, int64, signed64, string, tuple, old_tuple, optional_tuple, column, spelling, is_identity, FitsOld, FitsOptional, FitsFields, Spells, IsOfInsertStream, SpellsNoneOfInsertStream}
-use Rattle.dbl_pgmsg.specs.Reading.{Read, ◌>>=◌, Gives, byte_at, begin_at, commit_at, origin_at, type_name_at, identity_at, relation_at, insert_at, old_at, before_at, update_at, delete_at, truncate_at, content_at, logical_at, message_at, insert_stream_at, ended, whole}
-use Rattle.dbl_pgmsg.proofs.FieldLaws.{IsBytes, IsBytes-rest, bind_ok, guard_ok, guard_held, ok_is, Takes, Reads, took, byte_reads, int32_reads, int64_reads, signed64_reads, size_reads, string_reads, many_again}
+use Rattle.dbl_pgmsg.specs.Grammar.{int16, int32, int64, signed64, string, tuple, old_tuple, optional_tuple, column, spelling, is_identity, FitsOld, FitsOptional, FitsFields, Spells}
+use Rattle.dbl_pgmsg.specs.Reading.{Read, byte_at, number_at, size_at, many_at, tuple_at, begin_at, commit_at, origin_at, type_name_at, identity_at, relation_at, insert_at, old_at, before_at, update_at, delete_at, truncate_at, content_at, logical_at, message_at}
+use Rattle.dbl_pgmsg.proofs.FieldLaws.{IsBytes, IsBytes-rest, IsBytes-drop, IsBytes-take, bind_ok, guard_ok, guard_held, ok_is, Takes, Takes-then, Reads, took, byte_reads, int32_reads, int64_reads, signed64_reads, size_reads, string_reads, many_again, many_takes}
 use Rattle.dbl_pgmsg.proofs.RowLaws.{chosen, counted_reads, tuple_reads, new_reads, column_reads}
 
 -- ---- what was written is read again
@@ -115,21 +115,16 @@ message_again total (Delete oid before) rest fits = delete_again total oid befor
 message_again total (Truncate options oids) rest fits = truncate_again total options oids rest fits
 message_again total (Logical flags lsn prefix content) rest fits = logical_again total flags lsn prefix content rest fits
 
-pub insert_stream_again : (total : ℕ) (m : Message) (rest : List ℕ) → IsOfInsertStream m → FitsFields m → insert_stream_at total (spelling m ++ rest) ≡ Ok (m, rest)
-unfolding insert_stream_at spelling
-insert_stream_again total (Begin lsn time xid) rest of fits = begin_again total lsn time xid rest fits
-insert_stream_again total (Commit flags lsn end_lsn time) rest of fits = commit_again total flags lsn end_lsn time rest fits
-insert_stream_again total (Relation oid namespace name identity columns) rest of fits = relation_again total oid namespace name identity columns rest fits
-insert_stream_again total (Insert oid row) rest of fits = insert_again total oid row rest fits
-insert_stream_again total _ rest of fits = absurd of
-
 -- ---- what is read was written
 
--- What was read is of the kinds of a log of inserts, and was written so.
+all_bytes : (bytes : List ℕ) → IsBytes bytes → AllByRecursion (λ b. b < 2 ^ 8) bytes
+all_bytes [] h = tt
+all_bytes (b ∷ bytes) h = (h 0, all_bytes bytes (IsBytes-rest b bytes h))
+
+-- What was read was written so.
 pub record Taken (bytes : List ℕ) (m : Message) (rest : List ℕ) : Type 0 where
   pub takes : Takes bytes (spelling m) rest
   pub fits : FitsFields m
-  pub of : IsOfInsertStream m
 
 begin_takes : (total : ℕ) (bytes left : List ℕ) (m : Message) (rest : List ℕ) → Takes bytes (66 ∷ []) left → begin_at total left ≡ Ok (m, rest) → Taken bytes m rest
 unfolding begin_at spelling
@@ -138,7 +133,7 @@ begin_takes total bytes left m rest so_far e =
     let time = took (signed64_reads total) bytes _ lsn.rest _ (m, rest) lsn.takes lsn.more in
     let xid = took (int32_reads total) bytes _ time.rest _ (m, rest) time.takes time.more in
     let made : Message = Begin (record { 0 = lsn.value }) time.value xid.value in
-    subst (λ (y : Message × List ℕ). Taken bytes y.0 y.1) (ok_is (made, xid.rest) (m, rest) xid.more) (record { takes = xid.takes; fits = (lsn.fits, time.fits, xid.fits); of = tt })
+    subst (λ (y : Message × List ℕ). Taken bytes y.0 y.1) (ok_is (made, xid.rest) (m, rest) xid.more) (record { takes = xid.takes; fits = (lsn.fits, time.fits, xid.fits) })
 
 commit_takes : (total : ℕ) (bytes left : List ℕ) (m : Message) (rest : List ℕ) → Takes bytes (67 ∷ []) left → commit_at total left ≡ Ok (m, rest) → Taken bytes m rest
 unfolding commit_at spelling
@@ -148,7 +143,7 @@ commit_takes total bytes left m rest so_far e =
     let end_lsn = took (int64_reads total) bytes _ lsn.rest _ (m, rest) lsn.takes lsn.more in
     let time = took (signed64_reads total) bytes _ end_lsn.rest _ (m, rest) end_lsn.takes end_lsn.more in
     let made : Message = Commit flags.value (record { 0 = lsn.value }) (record { 0 = end_lsn.value }) time.value in
-    subst (λ (y : Message × List ℕ). Taken bytes y.0 y.1) (ok_is (made, time.rest) (m, rest) time.more) (record { takes = time.takes; fits = (flags.fits, lsn.fits, end_lsn.fits, time.fits); of = tt })
+    subst (λ (y : Message × List ℕ). Taken bytes y.0 y.1) (ok_is (made, time.rest) (m, rest) time.more) (record { takes = time.takes; fits = (flags.fits, lsn.fits, end_lsn.fits, time.fits) })
 
 identity_takes : (total : ℕ) (bytes : List ℕ) (b : ℕ) (rest : List ℕ) → IsBytes bytes → identity_at total bytes ≡ Ok (b, rest) → Takes bytes (b ∷ []) rest × IsTrue (is_identity b)
 unfolding identity_at
@@ -172,7 +167,7 @@ relation_takes total bytes left m rest so_far e =
     let made : Message = Relation oid.value namespace.value name.value identity.value columns.value in
     let front = (((82 ∷ [] ++ int32 oid.value) ++ string namespace.value) ++ string name.value) ++ identity.value ∷ [] in
     let takes : Takes bytes (spelling made) columns.rest = subst (λ (w : List ℕ). Takes bytes w columns.rest) (sym (append_assoc front (int16 (length columns.value)) (flat_map column columns.value))) columns.takes in
-    subst (λ (y : Message × List ℕ). Taken bytes y.0 y.1) (ok_is (made, columns.rest) (m, rest) columns.more) (record { takes = takes; fits = (oid.fits, namespace.fits, name.fits, identity.fits, columns.fits.0, columns.fits.1); of = tt })
+    subst (λ (y : Message × List ℕ). Taken bytes y.0 y.1) (ok_is (made, columns.rest) (m, rest) columns.more) (record { takes = takes; fits = (oid.fits, namespace.fits, name.fits, identity.fits, columns.fits.0, columns.fits.1) })
 
 insert_takes : (total : ℕ) (bytes left : List ℕ) (m : Message) (rest : List ℕ) → Takes bytes (73 ∷ []) left → insert_at total left ≡ Ok (m, rest) → Taken bytes m rest
 unfolding insert_at spelling
@@ -181,48 +176,167 @@ insert_takes total bytes left m rest so_far e =
     let row = took (new_reads total) bytes _ oid.rest _ (m, rest) oid.takes oid.more in
     let made : Message = Insert oid.value row.value in
     let takes : Takes bytes (spelling made) row.rest = subst (λ (w : List ℕ). Takes bytes w row.rest) (sym (append_assoc (73 ∷ [] ++ int32 oid.value) (78 ∷ []) (tuple row.value))) row.takes in
-    subst (λ (y : Message × List ℕ). Taken bytes y.0 y.1) (ok_is (made, row.rest) (m, rest) row.more) (record { takes = takes; fits = (oid.fits, row.fits); of = tt })
+    subst (λ (y : Message × List ℕ). Taken bytes y.0 y.1) (ok_is (made, row.rest) (m, rest) row.more) (record { takes = takes; fits = (oid.fits, row.fits) })
+
+origin_takes : (total : ℕ) (bytes left : List ℕ) (m : Message) (rest : List ℕ) → Takes bytes (79 ∷ []) left → origin_at total left ≡ Ok (m, rest) → Taken bytes m rest
+unfolding origin_at spelling
+origin_takes total bytes left m rest so_far e =
+    let lsn = took (int64_reads total) bytes (79 ∷ []) left _ (m, rest) so_far e in
+    let name = took (string_reads total) bytes _ lsn.rest _ (m, rest) lsn.takes lsn.more in
+    let made : Message = Origin (record { 0 = lsn.value }) name.value in
+    subst (λ (y : Message × List ℕ). Taken bytes y.0 y.1) (ok_is (made, name.rest) (m, rest) name.more) (record { takes = name.takes; fits = (lsn.fits, name.fits) })
+
+type_name_takes : (total : ℕ) (bytes left : List ℕ) (m : Message) (rest : List ℕ) → Takes bytes (89 ∷ []) left → type_name_at total left ≡ Ok (m, rest) → Taken bytes m rest
+unfolding type_name_at spelling
+type_name_takes total bytes left m rest so_far e =
+    let oid = took (int32_reads total) bytes (89 ∷ []) left _ (m, rest) so_far e in
+    let namespace = took (string_reads total) bytes _ oid.rest _ (m, rest) oid.takes oid.more in
+    let name = took (string_reads total) bytes _ namespace.rest _ (m, rest) namespace.takes namespace.more in
+    let made : Message = TypeName oid.value namespace.value name.value in
+    subst (λ (y : Message × List ℕ). Taken bytes y.0 y.1) (ok_is (made, name.rest) (m, rest) name.more) (record { takes = name.takes; fits = (oid.fits, namespace.fits, name.fits) })
+
+old_takes : (total : ℕ) (bytes : List ℕ) (old : OldTuple) (rest : List ℕ) → IsBytes bytes → old_at total bytes ≡ Ok (old, rest) → Takes bytes (old_tuple old) rest × FitsOld old
+unfolding old_at old_tuple
+old_takes total [] old rest fits e = absurd cc
+old_takes total (b ∷ bytes) old rest fits e =
+    let whole = IsBytes-rest b bytes fits in
+    elim (chosen (eqb b 75) _ _ _ e) [
+      | inl p ↦
+          let a = bind_ok (tuple_at total bytes) (λ t. Ok (Key t.0, t.1)) (old, rest) p.1 in
+          let t = (tuple_reads total).takes bytes a.0.0 a.0.1 whole a.1 in
+          let takes : Takes (b ∷ bytes) (old_tuple (Key a.0.0)) a.0.1 = record { parts = ap (λ (a : ℕ). a ∷ bytes) (eqb-true b 75 p.0) ∙ ap (λ (w : List ℕ). 75 ∷ w) t.0.parts; rest_fits = t.0.rest_fits } in
+          subst (λ (y : OldTuple × List ℕ). Takes (b ∷ bytes) (old_tuple y.0) y.1 × FitsOld y.0) (ok_is (Key a.0.0, a.0.1) (old, rest) a.2) (takes, t.1)
+      | inr p ↦
+          let g = guard_held (eqb b 79) _ _ (old, rest) p.1 in
+          let a = bind_ok (tuple_at total bytes) (λ t. Ok (Whole t.0, t.1)) (old, rest) g.1 in
+          let t = (tuple_reads total).takes bytes a.0.0 a.0.1 whole a.1 in
+          let takes : Takes (b ∷ bytes) (old_tuple (Whole a.0.0)) a.0.1 = record { parts = ap (λ (a : ℕ). a ∷ bytes) (eqb-true b 79 g.0) ∙ ap (λ (w : List ℕ). 79 ∷ w) t.0.parts; rest_fits = t.0.rest_fits } in
+          subst (λ (y : OldTuple × List ℕ). Takes (b ∷ bytes) (old_tuple y.0) y.1 × FitsOld y.0) (ok_is (Whole a.0.0, a.0.1) (old, rest) a.2) (takes, t.1)
+    ]
+
+old_reads : (total : ℕ) → Reads (old_at total) old_tuple FitsOld
+old_reads total = record { again = old_again total; takes = old_takes total }
+
+before_takes : (total : ℕ) (bytes : List ℕ) (before : Option OldTuple) (rest : List ℕ) → IsBytes bytes → before_at total bytes ≡ Ok (before, rest) → Takes bytes (optional_tuple before) rest × FitsOptional before
+unfolding before_at
+before_takes total [] before rest fits e = absurd cc
+before_takes total (b ∷ bytes) before rest fits e =
+    elim (chosen (eqb b 78) _ _ _ e) [
+      | inl p ↦ subst (λ (y : Option OldTuple × List ℕ). Takes (b ∷ bytes) (optional_tuple y.0) y.1 × FitsOptional y.0) (ok_is (None, b ∷ bytes) (before, rest) p.1) (record { parts = refl; rest_fits = fits }, tt)
+      | inr p ↦
+          let a = bind_ok (old_at total (b ∷ bytes)) (λ old. Ok (Some old.0, old.1)) (before, rest) p.1 in
+          subst (λ (y : Option OldTuple × List ℕ). Takes (b ∷ bytes) (optional_tuple y.0) y.1 × FitsOptional y.0) (ok_is (Some a.0.0, a.0.1) (before, rest) a.2) (old_takes total (b ∷ bytes) a.0.0 a.0.1 fits a.1)
+    ]
+
+update_takes : (total : ℕ) (bytes left : List ℕ) (m : Message) (rest : List ℕ) → Takes bytes (85 ∷ []) left → update_at total left ≡ Ok (m, rest) → Taken bytes m rest
+unfolding update_at spelling
+update_takes total bytes left m rest so_far e =
+    let oid = took (int32_reads total) bytes (85 ∷ []) left _ (m, rest) so_far e in
+    let b = bind_ok (before_at total oid.rest) _ (m, rest) oid.more in
+    let before = before_takes total oid.rest b.0.0 b.0.1 oid.takes.rest_fits b.1 in
+    let before_took = Takes-then bytes (85 ∷ [] ++ int32 oid.value) oid.rest (optional_tuple b.0.0) b.0.1 oid.takes before.0 in
+    let row = took (new_reads total) bytes _ b.0.1 _ (m, rest) before_took b.2 in
+    let made : Message = Update oid.value b.0.0 row.value in
+    let takes : Takes bytes (spelling made) row.rest = subst (λ (w : List ℕ). Takes bytes w row.rest) (sym (append_assoc ((85 ∷ [] ++ int32 oid.value) ++ optional_tuple b.0.0) (78 ∷ []) (tuple row.value))) row.takes in
+    subst (λ (y : Message × List ℕ). Taken bytes y.0 y.1) (ok_is (made, row.rest) (m, rest) row.more) (record { takes = takes; fits = (oid.fits, before.1, row.fits) })
+
+delete_takes : (total : ℕ) (bytes left : List ℕ) (m : Message) (rest : List ℕ) → Takes bytes (68 ∷ []) left → delete_at total left ≡ Ok (m, rest) → Taken bytes m rest
+unfolding delete_at spelling
+delete_takes total bytes left m rest so_far e =
+    let oid = took (int32_reads total) bytes (68 ∷ []) left _ (m, rest) so_far e in
+    let before = took (old_reads total) bytes _ oid.rest _ (m, rest) oid.takes oid.more in
+    let made : Message = Delete oid.value before.value in
+    subst (λ (y : Message × List ℕ). Taken bytes y.0 y.1) (ok_is (made, before.rest) (m, rest) before.more) (record { takes = before.takes; fits = (oid.fits, before.fits) })
+
+truncate_takes : (total : ℕ) (bytes left : List ℕ) (m : Message) (rest : List ℕ) → Takes bytes (84 ∷ []) left → truncate_at total left ≡ Ok (m, rest) → Taken bytes m rest
+unfolding truncate_at spelling
+truncate_takes total bytes left m rest so_far e =
+    let count = took (size_reads total) bytes (84 ∷ []) left _ (m, rest) so_far e in
+    let options = took (byte_reads total) bytes _ count.rest _ (m, rest) count.takes count.more in
+    let a = bind_ok (many_at (number_at w32 total) count.value options.rest) (λ oids. Ok (Truncate options.value oids.0, oids.1)) (m, rest) options.more in
+    let oids = many_takes (int32_reads total) count.value options.rest a.0.0 a.0.1 options.takes.rest_fits a.1 in
+    let made : Message = Truncate options.value a.0.0 in
+    let front : (k : ℕ) → List ℕ = λ k. (84 ∷ [] ++ int32 k) ++ options.value ∷ [] in
+    let both = Takes-then bytes (front count.value) options.rest (flat_map int32 a.0.0) a.0.1 options.takes oids.0 in
+    let takes : Takes bytes (spelling made) a.0.1 = subst (λ (k : ℕ). Takes bytes (front k ++ flat_map int32 a.0.0) a.0.1) (sym oids.1) both in
+    subst (λ (y : Message × List ℕ). Taken bytes y.0 y.1) (ok_is (made, a.0.1) (m, rest) a.2) (record { takes = takes; fits = (options.fits, omega (arith, oids.1, count.fits), oids.2) })
+
+content_takes : (total : ℕ) (bytes content rest : List ℕ) → IsBytes bytes → content_at total bytes ≡ Ok (content, rest) → Takes bytes (int32 (length content) ++ content) rest × ((length content < 2 ^ 31) × AllByRecursion (λ b. b < 2 ^ 8) content)
+unfolding content_at
+content_takes total bytes content rest fits e =
+    let a = bind_ok (size_at total bytes) _ (content, rest) e in
+    let n = a.0 in
+    let t = (size_reads total).takes bytes n.0 n.1 fits a.1 in
+    let g = guard_ok (ltb (length n.1) n.0) (Truncated total) _ (content, rest) a.2 in
+    let same = ok_is (take n.0 n.1, drop n.0 n.1) (content, rest) g.1 in
+    let long : n.0 ≤ length n.1 = ltb-false _ _ g.0 in
+    let content_is : take n.0 n.1 ≡ content = ap (λ (p : List ℕ × List ℕ). p.0) same in
+    let rest_is : drop n.0 n.1 ≡ rest = ap (λ (p : List ℕ × List ℕ). p.1) same in
+    let len : length content ≡ n.0 = ap (λ (t : List ℕ). length t) (sym content_is) ∙ omega (arith, length-take n.0 n.1) in
+    let second : Takes n.1 content rest = record { parts = sym (take-append-drop n.0 n.1) ∙ ap (λ (t : List ℕ). t ++ drop n.0 n.1) content_is ∙ ap (λ (t : List ℕ). content ++ t) rest_is; rest_fits = subst IsBytes rest_is (IsBytes-drop n.0 n.1 t.0.rest_fits) } in
+    let both = Takes-then bytes (int32 n.0) n.1 content rest t.0 second in
+    (subst (λ (k : ℕ). Takes bytes (int32 k ++ content) rest) (sym len) both, (omega (arith, t.1, len), all_bytes content (subst IsBytes content_is (IsBytes-take n.0 n.1 t.0.rest_fits))))
+
+content_reads : (total : ℕ) → Reads (content_at total) (λ content. int32 (length content) ++ content) (λ content. (length content < 2 ^ 31) × AllByRecursion (λ b. b < 2 ^ 8) content)
+content_reads total = record { again = λ content rest fits. content_again total content rest fits.0; takes = content_takes total }
+
+logical_takes : (total : ℕ) (bytes left : List ℕ) (m : Message) (rest : List ℕ) → Takes bytes (77 ∷ []) left → logical_at total left ≡ Ok (m, rest) → Taken bytes m rest
+unfolding logical_at spelling
+logical_takes total bytes left m rest so_far e =
+    let flags = took (byte_reads total) bytes (77 ∷ []) left _ (m, rest) so_far e in
+    let lsn = took (int64_reads total) bytes _ flags.rest _ (m, rest) flags.takes flags.more in
+    let prefix = took (string_reads total) bytes _ lsn.rest _ (m, rest) lsn.takes lsn.more in
+    let content = took (content_reads total) bytes _ prefix.rest _ (m, rest) prefix.takes prefix.more in
+    let made : Message = Logical flags.value (record { 0 = lsn.value }) prefix.value content.value in
+    let front = ((77 ∷ [] ++ flags.value ∷ []) ++ int64 lsn.value) ++ string prefix.value in
+    let takes : Takes bytes (spelling made) content.rest = subst (λ (w : List ℕ). Takes bytes w content.rest) (sym (append_assoc front (int32 (length content.value)) content.value)) content.takes in
+    subst (λ (y : Message × List ℕ). Taken bytes y.0 y.1) (ok_is (made, content.rest) (m, rest) content.more) (record { takes = takes; fits = (flags.fits, lsn.fits, prefix.fits, content.fits.0, content.fits.1) })
 
 tagged : (b tag : ℕ) (bytes : List ℕ) → IsBytes (b ∷ bytes) → eqb b tag ≡ true → Takes (b ∷ bytes) (tag ∷ []) bytes
 tagged b tag bytes fits is = record { parts = ap (λ (a : ℕ). a ∷ bytes) (eqb-true b tag is); rest_fits = IsBytes-rest b bytes fits }
 
-pub insert_stream_takes : (total : ℕ) (bytes : List ℕ) (m : Message) (rest : List ℕ) → IsBytes bytes → insert_stream_at total bytes ≡ Ok (m, rest) → Taken bytes m rest
-unfolding insert_stream_at
-insert_stream_takes total [] m rest fits e = absurd cc
-insert_stream_takes total (b ∷ bytes) m rest fits e =
+pub message_takes : (total : ℕ) (bytes : List ℕ) (m : Message) (rest : List ℕ) → IsBytes bytes → message_at total bytes ≡ Ok (m, rest) → Taken bytes m rest
+unfolding message_at
+message_takes total [] m rest fits e = absurd cc
+message_takes total (b ∷ bytes) m rest fits e =
     elim (chosen (eqb b 66) _ _ _ e) [
       | inl p ↦ begin_takes total (b ∷ bytes) bytes m rest (tagged b 66 bytes fits p.0) p.1
-      | inr p ↦ elim (chosen (eqb b 82) _ _ _ p.1) [
-        | inl p ↦ relation_takes total (b ∷ bytes) bytes m rest (tagged b 82 bytes fits p.0) p.1
-        | inr p ↦ elim (chosen (eqb b 73) _ _ _ p.1) [
-          | inl p ↦ insert_takes total (b ∷ bytes) bytes m rest (tagged b 73 bytes fits p.0) p.1
-          | inr p ↦
-              let g = guard_held (eqb b 67) _ (commit_at total bytes) (m, rest) p.1 in
-              commit_takes total (b ∷ bytes) bytes m rest (tagged b 67 bytes fits g.0) g.1
-        ]
-      ]
+      | inr p ↦
+          elim (chosen (eqb b 67) _ _ _ p.1) [
+            | inl p ↦ commit_takes total (b ∷ bytes) bytes m rest (tagged b 67 bytes fits p.0) p.1
+            | inr p ↦
+                elim (chosen (eqb b 79) _ _ _ p.1) [
+                  | inl p ↦ origin_takes total (b ∷ bytes) bytes m rest (tagged b 79 bytes fits p.0) p.1
+                  | inr p ↦
+                      elim (chosen (eqb b 89) _ _ _ p.1) [
+                        | inl p ↦ type_name_takes total (b ∷ bytes) bytes m rest (tagged b 89 bytes fits p.0) p.1
+                        | inr p ↦
+                            elim (chosen (eqb b 82) _ _ _ p.1) [
+                              | inl p ↦ relation_takes total (b ∷ bytes) bytes m rest (tagged b 82 bytes fits p.0) p.1
+                              | inr p ↦
+                                  elim (chosen (eqb b 73) _ _ _ p.1) [
+                                    | inl p ↦ insert_takes total (b ∷ bytes) bytes m rest (tagged b 73 bytes fits p.0) p.1
+                                    | inr p ↦
+                                        elim (chosen (eqb b 85) _ _ _ p.1) [
+                                          | inl p ↦ update_takes total (b ∷ bytes) bytes m rest (tagged b 85 bytes fits p.0) p.1
+                                          | inr p ↦
+                                              elim (chosen (eqb b 68) _ _ _ p.1) [
+                                                | inl p ↦ delete_takes total (b ∷ bytes) bytes m rest (tagged b 68 bytes fits p.0) p.1
+                                                | inr p ↦
+                                                    elim (chosen (eqb b 84) _ _ _ p.1) [
+                                                      | inl p ↦ truncate_takes total (b ∷ bytes) bytes m rest (tagged b 84 bytes fits p.0) p.1
+                                                      | inr p ↦
+                                                          let g = guard_held (eqb b 77) _ (logical_at total bytes) (m, rest) p.1 in
+                                                          logical_takes total (b ∷ bytes) bytes m rest (tagged b 77 bytes fits g.0) g.1
+                                                    ]
+                                              ]
+                                        ]
+                                  ]
+                            ]
+                      ]
+                ]
+          ]
     ]
-
--- ---- all of the bytes
-
-pub whole_takes : (bytes : List ℕ) (m : Message) → IsBytes bytes → whole bytes ≡ Ok m → Spells bytes m × IsOfInsertStream m
-unfolding whole ended
-whole_takes bytes m fits e =
-    let g = guard_ok (ltb 16777216 (length bytes)) _ (insert_stream_at (length bytes) bytes >>= ended (length bytes)) m e in
-    let a = bind_ok (insert_stream_at (length bytes) bytes) (ended (length bytes)) m g.1 in
-    let h = guard_held (eqb (length a.0.1) 0) _ (Ok a.0.0) m a.2 in
-    let taken = insert_stream_takes (length bytes) bytes a.0.0 a.0.1 fits a.1 in
-    let nothing : a.0.1 ≡ [] = nil_from_length a.0.1 (eqb-true _ _ h.0) in
-    let spelled : bytes ≡ spelling a.0.0 = taken.takes.parts ∙ ap (λ (r : List ℕ). spelling a.0.0 ++ r) nothing ∙ append-nil (spelling a.0.0) in
-    let short : length (spelling a.0.0) ≤ 16777216 = omega (arith, ap (λ (w : List ℕ). length w) spelled, ltb-false _ _ g.0) in
-    subst (λ (y : Message). Spells bytes y × IsOfInsertStream y) (ok_is a.0.0 m h.1) (record { fits = record { fields = taken.fits; short = short }; spelled = spelled }, taken.of)
-
-pub whole_again : (bytes : List ℕ) (m : Message) → Spells bytes m → IsOfInsertStream m → whole bytes ≡ Ok m
-unfolding whole ended
-whole_again bytes m spells of =
-    let short : ltb 16777216 (length (spelling m)) ≡ false = le-ltb _ _ spells.fits.short in
-    let read : insert_stream_at (length (spelling m)) (spelling m) ≡ Ok (m, []) = ap (insert_stream_at (length (spelling m))) (sym (append-nil (spelling m))) ∙ insert_stream_again (length (spelling m)) m [] of spells.fits.fields in
-    ap whole spells.spelled ∙ rw (short, read) refl
 
 abbrev ok_read : Message × List ℕ → Read Message
 ok_read x = Ok x
@@ -233,23 +347,3 @@ one_message bytes m n of_m of_n =
     let same : spelling m ++ [] ≡ spelling n ++ [] = ap (λ (w : List ℕ). w ++ []) (sym of_m.spelled ∙ of_n.spelled) in
     let read : ok_read (m, []) ≡ ok_read (n, []) = sym (message_again 0 m [] of_m.fits.fields) ∙ ap (message_at 0) same ∙ message_again 0 n [] of_n.fits.fields in
     ap (λ (x : Message × List ℕ). x.0) (ok_is (m, []) (n, []) read)
-
--- ---- what a call that gives what reading gives has returned
-
--- nothing is spelled where reading fails
-none_spelled : (bytes : List ℕ) (error : MsgError) → whole bytes ≡ Err error → SpellsNoneOfInsertStream bytes
-none_spelled bytes error failed m spells of = let read = whole_again bytes m spells of in absurd (let e = sym read ∙ failed in cc)
-
-pub is_read : (bytes : List ℕ) (r : Result Message MsgError) → IsBytes bytes → Gives (λ m. m) r (whole bytes) → IfOk r (λ m. Spells bytes m × IsOfInsertStream m)
-is_read bytes (Ok m) fits given = whole_takes bytes m fits given
-is_read bytes (Err e) fits given = tt
-
-pub is_spelled : (bytes : List ℕ) (r : Result Message MsgError) → Gives (λ m. m) r (whole bytes) → (m : Message) → Spells bytes m → IsOfInsertStream m → (r ≡ Ok m) ⊎ (r ≡ Err Memory)
-is_spelled bytes (Ok x) given m spells of = inl (sym given ∙ whole_again bytes m spells of)
-is_spelled bytes (Err e) (inl memory) m spells of = inr (ap (λ (e : MsgError). Err e) memory)
-is_spelled bytes (Err e) (inr failed) m spells of = absurd (none_spelled bytes e failed m spells of)
-
-pub is_refused : (bytes : List ℕ) (r : Result Message MsgError) → Gives (λ m. m) r (whole bytes) → IfErr r (λ error. (error ≡ Memory) ⊎ SpellsNoneOfInsertStream bytes)
-is_refused bytes (Ok m) given = tt
-is_refused bytes (Err e) (inl memory) = inl memory
-is_refused bytes (Err e) (inr failed) = inr (none_spelled bytes e failed)

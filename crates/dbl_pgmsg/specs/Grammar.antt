@@ -130,15 +130,3 @@ pub record Fits (message : Message) : Type 0 where
 pub record Spells (bytes : List ℕ) (message : Message) : Type 0 where
   pub fits : Fits message
   pub spelled : bytes ≡ spelling message
-
--- the kinds that a log of inserts alone consists of
-abbrev pub IsOfInsertStream : Message → Type 0
-IsOfInsertStream (Begin lsn time xid) = Unit {0}
-IsOfInsertStream (Commit flags lsn end_lsn time) = Unit {0}
-IsOfInsertStream (Relation oid namespace name identity columns) = Unit {0}
-IsOfInsertStream (Insert oid row) = Unit {0}
-IsOfInsertStream message = ⊥
-
--- the bytes spell no message of these kinds
-abbrev pub SpellsNoneOfInsertStream : List ℕ → Type 0
-SpellsNoneOfInsertStream bytes = (message : Message) → Spells bytes message → ¬ IsOfInsertStream message

@@ -255,16 +255,6 @@ message_at total (b ∷ rest) =
     else (if b == byte "M" then logical_at total rest
     else Err (UnknownTag b))))))))))
 
--- a message of the kinds that a log of inserts alone consists of
-unfoldable pub insert_stream_at : ℕ → List ℕ → Read Message
-insert_stream_at total [] = Err (Truncated total)
-insert_stream_at total (b ∷ rest) =
-    if b == byte "B" then begin_at total rest
-    else (if b == byte "R" then relation_at total rest
-    else (if b == byte "I" then insert_at total rest
-    else (if b == byte "C" then commit_at total rest
-    else Err (UnknownTag b))))
-
 -- nothing is left
 unfoldable pub ended : {X : Type 0} → ℕ → X × List ℕ → Result X MsgError
 ended total x = if length x.1 == 0 then Ok x.0 else Err (TrailingBytes (total - length x.1))
@@ -272,4 +262,4 @@ ended total x = if length x.1 == 0 then Ok x.0 else Err (TrailingBytes (total - 
 unfoldable pub whole : List ℕ → Result Message MsgError
 whole bytes =
     if nat_lt 16777216 (length bytes) then Err (TooLong (length bytes))
-    else (insert_stream_at (length bytes) bytes >>= ended (length bytes))
+    else (message_at (length bytes) bytes >>= ended (length bytes))

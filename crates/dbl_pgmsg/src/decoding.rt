@@ -2,105 +2,37 @@
 
 ghost use Rattle.std.specs.Prelude.{◌≡◌, ◌⊎◌, length, IfOk, IfErr};
 ghost use Rattle.dbl_pgmsg.specs.declared.messages.Message.{Message};
-ghost use Rattle.dbl_pgmsg.specs.Grammar.{Spells, IsOfInsertStream, SpellsNoneOfInsertStream};
-ghost use Rattle.dbl_pgmsg.specs.Reading.{Gives, begin_at, commit_at, identity_at, relation_at, insert_at, insert_stream_at, whole};
+ghost use Rattle.dbl_pgmsg.specs.Grammar.{Spells};
+ghost use Rattle.dbl_pgmsg.specs.Faults.{IsFault};
+ghost use Rattle.dbl_pgmsg.specs.Reading.{Gives, message_at, whole};
 
-use crate::reading::{int8, int32, int64, place, signed64, string};
-use crate::rows::{read_columns, read_new};
+use crate::kinds::{
+    read_begin, read_commit, read_delete, read_insert, read_logical, read_origin, read_relation,
+    read_truncate, read_type_name, read_update,
+};
+use crate::reading::place;
 use crate::{Message, MsgError};
-use dbl_base::Lsn;
 use std::alloc::Global;
 
 /// The most bytes of a message.
 const LIMIT: usize = 16_777_216;
 
-#[tactic(auto, unfolding(crate::specs::Reading::begin_at))]
-fn read_begin(total: usize, bytes: &[u8]) -> Result<(Message, &[u8]), MsgError>
-    ensures { Gives (λ x. (x.0, x.1.now)) result (begin_at total bytes.now) }
-{
-    let (lsn, rest) = int64(total, bytes)?;
-    let (time, rest) = signed64(total, rest)?;
-    let (xid, rest) = int32(total, rest)?;
-    Ok((
-        Message::Begin {
-            lsn: Lsn(lsn),
-            time,
-            xid,
-        },
-        rest,
-    ))
-}
-
-#[tactic(auto, unfolding(crate::specs::Reading::commit_at))]
-fn read_commit(total: usize, bytes: &[u8]) -> Result<(Message, &[u8]), MsgError>
-    ensures { Gives (λ x. (x.0, x.1.now)) result (commit_at total bytes.now) }
-{
-    let (flags, rest) = int8(total, bytes)?;
-    let (lsn, rest) = int64(total, rest)?;
-    let (end_lsn, rest) = int64(total, rest)?;
-    let (time, rest) = signed64(total, rest)?;
-    Ok((
-        Message::Commit {
-            flags,
-            lsn: Lsn(lsn),
-            end_lsn: Lsn(end_lsn),
-            time,
-        },
-        rest,
-    ))
-}
-
-#[tactic(auto, unfolding(crate::specs::Reading::identity_at))]
-fn read_identity(total: usize, bytes: &[u8]) -> Result<(u8, &[u8]), MsgError>
-    ensures { Gives (λ x. (x.0, x.1.now)) result (identity_at total bytes.now) }
-{
-    let (byte, rest) = int8(total, bytes)?;
-    match byte {
-        b'd' | b'n' | b'f' | b'i' => Ok((byte, rest)),
-        _ => Err(MsgError::BadIdentity { byte }),
-    }
-}
-
-#[tactic(auto, unfolding(crate::specs::Reading::relation_at))]
-fn read_relation(alloc: Global, total: usize, bytes: &[u8]) -> Result<(Message, &[u8]), MsgError>
-    ensures { Gives (λ x. (x.0, x.1.now)) result (relation_at total bytes.now) }
-{
-    let (oid, rest) = int32(total, bytes)?;
-    let (namespace, rest) = string(alloc, total, rest)?;
-    let (name, rest) = string(alloc, total, rest)?;
-    let (identity, rest) = read_identity(total, rest)?;
-    let (columns, rest) = read_columns(alloc, total, rest)?;
-    Ok((
-        Message::Relation {
-            oid,
-            namespace,
-            name,
-            identity,
-            columns,
-        },
-        rest,
-    ))
-}
-
-#[tactic(auto, unfolding(crate::specs::Reading::insert_at))]
-fn read_insert(alloc: Global, total: usize, bytes: &[u8]) -> Result<(Message, &[u8]), MsgError>
-    ensures { Gives (λ x. (x.0, x.1.now)) result (insert_at total bytes.now) }
-{
-    let (oid, rest) = int32(total, bytes)?;
-    let (row, rest) = read_new(alloc, total, rest)?;
-    Ok((Message::Insert { oid, row }, rest))
-}
-
-#[tactic(auto, unfolding(crate::specs::Reading::insert_stream_at))]
+#[tactic(auto, unfolding(crate::specs::Reading::message_at))]
 fn read_message(alloc: Global, total: usize, bytes: &[u8]) -> Result<(Message, &[u8]), MsgError>
-    ensures { Gives (λ x. (x.0, x.1.now)) result (insert_stream_at total bytes.now) }
+    ensures { Gives (λ x. (x.0, x.1.now)) result (message_at total bytes.now) }
 {
     match bytes {
         [] => Err(MsgError::Truncated { at: total as u64 }),
         [b'B', rest @ ..] => read_begin(total, rest),
+        [b'C', rest @ ..] => read_commit(total, rest),
+        [b'O', rest @ ..] => read_origin(alloc, total, rest),
+        [b'Y', rest @ ..] => read_type_name(alloc, total, rest),
         [b'R', rest @ ..] => read_relation(alloc, total, rest),
         [b'I', rest @ ..] => read_insert(alloc, total, rest),
-        [b'C', rest @ ..] => read_commit(total, rest),
+        [b'U', rest @ ..] => read_update(alloc, total, rest),
+        [b'D', rest @ ..] => read_delete(alloc, total, rest),
+        [b'T', rest @ ..] => read_truncate(alloc, total, rest),
+        [b'M', rest @ ..] => read_logical(alloc, total, rest),
         [byte, ..] => Err(MsgError::UnknownTag { byte: *byte }),
     }
 }
@@ -122,15 +54,16 @@ fn read_whole(alloc: Global, bytes: &[u8]) -> Result<Message, MsgError>
     Ok(message)
 }
 
-/// The message that the bytes spell, if it is a Begin, a Relation, an Insert or a Commit. The other kinds aren't read yet,
-/// and are refused.
+/// The message that the bytes spell, or their first fault ("Logical Replication Message Formats", protocol version 1).
 pub fn decode(alloc: Global, bytes: &[u8]) -> Result<Message, MsgError>
     // What is read is spelled so, each byte of it.
-    ensures read { IfOk result (λ message. Spells bytes.now message × IsOfInsertStream message) }
+    ensures read { IfOk result (λ message. Spells bytes.now message) }
     // What is spelled so is read, unless memory runs out.
-    ensures spelled { (message : Message) → Spells bytes.now message → IsOfInsertStream message → (result ≡ Ok message) ⊎ (result ≡ Err MsgError.Memory) }
-    // Every other error means that nothing is spelled that could be read.
-    ensures refused { IfErr result (λ error. (error ≡ MsgError.Memory) ⊎ SpellsNoneOfInsertStream bytes.now) }
+    ensures spelled { (message : Message) → Spells bytes.now message → (result ≡ Ok message) ⊎ (result ≡ Err MsgError.Memory) }
+    // Every other error is the fault of the bytes.
+    ensures refused { IfErr result (λ error. (error ≡ MsgError.Memory) ⊎ IsFault bytes.now error) }
+    // The fault of the bytes is told, unless memory runs out before it.
+    ensures faulty { (error : MsgError) → IsFault bytes.now error → (result ≡ Err error) ⊎ (result ≡ Err MsgError.Memory) }
 {
     read_whole(alloc, bytes)
 }

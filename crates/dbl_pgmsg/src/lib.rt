@@ -3,6 +3,7 @@
 
 mod decoding;
 mod error;
+mod kinds;
 mod laws;
 mod messages;
 mod reading;
@@ -10,7 +11,7 @@ mod rows;
 
 pub use decoding::decode;
 pub use error::MsgError;
-pub use laws::{one_message, one_spelling};
+pub use laws::{one_message, one_spelling, spelled_or_faulty, trailing_bytes, truncated_bytes};
 pub use messages::{Message, OldTuple, RelationColumn, Tuple, TupleCell};
 
 #[cfg(test)]

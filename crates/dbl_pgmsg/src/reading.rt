@@ -3,10 +3,10 @@
 
 ghost use Rattle.std.specs.Prelude.{◌≡◌, ◌-◌, length, option_map};
 ghost use Rattle.std.specs.Int.{w16, w32, w64};
-ghost use Rattle.dbl_pgmsg.specs.Reading.{Gives, byte_at, number_at, signed_at, size_at, count_at, utf8_of, before_zero, string_at, text_at};
+ghost use Rattle.dbl_pgmsg.specs.Reading.{Gives, byte_at, number_at, signed_at, size_at, count_at, utf8_of, before_zero, string_at, text_at, content_at};
 
 use crate::MsgError;
-use dbl_base::Text;
+use dbl_base::{Bytes, Text};
 use memchr::memchr;
 use std::alloc::Global;
 
@@ -83,9 +83,9 @@ pub fn signed64(total: usize, bytes: &[u8]) -> Result<(i64, &[u8]), MsgError>
     Ok((number.cast_signed(), rest))
 }
 
-/// The length of a text.
+/// The length of a text or of a content, or the number of the relations of a Truncate.
 #[tactic(auto, unfolding(crate::specs::Reading::size_at))]
-fn size(total: usize, bytes: &[u8]) -> Result<(u32, &[u8]), MsgError>
+pub fn size(total: usize, bytes: &[u8]) -> Result<(u32, &[u8]), MsgError>
     ensures { Gives (λ x. (x.0, x.1.now)) result (size_at total bytes.now) }
 {
     let (size, rest) = int32(total, bytes)?;
@@ -159,4 +159,18 @@ pub fn text(alloc: Global, total: usize, bytes: &[u8]) -> Result<(Text, &[u8]), 
     let (front, after) = rest.split_at(size);
     let text = utf8(alloc, place(total, rest), front)?;
     Ok((text, after))
+}
+
+/// The content of a Message, behind its length.
+#[tactic(auto, unfolding(crate::specs::Reading::content_at))]
+pub fn content(alloc: Global, total: usize, bytes: &[u8]) -> Result<(Bytes, &[u8]), MsgError>
+    ensures { Gives (λ x. (x.0, x.1.now)) result (content_at total bytes.now) }
+{
+    let (size, rest) = size(total, bytes)?;
+    let size = size as usize;
+    if rest.len() < size {
+        return Err(MsgError::Truncated { at: total as u64 });
+    }
+    let (front, after) = rest.split_at(size);
+    Ok((Bytes::make(front.to_vec(alloc)?), after))
 }

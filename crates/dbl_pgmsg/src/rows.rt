@@ -1,10 +1,10 @@
 //! Readers of rows and columns.
 
 ghost use Rattle.std.specs.Prelude.{◌≡◌, length};
-ghost use Rattle.dbl_pgmsg.specs.Reading.{Gives, cell_at, many_at, tuple_at, new_at, column_at, counted_at};
+ghost use Rattle.dbl_pgmsg.specs.Reading.{Gives, cell_at, many_at, tuple_at, new_at, old_at, before_at, column_at, counted_at};
 
 use crate::reading::{count, int8, int32, place, signed32, string, text};
-use crate::{MsgError, RelationColumn, Tuple, TupleCell};
+use crate::{MsgError, OldTuple, RelationColumn, Tuple, TupleCell};
 use dbl_base::Seq;
 use std::alloc::Global;
 
@@ -78,6 +78,47 @@ pub fn read_new(alloc: Global, total: usize, bytes: &[u8]) -> Result<(Tuple, &[u
             at: place(total, bytes),
             byte: *byte,
         }),
+    }
+}
+
+/// The old key, behind its `K`, or the old row, behind its `O`.
+#[tactic(auto, unfolding(crate::specs::Reading::old_at))]
+pub fn read_old(alloc: Global, total: usize, bytes: &[u8]) -> Result<(OldTuple, &[u8]), MsgError>
+    ensures { Gives (λ x. (x.0, x.1.now)) result (old_at total bytes.now) }
+{
+    match bytes {
+        [] => Err(MsgError::Truncated { at: total as u64 }),
+        [b'K', rest @ ..] => {
+            let (key, rest) = read_tuple(alloc, total, rest)?;
+            Ok((OldTuple::Key(key), rest))
+        }
+        [b'O', rest @ ..] => {
+            let (row, rest) = read_tuple(alloc, total, rest)?;
+            Ok((OldTuple::Whole(row), rest))
+        }
+        [byte, ..] => Err(MsgError::BadNewTag {
+            at: place(total, bytes),
+            byte: *byte,
+        }),
+    }
+}
+
+/// What stands before the `N` of an Update.
+#[tactic(auto, unfolding(crate::specs::Reading::before_at))]
+pub fn read_before(
+    alloc: Global,
+    total: usize,
+    bytes: &[u8],
+) -> Result<(Option<OldTuple>, &[u8]), MsgError>
+    ensures { Gives (λ x. (x.0, x.1.now)) result (before_at total bytes.now) }
+{
+    match bytes {
+        [] => Err(MsgError::Truncated { at: total as u64 }),
+        [b'N', ..] => Ok((None, bytes)),
+        [_, ..] => {
+            let (old, rest) = read_old(alloc, total, bytes)?;
+            Ok((Some(old), rest))
+        }
     }
 }
 

@@ -1,0 +1,36 @@
+-- The fault of bytes that spell no message, by its place.
+use Rattle.std.specs.Prelude.{◌≡◌, ◌≢◌, ◌<◌, ◌≤◌, ◌+◌, ◌^◌, ℕ, List, [], ◌∷◌, ◌++◌, length, Ok, Err}
+use Rattle.std.specs.List.{AllByRecursion}
+use Rattle.dbl_pgmsg.specs.declared.error.MsgError.{MsgError}
+use Rattle.dbl_pgmsg.specs.declared.error.MsgError.TheVariants.{Truncated, TrailingBytes, TooLong}
+use Rattle.dbl_pgmsg.specs.declared.messages.Message.{Message}
+use Rattle.dbl_pgmsg.specs.Grammar.{Spells}
+use Rattle.dbl_pgmsg.specs.Fields.{Field, Tag, width, behind, form, IsWhole, IsCut}
+
+-- The fault of bytes from the place `at` on, where these fields are wanted: a field that is cut, whose place is the end of the
+-- bytes; a whole field with a wrong value; or, where the first field is whole and right, the fault of what stands behind it.
+pub data FaultAt (error : MsgError) : ℕ → List Field → List ℕ → Type 0 where
+  cut : {at : ℕ} {field : Field} {fields : List Field} {bytes : List ℕ} → IsCut (width field) bytes → error ≡ Truncated (at + length bytes) → FaultAt error at (field ∷ fields) bytes
+  wrong : {at : ℕ} {field : Field} {fields : List Field} {bytes : List ℕ} (content rest : List ℕ) → IsWhole field content rest bytes → behind field at content ≡ Err error → FaultAt error at (field ∷ fields) bytes
+  later : {at : ℕ} {field : Field} {fields : List Field} {bytes : List ℕ} (content rest : List ℕ) (more : List Field) → IsWhole field content rest bytes → behind field at content ≡ Ok more
+      → FaultAt error (at + length (form (width field) content)) (more ++ fields) rest → FaultAt error at (field ∷ fields) bytes
+
+-- bytes stand behind a message, from the place that the error names on
+pub record Trails (bytes : List ℕ) (error : MsgError) : Type 0 where
+  pub message : Message
+  pub front : List ℕ
+  pub rest : List ℕ
+  pub parts : bytes ≡ front ++ rest
+  pub spells : Spells front message
+  pub some : rest ≢ []
+  pub is : error ≡ TrailingBytes (length front)
+
+-- The fault of the bytes: that they are too many, before all else; a fault in a field; or that bytes stand behind a message.
+pub data IsFault (bytes : List ℕ) (error : MsgError) : Type 0 where
+  too_long : 16777216 < length bytes → error ≡ TooLong (length bytes) → IsFault bytes error
+  in_field : length bytes ≤ 16777216 → FaultAt error 0 (Tag ∷ []) bytes → IsFault bytes error
+  trailing : length bytes ≤ 16777216 → Trails bytes error → IsFault bytes error
+
+-- bytes, as numbers
+abbrev pub AreBytes : List ℕ → Type 0
+AreBytes bytes = AllByRecursion (λ b. b < 2 ^ 8) bytes

@@ -4,7 +4,6 @@ use Rattle.std.specs.List.{AllByRecursion, All}
 use Rattle.std.specs.Prelude.{IsSomeAnd}
 use Rattle.std.proofs.lemmas.Grind.{common_steps}
 use Rattle.dbl_record.specs.declared.record.Record.{Record}
-use Rattle.dbl_model.specs.declared.identity.Identity.{Identity}
 use Rattle.dbl_model.specs.declared.row.Row.{Row}
 use Rattle.dbl_model.specs.declared.table.TableInfo.{TableInfo}
 use Rattle.dbl_model.specs.declared.change.Change.{Change}
@@ -12,7 +11,10 @@ use Rattle.dbl_model.specs.declared.change.Change.TheVariants.{Insert, Update, D
 use Rattle.dbl_model.specs.declared.change.Commit.{Commit}
 use Rattle.dbl_model.specs.Keys.{key_of}
 use Rattle.dbl_model.specs.Events.{Notice, Event, Created, notice, notices, change_notices, numbered, is_nil}
-use Rattle.dbl_model.specs.EventJson.{print}
+use Rattle.dbl_model.specs.EventJson.{print, envelopes}
+use Rattle.dbl_model.specs.Rows.{changes_of}
+use Rattle.dbl_envelope.specs.Writers.{Captured, records_from}
+use Rattle.std.proofs.lemmas.List.{drop_all}
 use Rattle.dbl_envelope.specs.declared.stamp.Stamp.{Stamp}
 use Rattle.dbl_envelope.specs.Inserts.{stamped, IsInsert}
 
@@ -67,23 +69,38 @@ abbrev event_of : Commit → Notice → ℕ → Bool → Event
 event_of commit n ordinal last = record { notice = n; position = commit.lsn.0; ordinal = ordinal; last = last }
 
 -- one more record
-pub record_step : (identity : Identity) (infos : List TableInfo) (commit : Commit) (now : ℤ) (changes : List Change) (i : ℕ) (c : Change) (stamp : Stamp) (made more all : List Record) (r : Record)
-    → AllByRecursion (IsInsert infos) changes → i < length changes → drop i changes ≡ c ∷ drop (i + 1) changes
-    → stamp.ordinal ≡ i → stamp.last ≡ (i + 1 == length changes)
-    → map (λ n. print identity commit now (stamped commit stamp n)) (notices infos c) ≡ r ∷ []
-    → made ++ map (print identity commit now) (numbered commit.lsn.0 i (flat_map (notices infos) (drop i changes))) ≡ all
+pub record_step : (captured : Captured) (commit : Commit) (now : ℤ) (i o : ℕ) (c : Change) (stamp : Stamp) (made more all : List Record) (r : Record)
+    → AllByRecursion (IsInsert captured.infos) (changes_of commit) → i < length (changes_of commit) → drop i (changes_of commit) ≡ c ∷ drop (i + 1) (changes_of commit)
+    → stamp.ordinal ≡ o → stamp.last ≡ (i + 1 == length (changes_of commit))
+    → map (λ n. print captured.identity commit now (stamped commit stamp n)) (notices captured.infos c) ≡ r ∷ []
+    → made ++ records_from captured commit now i o ≡ all
     → more ≡ made ++ r ∷ []
-    → more ++ map (print identity commit now) (numbered commit.lsn.0 (i + 1) (flat_map (notices infos) (drop (i + 1) changes))) ≡ all
-record_step identity infos commit now changes i c stamp made more all r inserts within here number last one before pushed =
+    → more ++ records_from captured commit now (i + 1) (o + 1) ≡ all
+unfolding records_from
+record_step captured commit now i o c stamp made more all r inserts within here number last one before pushed =
+    let identity = captured.identity in
+    let infos = captured.infos in
+    let changes = changes_of commit in
     let rest = flat_map (notices infos) (drop (i + 1) changes) in
     let got = single (notices infos c) (λ n. print identity commit now (stamped commit stamp n)) r one in
     let n = got.0 in
     let opened : flat_map (notices infos) (drop i changes) ≡ n ∷ rest = ap (flat_map (notices infos)) here ∙ ap (λ ns. ns ++ rest) got.1 in
     let is_last : stamp.last ≡ is_nil rest = last ∙ sym (nil_drop changes (i + 1) (omega arith)) ∙ sym (nil_notices infos (drop (i + 1) changes) (all_drop (IsInsert infos) changes (i + 1) inserts)) in
-    let first : r ≡ print identity commit now (event_of commit n i (is_nil rest)) = sym got.2 ∙ ap₂ (λ o l. print identity commit now (event_of commit n o l)) number is_last in
-    let whole : made ++ print identity commit now (event_of commit n i (is_nil rest)) ∷ map (print identity commit now) (numbered commit.lsn.0 (i + 1) rest) ≡ all =
-    ap (λ ns. made ++ map (print identity commit now) (numbered commit.lsn.0 i ns)) (sym opened) ∙ before in
-    ap (λ rs. rs ++ map (print identity commit now) (numbered commit.lsn.0 (i + 1) rest)) pushed
-    ∙ append_assoc made (r ∷ []) (map (print identity commit now) (numbered commit.lsn.0 (i + 1) rest))
-    ∙ ap (λ x. made ++ x ∷ map (print identity commit now) (numbered commit.lsn.0 (i + 1) rest)) first
+    let first : r ≡ print identity commit now (event_of commit n o (is_nil rest)) = sym got.2 ∙ ap₂ (λ o l. print identity commit now (event_of commit n o l)) number is_last in
+    let whole : made ++ print identity commit now (event_of commit n o (is_nil rest)) ∷ map (print identity commit now) (numbered commit.lsn.0 (o + 1) rest) ≡ all =
+    ap (λ ns. made ++ map (print identity commit now) (numbered commit.lsn.0 o ns)) (sym opened) ∙ before in
+    ap (λ rs. rs ++ map (print identity commit now) (numbered commit.lsn.0 (o + 1) rest)) pushed
+    ∙ append_assoc made (r ∷ []) (map (print identity commit now) (numbered commit.lsn.0 (o + 1) rest))
+    ∙ ap (λ x. made ++ x ∷ map (print identity commit now) (numbered commit.lsn.0 (o + 1) rest)) first
     ∙ whole
+
+-- nothing is left behind the last change
+pub nothing_left : (captured : Captured) (commit : Commit) (now : ℤ) (i o : ℕ) → i ≡ length (changes_of commit) → records_from captured commit now i o ≡ []
+unfolding records_from
+nothing_left captured commit now i o end =
+    ap (λ cs. map (print captured.identity commit now) (numbered commit.lsn.0 o (flat_map (notices captured.infos) cs))) (drop_all i (changes_of commit) (omega arith))
+
+-- all are left before the first
+pub all_left : (captured : Captured) (commit : Commit) (now : ℤ) → records_from captured commit now 0 0 ≡ envelopes captured.identity captured.infos commit now
+unfolding records_from
+all_left captured commit now = refl

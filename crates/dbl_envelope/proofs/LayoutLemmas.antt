@@ -18,7 +18,8 @@ use Rattle.dbl_model.specs.Infos.{name_at, key_names, width}
 use Rattle.dbl_model.specs.Keys.{cell_or_null, key_of}
 use Rattle.dbl_model.specs.Image.{members_of}
 use Rattle.dbl_model.proofs.InfoLemmas.{places_within}
-use Rattle.dbl_envelope.specs.Layouts.{Named, sorted, column_names_from, column_names_at, places_of, layout_of, members_at, text_cmp}
+use Rattle.dbl_envelope.specs.Layouts.{Named, sorted, column_names_from, column_names_at, places_of, layout_of, members_at}
+use Rattle.dbl_base.specs.Texts.{text_cmp}
 use Rattle.dbl_envelope.specs.declared.layout.Place.{Place}
 
 drop_here : {A : Type 0} (xs : List A) (j : ℕ) (x : A) → slice_get xs j ≡ Some x → drop j xs ≡ x ∷ drop (suc j) xs

@@ -1,9 +1,7 @@
 -- The columns of a table and of its key in byte order of their names, as they stand in JSON objects.
 use Rattle.std.specs.Prelude.{ℕ, ◌+◌, List, [], ◌∷◌, map}
 use Rattle.std.specs.BTreeMap.{insert_entry}
-use Rattle.std.specs.Ordering.{nat_cmp}
-use Rattle.std.specs.declared.cmp.Ordering.{Ordering}
-use Rattle.std.specs.Cmp.Lexicographic.{slice_cmp}
+use Rattle.dbl_base.specs.Texts.{text_cmp}
 use Rattle.serde_json.specs.Data.{Members, no_members, member}
 use Rattle.dbl_value.specs.declared.value.Val.{Val}
 use Rattle.dbl_value.specs.Values.{json_data}
@@ -14,9 +12,6 @@ use Rattle.dbl_model.specs.Infos.{name_at, topic_of}
 use Rattle.dbl_model.specs.Keys.{cell_or_null}
 use Rattle.dbl_envelope.specs.declared.layout.Place.{Place}
 use Rattle.dbl_envelope.specs.declared.layout.Layout.{Layout}
-
-abbrev pub text_cmp : List ℕ → List ℕ → Ordering
-text_cmp = slice_cmp nat_cmp
 
 -- names with places, and the same in byte order of the names
 abbrev pub Named : Type 0

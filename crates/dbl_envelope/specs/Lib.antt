@@ -1,3 +1,4 @@
 pub mod Layouts
 pub mod Tokens
 pub mod Inserts
+pub mod Writers

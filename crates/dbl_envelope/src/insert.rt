@@ -109,7 +109,7 @@ fn value_text(
 }
 
 /// The record of a row that a commit inserted. The layout is the table's. Takes memory for the record's own texts alone.
-pub fn insert_record(
+pub(crate) fn insert_record(
     alloc: Global,
     identity: &Identity,
     info: &TableInfo,

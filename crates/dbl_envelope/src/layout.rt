@@ -16,7 +16,7 @@ pub(crate) struct Place {
 /// How the records of one table are laid out: their topic, and the columns of their rows and keys in byte order of the
 /// names. It is made once for a table.
 #[derive(Debug, Drop)]
-pub struct Layout {
+pub(crate) struct Layout {
     pub(crate) topic: Text,
     pub(crate) columns: Seq<Place>,
     pub(crate) key: Seq<Place>,
@@ -59,7 +59,11 @@ fn key_in_order(alloc: Global, info: &TableInfo) -> Result<Seq<Place>, AllocErro
 
 impl Layout {
     /// Takes n log n steps for n columns.
-    pub fn make(alloc: Global, identity: &Identity, info: &TableInfo) -> Result<Layout, AllocError>
+    pub(crate) fn make(
+        alloc: Global,
+        identity: &Identity,
+        info: &TableInfo,
+    ) -> Result<Layout, AllocError>
         ensures { IfOk result (λ layout. layout ≡ layout_of identity.now info.now) }
     {
         let topic = Text::make(format!(in alloc;

@@ -1,6 +1,6 @@
 /// What a record says of its place and its making.
 #[derive(Clone, Copy, Debug)]
-pub struct Stamp {
+pub(crate) struct Stamp {
     /// The record's number among those of its commit, from 0.
     pub ordinal: u64,
     /// Whether it is the last of its commit.

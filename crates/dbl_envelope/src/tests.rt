@@ -1,10 +1,10 @@
 ghost use Rattle.std.specs.Prelude.{◌≡◌, [], ◌∷◌, All, IsSome, IfOk, length};
 ghost use Rattle.dbl_value.specs.Values.{type_of};
 ghost use Rattle.dbl_model.specs.Infos.{width};
-ghost use Rattle.dbl_model.specs.Rows.{changes_of};
+ghost use Rattle.dbl_model.specs.declared.change.Body.TheVariants.{Changes};
 ghost use Rattle.dbl_model.specs.declared.change.Change.TheVariants.{Insert};
 
-use super::{Layout, Stamp, insert_record, records};
+use super::EventWriter;
 use dbl_base::{Lsn, Seq, Text};
 use dbl_model::{
     Body, Change, Commit, Identity, ModelError, RawColumn, RawTable, Row, TableInfo, TableName,
@@ -53,73 +53,63 @@ fn users(alloc: Global, columns: &[(&str, bool)], key: &[&str]) -> Result<TableI
     TableInfo::make(alloc, &raw)
 }
 
-fn insert_into_first(alloc: Global, row: Row) -> Result<Commit, AllocError>
-    ensures { IfOk result (λ c. changes_of c ≡ Insert 0 row ∷ []) }
+// What a commit did that inserted one row into the first table.
+fn inserted(alloc: Global, cells: Vec<Val>) -> Result<Body, AllocError>
+    ensures { IfOk result (λ body. body ≡ Changes (Insert 0 (record { cells = cells.items }) ∷ [])) }
 {
-    Ok(Commit {
-        lsn: Lsn(256),
-        end_lsn: Lsn(296),
-        time: 0,
-        xid: 7,
-        body: Body::Changes(Seq::make(vec![in alloc; Change::Insert { table: 0, row }]?)),
-    })
+    let row = Row {
+        cells: Seq::make(cells),
+    };
+    Ok(Body::Changes(Seq::make(vec![in alloc; Change::Insert { table: 0, row }]?)))
 }
+
+const ONE_INSERT: &str =
+    r#"{"headers":{"dblog.last":true,"dblog.ordinal":0,"dblog.position":256},"key":{"id":1},"topic":"demo.public.users","value":{"after":{"id":1,"name":"Ann"},"before":null,"op":"c","source":{"connector":"postgresql","db":"demo","lsn":256,"name":"demo","schema":"public","snapshot":"false","table":"users","ts_ms":946684800000,"txId":7,"version":"1.0","xmin":null},"transaction":null,"ts_ms":0}}"#;
+
+// The names in byte order, the cells as JSON escapes them, and the numbers at their ends.
+const HARD_CELLS: &str =
+    r#"{"headers":{"dblog.last":true,"dblog.ordinal":0,"dblog.position":18446744073709551615},"key":{"id":-5,"zeta":"q\"\\\u0001\n"},"topic":"demo.public.users","value":{"after":{"Alpha":null,"id":-5,"zeta":"q\"\\\u0001\n"},"before":null,"op":"c","source":{"connector":"postgresql","db":"demo","lsn":18446744073709551615,"name":"demo","schema":"public","snapshot":"false","table":"users","ts_ms":946684799999,"txId":4294967295,"version":"1.0","xmin":null},"transaction":null,"ts_ms":-9}}"#;
 
 #[test]
 fn one_insert(rt: HostRuntime) -> Result<(), Fail> {
     let alloc = rt.alloc();
-    let identity = demo(alloc)?;
     let info = users(alloc, &[("id", true), ("name", false)], &["id"])?;
     let cells = vec![in alloc; Val::Int(1), Val::Text(Text::of(alloc, "Ann")?)]?;
     assert_eq!(rt; cells.len(), info.columns.items().len());
-    let layouts = vec![in alloc; Layout::make(alloc, &identity, &info)?]?;
-    let infos = vec![in alloc; info]?;
-    let commit = insert_into_first(
-        alloc,
-        Row {
-            cells: Seq::make(cells),
-        },
-    )?;
-    let made = records(alloc, &identity, &infos, &layouts, &commit, 0)?;
+    let writer = EventWriter::make(alloc, demo(alloc)?, vec![in alloc; info]?)?;
+    let commit = Commit {
+        lsn: Lsn(256),
+        end_lsn: Lsn(296),
+        time: 0,
+        xid: 7,
+        body: inserted(alloc, cells)?,
+    };
+    let made = writer.records(alloc, &commit, 0)?;
     assert_eq!(rt; made.len(), 1);
-    assert_eq!(rt;
-        line(alloc, &made[0])?.as_str(),
-        "{\"headers\":{\"dblog.last\":true,\"dblog.ordinal\":0,\"dblog.position\":256},\"key\":{\"id\":1},\"topic\":\"demo.public.users\",\"value\":{\"after\":{\"id\":1,\"name\":\"Ann\"},\"before\":null,\"op\":\"c\",\"source\":{\"connector\":\"postgresql\",\"db\":\"demo\",\"lsn\":256,\"name\":\"demo\",\"schema\":\"public\",\"snapshot\":\"false\",\"table\":\"users\",\"ts_ms\":946684800000,\"txId\":7,\"version\":\"1.0\",\"xmin\":null},\"transaction\":null,\"ts_ms\":0}}"
-    );
+    assert_eq!(rt; line(alloc, &made[0])?.as_str(), ONE_INSERT);
     Ok(())
 }
 
 #[test]
 fn a_row_of_hard_cells(rt: HostRuntime) -> Result<(), Fail> {
     let alloc = rt.alloc();
-    let identity = demo(alloc)?;
-    let info = users(
-        alloc,
-        &[("zeta", false), ("id", true), ("Alpha", false)],
-        &["zeta", "id"],
-    )?;
-    let layout = Layout::make(alloc, &identity, &info)?;
+    let columns = [("zeta", false), ("id", true), ("Alpha", false)];
+    let info = users(alloc, &columns, &["zeta", "id"])?;
     let text = Val::Text(Text::of(alloc, "q\"\\\u{1}\n")?);
-    let row = Row {
-        cells: Seq::make(vec![in alloc; text, Val::Int(-5), Val::Null]?),
-    };
+    let cells = vec![in alloc; text, Val::Int(-5), Val::Null]?;
+    assert_eq!(rt; cells.len(), info.columns.items().len());
+    let writer = EventWriter::make(alloc, demo(alloc)?, vec![in alloc; info]?)?;
     let commit = Commit {
         lsn: Lsn(18446744073709551615),
         end_lsn: Lsn(18446744073709551615),
         time: -1,
         xid: 4294967295,
-        body: Body::Changes(Seq::make(Vec::new(alloc))),
+        body: inserted(alloc, cells)?,
     };
-    assert_eq!(rt; row.cells.items().len(), info.columns.items().len());
-    let stamp = Stamp {
-        ordinal: 3,
-        last: false,
-        now_ms: -9,
-    };
-    let made = insert_record(alloc, &identity, &info, &layout, &commit, &row, &stamp)?;
-    assert_eq!(rt;
-        line(alloc, &made)?.as_str(),
-        "{\"headers\":{\"dblog.last\":false,\"dblog.ordinal\":3,\"dblog.position\":18446744073709551615},\"key\":{\"id\":-5,\"zeta\":\"q\\\"\\\\\\u0001\\n\"},\"topic\":\"demo.public.users\",\"value\":{\"after\":{\"Alpha\":null,\"id\":-5,\"zeta\":\"q\\\"\\\\\\u0001\\n\"},\"before\":null,\"op\":\"c\",\"source\":{\"connector\":\"postgresql\",\"db\":\"demo\",\"lsn\":18446744073709551615,\"name\":\"demo\",\"schema\":\"public\",\"snapshot\":\"false\",\"table\":\"users\",\"ts_ms\":946684799999,\"txId\":4294967295,\"version\":\"1.0\",\"xmin\":null},\"transaction\":null,\"ts_ms\":-9}}"
-    );
+    let mut left = writer.records_left(&commit, -9);
+    let made = left.next(alloc)?;
+    assert_eq!(rt; made.len(), 1);
+    assert_eq!(rt; line(alloc, &made[0])?.as_str(), HARD_CELLS);
+    assert!(rt; left.next(alloc)?.is_empty());
     Ok(())
 }

@@ -1,13 +1,15 @@
 -- How a run ends, from what it read and what it wrote.
-use Rattle.std.proofs.Common.{◌≡◌, ◌⊎◌, inl, inr, ◌∙◌, ℕ, ℤ, ◌<◌, Option, Some, List, [], ◌∷◌, ◌++◌, Bool, true, bytes_eq, codes, get_or, length, take, flat_map, ◌+◌, append-nil, refl, sym, ap, subst, arith}
+use Rattle.std.proofs.Common.{◌≡◌, ◌⊎◌, inl, inr, ◌∙◌, ℕ, ℤ, Option, Some, List, [], ◌∷◌, ◌++◌, Bool, true, bytes_eq, codes, get_or, length, take, map, flat_map, append-nil, refl, sym, ap, subst, arith}
 use Rattle.std.proofs.lemmas.Slice.Eq.{bytes_eq-Decides}
-use Rattle.std.proofs.lemmas.List.{take_more}
-use Rattle.std.proofs.lemmas.Grind.{flat_map-append}
+use Rattle.dbl_record.specs.Line.{line_of}
+use Rattle.dbl_model.specs.declared.identity.Identity.{Identity}
 use Rattle.dbl_model.specs.EventJson.{envelopes}
 use Rattle.dblog.specs.declared.halt.Halt.{Halt}
-use Rattle.dblog.specs.declared.halt.Halt.TheVariants.{Usage, NotBuilt, BadLine, InputTooLong, InputFailed, OutputFailed, Memory}
-use Rattle.dblog.specs.Faults.{status_of, fault_line}
-use Rattle.dblog.specs.Run.{Answer, fault, done, text_of, replay_words, Replays, too_long, bad_line, not_built, replayed, Means, usage, replay, Wrote, WroteFront, whole, input_failed, out_of_memory, Writes, Ends, IsOutside, Runs, Says, Halts, PrintFails, default_identity, lines_in}
+use Rattle.dblog.specs.declared.halt.Halt.TheVariants.{Usage, NotBuilt, BadLine, InputTooLong, InputFailed, Memory}
+use Rattle.dblog.specs.declared.printing.PrintError.{PrintError}
+use Rattle.dblog.specs.declared.printing.PrintError.TheVariants as print_error
+use Rattle.dblog.specs.Faults.{status_of, fault_line, output_failed_status}
+use Rattle.dblog.specs.Run.{Answer, fault, done, lines_text, replay_words, Replays, too_long, bad_line, not_built, replayed, Means, usage, replay, Wrote, WroteFront, whole, input_failed, out_of_memory, Writes, Ends, IsOutside, Runs, Says, Halts, PrintFails, default_identity, lines_in}
 use Rattle.dbl_model.specs.declared.table.TableInfo.{TableInfo}
 use Rattle.dbl_model.specs.declared.change.Commit.{Commit}
 use Rattle.dblog.proofs.ThinLaws.{SameThings, states_one}
@@ -46,16 +48,16 @@ means_one words now bytes a b (replay same replays) (usage other is) = absurd (o
 means_one words now bytes a b (replay same replays) (replay same' replays') = replays_one now bytes a b replays replays'
 
 pub says_ends : (halt : Halt) (status : ℕ) (before after : Option (List ℕ)) → Says halt status before after → Ends (fault halt) status before after
-says_ends halt status before after (inl writes) = record { wanted = status_of halt; text = text_of (fault_line halt ∷ []); may = whole refl refl; writes = writes }
-says_ends halt status before after (inr writes) = record { wanted = status_of Memory; text = text_of (fault_line Memory ∷ []); may = out_of_memory 0 refl refl; writes = writes }
+says_ends halt status before after (inl writes) = record { wanted = status_of halt; text = lines_text (fault_line halt ∷ []); may = whole refl refl; writes = writes }
+says_ends halt status before after (inr writes) = record { wanted = status_of Memory; text = lines_text (fault_line Memory ∷ []); may = out_of_memory 0 refl refl; writes = writes }
 
 -- a fault of the outside ends a run of any answer
-pub memory_ends : (answer : Answer) (status : ℕ) (before after : Option (List ℕ)) → Writes (status_of Memory) (text_of (fault_line Memory ∷ [])) status before after → Ends answer status before after
-memory_ends answer status before after writes = record { wanted = status_of Memory; text = text_of (fault_line Memory ∷ []); may = out_of_memory 0 refl refl; writes = writes }
+pub memory_ends : (answer : Answer) (status : ℕ) (before after : Option (List ℕ)) → Writes (status_of Memory) (lines_text (fault_line Memory ∷ [])) status before after → Ends answer status before after
+memory_ends answer status before after writes = record { wanted = status_of Memory; text = lines_text (fault_line Memory ∷ []); may = out_of_memory 0 refl refl; writes = writes }
 
-pub input_ends : (answer : Answer) (status : ℕ) (before after : Option (List ℕ)) → Says InputFailed status before after → Ends answer status before after
-input_ends answer status before after (inl writes) = record { wanted = status_of InputFailed; text = text_of (fault_line InputFailed ∷ []); may = input_failed refl refl; writes = writes }
-input_ends answer status before after (inr writes) = memory_ends answer status before after writes
+pub input_ends : (answer : Answer) (status : ℕ) (before after : Option (List ℕ)) → answer.reads ≡ true → Says InputFailed status before after → Ends answer status before after
+input_ends answer status before after reads (inl writes) = record { wanted = status_of InputFailed; text = lines_text (fault_line InputFailed ∷ []); may = input_failed reads refl refl; writes = writes }
+input_ends answer status before after reads (inr writes) = memory_ends answer status before after writes
 
 pub written_or_outside : (wanted : ℕ) (text : List ℕ) (status : ℕ) (before after : Option (List ℕ)) → Writes wanted text status before after → (status ≡ wanted) ⊎ IsOutside status
 written_or_outside wanted text status before after (inl wrote) = inl wrote.0
@@ -80,8 +82,19 @@ said_runs words now bytes halt status before after means (inr writes) = record {
   meant = inl (memory_is_outside status (written_or_outside _ _ status before after writes));
 }
 
-pub outside_runs : (words : List (List ℕ)) (now : ℤ) (bytes : List ℕ) (status : ℕ) (before after : Option (List ℕ)) → ((answer : Answer) → Ends answer status before after) → IsOutside status → Runs words now bytes status before after
-outside_runs words now bytes status before after ends outside = record { ended = λ answer means. ends answer; meant = inl outside }
+-- the input is read for what `replay` answers
+pub replay_reads : (now : ℤ) (bytes : List ℕ) (answer : Answer) → Replays now bytes answer → answer.reads ≡ true
+replay_reads now bytes answer (too_long long is) = ap (λ a. a.reads) is
+replay_reads now bytes answer (bad_line n within bad is) = ap (λ a. a.reads) is
+replay_reads now bytes answer (not_built within good none is) = ap (λ a. a.reads) is
+replay_reads now bytes answer (replayed i c within good states is) = ap (λ a. a.reads) is
+
+pub meant_reads : (words : List (List ℕ)) (now : ℤ) (bytes : List ℕ) (answer : Answer) → words ≡ replay_words → Means words now bytes answer → answer.reads ≡ true
+meant_reads words now bytes answer same (usage other is) = absurd (other same)
+meant_reads words now bytes answer same (replay same' replays) = replay_reads now bytes answer replays
+
+pub outside_runs : (words : List (List ℕ)) (now : ℤ) (bytes : List ℕ) (status : ℕ) (before after : Option (List ℕ)) → ((answer : Answer) → Means words now bytes answer → Ends answer status before after) → IsOutside status → Runs words now bytes status before after
+outside_runs words now bytes status before after ends outside = record { ended = ends; meant = inl outside }
 
 pub input_is_outside : (status : ℕ) (before after : Option (List ℕ)) → Says InputFailed status before after → IsOutside status
 input_is_outside status before after (inl writes) = elim (written_or_outside _ _ status before after writes) [ inl is ↦ inl is | inr outside ↦ outside ]
@@ -89,31 +102,30 @@ input_is_outside status before after (inr writes) = memory_is_outside status (wr
 
 pub halt_runs : (words : List (List ℕ)) (now : ℤ) (bytes : List ℕ) (halt : Halt) (status : ℕ) (before after : Option (List ℕ)) → words ≡ replay_words → Halts now bytes halt → Says halt status before after → Runs words now bytes status before after
 halt_runs words now bytes Usage status before after same halts says = absurd halts
-halt_runs words now bytes OutputFailed status before after same halts says = absurd halts
 halt_runs words now bytes InputFailed status before after same halts says =
-    outside_runs words now bytes status before after (λ answer. input_ends answer status before after says) (input_is_outside status before after says)
+    outside_runs words now bytes status before after (λ answer means. input_ends answer status before after (meant_reads words now bytes answer same means) says) (input_is_outside status before after says)
 halt_runs words now bytes Memory status before after same halts says =
-    let writes : Writes (status_of Memory) (text_of (fault_line Memory ∷ [])) status before after = elim says [ inl w ↦ w | inr w ↦ w ] in
-    outside_runs words now bytes status before after (λ answer. memory_ends answer status before after writes) (memory_is_outside status (written_or_outside _ _ status before after writes))
+    let writes : Writes (status_of Memory) (lines_text (fault_line Memory ∷ [])) status before after = elim says [ inl w ↦ w | inr w ↦ w ] in
+    outside_runs words now bytes status before after (λ answer means. memory_ends answer status before after writes) (memory_is_outside status (written_or_outside _ _ status before after writes))
 halt_runs words now bytes (BadLine n) status before after same halts says = said_runs words now bytes (BadLine n) status before after (replay same halts) says
 halt_runs words now bytes InputTooLong status before after same halts says = said_runs words now bytes InputTooLong status before after (replay same halts) says
 halt_runs words now bytes NotBuilt status before after same halts says = said_runs words now bytes NotBuilt status before after (replay same halts) says
 
 -- a run whose lines were all written
-pub printed_runs : (words : List (List ℕ)) (now : ℤ) (bytes : List ℕ) (lines : List (List ℕ)) (before after : Option (List ℕ)) → words ≡ replay_words → Replays now bytes (done lines) → Wrote before after (text_of lines) → Runs words now bytes 0 before after
+pub printed_runs : (words : List (List ℕ)) (now : ℤ) (bytes : List ℕ) (lines : List (List ℕ)) (before after : Option (List ℕ)) → words ≡ replay_words → Replays now bytes (done lines) → Wrote before after (lines_text lines) → Runs words now bytes 0 before after
 printed_runs words now bytes lines before after same replays wrote =
     let means : Means words now bytes (done lines) = replay same replays in
     record {
-      ended = λ answer other. subst (λ a. Ends a 0 before after) (means_one words now bytes (done lines) answer means other) (record { wanted = 0; text = text_of lines; may = whole refl refl; writes = inl (refl, wrote) });
+      ended = λ answer other. subst (λ a. Ends a 0 before after) (means_one words now bytes (done lines) answer means other) (record { wanted = 0; text = lines_text lines; may = whole refl refl; writes = inl (refl, wrote) });
       meant = inr (done lines, means, refl);
     }
 
 -- a run whose output failed in its lines
-pub cut_runs : (words : List (List ℕ)) (now : ℤ) (bytes : List ℕ) (lines : List (List ℕ)) (status : ℕ) (before after : Option (List ℕ)) → words ≡ replay_words → Replays now bytes (done lines) → status ≡ status_of OutputFailed → WroteFront before after (text_of lines) → Runs words now bytes status before after
+pub cut_runs : (words : List (List ℕ)) (now : ℤ) (bytes : List ℕ) (lines : List (List ℕ)) (status : ℕ) (before after : Option (List ℕ)) → words ≡ replay_words → Replays now bytes (done lines) → status ≡ output_failed_status → WroteFront before after (lines_text lines) → Runs words now bytes status before after
 cut_runs words now bytes lines status before after same replays is front =
     let means : Means words now bytes (done lines) = replay same replays in
     record {
-      ended = λ answer other. subst (λ a. Ends a status before after) (means_one words now bytes (done lines) answer means other) (record { wanted = 0; text = text_of lines; may = whole refl refl; writes = inr (is, front) });
+      ended = λ answer other. subst (λ a. Ends a status before after) (means_one words now bytes (done lines) answer means other) (record { wanted = 0; text = lines_text lines; may = whole refl refl; writes = inr (is, front) });
       meant = inl (inr (inl is));
     }
 
@@ -123,26 +135,15 @@ writes_then wanted status before middle after first second wrote (inr cut) = inr
 
 -- a run that found no more memory in its lines, or whose output failed when it said so
 pub starved_runs : (words : List (List ℕ)) (now : ℤ) (bytes : List ℕ) (lines : List (List ℕ)) (status : ℕ) (before middle after : Option (List ℕ)) (n : ℕ) → words ≡ replay_words → Replays now bytes (done lines)
-    → Wrote before middle (text_of (take n lines)) → Says Memory status middle after → Runs words now bytes status before after
+    → Wrote before middle (lines_text (take n lines)) → Says Memory status middle after → Runs words now bytes status before after
 starved_runs words now bytes lines status before middle after n same replays wrote says =
     let means : Means words now bytes (done lines) = replay same replays in
-    let line : Writes (status_of Memory) (text_of (fault_line Memory ∷ [])) status middle after = elim says [ inl w ↦ w | inr w ↦ w ] in
-    let all : Writes (status_of Memory) (text_of (take n lines) ++ text_of (fault_line Memory ∷ [])) status before after = writes_then (status_of Memory) status before middle after _ _ wrote line in
+    let line : Writes (status_of Memory) (lines_text (fault_line Memory ∷ [])) status middle after = elim says [ inl w ↦ w | inr w ↦ w ] in
+    let all : Writes (status_of Memory) (lines_text (take n lines) ++ lines_text (fault_line Memory ∷ [])) status before after = writes_then (status_of Memory) status before middle after _ _ wrote line in
     record {
-      ended = λ answer other. subst (λ a. Ends a status before after) (means_one words now bytes (done lines) answer means other) (record { wanted = status_of Memory; text = text_of (take n lines) ++ text_of (fault_line Memory ∷ []); may = out_of_memory n refl refl; writes = all });
+      ended = λ answer other. subst (λ a. Ends a status before after) (means_one words now bytes (done lines) answer means other) (record { wanted = status_of Memory; text = lines_text (take n lines) ++ lines_text (fault_line Memory ∷ []); may = out_of_memory n refl refl; writes = all });
       meant = inl (memory_is_outside status (written_or_outside _ _ status before after all));
     }
-
--- a run whose lines could not all be written
-pub print_fails_runs : (words : List (List ℕ)) (now : ℤ) (bytes : List ℕ) (lines : List (List ℕ)) (halt : Halt) (status : ℕ) (before middle after : Option (List ℕ)) → (halt ≡ OutputFailed → ⊥) → words ≡ replay_words → Replays now bytes (done lines)
-    → PrintFails lines halt before middle → Says halt status middle after → Runs words now bytes status before after
-print_fails_runs words now bytes lines Usage status before middle after other same replays fails says = absurd fails
-print_fails_runs words now bytes lines InputFailed status before middle after other same replays fails says = absurd fails
-print_fails_runs words now bytes lines OutputFailed status before middle after other same replays fails says = absurd (other refl)
-print_fails_runs words now bytes lines Memory status before middle after other same replays fails says = starved_runs words now bytes lines status before middle after fails.0 same replays fails.1 says
-print_fails_runs words now bytes lines (BadLine number) status before middle after other same replays fails says = absurd fails
-print_fails_runs words now bytes lines InputTooLong status before middle after other same replays fails says = absurd fails
-print_fails_runs words now bytes lines NotBuilt status before middle after other same replays fails says = absurd fails
 
 pub one_item : (xs : List (List ℕ)) (x : List ℕ) → length xs ≡ 1 → x ≡ get_or xs 0 x → xs ≡ x ∷ []
 one_item [] x one is = absurd (omega arith)
@@ -159,29 +160,18 @@ word_alone words word test alone is =
     (λ passes. alone ∙ ap (λ w. w ∷ []) (decides.0 (sym is ∙ passes)), λ same. is ∙ decides.1 (word_is words word alone same))
 
 -- no line was written where memory was wanting before the first
-pub nothing_printed : (lines : List (List ℕ)) (halt : Halt) (now : Option (List ℕ)) → halt ≡ Memory → PrintFails lines halt now now
-nothing_printed lines halt now is = subst (λ h. PrintFails lines h now now) (sym is) (0, λ bytes told. told ∙ ap Some (sym (append-nil bytes)))
+pub nothing_printed : (lines : List (List ℕ)) (error : PrintError) (now : Option (List ℕ)) → error ≡ print_error.Memory → PrintFails lines error now now
+nothing_printed lines error now is = subst (λ e. PrintFails lines e now now) (sym is) (0, λ bytes told. told ∙ ap Some (sym (append-nil bytes)))
 
--- the records of one more commit
-pub records_more : (infos : List TableInfo) (now : ℤ) (commits : List Commit) (i : ℕ) (commit : Commit) → i < length commits → commit ≡ get_or commits i commit
-    → flat_map (λ c. envelopes default_identity infos c now) (take (i + 1) commits) ≡ flat_map (λ c. envelopes default_identity infos c now) (take i commits) ++ envelopes default_identity infos commit now
-records_more infos now commits i commit within is =
-    let f = λ (c : Commit). envelopes default_identity infos c now in
-    ap (flat_map f) (take_more commits i commit within) ∙ flat_map-append f (take i commits) (get_or commits i commit ∷ [])
-    ∙ ap (λ rs. flat_map f (take i commits) ++ rs) (append-nil (f (get_or commits i commit)) ∙ ap f (sym is))
+-- want of memory is no fault of the input
+pub memory_is_no_input : (status : ℕ) (before after : Option (List ℕ)) → Says Memory status before after → status ≡ status_of InputFailed → ⊥
+memory_is_no_input status before after (inl (inl said)) is = cc
+memory_is_no_input status before after (inl (inr said)) is = cc
+memory_is_no_input status before after (inr (inl said)) is = cc
+memory_is_no_input status before after (inr (inr said)) is = cc
 
--- a run whose printing failed was not told that its input failed
-pub printing_is_no_input : (lines : List (List ℕ)) (halt : Halt) (status : ℕ) (before middle after : Option (List ℕ)) → PrintFails lines halt before middle → Says halt status middle after → status ≡ status_of InputFailed → ⊥
-printing_is_no_input lines Usage status before middle after fails says is = absurd fails
-printing_is_no_input lines InputFailed status before middle after fails says is = absurd fails
-printing_is_no_input lines OutputFailed status before middle after fails (inl (inl said)) is = cc
-printing_is_no_input lines OutputFailed status before middle after fails (inl (inr said)) is = cc
-printing_is_no_input lines OutputFailed status before middle after fails (inr (inl said)) is = cc
-printing_is_no_input lines OutputFailed status before middle after fails (inr (inr said)) is = cc
-printing_is_no_input lines Memory status before middle after fails (inl (inl said)) is = cc
-printing_is_no_input lines Memory status before middle after fails (inl (inr said)) is = cc
-printing_is_no_input lines Memory status before middle after fails (inr (inl said)) is = cc
-printing_is_no_input lines Memory status before middle after fails (inr (inr said)) is = cc
-printing_is_no_input lines (BadLine number) status before middle after fails says is = absurd fails
-printing_is_no_input lines InputTooLong status before middle after fails says is = absurd fails
-printing_is_no_input lines NotBuilt status before middle after fails says is = absurd fails
+-- the lines of a writer's records
+pub lines_are : (identity : Identity) (infos is : List TableInfo) (commits : List Commit) (m now : ℤ) → identity ≡ default_identity → infos ≡ is → m ≡ now
+    → map line_of (flat_map (λ commit. envelopes identity infos commit m) commits) ≡ lines_in is commits now
+lines_are identity infos is commits m now same_identity same_infos same_now =
+    ap (λ i. map line_of (flat_map (λ commit. envelopes i infos commit m) commits)) same_identity ∙ ap (λ is. lines_in is commits m) same_infos ∙ ap (lines_in is commits) same_now

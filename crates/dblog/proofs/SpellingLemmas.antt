@@ -1,7 +1,6 @@
 -- Byte strings and the messages that they spell, item by item.
-use Rattle.std.proofs.Common.{◌≡◌, ◌∙◌, ℕ, zero, suc, ◌+◌, ◌<◌, List, [], ◌∷◌, ◌++◌, length, get_or, take, refl, sym, ap, subst, arith}
+use Rattle.std.proofs.Common.{◌≡◌, ◌∙◌, ℕ, List, [], ◌∷◌, ◌++◌, append_assoc, append-nil, refl, sym, ap, subst}
 use Rattle.std.specs.List.{AllByRecursion}
-use Rattle.std.proofs.lemmas.List.{take_more, take_all}
 use Rattle.dbl_pgmsg.specs.declared.messages.Message.{Message}
 use Rattle.dbl_pgmsg.specs.Grammar.{Spells, IsOfInsertStream, SpellsNoneOfInsertStream}
 use Rattle.dbl_pgmsg.proofs.MessageLaws.{one_message}
@@ -13,22 +12,39 @@ spelled-push [] (n ∷ ns) b m all last = absurd all
 spelled-push (a ∷ as') [] b m all last = absurd all
 spelled-push (a ∷ as') (n ∷ ns) b m all last = (all.0, spelled-push as' ns b m all.1 last)
 
+-- the messages of the byte strings but for those that are left
+pub record IsDecoding (all rest : List (List ℕ)) (messages : List Message) : Type 0 where
+  pub read : List (List ℕ)
+  pub all_is : read ++ rest ≡ all
+  pub spelled : AreSpelled read messages
+
+pub decoding_begins : (all : List (List ℕ)) (messages : List Message) → messages ≡ [] → IsDecoding all all messages
+decoding_begins all messages none = record { read = []; all_is = refl; spelled = subst (AreSpelled []) (sym none) tt }
+
 -- one more byte string is read
-pub spelled_more : (bytes : List (List ℕ)) (i : ℕ) (b : List ℕ) (messages : List Message) (m : Message) → i < length bytes → b ≡ get_or bytes i b → AreSpelled (take i bytes) messages → Spells b m
-    → AreSpelled (take (i + 1) bytes) (messages ++ m ∷ [])
-spelled_more bytes i b messages m within is so_far last =
-    subst (λ bs. AreSpelled bs (messages ++ m ∷ [])) (ap (λ x. take i bytes ++ x ∷ []) is ∙ sym (take_more bytes i b within)) (spelled-push (take i bytes) messages b m so_far last)
+pub decoding_more : (all rest next : List (List ℕ)) (b : List ℕ) (messages more : List Message) (m : Message) → IsDecoding all rest messages → rest ≡ b ∷ next → Spells b m → more ≡ messages ++ m ∷ []
+    → IsDecoding all next more
+decoding_more all rest next b messages more m so_far split last pushed = record {
+  read = so_far.read ++ b ∷ [];
+  all_is = append_assoc so_far.read (b ∷ []) next ∙ ap (λ bs. so_far.read ++ bs) (sym split) ∙ so_far.all_is;
+  spelled = subst (AreSpelled (so_far.read ++ b ∷ [])) (sym pushed) (spelled-push so_far.read messages b m so_far.spelled last);
+}
+
+pub decoding_ends : (all rest : List (List ℕ)) (messages : List Message) → IsDecoding all rest messages → rest ≡ [] → AreSpelled all messages
+decoding_ends all rest messages so_far none =
+    subst (λ bs. AreSpelled bs messages) (sym (append-nil so_far.read) ∙ ap (λ bs. so_far.read ++ bs) (sym none) ∙ so_far.all_is) so_far.spelled
+
+none_behind : (read next : List (List ℕ)) (b : List ℕ) → SpellsNoneOfInsertStream b → (messages : List Message) → AreSpelled (read ++ b ∷ next) messages → AllByRecursion IsOfInsertStream messages → ⊥
+none_behind [] next b none [] spelled kinds = absurd spelled
+none_behind [] next b none (m ∷ ms) spelled kinds = none m spelled.0 kinds.0
+none_behind (a ∷ as') next b none [] spelled kinds = absurd spelled
+none_behind (a ∷ as') next b none (m ∷ ms) spelled kinds = none_behind as' next b none ms spelled.1 kinds.1
 
 -- a byte string that spells no message of these kinds
-pub spelled_none : (bytes : List (List ℕ)) (i : ℕ) (b : List ℕ) → i < length bytes → b ≡ get_or bytes i b → SpellsNoneOfInsertStream b
-    → (messages : List Message) → AreSpelled bytes messages → AllByRecursion IsOfInsertStream messages → ⊥
-spelled_none [] i b within is none messages all kinds = absurd (omega arith)
-spelled_none (a ∷ as') i b within is none [] all kinds = absurd all
-spelled_none (a ∷ as') zero b within is none (m ∷ ms) all kinds = none m (subst (λ x. Spells x m) (sym is) all.0) kinds.0
-spelled_none (a ∷ as') (suc i) b within is none (m ∷ ms) all kinds = spelled_none as' i b (omega arith) is none ms all.1 kinds.1
-
-pub spelled_all : (bytes : List (List ℕ)) (i : ℕ) (messages : List Message) → length bytes ≡ i → AreSpelled (take i bytes) messages → AreSpelled bytes messages
-spelled_all bytes i messages all so_far = subst (λ bs. AreSpelled bs messages) (take_all i bytes (omega arith)) so_far
+pub decoding_fails : (all rest next : List (List ℕ)) (b : List ℕ) (messages : List Message) → IsDecoding all rest messages → rest ≡ b ∷ next → SpellsNoneOfInsertStream b
+    → (others : List Message) → AreSpelled all others → AllByRecursion IsOfInsertStream others → ⊥
+decoding_fails all rest next b messages so_far split none others spelled =
+    none_behind so_far.read next b none others (subst (λ bs. AreSpelled bs others) (sym so_far.all_is ∙ ap (λ bs. so_far.read ++ bs) split) spelled)
 
 -- byte strings spell one list of messages
 pub spelled_one : (bytes : List (List ℕ)) (first second : List Message) → AreSpelled bytes first → AreSpelled bytes second → first ≡ second

@@ -23,7 +23,7 @@ use Rattle.dbl_model.specs.declared.change.Body.TheVariants.{Changes, Mark}
 use Rattle.dbl_model.specs.Rows.{changes_of}
 use Rattle.dbl_model.specs.Keys.{key_of}
 use Rattle.dbl_envelope.specs.Inserts.{IsInsert}
-use Rattle.dblog.specs.Thin.{in_front, value_in, values_in, row_with_key, is_given, row_in, insert_in, inserts_in, IsBlock, IsThin, nothing, empty, inserts, AreSpelled, States}
+use Rattle.dblog.specs.Thin.{in_front, value_in, values_in, row_with_key, is_not_null, row_in, insert_in, inserts_in, IsBlock, IsThin, nothing, empty, inserts, AreSpelled, States}
 use Rattle.dblog.proofs.SpellingLemmas.{spelled_one}
 
 -- both parts of a list that is there
@@ -57,7 +57,7 @@ key_row info values false row is = cc
 
 pub and_then_row : (info : TableInfo) (values : Option (List Val)) (row : Row) → option_and_then (row_with_key info) values ≡ Some row → values ≡ Some row.cells
 and_then_row info None row is = cc
-and_then_row info (Some values) row is = ap Some (sym (key_row info values (list_all is_given (key_of info values).cells) row is))
+and_then_row info (Some values) row is = ap Some (sym (key_row info values (list_all is_not_null (key_of info values).cells) row is))
 
 pub row_wide : (placeholder : List ℕ) (info : TableInfo) (cells : List TupleCell) (row : Row) → row_in placeholder info cells ≡ Some row → length row.cells ≡ length info.columns
 row_wide placeholder info cells row is = values_wide placeholder info.columns cells row.cells (and_then_row info (values_in placeholder info.columns cells) row is)

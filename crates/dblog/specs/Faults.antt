@@ -1,12 +1,11 @@
 -- The status and the line of each fault.
-use Rattle.std.specs.Prelude.{ℕ, List, ◌++◌, codes, decimal}
+use Rattle.std.specs.Prelude.{ℕ, Bool, true, false, List, ◌++◌, codes, decimal}
 use Rattle.dblog.specs.declared.halt.Halt.{Halt}
-use Rattle.dblog.specs.declared.halt.Halt.TheVariants.{Usage, NotBuilt, BadLine, InputTooLong, InputFailed, OutputFailed, Memory}
+use Rattle.dblog.specs.declared.halt.Halt.TheVariants.{Usage, NotBuilt, BadLine, InputTooLong, InputFailed, Memory}
 
 abbrev pub status_of : Halt → ℕ
 status_of Usage = 2
 status_of InputFailed = 10
-status_of OutputFailed = 11
 status_of Memory = 12
 status_of (BadLine number) = 13
 status_of InputTooLong = 13
@@ -16,8 +15,20 @@ status_of NotBuilt = 16
 abbrev pub fault_line : Halt → List ℕ
 fault_line Usage = codes "dblog: usage"
 fault_line InputFailed = codes "dblog: input failed"
-fault_line OutputFailed = codes "dblog: output failed"
 fault_line Memory = codes "dblog: out of memory"
 fault_line (BadLine number) = codes "dblog: line " ++ decimal number ++ codes ": bad line"
 fault_line InputTooLong = codes "dblog: input too long"
 fault_line NotBuilt = codes "dblog: not built"
+
+-- the status of a run whose output failed; there is no line of it, as nothing can be written any more
+abbrev pub output_failed_status : ℕ
+output_failed_status = 11
+
+-- whether a run with this fault read its input, or tried to
+abbrev pub reads_input : Halt → Bool
+reads_input Usage = false
+reads_input InputFailed = true
+reads_input Memory = true
+reads_input (BadLine number) = true
+reads_input InputTooLong = true
+reads_input NotBuilt = true

@@ -1,9 +1,11 @@
 -- What a run of the program writes and answers.
-use Rattle.std.specs.Prelude.{◌≡◌, ◌≢◌, ◌⊎◌, ℕ, ℤ, ◌<◌, ◌≤◌, Option, Some, None, List, [], ◌∷◌, ◌++◌, take, length, map, flat_map, codes, Result, Ok, Err}
+use Rattle.std.specs.Prelude.{◌≡◌, ◌≢◌, ◌⊎◌, ℕ, ℤ, ◌<◌, ◌≤◌, Bool, true, Option, Some, None, List, [], ◌∷◌, ◌++◌, take, length, map, flat_map, codes, Result, Ok, Err}
 use Rattle.dbl_base.specs.declared.input.TheConstants.{INPUT_LIMIT}
 use Rattle.dblog.specs.declared.halt.Halt.{Halt}
-use Rattle.dblog.specs.declared.halt.Halt.TheVariants.{Usage, NotBuilt, BadLine, InputTooLong, InputFailed, OutputFailed, Memory}
-use Rattle.dblog.specs.Faults.{status_of, fault_line}
+use Rattle.dblog.specs.declared.halt.Halt.TheVariants.{Usage, NotBuilt, BadLine, InputTooLong, InputFailed, Memory}
+use Rattle.dblog.specs.declared.printing.PrintError.{PrintError}
+use Rattle.dblog.specs.declared.printing.PrintError.TheVariants as print_error
+use Rattle.dblog.specs.Faults.{status_of, fault_line, reads_input, output_failed_status}
 use Rattle.dbl_record.specs.Line.{line_of}
 use Rattle.dbl_model.specs.declared.identity.Identity.{Identity}
 use Rattle.dbl_model.specs.declared.table.TableInfo.{TableInfo}
@@ -13,20 +15,21 @@ use Rattle.dblog.specs.Lines.{lines_of, messages_in, first_bad}
 use Rattle.dblog.specs.Thin.{States}
 
 -- lines as a text, a newline behind each
-abbrev pub text_of : List (List ℕ) → List ℕ
-text_of [] = []
-text_of (line ∷ lines) = line ++ 10 ∷ text_of lines
+abbrev pub lines_text : List (List ℕ) → List ℕ
+lines_text [] = []
+lines_text (line ∷ lines) = line ++ 10 ∷ lines_text lines
 
--- a status, and the lines that are written before it is answered
+-- a status, the lines that are written before it is answered, and whether the input is read for it
 pub record Answer : Type 0 where
   pub status : ℕ
   pub lines : List (List ℕ)
+  pub reads : Bool
 
 abbrev pub done : List (List ℕ) → Answer
-done lines = record { status = 0; lines = lines }
+done lines = record { status = 0; lines = lines; reads = true }
 
 abbrev pub fault : Halt → Answer
-fault halt = record { status = status_of halt; lines = fault_line halt ∷ [] }
+fault halt = record { status = status_of halt; lines = fault_line halt ∷ []; reads = reads_input halt }
 
 -- the words of the one command
 abbrev pub replay_words : List (List ℕ)
@@ -64,16 +67,16 @@ Wrote before after text = (bytes : List ℕ) → before ≡ Some bytes → after
 abbrev pub WroteFront : Option (List ℕ) → Option (List ℕ) → List ℕ → Type 0
 WroteFront before after text = (bytes : List ℕ) → before ≡ Some bytes → (n : ℕ) × (after ≡ Some (bytes ++ take n text))
 
--- a run of this answer may be about to write this text and answer this status: the answer's own, or where the input
--- fails or memory is wanting that fault's, the latter behind some first lines of the answer
+-- a run of this answer may be about to write this text and answer this status: the answer's own, or where an input
+-- that is read fails or memory is wanting that fault's, the latter behind some first lines of the answer
 pub data MayEnd (answer : Answer) (status : ℕ) (text : List ℕ) : Type 0 where
-  whole : status ≡ answer.status → text ≡ text_of answer.lines → MayEnd answer status text
-  input_failed : status ≡ status_of InputFailed → text ≡ text_of (fault_line InputFailed ∷ []) → MayEnd answer status text
-  out_of_memory : (n : ℕ) → status ≡ status_of Memory → text ≡ text_of (take n answer.lines) ++ text_of (fault_line Memory ∷ []) → MayEnd answer status text
+  whole : status ≡ answer.status → text ≡ lines_text answer.lines → MayEnd answer status text
+  input_failed : answer.reads ≡ true → status ≡ status_of InputFailed → text ≡ lines_text (fault_line InputFailed ∷ []) → MayEnd answer status text
+  out_of_memory : (n : ℕ) → status ≡ status_of Memory → text ≡ lines_text (take n answer.lines) ++ lines_text (fault_line Memory ∷ []) → MayEnd answer status text
 
 -- a run that was about to write the text and answer this status did so, or the output failed in the text
 abbrev pub Writes : ℕ → List ℕ → ℕ → Option (List ℕ) → Option (List ℕ) → Type 0
-Writes wanted text status before after = ((status ≡ wanted) × Wrote before after text) ⊎ ((status ≡ status_of OutputFailed) × WroteFront before after text)
+Writes wanted text status before after = ((status ≡ wanted) × Wrote before after text) ⊎ ((status ≡ output_failed_status) × WroteFront before after text)
 
 -- a run of this answer ended so
 pub record Ends (answer : Answer) (status : ℕ) (before after : Option (List ℕ)) : Type 0 where
@@ -84,7 +87,7 @@ pub record Ends (answer : Answer) (status : ℕ) (before after : Option (List �
 
 -- the statuses of a fault of the outside: of the input, of the output, and want of memory
 abbrev pub IsOutside : ℕ → Type 0
-IsOutside status = (status ≡ status_of InputFailed) ⊎ ((status ≡ status_of OutputFailed) ⊎ (status ≡ status_of Memory))
+IsOutside status = (status ≡ status_of InputFailed) ⊎ ((status ≡ output_failed_status) ⊎ (status ≡ status_of Memory))
 
 -- a run over these words and bytes at a moment ended so: as their answer does, and with no other status than the answer's, but for
 -- the statuses of the outside
@@ -95,29 +98,23 @@ pub record Runs (words : List (List ℕ)) (now : ℤ) (bytes : List ℕ) (status
 -- the fault's line was to be written and its status answered, or those of want of memory
 abbrev pub Says : Halt → ℕ → Option (List ℕ) → Option (List ℕ) → Type 0
 Says halt status before after =
-    Writes (status_of halt) (text_of (fault_line halt ∷ [])) status before after
-    ⊎ Writes (status_of Memory) (text_of (fault_line Memory ∷ [])) status before after
+    Writes (status_of halt) (lines_text (fault_line halt ∷ [])) status before after
+    ⊎ Writes (status_of Memory) (lines_text (fault_line Memory ∷ [])) status before after
 
 -- for private clauses: the fault is what the bytes mean, unless it is one of the outside
 abbrev pub Halts : ℤ → List ℕ → Halt → Type 0
 Halts now bytes Usage = ⊥
 Halts now bytes InputFailed = Unit {0}
-Halts now bytes OutputFailed = ⊥
 Halts now bytes Memory = Unit {0}
 Halts now bytes (BadLine number) = Replays now bytes (fault (BadLine number))
 Halts now bytes InputTooLong = Replays now bytes (fault InputTooLong)
 Halts now bytes NotBuilt = Replays now bytes (fault NotBuilt)
 
 -- for private clauses: lines were to be written, and were, or in part where the output failed or memory was wanting
-abbrev pub PrintFails : List (List ℕ) → Halt → Option (List ℕ) → Option (List ℕ) → Type 0
-PrintFails lines Usage before after = ⊥
-PrintFails lines InputFailed before after = ⊥
-PrintFails lines OutputFailed before after = WroteFront before after (text_of lines)
-PrintFails lines Memory before after = (n : ℕ) × Wrote before after (text_of (take n lines))
-PrintFails lines (BadLine number) before after = ⊥
-PrintFails lines InputTooLong before after = ⊥
-PrintFails lines NotBuilt before after = ⊥
+abbrev pub PrintFails : List (List ℕ) → PrintError → Option (List ℕ) → Option (List ℕ) → Type 0
+PrintFails lines print_error.OutputFailed before after = WroteFront before after (lines_text lines)
+PrintFails lines print_error.Memory before after = (n : ℕ) × Wrote before after (lines_text (take n lines))
 
-abbrev pub Prints : {A : Type 0} → List (List ℕ) → Result A Halt → Option (List ℕ) → Option (List ℕ) → Type 0
-Prints lines (Ok done) before after = Wrote before after (text_of lines)
-Prints lines (Err halt) before after = PrintFails lines halt before after
+abbrev pub Prints : {A : Type 0} → List (List ℕ) → Result A PrintError → Option (List ℕ) → Option (List ℕ) → Type 0
+Prints lines (Ok done) before after = Wrote before after (lines_text lines)
+Prints lines (Err error) before after = PrintFails lines error before after

@@ -68,14 +68,14 @@ values_in placeholder [] (cell ∷ cells) = None
 values_in placeholder (column ∷ columns) [] = None
 values_in placeholder (column ∷ columns) (cell ∷ cells) = in_front (value_in placeholder column.ty cell) (values_in placeholder columns cells)
 
-abbrev pub is_given : Val → Bool
-is_given val.Null = false
-is_given (val.Int n) = true
-is_given (val.Text text) = true
+abbrev pub is_not_null : Val → Bool
+is_not_null val.Null = false
+is_not_null (val.Int n) = true
+is_not_null (val.Text text) = true
 
 -- a row of these values, where no cell of its key is Null
 abbrev pub row_with_key : TableInfo → List Val → Option Row
-row_with_key info values = if list_all is_given (key_of info values).cells then Some (record { cells = values }) else None
+row_with_key info values = if list_all is_not_null (key_of info values).cells then Some (record { cells = values }) else None
 
 abbrev pub row_in : List ℕ → TableInfo → List TupleCell → Option Row
 row_in placeholder info cells = option_and_then (row_with_key info) (values_in placeholder info.columns cells)

@@ -1,17 +1,15 @@
 ghost use Rattle.std.specs.Prelude.{◌≡◌, ◌∷◌, [], IfOk};
 ghost use Rattle.std.specs.String.{string_bytes};
 ghost use Rattle.dblog.specs.Faults.{status_of, fault_line};
-ghost use Rattle.dblog.specs.Run.{text_of};
+ghost use Rattle.dblog.specs.Run.{lines_text};
 
-use dbl_base::{Failed, InputError};
 use std::alloc::{AllocError, Global};
 
-/// Why a run ended before it was done.
+/// Why a run ends with a line of its own in place of records.
 #[derive(Clone, Copy, Debug, PartialEq, Eq)]
 pub enum Halt {
     Usage,
     InputFailed,
-    OutputFailed,
     Memory,
     /// The line's number, counted from 1.
     BadLine { number: u64 },
@@ -28,7 +26,6 @@ impl Halt {
         match self {
             Halt::Usage => 2,
             Halt::InputFailed => 10,
-            Halt::OutputFailed => 11,
             Halt::Memory => 12,
             Halt::BadLine { number: _ } => 13,
             Halt::InputTooLong => 13,
@@ -38,12 +35,11 @@ impl Halt {
 
     /// The fault's line with its newline.
     pub fn text(self, alloc: Global) -> Result<String, AllocError>
-        ensures { IfOk result (λ s. string_bytes s ≡ text_of (fault_line self ∷ [])) }
+        ensures { IfOk result (λ s. string_bytes s ≡ lines_text (fault_line self ∷ [])) }
     {
         let line = match self {
             Halt::Usage => "dblog: usage\n",
             Halt::InputFailed => "dblog: input failed\n",
-            Halt::OutputFailed => "dblog: output failed\n",
             Halt::Memory => "dblog: out of memory\n",
             Halt::BadLine { number } => return format!(in alloc;
                 "dblog: line {number}: bad line\n"

@@ -1,41 +1,83 @@
 use crate::program::run;
 use dbl_base::{MemInput, MemOutput, Text};
-use std::alloc::Global;
+use std::alloc::{AllocError, Global};
 use std::process::Abort;
 use std::test::Fail;
 
-// Runs the words over the input, and compares the status and what is written.
-fn expect(
+// The words of a text that has one space between them; of an empty text none.
+fn words_of(alloc: Global, text: &str) -> Result<Vec<Text>, Fail> {
+    let mut words = Vec::new(alloc);
+    if text.is_empty() {
+        return Ok(words);
+    }
+    for word in text.split(' ') {
+        words.push(Text::of(alloc, word)?)?;
+    }
+    Ok(words)
+}
+
+// Runs the words over the input, where the read and the write of these numbers fail, and compares the status and what is
+// written. Calls are counted from 1.
+fn expect_with_faults(
     rt: &impl Abort,
     alloc: Global,
-    words: &[&str],
+    words: &str,
     input: &str,
+    failing_read: u64,
+    failing_write: u64,
     status: u8,
     text: &str,
 ) -> Result<(), Fail> {
-    let mut list = Vec::new(alloc);
-    for word in words {
-        list.push(Text::of(alloc, word)?)?;
-    }
-    let mut input = MemInput::make(input.as_bytes().to_vec(alloc)?, Vec::new(alloc));
-    let mut output = MemOutput::make(alloc, Vec::new(alloc));
-    assert_eq!(rt;
-        run(alloc, &list, 0, &mut input, &mut output),
-        status,
-        "{text}"
+    let words = words_of(alloc, words)?;
+    let mut input = MemInput::make(
+        input.as_bytes().to_vec(alloc)?,
+        vec![in alloc; failing_read]?,
     );
+    let mut output = MemOutput::make(alloc, vec![in alloc; failing_write]?);
+    assert_eq!(rt; run(alloc, &words, 0, &mut input, &mut output), status);
     assert_eq!(rt; output.bytes().as_slice(), text.as_bytes());
     Ok(())
 }
 
-const RELATION: &str =
-    "52 00004000 7075626c696300 757365727300 64 0002 01 696400 00000017 ffffffff 00 6e616d6500 00000019 ffffffff\n";
+fn expect(
+    rt: &impl Abort,
+    alloc: Global,
+    words: &str,
+    input: &str,
+    status: u8,
+    text: &str,
+) -> Result<(), Fail> {
+    expect_with_faults(rt, alloc, words, input, 0, 0, status, text)
+}
 
-const BEGIN: &str = "42 0000000000000100 0000000000000000 00000007\n";
+const ONE_INSERT: &str = "\
+42 0000000000000100 0000000000000000 00000007
+52 00004000 7075626c696300 757365727300 64 0002 01 696400 00000017 ffffffff 00 6e616d6500 00000019 ffffffff
+49 00004000 4e 0002 74 00000001 31 74 00000003 416e6e
+43 00 0000000000000100 0000000000000128 0000000000000000
+";
+
+const BEGIN_AND_RELATION: &str = "\
+42 0000000000000100 0000000000000000 00000007
+52 00004000 7075626c696300 757365727300 64 0002 01 696400 00000017 ffffffff 00 6e616d6500 00000019 ffffffff
+";
+
+const INSERT: &str = "49 00004000 4e 0002 74 00000001 31 74 00000003 416e6e\n";
 
 const COMMIT: &str = "43 00 0000000000000100 0000000000000128 0000000000000000\n";
 
-const INSERT: &str = "49 00004000 4e 0002 74 00000001 31 74 00000003 416e6e\n";
+const BEGIN: &str = "42 0000000000000100 0000000000000000 00000007\n";
+
+const EMPTY_TRANSACTION: &str = "\
+42 0000000000000100 0000000000000000 00000007
+43 00 0000000000000100 0000000000000128 0000000000000000
+";
+
+const INSERT_ALONE: &str = "\
+42 0000000000000100 0000000000000000 00000007
+49 00004000 4e 0002 74 00000001 31 74 00000003 416e6e
+43 00 0000000000000100 0000000000000128 0000000000000000
+";
 
 const EVENT: &str =
     r#"{"headers":{"dblog.last":true,"dblog.ordinal":0,"dblog.position":256},"key":{"id":1},"topic":"demo.public.users","value":{"after":{"id":1,"name":"Ann"},"before":null,"op":"c","source":{"connector":"postgresql","db":"demo","lsn":256,"name":"demo","schema":"public","snapshot":"false","table":"users","ts_ms":946684800000,"txId":7,"version":"1.0","xmin":null},"transaction":null,"ts_ms":0}}
@@ -60,7 +102,7 @@ const CAPTURED_EVENTS: &str =
 // What stands before and behind the ordinal, in the records of many inserts but for the last.
 const EVENT_START: &str = r#"{"headers":{"dblog.last":false,"dblog.ordinal":"#;
 
-const LAST_EVENT_START: &str = r#"{"headers":{"dblog.last":true,"dblog.ordinal":"#;
+const LAST_EVENT_START: &str = r#"{"headers":{"dblog.last":true,"dblog.ordinal":4999"#;
 
 const EVENT_END: &str =
     r#","dblog.position":256},"key":{"id":1},"topic":"demo.public.users","value":{"after":{"id":1,"name":"Ann"},"before":null,"op":"c","source":{"connector":"postgresql","db":"demo","lsn":256,"name":"demo","schema":"public","snapshot":"false","table":"users","ts_ms":946684800000,"txId":7,"version":"1.0","xmin":null},"transaction":null,"ts_ms":0}}
@@ -69,114 +111,99 @@ const EVENT_END: &str =
 #[test]
 fn transactions_become_events(rt: HostRuntime) -> Result<(), Fail> {
     let alloc = rt.alloc();
-    for (lines, status, text) in [
-        ([BEGIN, RELATION, INSERT, COMMIT].as_slice(), 0, EVENT),
-        ([CAPTURED].as_slice(), 0, CAPTURED_EVENTS),
-        ([BEGIN, COMMIT].as_slice(), 0, ""),
-        ([BEGIN].as_slice(), 16, "dblog: not built\n"),
-        ([BEGIN, INSERT, COMMIT].as_slice(), 16, "dblog: not built\n"),
-    ] {
-        let mut input = String::new(alloc);
-        for line in lines {
-            input.push_str(line)?;
-        }
-        expect(&rt, alloc, &["replay"], input.as_str(), status, text)?;
-    }
-    Ok(())
+    expect(&rt, alloc, "replay", ONE_INSERT, 0, EVENT)?;
+    expect(&rt, alloc, "replay", CAPTURED, 0, CAPTURED_EVENTS)?;
+    expect(&rt, alloc, "replay", EMPTY_TRANSACTION, 0, "")
 }
 
 #[test]
-fn words_and_lines_are_answered(rt: HostRuntime) -> Result<(), Fail> {
-    for (words, input, status, text) in [
-        ([].as_slice(), "", 2, "dblog: usage\n"),
-        (["replay", "now"].as_slice(), "", 2, "dblog: usage\n"),
-        (["Replay"].as_slice(), "", 2, "dblog: usage\n"),
-        (["replay"].as_slice(), "", 0, ""),
-        (["replay"].as_slice(), "# nothing\n\n#", 0, ""),
-        (["replay"].as_slice(), "5", 13, "dblog: line 1: bad line\n"),
-        (
-            ["replay"].as_slice(),
-            "\n4 2\n42\r\n",
-            13,
-            "dblog: line 3: bad line\n",
-        ),
-        (
-            ["replay"].as_slice(),
-            "4 2\n # no comment\n",
-            13,
-            "dblog: line 2: bad line\n",
-        ),
-        (["replay"].as_slice(), "5a", 16, "dblog: not built\n"),
-        (["replay"].as_slice(), " ", 16, "dblog: not built\n"),
-    ] {
-        expect(&rt, rt.alloc(), words, input, status, text)?;
+fn other_messages_are_not_built(rt: HostRuntime) -> Result<(), Fail> {
+    let alloc = rt.alloc();
+    expect(&rt, alloc, "replay", BEGIN, 16, "dblog: not built\n")?;
+    expect(&rt, alloc, "replay", INSERT_ALONE, 16, "dblog: not built\n")?;
+    expect(&rt, alloc, "replay", "5a", 16, "dblog: not built\n")?;
+    expect(&rt, alloc, "replay", " ", 16, "dblog: not built\n")
+}
+
+#[test]
+fn words_are_answered(rt: HostRuntime) -> Result<(), Fail> {
+    let alloc = rt.alloc();
+    expect(&rt, alloc, "", "", 2, "dblog: usage\n")?;
+    expect(&rt, alloc, "replay now", "", 2, "dblog: usage\n")?;
+    expect(&rt, alloc, "Replay", "", 2, "dblog: usage\n")
+}
+
+#[test]
+fn lines_are_answered(rt: HostRuntime) -> Result<(), Fail> {
+    let alloc = rt.alloc();
+    expect(&rt, alloc, "replay", "", 0, "")?;
+    expect(&rt, alloc, "replay", "# nothing\n\n#", 0, "")?;
+    expect(&rt, alloc, "replay", "5", 13, "dblog: line 1: bad line\n")?;
+    let carriage_return = "\n4 2\n42\r\n";
+    expect(
+        &rt,
+        alloc,
+        "replay",
+        carriage_return,
+        13,
+        "dblog: line 3: bad line\n",
+    )?;
+    let no_comment = "4 2\n # no comment\n";
+    expect(
+        &rt,
+        alloc,
+        "replay",
+        no_comment,
+        13,
+        "dblog: line 2: bad line\n",
+    )
+}
+
+// One transaction of 5,000 inserts of one row.
+fn many_inserts(alloc: Global) -> Result<String, AllocError> {
+    let mut input = String::from_str(alloc, BEGIN_AND_RELATION)?;
+    for _ in 0..5_000u32 {
+        input.push_str(INSERT)?;
     }
-    Ok(())
+    input.push_str(COMMIT)?;
+    Ok(input)
+}
+
+fn many_events(alloc: Global) -> Result<String, AllocError> {
+    let mut text = String::new(alloc);
+    for ordinal in 0..4_999u32 {
+        text.push_str(EVENT_START)?;
+        text.push_str(format!(in alloc; "{ordinal}")?.as_str())?;
+        text.push_str(EVENT_END)?;
+    }
+    text.push_str(LAST_EVENT_START)?;
+    text.push_str(EVENT_END)?;
+    Ok(text)
 }
 
 #[test]
 fn many_inserts_become_events(rt: HostRuntime) -> Result<(), Fail> {
     let alloc = rt.alloc();
-    let mut input = String::new(alloc);
-    let mut text = String::new(alloc);
-    input.push_str(BEGIN)?;
-    input.push_str(RELATION)?;
-    for ordinal in 0..5_000u32 {
-        let start = if ordinal == 4_999 {
-            LAST_EVENT_START
-        } else {
-            EVENT_START
-        };
-        input.push_str(INSERT)?;
-        text.push_str(start)?;
-        text.push_str(format!(in alloc; "{ordinal}")?.as_str())?;
-        text.push_str(EVENT_END)?;
-    }
-    input.push_str(COMMIT)?;
-    expect(&rt, alloc, &["replay"], input.as_str(), 0, text.as_str())
+    let input = many_inserts(alloc)?;
+    let text = many_events(alloc)?;
+    expect(&rt, alloc, "replay", input.as_str(), 0, text.as_str())
 }
 
 #[test]
 fn failed_streams_end_a_run(rt: HostRuntime) -> Result<(), Fail> {
     let alloc = rt.alloc();
-    for (words, reads, writes, status, text) in [
-        (
-            [].as_slice(),
-            [1u64].as_slice(),
-            [].as_slice(),
-            2,
-            "dblog: usage\n",
-        ),
-        (
-            ["replay"].as_slice(),
-            [1u64].as_slice(),
-            [].as_slice(),
-            10,
-            "dblog: input failed\n",
-        ),
-        (
-            ["replay"].as_slice(),
-            [].as_slice(),
-            [1u64].as_slice(),
-            11,
-            "",
-        ),
-        (
-            ["replay"].as_slice(),
-            [2u64].as_slice(),
-            [1u64].as_slice(),
-            11,
-            "",
-        ),
-    ] {
-        let mut list = Vec::new(alloc);
-        for word in words {
-            list.push(Text::of(alloc, word)?)?;
-        }
-        let mut input = MemInput::make(b"5a".to_vec(alloc)?, reads.to_vec(alloc)?);
-        let mut output = MemOutput::make(alloc, writes.to_vec(alloc)?);
-        assert_eq!(rt; run(alloc, &list, 0, &mut input, &mut output), status);
-        assert_eq!(rt; output.bytes().as_slice(), text.as_bytes());
-    }
-    Ok(())
+    expect_with_faults(&rt, alloc, "", "5a", 1, 0, 2, "dblog: usage\n")?;
+    expect_with_faults(
+        &rt,
+        alloc,
+        "replay",
+        "5a",
+        1,
+        0,
+        10,
+        "dblog: input failed\n",
+    )?;
+    expect_with_faults(&rt, alloc, "replay", "5a", 0, 1, 11, "")?;
+    expect_with_faults(&rt, alloc, "replay", "5a", 2, 1, 11, "")?;
+    expect_with_faults(&rt, alloc, "replay", ONE_INSERT, 0, 1, 11, "")
 }

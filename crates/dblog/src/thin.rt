@@ -11,11 +11,11 @@ ghost use Rattle.dbl_model.specs.declared.table.TableInfo.{TableInfo};
 ghost use Rattle.dbl_model.specs.declared.change.Commit.{Commit};
 ghost use Rattle.dbl_model.specs.Infos.{IsInfoOf};
 ghost use Rattle.dbl_model.specs.Keys.{key_of, cell_or_null};
-ghost use Rattle.dblog.specs.Thin.{described, unless_placeholder, value_in, values_in, is_given, row_in, insert_in, inserts_in, IsCapturable, IsBlock, AreInserts, IsThin, AreSpelled, States};
+ghost use Rattle.dblog.specs.Thin.{described, unless_placeholder, value_in, values_in, is_not_null, row_in, insert_in, inserts_in, IsCapturable, IsBlock, AreInserts, IsThin, AreSpelled, States};
 ghost use Rattle.dblog.specs.Stated.{AreInsertCommits};
 ghost use Rattle.dbl_pgmsg.specs.Grammar.{IsOfInsertStream};
 ghost use Rattle.std.specs.List.{AllByRecursion};
-ghost use Rattle.dblog.specs.Heads.{commit_of};
+ghost use Rattle.dblog.specs.Heads.{commit_with};
 
 use dbl_base::{Bytes, Lsn, Seq, Text};
 use dbl_model::{
@@ -36,7 +36,7 @@ struct Head {
 
 impl Head {
     fn commit(self, changes: Seq<Change>) -> Commit
-        ensures { result ≡ commit_of self changes }
+        ensures { result ≡ commit_with self changes }
     {
         Commit {
             lsn: self.lsn,
@@ -111,7 +111,7 @@ fn values(
 }
 
 fn has_cell(values: &Seq<Val>, place: u32) -> bool
-    ensures { result ≡ is_given (cell_or_null values.now place) }
+    ensures { result ≡ is_not_null (cell_or_null values.now place) }
 {
     match values.items().get(place as usize) {
         None => false,
@@ -121,7 +121,7 @@ fn has_cell(values: &Seq<Val>, place: u32) -> bool
 }
 
 fn has_key(info: &TableInfo, values: &Seq<Val>) -> bool
-    ensures { result ≡ list_all is_given (key_of info.now values.now).cells }
+    ensures { result ≡ list_all is_not_null (key_of info.now values.now).cells }
 {
     for place in info.key.items() {
         if !has_cell(values, *place) {
@@ -270,7 +270,7 @@ fn ended(message: &Message) -> Option<(Lsn, Lsn)>
 
 // Takes a transaction's Begin and Commit off its other messages.
 fn take_block(messages: &mut Vec<Message>) -> Option<Head>
-    ensures found { IfSome result (λ head. (changes : List Change) → IsBlock messages.old.items (commit_of head changes) messages.new.items) }
+    ensures found { IfSome result (λ head. (changes : List Change) → IsBlock messages.old.items (commit_with head changes) messages.new.items) }
     ensures none { IfNone result ((commit : Commit) (body : List Message) → ¬ IsBlock messages.old.items commit body) }
 {
     if messages.len() < 2 {
@@ -356,9 +356,9 @@ pub fn commits_of(
 }
 
 // The messages of the byte strings, where they all are of kinds that are decoded.
-fn decoded(alloc: Global, bytes: &Vec<Bytes>) -> Result<Option<Vec<Message>>, AllocError>
-    ensures found { IfOk result (λ found. IfSome found (λ messages. AreSpelled bytes.now.items messages.items)) }
-    ensures none { IfOk result (λ found. IfNone found ((messages : List Message) → AreSpelled bytes.now.items messages → ¬ AllByRecursion IsOfInsertStream messages)) }
+fn decoded(alloc: Global, bytes: Vec<Bytes>) -> Result<Option<Vec<Message>>, AllocError>
+    ensures found { IfOk result (λ found. IfSome found (λ messages. AreSpelled bytes.items messages.items)) }
+    ensures none { IfOk result (λ found. IfNone found ((messages : List Message) → AreSpelled bytes.items messages → ¬ AllByRecursion IsOfInsertStream messages)) }
 {
     let mut messages = Vec::with_capacity(alloc, bytes.len())?;
     for item in bytes {
@@ -383,7 +383,7 @@ pub fn stated_by(
     ensures none { IfOk result (λ found. IfNone found ((infos : List TableInfo) (commits : List Commit) → ¬ States placeholder.now bytes.items infos commits)) }
     ensures inserts { IfOk result (λ found. IfSome found AreInsertCommits) }
 {
-    match decoded(alloc, &bytes)? {
+    match decoded(alloc, bytes)? {
         Some(messages) => commits_of(alloc, placeholder, messages),
         None => Ok(None),
     }

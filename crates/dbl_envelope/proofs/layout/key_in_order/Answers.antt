@@ -1,7 +1,7 @@
 use Rattle.std.proofs.Common.{◌≡◌, ◌∙◌, ◌<◌, ◌-◌, length, slice_get, Some, arith, refl, sym, ap, ap₂}
 use Rattle.std.proofs.lemmas.Option.{slice_get_read}
 use Rattle.std.specs.BTreeMap.{insert_entry}
-use Rattle.dbl_envelope.specs.Layouts.{text_cmp}
+use Rattle.dbl_base.specs.Texts.{text_cmp}
 use Rattle.dbl_envelope.proofs.LayoutLemmas.{key_step, key_place}
 use Rattle.dbl_envelope.proofs.layout.key_in_order.Goals as goal
 

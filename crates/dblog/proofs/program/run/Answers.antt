@@ -1,8 +1,8 @@
-use Rattle.std.proofs.Common.{◌≢◌, ℤ, refl, subst, rules}
+use Rattle.std.proofs.Common.{ℤ, refl, subst}
 use Rattle.std.proofs.Math.Facts.{to_z-of_z}
-use Rattle.dblog.specs.declared.halt.Halt.TheVariants.{Usage, OutputFailed}
-use Rattle.dblog.specs.Run.{usage, Wrote, PrintFails, text_of, lines_in}
-use Rattle.dblog.proofs.RunLemmas.{said_runs, halt_runs, printed_runs, cut_runs, print_fails_runs, printing_is_no_input}
+use Rattle.dblog.specs.declared.halt.Halt.TheVariants.{Usage}
+use Rattle.dblog.specs.Run.{usage, Wrote, PrintFails, lines_text, lines_in}
+use Rattle.dblog.proofs.RunLemmas.{said_runs, halt_runs, printed_runs, cut_runs, starved_runs}
 use Rattle.dblog.proofs.program.run.Goals as goal
 
 pub returns-then-not-is_replay-clause-told : goal.returns-then-not-is_replay-clause-told
@@ -18,7 +18,7 @@ pub returns-in-Ok-write_commits-clause-told : goal.returns-in-Ok-write_commits-c
 returns-in-Ok-write_commits-clause-told g c = λ bytes told.
     let before = g.O.Output.written c.args.output.now in
     let after = g.O.Output.written c.write_commits.new.output in
-    let prints = subst (λ (m : ℤ). Wrote before after (text_of (lines_in c.in-Ok.stated.infos.items c.in-Ok.stated.commits.items m))) (to_z-of_z c.ranges.now_ms) c.in-Ok-write_commits.ensures.prints in
+    let prints = subst (λ (m : ℤ). Wrote before after (lines_text (lines_in c.in-Ok.stated.infos.items c.in-Ok.stated.commits.items m))) (to_z-of_z c.ranges.now_ms) c.in-Ok-write_commits.ensures.prints in
     printed_runs _ c.args.now_ms bytes _ _ _ (c.if-not-is_replay.ensures.0 refl) (c.in-Ok.ensures.ok bytes c.args.now_ms told) prints
 
 pub returns-in-Err-OutputFailed-clause-told : goal.returns-in-Err-OutputFailed-clause-told
@@ -26,15 +26,12 @@ returns-in-Err-OutputFailed-clause-told g c = λ bytes told.
     let before = g.O.Output.written c.args.output.now in
     let after = g.O.Output.written c.write_commits.new.output in
     let fails = subst (λ (m : ℤ). PrintFails (lines_in c.in-Ok.stated.infos.items c.in-Ok.stated.commits.items m) c.in-Err-OutputFailed.field-0 before after) (to_z-of_z c.ranges.now_ms) c.in-Err-OutputFailed.ensures.prints in
-    cut_runs _ c.args.now_ms bytes _ _ _ _ (c.if-not-is_replay.ensures.0 refl) (c.in-Ok.ensures.ok bytes c.args.now_ms told) c.status.ensures (rw c.in-Err-OutputFailed.field-0-is at fails)
+    cut_runs _ c.args.now_ms bytes _ _ _ _ (c.if-not-is_replay.ensures.0 refl) (c.in-Ok.ensures.ok bytes c.args.now_ms told) refl (rw c.in-Err-OutputFailed.field-0-is at fails)
 
-pub returns-clause-told : goal.returns-clause-told
-returns-clause-told g c = λ bytes told.
+pub returns-in-Err-Memory-clause-told : goal.returns-in-Err-Memory-clause-told
+returns-in-Err-Memory-clause-told g c = λ bytes told.
     let before = g.O.Output.written c.args.output.now in
-    let after = g.O.Output.written c.write_commits.new.output in
-    let fails = subst (λ (m : ℤ). PrintFails (lines_in c.in-Ok.stated.infos.items c.in-Ok.stated.commits.items m) c.in-Err-write_commits.halt before after) (to_z-of_z c.ranges.now_ms) c.in-Err-write_commits.ensures.prints in
-    let other : c.in-Err-write_commits.halt ≢ OutputFailed = search rules in
-    print_fails_runs _ c.args.now_ms bytes _ _ _ _ _ _ other (c.if-not-is_replay.ensures.0 refl) (c.in-Ok.ensures.ok bytes c.args.now_ms told) fails c.say-in-Err-write_commits.ensures.says
-
-pub returns-clause-input_failed : goal.returns-clause-input_failed
-returns-clause-input_failed g c = λ is. absurd (printing_is_no_input _ _ _ _ _ _ c.in-Err-write_commits.ensures.prints c.say-in-Err-write_commits.ensures.says is)
+    let middle = g.O.Output.written c.write_commits.new.output in
+    let fails = subst (λ (m : ℤ). PrintFails (lines_in c.in-Ok.stated.infos.items c.in-Ok.stated.commits.items m) c.in-Err-Memory.field-0 before middle) (to_z-of_z c.ranges.now_ms) c.in-Err-Memory.ensures.prints in
+    let wrote = rw c.in-Err-Memory.field-0-is at fails in
+    starved_runs _ c.args.now_ms bytes _ _ _ _ _ wrote.0 (c.if-not-is_replay.ensures.0 refl) (c.in-Ok.ensures.ok bytes c.args.now_ms told) wrote.1 c.say-in-Err-Memory.ensures.says

@@ -17,5 +17,5 @@ pub returns-in-Some-clause-inserts : goal.returns-in-Some-clause-inserts
 returns-in-Some-clause-inserts c =
     IfOk-weaker c.commits_of.result _ _ (λ found h. some_weaker found (λ s thin. thin_inserts c.args.placeholder.now c.in-Some.messages.items s.infos.items s.commits.items thin) h) c.commits_of.ensures.found
 
-pub returns-clause-none : goal.returns-clause-none
-returns-clause-none c = states_unread c.args.placeholder.now c.args.bytes.items (rw c.in-None.is at c.in_ok-messages.ensures.none)
+pub returns-in-None-clause-none : goal.returns-in-None-clause-none
+returns-in-None-clause-none c = states_unread c.args.placeholder.now c.args.bytes.items (rw c.in-None.is at c.in_ok-messages.ensures.none)

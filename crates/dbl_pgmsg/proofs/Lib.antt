@@ -7,3 +7,5 @@ pub mod Walks
 pub mod KindWalks
 pub mod FaultLaws
 pub mod PrefixLaws
+pub mod Sizes
+pub mod MessageSizes

@@ -15,7 +15,7 @@ use crate::{Message, MsgError};
 use std::alloc::Global;
 
 /// The most bytes of a message.
-const LIMIT: usize = 16_777_216;
+pub const LIMIT: usize = 16_777_216;
 
 #[tactic(auto, unfolding(crate::specs::Reading::message_at))]
 fn read_message(alloc: Global, total: usize, bytes: &[u8]) -> Result<(Message, &[u8]), MsgError>

@@ -34,3 +34,9 @@ pub fn truncated_bytes()
 pub fn trailing_bytes()
     ensures { (bytes : List ℕ) (at : ℕ) → IsFault bytes (MsgError.TrailingBytes at) ↔ (length bytes ≤ 16777216) × Trails bytes (MsgError.TrailingBytes at) }
 {}
+
+/// What fits is what some bytes spell, and its spelling is read as nothing else: what was encoded is decoded again.
+pub fn round_trip()
+    ensures spelled { (message : Message) → Fits message ↔ ((bytes : List ℕ) × Spells bytes message) }
+    ensures again { (bytes : List ℕ) (message other : Message) → Spells bytes message → Spells bytes other → other ≡ message }
+{}

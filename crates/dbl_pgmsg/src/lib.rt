@@ -2,16 +2,22 @@
 #![tactic(auto)]
 
 mod decoding;
+mod encoding;
 mod error;
+mod fitting;
 mod kinds;
 mod laws;
 mod messages;
 mod reading;
 mod rows;
+mod writing;
 
 pub use decoding::decode;
+pub use encoding::encode;
 pub use error::MsgError;
-pub use laws::{one_message, one_spelling, spelled_or_faulty, trailing_bytes, truncated_bytes};
+pub use laws::{
+    one_message, one_spelling, round_trip, spelled_or_faulty, trailing_bytes, truncated_bytes,
+};
 pub use messages::{Message, OldTuple, RelationColumn, Tuple, TupleCell};
 
 #[cfg(test)]

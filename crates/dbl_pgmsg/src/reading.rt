@@ -11,7 +11,7 @@ use memchr::memchr;
 use std::alloc::Global;
 
 /// The most columns that a table of PostgreSQL has.
-const COLUMNS: u16 = 1600;
+pub const COLUMNS: u16 = 1600;
 
 /// The place of the first of the bytes that are left.
 pub fn place(total: usize, bytes: &[u8]) -> u64

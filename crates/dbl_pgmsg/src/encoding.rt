@@ -1,0 +1,204 @@
+//! From messages to bytes.
+
+ghost use Rattle.std.specs.Prelude.{◌≡◌, List, OnOk, IfOk, IfErr};
+ghost use Rattle.dbl_pgmsg.specs.Grammar.{spelling, FitsFields, Fits, Spells};
+ghost use Rattle.dbl_pgmsg.specs.Room.{Appends};
+
+use crate::decoding::LIMIT;
+use crate::fitting::message_room;
+use crate::writing::{
+    int16, int32, int64, signed64, string, write_before, write_columns, write_oids, write_old,
+    write_tuple,
+};
+use crate::{Message, MsgError, OldTuple, RelationColumn, Tuple};
+use dbl_base::{Bytes, Lsn, Text};
+use std::alloc::{AllocError, Global};
+
+#[tactic(auto, unfolding(crate::specs::Grammar::spelling))]
+fn write_begin(out: &mut Vec<u8>, lsn: &Lsn, time: &i64, xid: &u32) -> Result<(), AllocError>
+    requires { FitsFields (Message.Begin lsn.now time.now xid.now) }
+    ensures { OnOk result (Appends out.old.items (spelling (Message.Begin lsn.now time.now xid.now)) out.new.items) }
+{
+    out.extend_from_slice(b"B")?;
+    int64(out, lsn.0)?;
+    signed64(out, time)?;
+    int32(out, *xid)
+}
+
+#[tactic(auto, unfolding(crate::specs::Grammar::spelling))]
+fn write_commit(
+    out: &mut Vec<u8>,
+    flags: &u8,
+    lsn: &Lsn,
+    end_lsn: &Lsn,
+    time: &i64,
+) -> Result<(), AllocError>
+    requires { FitsFields (Message.Commit flags.now lsn.now end_lsn.now time.now) }
+    ensures { OnOk result (Appends out.old.items (spelling (Message.Commit flags.now lsn.now end_lsn.now time.now)) out.new.items) }
+{
+    out.extend_from_slice(&[b'C', *flags])?;
+    int64(out, lsn.0)?;
+    int64(out, end_lsn.0)?;
+    signed64(out, time)
+}
+
+#[tactic(auto, unfolding(crate::specs::Grammar::spelling))]
+fn write_origin(out: &mut Vec<u8>, lsn: &Lsn, name: &Text) -> Result<(), AllocError>
+    requires { FitsFields (Message.Origin lsn.now name.now) }
+    ensures { OnOk result (Appends out.old.items (spelling (Message.Origin lsn.now name.now)) out.new.items) }
+{
+    out.extend_from_slice(b"O")?;
+    int64(out, lsn.0)?;
+    string(out, name)
+}
+
+#[tactic(auto, unfolding(crate::specs::Grammar::spelling))]
+fn write_type(out: &mut Vec<u8>, oid: &u32, namespace: &Text, name: &Text) -> Result<(), AllocError>
+    requires { FitsFields (Message.TypeName oid.now namespace.now name.now) }
+    ensures { OnOk result (Appends out.old.items (spelling (Message.TypeName oid.now namespace.now name.now)) out.new.items) }
+{
+    out.extend_from_slice(b"Y")?;
+    int32(out, *oid)?;
+    string(out, namespace)?;
+    string(out, name)
+}
+
+#[tactic(auto, unfolding(crate::specs::Grammar::spelling))]
+fn write_relation(
+    out: &mut Vec<u8>,
+    oid: &u32,
+    namespace: &Text,
+    name: &Text,
+    identity: &u8,
+    columns: &Vec<RelationColumn>,
+) -> Result<(), AllocError>
+    requires { FitsFields (Message.Relation oid.now namespace.now name.now identity.now columns.now.items) }
+    ensures { OnOk result (Appends out.old.items (spelling (Message.Relation oid.now namespace.now name.now identity.now columns.now.items)) out.new.items) }
+{
+    out.extend_from_slice(b"R")?;
+    int32(out, *oid)?;
+    string(out, namespace)?;
+    string(out, name)?;
+    out.extend_from_slice(&[*identity])?;
+    int16(out, columns.len() as u16)?;
+    write_columns(out, columns)
+}
+
+#[tactic(auto, unfolding(crate::specs::Grammar::spelling))]
+fn write_insert(out: &mut Vec<u8>, oid: &u32, row: &Tuple) -> Result<(), AllocError>
+    requires { FitsFields (Message.Insert oid.now row.now) }
+    ensures { OnOk result (Appends out.old.items (spelling (Message.Insert oid.now row.now)) out.new.items) }
+{
+    out.extend_from_slice(b"I")?;
+    int32(out, *oid)?;
+    out.extend_from_slice(b"N")?;
+    write_tuple(out, row)
+}
+
+#[tactic(auto, unfolding(crate::specs::Grammar::spelling))]
+fn write_update(
+    out: &mut Vec<u8>,
+    oid: &u32,
+    before: &Option<OldTuple>,
+    row: &Tuple,
+) -> Result<(), AllocError>
+    requires { FitsFields (Message.Update oid.now before.now row.now) }
+    ensures { OnOk result (Appends out.old.items (spelling (Message.Update oid.now before.now row.now)) out.new.items) }
+{
+    out.extend_from_slice(b"U")?;
+    int32(out, *oid)?;
+    write_before(out, before)?;
+    out.extend_from_slice(b"N")?;
+    write_tuple(out, row)
+}
+
+#[tactic(auto, unfolding(crate::specs::Grammar::spelling))]
+fn write_delete(out: &mut Vec<u8>, oid: &u32, before: &OldTuple) -> Result<(), AllocError>
+    requires { FitsFields (Message.Delete oid.now before.now) }
+    ensures { OnOk result (Appends out.old.items (spelling (Message.Delete oid.now before.now)) out.new.items) }
+{
+    out.extend_from_slice(b"D")?;
+    int32(out, *oid)?;
+    write_old(out, before)
+}
+
+#[tactic(auto, unfolding(crate::specs::Grammar::spelling))]
+fn write_truncate(out: &mut Vec<u8>, options: &u8, oids: &Vec<u32>) -> Result<(), AllocError>
+    requires { FitsFields (Message.Truncate options.now oids.now.items) }
+    ensures { OnOk result (Appends out.old.items (spelling (Message.Truncate options.now oids.now.items)) out.new.items) }
+{
+    out.extend_from_slice(b"T")?;
+    int32(out, oids.len() as u32)?;
+    out.extend_from_slice(&[*options])?;
+    write_oids(out, oids)
+}
+
+#[tactic(auto, unfolding(crate::specs::Grammar::spelling))]
+fn write_logical(
+    out: &mut Vec<u8>,
+    flags: &u8,
+    lsn: &Lsn,
+    prefix: &Text,
+    content: &Vec<u8>,
+) -> Result<(), AllocError>
+    requires { FitsFields (Message.Logical flags.now lsn.now prefix.now content.now.items) }
+    ensures { OnOk result (Appends out.old.items (spelling (Message.Logical flags.now lsn.now prefix.now content.now.items)) out.new.items) }
+{
+    out.extend_from_slice(&[b'M', *flags])?;
+    int64(out, lsn.0)?;
+    string(out, prefix)?;
+    int32(out, content.len() as u32)?;
+    out.extend_from_slice(content)
+}
+
+fn write_message(out: &mut Vec<u8>, message: &Message) -> Result<(), AllocError>
+    requires { FitsFields message.now }
+    ensures { OnOk result (Appends out.old.items (spelling message.now) out.new.items) }
+{
+    match message {
+        Message::Begin { lsn, time, xid } => write_begin(out, lsn, time, xid),
+        Message::Commit {
+            flags,
+            lsn,
+            end_lsn,
+            time,
+        } => write_commit(out, flags, lsn, end_lsn, time),
+        Message::Origin { lsn, name } => write_origin(out, lsn, name),
+        Message::TypeName {
+            oid,
+            namespace,
+            name,
+        } => write_type(out, oid, namespace, name),
+        Message::Relation {
+            oid,
+            namespace,
+            name,
+            identity,
+            columns,
+        } => write_relation(out, oid, namespace, name, identity, columns.items()),
+        Message::Insert { oid, row } => write_insert(out, oid, row),
+        Message::Update { oid, before, row } => write_update(out, oid, before, row),
+        Message::Delete { oid, before } => write_delete(out, oid, before),
+        Message::Truncate { options, oids } => write_truncate(out, options, oids.items()),
+        Message::Logical {
+            flags,
+            lsn,
+            prefix,
+            content,
+        } => write_logical(out, flags, lsn, prefix, content.items()),
+    }
+}
+
+/// The one spelling of the message ("Logical Replication Message Formats", protocol version 1). `Message::fits` is the test
+/// for what is required. One buffer of the spelling's length is taken.
+pub fn encode(alloc: Global, message: &Message) -> Result<Bytes, MsgError>
+    requires { Fits message.now }
+    ensures spelled { IfOk result (λ bytes. Spells bytes message.now) }
+    // Nothing but want of memory keeps it from being written.
+    ensures memory { IfErr result (λ error. error ≡ MsgError.Memory) }
+{
+    let left = message_room(LIMIT, message).unwrap_or(0);
+    let mut out = Vec::with_capacity(alloc, LIMIT.saturating_sub(left))?;
+    write_message(&mut out, message)?;
+    Ok(Bytes::make(out))
+}

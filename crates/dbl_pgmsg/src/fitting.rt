@@ -1,0 +1,320 @@
+//! Which messages have a spelling. Nothing is written: `room` is the number of bytes that a spelling may still take.
+
+ghost use Rattle.std.specs.Prelude.{◌≡◌, ◌<◌, ◌≤◌, ◌↔◌, ◌+◌, ◌*◌, ◌^◌, List, IsTrue, length, flat_map};
+ghost use Rattle.std.specs.List.{AllByRecursion};
+ghost use Rattle.dbl_pgmsg.specs.Grammar.{string, cell, tuple, old_tuple, optional_tuple, column, spelling, is_identity, IsString, FitsCell, FitsTuple, FitsOld, FitsOptional, FitsColumn, FitsFields, Fits};
+ghost use Rattle.dbl_pgmsg.specs.Room.{Leaves};
+
+use crate::decoding::LIMIT;
+use crate::reading::COLUMNS;
+use crate::{Message, OldTuple, RelationColumn, Tuple, TupleCell};
+use dbl_base::{Lsn, Text};
+use memchr::memchr;
+
+/// One above the greatest length or number of items of 32 bits.
+const ITEMS: usize = 1 << 31;
+
+/// A text that a zero byte ends.
+#[tactic(auto, unfolding(crate::specs::Grammar::string))]
+fn string_room(room: usize, text: &Text) -> Option<usize>
+    ensures { Leaves room (length (string text.now)) (IsString text.now) result }
+{
+    let bytes = text.as_str().as_bytes();
+    if memchr(0, bytes).is_some() {
+        return None;
+    }
+    let Some(left) = room.checked_sub(1) else {
+        return None;
+    };
+    left.checked_sub(bytes.len())
+}
+
+#[tactic(auto, using(crate::proofs::Sizes::text_size), unfolding(crate::specs::Grammar::cell))]
+fn cell_room(room: usize, item: &TupleCell) -> Option<usize>
+    ensures { Leaves room (length (cell item.now)) (FitsCell item.now) result }
+{
+    match item {
+        TupleCell::Null | TupleCell::Unchanged => room.checked_sub(1),
+        TupleCell::Text(text) => {
+            let text = text.as_str();
+            if text.len() >= ITEMS {
+                return None;
+            }
+            room.checked_sub(5 + text.len())
+        }
+    }
+}
+
+fn cells_room(room: usize, cells: &[TupleCell]) -> Option<usize>
+    ensures { Leaves room (length (flat_map cell cells.now)) (AllByRecursion FitsCell cells.now) result }
+{
+    let mut left = room;
+    for item in cells {
+        match cell_room(left, item) {
+            Some(next) => left = next,
+            None => return None,
+        }
+    }
+    Some(left)
+}
+
+#[tactic(auto, using(crate::proofs::Sizes::tuple_size))]
+fn tuple_room(room: usize, row: &Tuple) -> Option<usize>
+    ensures { Leaves room (length (tuple row.now)) (FitsTuple row.now) result }
+{
+    let cells = row.cells.items();
+    if cells.len() > COLUMNS as usize {
+        return None;
+    }
+    let Some(left) = room.checked_sub(2) else {
+        return None;
+    };
+    cells_room(left, cells)
+}
+
+/// A row behind its tag.
+fn row_room(room: usize, row: &Tuple) -> Option<usize>
+    ensures { Leaves room (1 + length (tuple row.now)) (FitsTuple row.now) result }
+{
+    match room.checked_sub(1) {
+        Some(left) => tuple_room(left, row),
+        None => None,
+    }
+}
+
+#[tactic(auto, using(crate::proofs::Sizes::key_size, crate::proofs::Sizes::whole_size))]
+fn old_room(room: usize, old: &OldTuple) -> Option<usize>
+    ensures { Leaves room (length (old_tuple old.now)) (FitsOld old.now) result }
+{
+    match old {
+        OldTuple::Key(row) => row_room(room, row),
+        OldTuple::Whole(row) => row_room(room, row),
+    }
+}
+
+fn optional_room(room: usize, before: &Option<OldTuple>) -> Option<usize>
+    ensures { Leaves room (length (optional_tuple before.now)) (FitsOptional before.now) result }
+{
+    match before {
+        None => Some(room),
+        Some(old) => old_room(room, old),
+    }
+}
+
+fn column_room(room: usize, item: &RelationColumn) -> Option<usize>
+    ensures { Leaves room (length (column item.now)) (FitsColumn item.now) result }
+{
+    let _flags = item.flags;
+    let _oid = item.oid;
+    let _modifier = item.modifier;
+    let Some(left) = room.checked_sub(9) else {
+        return None;
+    };
+    string_room(left, &item.name)
+}
+
+fn columns_room(room: usize, columns: &[RelationColumn]) -> Option<usize>
+    ensures { Leaves room (length (flat_map column columns.now)) (AllByRecursion FitsColumn columns.now) result }
+{
+    let mut left = room;
+    for item in columns {
+        match column_room(left, item) {
+            Some(next) => left = next,
+            None => return None,
+        }
+    }
+    Some(left)
+}
+
+/// The replica identity, and the columns of a Relation.
+fn relation_room(room: usize, identity: u8, columns: &[RelationColumn]) -> Option<usize>
+    ensures { Leaves room (3 + length (flat_map column columns.now)) (IsTrue (is_identity identity) × (length columns.now ≤ 1600) × AllByRecursion FitsColumn columns.now) result }
+{
+    if !matches!(identity, b'd' | b'n' | b'f' | b'i') || columns.len() > COLUMNS as usize {
+        return None;
+    }
+    match room.checked_sub(3) {
+        Some(left) => columns_room(left, columns),
+        None => None,
+    }
+}
+
+fn names_room(room: usize, namespace: &Text, name: &Text) -> Option<usize>
+    ensures { Leaves room (length (string namespace.now) + length (string name.now)) (IsString namespace.now × IsString name.now) result }
+{
+    match string_room(room, namespace) {
+        Some(left) => string_room(left, name),
+        None => None,
+    }
+}
+
+fn begin_room(room: usize, lsn: &Lsn, time: &i64, xid: &u32) -> Option<usize>
+    ensures { Leaves room 21 (FitsFields (Message.Begin lsn.now time.now xid.now)) result }
+{
+    let _lsn = lsn.0;
+    let _time = *time;
+    let _xid = *xid;
+    room.checked_sub(21)
+}
+
+fn commit_room(room: usize, flags: &u8, lsn: &Lsn, end_lsn: &Lsn, time: &i64) -> Option<usize>
+    ensures { Leaves room 26 (FitsFields (Message.Commit flags.now lsn.now end_lsn.now time.now)) result }
+{
+    let _flags = *flags;
+    let _lsn = lsn.0;
+    let _end_lsn = end_lsn.0;
+    let _time = *time;
+    room.checked_sub(26)
+}
+
+fn origin_room(room: usize, lsn: &Lsn, name: &Text) -> Option<usize>
+    ensures { Leaves room (9 + length (string name.now)) (FitsFields (Message.Origin lsn.now name.now)) result }
+{
+    let _lsn = lsn.0;
+    match room.checked_sub(9) {
+        Some(left) => string_room(left, name),
+        None => None,
+    }
+}
+
+fn type_room(room: usize, oid: &u32, namespace: &Text, name: &Text) -> Option<usize>
+    ensures { Leaves room (5 + (length (string namespace.now) + length (string name.now))) (FitsFields (Message.TypeName oid.now namespace.now name.now)) result }
+{
+    let _oid = *oid;
+    match room.checked_sub(5) {
+        Some(left) => names_room(left, namespace, name),
+        None => None,
+    }
+}
+
+fn insert_room(room: usize, oid: &u32, row: &Tuple) -> Option<usize>
+    ensures { Leaves room (6 + length (tuple row.now)) (FitsFields (Message.Insert oid.now row.now)) result }
+{
+    let _oid = *oid;
+    match room.checked_sub(6) {
+        Some(left) => tuple_room(left, row),
+        None => None,
+    }
+}
+
+fn update_room(room: usize, oid: &u32, before: &Option<OldTuple>, row: &Tuple) -> Option<usize>
+    ensures { Leaves room (length (optional_tuple before.now) + (6 + length (tuple row.now))) (FitsFields (Message.Update oid.now before.now row.now)) result }
+{
+    match optional_room(room, before) {
+        Some(left) => insert_room(left, oid, row),
+        None => None,
+    }
+}
+
+fn delete_room(room: usize, oid: &u32, before: &OldTuple) -> Option<usize>
+    ensures { Leaves room (5 + length (old_tuple before.now)) (FitsFields (Message.Delete oid.now before.now)) result }
+{
+    let _oid = *oid;
+    match room.checked_sub(5) {
+        Some(left) => old_room(left, before),
+        None => None,
+    }
+}
+
+fn truncate_room(room: usize, options: &u8, oids: &Vec<u32>) -> Option<usize>
+    ensures { Leaves room (6 + 4 * length oids.now.items) (FitsFields (Message.Truncate options.now oids.now.items)) result }
+{
+    let _options = *options;
+    if oids.len() >= ITEMS {
+        return None;
+    }
+    room.checked_sub(6 + 4 * oids.len())
+}
+
+fn content_room(room: usize, content: &Vec<u8>) -> Option<usize>
+    ensures { Leaves room (4 + length content.now.items) ((length content.now.items < 2 ^ 31) × AllByRecursion (λ b. b < 2 ^ 8) content.now.items) result }
+{
+    if content.len() >= ITEMS {
+        return None;
+    }
+    room.checked_sub(4 + content.len())
+}
+
+fn logical_room(
+    room: usize,
+    flags: &u8,
+    lsn: &Lsn,
+    prefix: &Text,
+    content: &Vec<u8>,
+) -> Option<usize>
+    ensures { Leaves room (10 + (length (string prefix.now) + (4 + length content.now.items))) (FitsFields (Message.Logical flags.now lsn.now prefix.now content.now.items)) result }
+{
+    let _flags = *flags;
+    let _lsn = lsn.0;
+    let Some(left) = room.checked_sub(10) else {
+        return None;
+    };
+    match string_room(left, prefix) {
+        Some(left) => content_room(left, content),
+        None => None,
+    }
+}
+
+fn table_room(
+    room: usize,
+    oid: &u32,
+    namespace: &Text,
+    name: &Text,
+    identity: &u8,
+    columns: &Vec<RelationColumn>,
+) -> Option<usize>
+    ensures { Leaves room (5 + (length (string namespace.now) + length (string name.now)) + (3 + length (flat_map column columns.now.items))) (FitsFields (Message.Relation oid.now namespace.now name.now identity.now columns.now.items)) result }
+{
+    match type_room(room, oid, namespace, name) {
+        Some(left) => relation_room(left, *identity, columns),
+        None => None,
+    }
+}
+
+/// What the message leaves of the room.
+pub fn message_room(room: usize, message: &Message) -> Option<usize>
+    ensures { Leaves room (length (spelling message.now)) (FitsFields message.now) result }
+{
+    match message {
+        Message::Begin { lsn, time, xid } => begin_room(room, lsn, time, xid),
+        Message::Commit {
+            flags,
+            lsn,
+            end_lsn,
+            time,
+        } => commit_room(room, flags, lsn, end_lsn, time),
+        Message::Origin { lsn, name } => origin_room(room, lsn, name),
+        Message::TypeName {
+            oid,
+            namespace,
+            name,
+        } => type_room(room, oid, namespace, name),
+        Message::Relation {
+            oid,
+            namespace,
+            name,
+            identity,
+            columns,
+        } => table_room(room, oid, namespace, name, identity, columns.items()),
+        Message::Insert { oid, row } => insert_room(room, oid, row),
+        Message::Update { oid, before, row } => update_room(room, oid, before, row),
+        Message::Delete { oid, before } => delete_room(room, oid, before),
+        Message::Truncate { options, oids } => truncate_room(room, options, oids.items()),
+        Message::Logical {
+            flags,
+            lsn,
+            prefix,
+            content,
+        } => logical_room(room, flags, lsn, prefix, content.items()),
+    }
+}
+
+impl Message {
+    /// Whether some bytes spell the message: no text for which a String stands has a zero byte, the replica identity is one
+    /// of the four, there are at most 1,600 columns or cells, and the bytes are at most 16,777,216. No memory is taken.
+    pub fn fits(&self) -> bool
+        ensures { IsTrue result ↔ Fits self.now }
+    {
+        message_room(LIMIT, self).is_some()
+    }
+}

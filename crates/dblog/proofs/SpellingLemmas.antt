@@ -1,8 +1,7 @@
 -- Byte strings and the messages that they spell, item by item.
 use Rattle.std.proofs.Common.{◌≡◌, ◌∙◌, ℕ, List, [], ◌∷◌, ◌++◌, append_assoc, append-nil, refl, sym, ap, subst}
-use Rattle.std.specs.List.{AllByRecursion}
 use Rattle.dbl_pgmsg.specs.declared.messages.Message.{Message}
-use Rattle.dbl_pgmsg.specs.Grammar.{Spells, IsOfInsertStream, SpellsNoneOfInsertStream}
+use Rattle.dbl_pgmsg.specs.Grammar.{Spells}
 use Rattle.dbl_pgmsg.proofs.MessageLaws.{one_message}
 use Rattle.dblog.specs.Thin.{AreSpelled}
 
@@ -34,15 +33,15 @@ pub decoding_ends : (all rest : List (List ℕ)) (messages : List Message) → I
 decoding_ends all rest messages so_far none =
     subst (λ bs. AreSpelled bs messages) (sym (append-nil so_far.read) ∙ ap (λ bs. so_far.read ++ bs) (sym none) ∙ so_far.all_is) so_far.spelled
 
-none_behind : (read next : List (List ℕ)) (b : List ℕ) → SpellsNoneOfInsertStream b → (messages : List Message) → AreSpelled (read ++ b ∷ next) messages → AllByRecursion IsOfInsertStream messages → ⊥
-none_behind [] next b none [] spelled kinds = absurd spelled
-none_behind [] next b none (m ∷ ms) spelled kinds = none m spelled.0 kinds.0
-none_behind (a ∷ as') next b none [] spelled kinds = absurd spelled
-none_behind (a ∷ as') next b none (m ∷ ms) spelled kinds = none_behind as' next b none ms spelled.1 kinds.1
+none_behind : (read next : List (List ℕ)) (b : List ℕ) → ((m : Message) → Spells b m → ⊥) → (messages : List Message) → AreSpelled (read ++ b ∷ next) messages → ⊥
+none_behind [] next b none [] spelled = absurd spelled
+none_behind [] next b none (m ∷ ms) spelled = none m spelled.0
+none_behind (a ∷ as') next b none [] spelled = absurd spelled
+none_behind (a ∷ as') next b none (m ∷ ms) spelled = none_behind as' next b none ms spelled.1
 
--- a byte string that spells no message of these kinds
-pub decoding_fails : (all rest next : List (List ℕ)) (b : List ℕ) (messages : List Message) → IsDecoding all rest messages → rest ≡ b ∷ next → SpellsNoneOfInsertStream b
-    → (others : List Message) → AreSpelled all others → AllByRecursion IsOfInsertStream others → ⊥
+-- a byte string that spells no message
+pub decoding_fails : (all rest next : List (List ℕ)) (b : List ℕ) (messages : List Message) → IsDecoding all rest messages → rest ≡ b ∷ next → ((m : Message) → Spells b m → ⊥)
+    → (others : List Message) → AreSpelled all others → ⊥
 decoding_fails all rest next b messages so_far split none others spelled =
     none_behind so_far.read next b none others (subst (λ bs. AreSpelled bs others) (sym so_far.all_is ∙ ap (λ bs. so_far.read ++ bs) split) spelled)
 

@@ -11,7 +11,6 @@ use Rattle.std.proofs.lemmas.List.Elements.{All-from_recursion}
 use Rattle.dbl_pgmsg.specs.declared.messages.Message.{Message}
 use Rattle.dbl_pgmsg.specs.declared.messages.Message.TheVariants.{Begin, Commit as Ending, Origin, TypeName, Relation, Insert, Update, Delete, Truncate, Logical}
 use Rattle.dbl_pgmsg.specs.declared.messages.TupleCell.{TupleCell}
-use Rattle.dbl_pgmsg.specs.Grammar.{IsOfInsertStream}
 use Rattle.dbl_value.specs.declared.value.Val.{Val}
 use Rattle.dbl_model.specs.declared.table.Column.{Column}
 use Rattle.dbl_model.specs.declared.table.TableInfo.{TableInfo}
@@ -70,9 +69,9 @@ pub chosen_insert : (info : TableInfo) (same : Bool) (row : Option Row) (c : Cha
 chosen_insert info true row c wide is = mapped_insert info row c wide is
 chosen_insert info false row c wide is = cc
 
--- what is read of a message is an insert, and the message an Insert
-pub insert_is : (placeholder : List ℕ) (oid : ℕ) (info : TableInfo) (message : Message) (c : Change) → insert_in placeholder oid info message ≡ Some c → IsInsert (info ∷ []) c × IsOfInsertStream message
-insert_is placeholder oid info (Insert other row) c is = (chosen_insert info (other == oid) (row_in placeholder info row.cells) c (λ r read. row_wide placeholder info row.cells r read) is, tt)
+-- what is read of a message is an insert
+pub insert_is : (placeholder : List ℕ) (oid : ℕ) (info : TableInfo) (message : Message) (c : Change) → insert_in placeholder oid info message ≡ Some c → IsInsert (info ∷ []) c
+insert_is placeholder oid info (Insert other row) c is = chosen_insert info (other == oid) (row_in placeholder info row.cells) c (λ r read. row_wide placeholder info row.cells r read) is
 insert_is placeholder oid info (Begin lsn time xid) c is = cc
 insert_is placeholder oid info (Ending flags lsn end_lsn time) c is = cc
 insert_is placeholder oid info (Origin lsn name) c is = cc
@@ -84,28 +83,13 @@ insert_is placeholder oid info (Truncate options oids) c is = cc
 insert_is placeholder oid info (Logical flags lsn prefix content) c is = cc
 
 pub inserts_are : (placeholder : List ℕ) (oid : ℕ) (info : TableInfo) (messages : List Message) (changes : List Change) → inserts_in placeholder oid info messages ≡ Some changes
-    → AllByRecursion (IsInsert (info ∷ [])) changes × AllByRecursion IsOfInsertStream messages
-inserts_are placeholder oid info [] changes is = (subst (AllByRecursion (IsInsert (info ∷ []))) (some_is [] changes is) tt, tt)
+    → AllByRecursion (IsInsert (info ∷ [])) changes
+inserts_are placeholder oid info [] changes is = subst (AllByRecursion (IsInsert (info ∷ []))) (some_is [] changes is) tt
 inserts_are placeholder oid info (message ∷ messages) changes is =
     let parts = front_some (insert_in placeholder oid info message) (inserts_in placeholder oid info messages) changes is in
     let here = insert_is placeholder oid info message parts.head parts.first_is in
     let later = inserts_are placeholder oid info messages parts.tail parts.rest_is in
-    (subst (AllByRecursion (IsInsert (info ∷ []))) (sym parts.all_is) (here.0, later.0), (here.1, later.1))
-
-pub kinds-append : (xs ys : List Message) → AllByRecursion IsOfInsertStream xs → AllByRecursion IsOfInsertStream ys → AllByRecursion IsOfInsertStream (xs ++ ys)
-kinds-append [] ys first second = second
-kinds-append (x ∷ xs) ys first second = (first.0, kinds-append xs ys first.1 second)
-
-pub block_kinds : (messages : List Message) (commit : Commit) (body : List Message) → IsBlock messages commit body → AllByRecursion IsOfInsertStream body → AllByRecursion IsOfInsertStream messages
-block_kinds messages commit body block kinds = subst (AllByRecursion IsOfInsertStream) (sym block.messages_are) (tt, kinds-append body (Ending block.flags commit.lsn commit.end_lsn block.ended ∷ []) kinds (tt, tt))
-
--- thin messages are of the kinds that are decoded
-pub thin_kinds : (placeholder : List ℕ) (messages : List Message) (infos : List TableInfo) (commits : List Commit) → IsThin placeholder messages infos commits → AllByRecursion IsOfInsertStream messages
-thin_kinds placeholder messages infos commits (nothing is infos_are commits_are) = subst (AllByRecursion IsOfInsertStream) (sym is) tt
-thin_kinds placeholder messages infos commits (empty commit block body infos_are commits_are) = block_kinds messages commit [] block tt
-thin_kinds placeholder messages infos commits (inserts commit body info changes block inserted body_is infos_are commits_are) =
-    let rows = inserts_are placeholder inserted.oid info inserted.rows changes inserted.read in
-    block_kinds messages commit body block (subst (AllByRecursion IsOfInsertStream) (sym inserted.messages_are) (tt, rows.1))
+    subst (AllByRecursion (IsInsert (info ∷ []))) (sym parts.all_is) (here, later)
 
 pub body_changes : (commit : Commit) (changes : List Change) → commit.body ≡ Changes changes → changes_of commit ≡ changes
 body_changes commit changes is = ap (λ body. elim body [ Changes cs ↦ cs | Mark value ↦ [] ]) is
@@ -120,7 +104,7 @@ thin_inserts placeholder messages infos commits (empty commit block body infos_a
     subst (All (λ c. All (IsInsert infos) (changes_of c))) (sym commits_are) (All-from_recursion (λ c. All (IsInsert infos) (changes_of c)) (commit ∷ []) (none, tt))
 thin_inserts placeholder messages infos commits (inserts commit body info changes block inserted body_is infos_are commits_are) =
     let rows = inserts_are placeholder inserted.oid info inserted.rows changes inserted.read in
-    let here : All (IsInsert (info ∷ [])) (changes_of commit) = subst (All (IsInsert (info ∷ []))) (sym (body_changes commit changes body_is)) (All-from_recursion (IsInsert (info ∷ [])) changes rows.0) in
+    let here : All (IsInsert (info ∷ [])) (changes_of commit) = subst (All (IsInsert (info ∷ []))) (sym (body_changes commit changes body_is)) (All-from_recursion (IsInsert (info ∷ [])) changes rows) in
     let there : All (IsInsert infos) (changes_of commit) = subst (λ is. All (IsInsert is) (changes_of commit)) (sym infos_are) here in
     subst (All (λ c. All (IsInsert infos) (changes_of c))) (sym commits_are) (All-from_recursion (λ c. All (IsInsert infos) (changes_of c)) (commit ∷ []) (there, tt))
 
@@ -139,9 +123,9 @@ pub states_refused : (placeholder : List ℕ) (bytes : List (List ℕ)) (message
 states_refused placeholder bytes messages spelled none infos commits states =
     none infos commits (subst (λ ms. IsThin placeholder ms infos commits) (spelled_one bytes states.messages messages states.spelled spelled) states.thin)
 
-pub states_unread : (placeholder : List ℕ) (bytes : List (List ℕ)) → ((messages : List Message) → AreSpelled bytes messages → AllByRecursion IsOfInsertStream messages → ⊥)
+pub states_unread : (placeholder : List ℕ) (bytes : List (List ℕ)) → ((messages : List Message) → AreSpelled bytes messages → ⊥)
     → (infos : List TableInfo) (commits : List Commit) → States placeholder bytes infos commits → ⊥
-states_unread placeholder bytes none infos commits states = none states.messages states.spelled (thin_kinds placeholder states.messages infos commits states.thin)
+states_unread placeholder bytes none infos commits states = none states.messages states.spelled
 
 -- the same of an equal placeholder and equal byte strings
 pub states_at : (placeholder p : List ℕ) (bytes b : List (List ℕ)) (infos : List TableInfo) (commits : List Commit) → placeholder ≡ p → bytes ≡ b → States placeholder bytes infos commits → States p b infos commits

@@ -10,6 +10,7 @@ use Rattle.dbl_record.specs.Line.{line_of}
 use Rattle.dbl_model.specs.declared.identity.Identity.{Identity}
 use Rattle.dbl_model.specs.declared.table.TableInfo.{TableInfo}
 use Rattle.dbl_model.specs.declared.change.Commit.{Commit}
+use Rattle.dbl_model.specs.Identities.{default_placeholder}
 use Rattle.dbl_model.specs.EventJson.{envelopes}
 use Rattle.dblog.specs.Lines.{lines_of, messages_in, first_bad}
 use Rattle.dblog.specs.Thin.{States}
@@ -37,7 +38,7 @@ replay_words = codes "replay" ∷ []
 
 -- what all records have in common, as long as no option changes it
 abbrev pub default_identity : Identity
-default_identity = record { prefix = codes "demo"; db = codes "demo"; placeholder = codes "__debezium_unavailable_value" }
+default_identity = record { prefix = codes "demo"; db = codes "demo"; placeholder = default_placeholder }
 
 -- the lines of the records of these commits
 abbrev pub lines_in : List TableInfo → List Commit → ℤ → List (List ℕ)

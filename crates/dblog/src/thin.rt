@@ -13,8 +13,6 @@ ghost use Rattle.dbl_model.specs.Infos.{IsInfoOf};
 ghost use Rattle.dbl_model.specs.Keys.{key_of, cell_or_null};
 ghost use Rattle.dblog.specs.Thin.{described, unless_placeholder, value_in, values_in, is_not_null, row_in, insert_in, inserts_in, IsCapturable, IsBlock, AreInserts, IsThin, AreSpelled, States};
 ghost use Rattle.dblog.specs.Stated.{AreInsertCommits};
-ghost use Rattle.dbl_pgmsg.specs.Grammar.{IsOfInsertStream};
-ghost use Rattle.std.specs.List.{AllByRecursion};
 ghost use Rattle.dblog.specs.Heads.{commit_with};
 
 use dbl_base::{Bytes, Lsn, Seq, Text};
@@ -355,10 +353,10 @@ pub fn commits_of(
     }
 }
 
-// The messages of the byte strings, where they all are of kinds that are decoded.
+// The messages that the byte strings spell, where each spells one.
 fn decoded(alloc: Global, bytes: Vec<Bytes>) -> Result<Option<Vec<Message>>, AllocError>
     ensures found { IfOk result (λ found. IfSome found (λ messages. AreSpelled bytes.items messages.items)) }
-    ensures none { IfOk result (λ found. IfNone found ((messages : List Message) → AreSpelled bytes.items messages → ¬ AllByRecursion IsOfInsertStream messages)) }
+    ensures none { IfOk result (λ found. IfNone found ((messages : List Message) → ¬ AreSpelled bytes.items messages)) }
 {
     let mut messages = Vec::with_capacity(alloc, bytes.len())?;
     for item in bytes {

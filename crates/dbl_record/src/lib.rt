@@ -16,7 +16,7 @@ pub use laws::{
 };
 pub use reading::{Line, read_line};
 pub use record::Record;
-pub use writing::{append_line, line};
+pub use writing::{append_line, append_quoted, line};
 
 #[cfg(test)]
 mod tests;

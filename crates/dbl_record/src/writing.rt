@@ -88,7 +88,8 @@ fn append_head(out: &mut Vec<u8>, item: &Record) -> Result<(), AllocError>
     append(out, ",\"topic\":")
 }
 
-fn append_quoted(out: Vec<u8>, text: &str) -> Result<Vec<u8>, AllocError>
+/// Appends a text as a JSON string to a buffer that is handed back.
+pub fn append_quoted(out: Vec<u8>, text: &str) -> Result<Vec<u8>, AllocError>
     ensures { IfOk result (λ done. Appends out.items done.items (quoted text.now)) }
 {
     let mut writer = Writer::new(out);

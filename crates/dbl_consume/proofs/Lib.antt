@@ -1,0 +1,5 @@
+pub mod FlatLemmas
+pub mod TableLemmas
+pub mod TookLemmas
+pub mod PrintingLemmas
+pub mod RowLemmas

@@ -1,0 +1,47 @@
+-- For private clauses: lines that are gathered before they are written.
+use Rattle.std.specs.Prelude.{◌≡◌, ℕ, List, [], ◌∷◌, ◌++◌, Bool, true, false, if◌then◌else◌, Option, Result, MatchResult, map, codes}
+use Rattle.json.specs.Print.{quoted}
+use Rattle.std.specs.BTreeMap.{IsOrdered}
+use Rattle.dbl_base.specs.Texts.{text_cmp}
+use Rattle.dbl_record.specs.declared.acts.HeldCell.{HeldCell}
+use Rattle.dbl_record.specs.Consumers.{HeldCells}
+use Rattle.dbl_consume.specs.declared.error.PrintError.{PrintError}
+use Rattle.dbl_consume.specs.Rows.{Row, Table}
+use Rattle.dbl_consume.specs.Printing.{HeldRow, cell_text, row_line, text_of, Wrote, PrintFails}
+
+-- a cell, with a comma before it where it isn't the first
+abbrev pub one_cell : Bool → List ℕ → HeldCell → List ℕ
+one_cell later column cell = (if later then codes "," else []) ++ quoted column ++ codes ":" ++ cell_text cell
+
+-- what follows in a row whose cells these are
+abbrev pub cells_tail : Bool → HeldCells → List ℕ
+cells_tail later [] = codes "}"
+cells_tail later (c ∷ cs) = one_cell later c.0 c.1 ++ cells_tail true cs
+
+-- the rows of a topic
+abbrev pub rows_in : List ℕ → List (List ℕ × Row) → List HeldRow
+rows_in topic [] = []
+rows_in topic (row ∷ rows) = ((topic, row.0), row.1.entries) ∷ rows_in topic rows
+
+-- the rows of all topics
+abbrev pub all_rows : List (List ℕ × Table) → List HeldRow
+all_rows [] = []
+all_rows (table ∷ tables) = rows_in table.0 table.1.entries ++ all_rows tables
+
+-- each topic's keys ascend
+abbrev pub AreInOrder : List (List ℕ × Table) → Type 0
+AreInOrder [] = Unit {0}
+AreInOrder (table ∷ tables) = IsOrdered text_cmp table.1 × AreInOrder tables
+
+-- of all lines some were written, some stand in the buffer, and the rest is to come
+pub record IsGathered (before now : Option (List ℕ)) (buffer : List ℕ) (rest all : List (List ℕ)) : Type 0 where
+  pub written : List (List ℕ)
+  pub kept : List (List ℕ)
+  pub wrote : Wrote before now (text_of written)
+  pub buffer_is : buffer ≡ text_of kept
+  pub all_are : (written ++ kept) ++ rest ≡ all
+
+-- these lines were gathered or written, whatever went before and comes after them
+abbrev pub Gathers : {A : Type 0} → (A → List ℕ) → List (List ℕ) → List ℕ → Option (List ℕ) → Result A PrintError → Option (List ℕ) → Type 0
+Gathers bytes lines buffer old result new = (before : Option (List ℕ)) (rest all : List (List ℕ)) → IsGathered before old buffer (lines ++ rest) all
+    → MatchResult result (λ filled. IsGathered before new (bytes filled) rest all) (λ error. PrintFails all error before new)

@@ -1,0 +1,5 @@
+pub mod Answers
+pub mod Gathering
+pub mod Holdings
+pub mod Printing
+pub mod Rows

@@ -1,0 +1,74 @@
+-- The text of the rows that a consumer holds, and how it is written. Source: own.
+use Rattle.std.specs.Prelude.{◌≡◌, ℕ, List, [], ◌∷◌, ◌++◌, Option, Some, Result, Ok, Err, map, take, codes}
+use Rattle.std.specs.declared.cmp.Ordering.{Ordering}
+use Rattle.std.specs.Ordering.{on, then_cmp}
+use Rattle.std.specs.Map.{lookup, keys_of}
+use Rattle.std.specs.BTreeMap.{is_at}
+use Rattle.std.specs.List.Sorted.{IsStrictlySortedBy}
+use Rattle.dbl_base.specs.Texts.{text_cmp}
+use Rattle.dbl_record.specs.declared.acts.HeldCell.{HeldCell}
+use Rattle.dbl_record.specs.declared.acts.HeldCell.TheVariants.{Known, Unknown}
+use Rattle.dbl_record.specs.Consumers.{HeldCells}
+use Rattle.dbl_record.specs.Line.{Part, object_text}
+use Rattle.dbl_consume.specs.declared.error.PrintError.{PrintError}
+use Rattle.dbl_consume.specs.declared.error.PrintError.TheVariants.{Failed, Memory}
+
+-- where a row is held: its topic and its key's text
+abbrev pub Spot : Type 0
+Spot = List ℕ × List ℕ
+
+-- the topic decides, and then the key's text, each by its bytes
+abbrev pub spot_cmp : Spot → Spot → Ordering
+spot_cmp = then_cmp (on (λ spot. spot.0) text_cmp) (on (λ spot. spot.1) text_cmp)
+
+-- a row with its place
+abbrev pub HeldRow : Type 0
+HeldRow = Spot × HeldCells
+
+-- these are the rows that are held, in the order of their places
+pub record AreRowsOf (held : List ℕ → List ℕ → Option HeldCells) (rows : List HeldRow) : Type 0 where
+  pub ordered : IsStrictlySortedBy spot_cmp (keys_of rows)
+  pub exact : (topic key : List ℕ) → lookup (is_at (spot_cmp (topic, key))) rows ≡ held topic key
+
+-- the rows that are held are one list at most
+abbrev pub RowsAreOne : Type 0
+RowsAreOne = (held : List ℕ → List ℕ → Option HeldCells) (a b : List HeldRow) → AreRowsOf held a → AreRowsOf held b → a ≡ b
+
+-- an unknown cell is an empty object, which no cell is that can be held
+abbrev pub cell_text : HeldCell → List ℕ
+cell_text (Known text) = text
+cell_text Unknown = codes "{}"
+
+abbrev pub cell_part : List ℕ × HeldCell → Part
+cell_part cell = (cell.0, cell_text cell.1)
+
+-- the topic, the key's text and the row as a JSON object, with a space between
+abbrev pub row_line : HeldRow → List ℕ
+row_line row = row.0.0 ++ codes " " ++ row.0.1 ++ codes " " ++ object_text (map cell_part row.1)
+
+-- lines as a text, a newline behind each
+abbrev pub text_of : List (List ℕ) → List ℕ
+text_of [] = []
+text_of (line ∷ lines) = line ++ 10 ∷ text_of lines
+
+-- the text was appended
+abbrev pub Wrote : Option (List ℕ) → Option (List ℕ) → List ℕ → Type 0
+Wrote before after text = (bytes : List ℕ) → before ≡ Some bytes → after ≡ Some (bytes ++ text)
+
+-- a front of the text was appended
+abbrev pub WroteFront : Option (List ℕ) → Option (List ℕ) → List ℕ → Type 0
+WroteFront before after text = (bytes : List ℕ) → before ≡ Some bytes → (n : ℕ) × (after ≡ Some (bytes ++ take n text))
+
+-- where lines aren't written, or not all, a front of their text was, and where memory is wanting some first lines
+abbrev pub PrintFails : List (List ℕ) → PrintError → Option (List ℕ) → Option (List ℕ) → Type 0
+PrintFails lines Failed before after = WroteFront before after (text_of lines)
+PrintFails lines Memory before after = (n : ℕ) × Wrote before after (text_of (take n lines))
+
+-- the lines were written, or why not
+abbrev pub Prints : {A : Type 0} → List (List ℕ) → Result A PrintError → Option (List ℕ) → Option (List ℕ) → Type 0
+Prints lines (Ok done) before after = Wrote before after (text_of lines)
+Prints lines (Err error) before after = PrintFails lines error before after
+
+-- the lines of the rows that are held
+abbrev pub PrintsRows : {A : Type 0} → (List ℕ → List ℕ → Option HeldCells) → Result A PrintError → Option (List ℕ) → Option (List ℕ) → Type 0
+PrintsRows held result before after = (rows : List HeldRow) × AreRowsOf held rows × Prints (map row_line rows) result before after

@@ -1,0 +1,101 @@
+ghost use Rattle.std.specs.Prelude.{◌≡◌, ◌≢◌, ◌≤◌, ◌++◌, ◌∷◌, [], List, ℕ, Some, Err, IsOk, IfOk, IfErr, OnOk};
+ghost use Rattle.serde_json.specs.View.{view};
+ghost use Rattle.dbl_record.specs.declared.acts.ConsumeError.TheVariants.{Memory};
+ghost use Rattle.dbl_record.specs.declared.reading.Line.{Line as Record};
+ghost use Rattle.dbl_record.specs.Acts as spec;
+ghost use Rattle.dbl_record.specs.Consumers.{consumer};
+ghost use Rattle.dbl_consume.specs.Holdings.{Took, IsOf, placeholder_of, tables_of};
+ghost use Rattle.dbl_base.specs.Streams.{Rose};
+ghost use Rattle.dbl_consume.specs.declared.error.PrintError.TheVariants.{Failed};
+ghost use Rattle.dbl_consume.specs.Printing.{PrintsRows};
+ghost use Rattle.dbl_consume.specs.Rows.{row_at};
+
+use crate::acting::{act, act_of_values};
+use crate::error::PrintError;
+use crate::printing::{look_at_order, print};
+use crate::tables::{Tables, perform};
+use dbl_base::{Output, Text};
+use dbl_record::ConsumeError;
+use serde_json::Value;
+use std::alloc::Global;
+use std::collections::BTreeMap;
+
+/// What a consumer of change events holds, by topic, by the text of the key, and by column.
+#[derive(Drop)]
+pub struct Consumer {
+    alloc: Global,
+    placeholder: Text,
+    tables: Tables,
+}
+
+impl Consumer {
+    /// A consumer that holds nothing, with the placeholder of values that weren't sent. Takes no memory; later calls use
+    /// the allocator.
+    pub fn make(alloc: Global, placeholder: Text) -> Result<Consumer, ConsumeError>
+        ensures took { IfOk result (Took []) }
+        ensures placeholder { IfOk result (λ c. placeholder_of c ≡ placeholder) }
+        ensures made { IsOk result }
+    {
+        Ok(Consumer {
+            alloc,
+            placeholder,
+            tables: BTreeMap::new(alloc),
+        })
+    }
+
+    /// Takes a record: a topic, and the JSON texts of a key and a value. After a want of memory the consumer is to be
+    /// given up.
+    pub fn apply(&mut self, topic: &Text, key: &Text, value: &Text) -> Result<(), ConsumeError>
+        // An Ok appends the record to those that were taken.
+        ensures took { (lines : List Record) → Took lines self.old → OnOk result (Took (lines ++ record { topic = topic.now; key = key.now; value = value.now } ∷ []) self.new) }
+
+        // A record is refused exactly where its act is a fault, which is answered, and then nothing changes.
+        ensures accepted { OnOk result (IsOk (spec.act (placeholder_of self.old) (record { topic = topic.now; key = key.now; value = value.now }))) }
+        ensures refused { IfErr result (λ e. e ≢ Memory → spec.act (placeholder_of self.old) (record { topic = topic.now; key = key.now; value = value.now }) ≡ Err e) }
+        ensures unchanged { IfErr result (λ e. e ≢ Memory → self.new ≡ self.old) }
+        ensures placeholder { placeholder_of self.new ≡ placeholder_of self.old }
+    {
+        match act(self.alloc, &self.placeholder, topic, key, value) {
+            Ok(act) => perform(self.alloc, &mut self.tables, topic, act),
+            Err(error) => Err(error),
+        }
+    }
+
+    /// Takes a record whose key and value were read: `apply` of any texts that are read as them.
+    pub fn apply_values(
+        &mut self,
+        topic: &Text,
+        key: &Value,
+        value: &Value,
+    ) -> Result<(), ConsumeError>
+        ensures took { (lines : List Record) (line : Record) → IsOf topic.now (Some (view key.now)) (Some (view value.now)) line → Took lines self.old → OnOk result (Took (lines ++ line ∷ []) self.new) }
+        ensures accepted { (line : Record) → IsOf topic.now (Some (view key.now)) (Some (view value.now)) line → OnOk result (IsOk (spec.act (placeholder_of self.old) line)) }
+        ensures refused { (line : Record) → IsOf topic.now (Some (view key.now)) (Some (view value.now)) line → IfErr result (λ e. e ≢ Memory → spec.act (placeholder_of self.old) line ≡ Err e) }
+        ensures unchanged { IfErr result (λ e. e ≢ Memory → self.new ≡ self.old) }
+        ensures placeholder { placeholder_of self.new ≡ placeholder_of self.old }
+    {
+        match act_of_values(self.alloc, &self.placeholder, topic, key, value) {
+            Ok(act) => perform(self.alloc, &mut self.tables, topic, act),
+            Err(error) => Err(error),
+        }
+    }
+
+    /// The rows that are held. Takes no memory.
+    pub fn tables(&self) -> &Tables
+        ensures same { result.now ≡ tables_of self.now }
+        ensures rows { (lines : List Record) → Took lines self.now → (topic key : List ℕ) → row_at result.now topic key ≡ consumer (placeholder_of self.now) lines topic key }
+    {
+        &self.tables
+    }
+
+    /// Writes a line for each row that is held: the topic, the key's text and the row as a JSON object, topics and keys
+    /// in byte order. A cell whose value isn't known is `{}`.
+    pub fn print<O: Output>(&self, output: &mut O) -> Result<(), PrintError>
+        ensures prints { (lines : List Record) → Took lines self.now → PrintsRows (consumer (placeholder_of self.now) lines) result (O.written output.old) (O.written output.new) }
+        ensures cause { result ≡ Err Failed → Rose (O.faults output.old) (O.faults output.new) }
+        ensures later { O.faults output.old ≤ O.faults output.new }
+    {
+        look_at_order(&self.tables);
+        print(self.alloc, &self.tables, output)
+    }
+}

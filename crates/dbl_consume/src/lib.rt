@@ -1,0 +1,18 @@
+//! The consumer of change events: the tables that it holds, by topic, key and column.
+#![tactic(auto)]
+
+mod acting;
+mod consumer;
+mod error;
+mod laws;
+mod printing;
+mod tables;
+
+pub use consumer::Consumer;
+pub use dbl_record::{ConsumeError, HeldCell};
+pub use error::PrintError;
+pub use laws::rows_are_one;
+pub use tables::{Row, Table, Tables};
+
+#[cfg(test)]
+mod tests;

@@ -3,11 +3,11 @@ ghost use Rattle.std.specs.Prelude.{◌≡◌, ◌≢◌, List, ℕ, Some, None,
 ghost use Rattle.serde_json.specs.Data.{object};
 ghost use Rattle.serde_json.specs.Events.{members_len};
 ghost use Rattle.serde_json.specs.Find.{as_object};
-ghost use Rattle.serde_json.specs.Read.{read};
 ghost use Rattle.serde_json.specs.Written.{has_float};
 ghost use Rattle.serde_json.specs.View.{view, members_view};
 ghost use Rattle.dbl_record.specs.declared.acts.ConsumeError.TheVariants.{Memory, NoKey, BadJson};
 ghost use Rattle.dbl_record.specs.Acts as spec;
+ghost use Rattle.dbl_record.specs.Acts.{json_in};
 ghost use Rattle.dbl_consume.specs.Answers.{Answers};
 
 use dbl_base::{Seq, Text};
@@ -208,7 +208,7 @@ fn act_of(
     key: &Value,
     value: &Value,
 ) -> Result<Act, ConsumeError>
-    ensures { Answers (spec.act_of placeholder.now (view key.now) (view value.now)) result }
+    ensures { Answers (spec.act_of_data placeholder.now (view key.now) (view value.now)) result }
 {
     if value.is_null() {
         return Ok(Act::Nothing);
@@ -226,6 +226,7 @@ fn is_progress(topic: &Text) -> bool
 }
 
 /// What a record does, by its topic and by what its key and its value are read as.
+#[tactic(auto, unfolding(dbl_record::specs::Acts::act_of))]
 pub(crate) fn act_of_values(
     alloc: Global,
     placeholder: &Text,
@@ -233,7 +234,7 @@ pub(crate) fn act_of_values(
     key: &Value,
     value: &Value,
 ) -> Result<Act, ConsumeError>
-    ensures { Answers (spec.act_of_data placeholder.now topic.now (Some (view key.now)) (Some (view value.now))) result }
+    ensures { Answers (spec.act_of placeholder.now (record { topic = topic.now; key = Some (view key.now); value = Some (view value.now) })) result }
 {
     if is_progress(topic) {
         return Ok(Act::Nothing);
@@ -242,9 +243,10 @@ pub(crate) fn act_of_values(
 }
 
 /// A text as JSON.
+#[tactic(auto, unfolding(dbl_record::specs::Acts::json_in))]
 fn value_of(alloc: Global, text: &Text) -> Result<Value, ConsumeError>
-    ensures ok { IfOk result (λ v. read text.now ≡ Some (view v)) }
-    ensures bad { IfErr result (λ e. e ≢ Memory → (read text.now ≡ None) × (e ≡ BadJson)) }
+    ensures ok { IfOk result (λ v. json_in text.now ≡ Some (view v)) }
+    ensures bad { IfErr result (λ e. e ≢ Memory → (json_in text.now ≡ None) × (e ≡ BadJson)) }
 {
     match Value::from_str(alloc, text.as_str()) {
         Ok(value) => Ok(value),
@@ -257,7 +259,7 @@ fn value_of(alloc: Global, text: &Text) -> Result<Value, ConsumeError>
 }
 
 /// What a record does, by its texts.
-#[tactic(auto, unfolding(dbl_record::specs::Acts::act))]
+#[tactic(auto, unfolding(dbl_record::specs::Acts::act_of))]
 pub(crate) fn act(
     alloc: Global,
     placeholder: &Text,

@@ -1,10 +1,10 @@
 ghost use Rattle.std.specs.Prelude.{◌≡◌, ◌≢◌, ◌≤◌, ◌++◌, ◌∷◌, [], List, ℕ, Some, Err, IsOk, IfOk, IfErr, OnOk};
 ghost use Rattle.serde_json.specs.View.{view};
 ghost use Rattle.dbl_record.specs.declared.acts.ConsumeError.TheVariants.{Memory};
-ghost use Rattle.dbl_record.specs.declared.reading.Line.{Line as Record};
 ghost use Rattle.dbl_record.specs.Acts as spec;
-ghost use Rattle.dbl_record.specs.Consumers.{consumer};
-ghost use Rattle.dbl_consume.specs.Holdings.{Took, IsOf, placeholder_of, tables_of};
+ghost use Rattle.dbl_record.specs.Acts.{Reading, reading_of};
+ghost use Rattle.dbl_record.specs.Consumers.{consumer_of};
+ghost use Rattle.dbl_consume.specs.Holdings.{Took, placeholder_of, tables_of};
 ghost use Rattle.dbl_base.specs.Streams.{Rose};
 ghost use Rattle.dbl_consume.specs.declared.error.PrintError.TheVariants.{Failed};
 ghost use Rattle.dbl_consume.specs.Printing.{PrintsRows};
@@ -47,7 +47,7 @@ impl Consumer {
     /// given up.
     pub fn apply(&mut self, topic: &Text, key: &Text, value: &Text) -> Result<(), ConsumeError>
         // An Ok appends the record to those that were taken.
-        ensures took { (lines : List Record) → Took lines self.old → OnOk result (Took (lines ++ record { topic = topic.now; key = key.now; value = value.now } ∷ []) self.new) }
+        ensures took { (taken : List Reading) → Took taken self.old → OnOk result (Took (taken ++ reading_of (record { topic = topic.now; key = key.now; value = value.now }) ∷ []) self.new) }
 
         // A record is refused exactly where its act is a fault, which is answered, and then nothing changes.
         ensures accepted { OnOk result (IsOk (spec.act (placeholder_of self.old) (record { topic = topic.now; key = key.now; value = value.now }))) }
@@ -61,16 +61,16 @@ impl Consumer {
         }
     }
 
-    /// Takes a record whose key and value were read: `apply` of any texts that are read as them.
+    /// Takes a record whose key and value were read.
     pub fn apply_values(
         &mut self,
         topic: &Text,
         key: &Value,
         value: &Value,
     ) -> Result<(), ConsumeError>
-        ensures took { (lines : List Record) (line : Record) → IsOf topic.now (Some (view key.now)) (Some (view value.now)) line → Took lines self.old → OnOk result (Took (lines ++ line ∷ []) self.new) }
-        ensures accepted { (line : Record) → IsOf topic.now (Some (view key.now)) (Some (view value.now)) line → OnOk result (IsOk (spec.act (placeholder_of self.old) line)) }
-        ensures refused { (line : Record) → IsOf topic.now (Some (view key.now)) (Some (view value.now)) line → IfErr result (λ e. e ≢ Memory → spec.act (placeholder_of self.old) line ≡ Err e) }
+        ensures took { (taken : List Reading) → Took taken self.old → OnOk result (Took (taken ++ record { topic = topic.now; key = Some (view key.now); value = Some (view value.now) } ∷ []) self.new) }
+        ensures accepted { OnOk result (IsOk (spec.act_of (placeholder_of self.old) (record { topic = topic.now; key = Some (view key.now); value = Some (view value.now) }))) }
+        ensures refused { IfErr result (λ e. e ≢ Memory → spec.act_of (placeholder_of self.old) (record { topic = topic.now; key = Some (view key.now); value = Some (view value.now) }) ≡ Err e) }
         ensures unchanged { IfErr result (λ e. e ≢ Memory → self.new ≡ self.old) }
         ensures placeholder { placeholder_of self.new ≡ placeholder_of self.old }
     {
@@ -83,7 +83,7 @@ impl Consumer {
     /// The rows that are held. Takes no memory.
     pub fn tables(&self) -> &Tables
         ensures same { result.now ≡ tables_of self.now }
-        ensures rows { (lines : List Record) → Took lines self.now → (topic key : List ℕ) → row_at result.now topic key ≡ consumer (placeholder_of self.now) lines topic key }
+        ensures rows { (taken : List Reading) → Took taken self.now → (topic key : List ℕ) → row_at result.now topic key ≡ consumer_of (placeholder_of self.now) taken topic key }
     {
         &self.tables
     }
@@ -91,7 +91,7 @@ impl Consumer {
     /// Writes a line for each row that is held: the topic, the key's text and the row as a JSON object, topics and keys
     /// in byte order. A cell whose value isn't known is `{}`.
     pub fn print<O: Output>(&self, output: &mut O) -> Result<(), PrintError>
-        ensures prints { (lines : List Record) → Took lines self.now → PrintsRows (consumer (placeholder_of self.now) lines) result (O.written output.old) (O.written output.new) }
+        ensures prints { (taken : List Reading) → Took taken self.now → PrintsRows (consumer_of (placeholder_of self.now) taken) result (O.written output.old) (O.written output.new) }
         ensures cause { result ≡ Err Failed → Rose (O.faults output.old) (O.faults output.new) }
         ensures later { O.faults output.old ≤ O.faults output.new }
     {

@@ -1,14 +1,17 @@
 -- What is read of a line, and what it does.
-use Rattle.std.proofs.Common.{◌≡◌, ◌∙◌, ◌≤◌, ℕ, List, false, Option, Some, Ordering, Less, Equal, Greater, nat_cmp, unwrap_or, option_and_then, refl, sym, ap, ap₂, subst, arith, codes}
+use Rattle.std.proofs.Common.{◌≡◌, ◌∙◌, ◌≤◌, ℕ, List, true, false, is_some, Option, Some, Ordering, Less, Equal, Greater, nat_cmp, unwrap_or, option_map, option_and_then, refl, sym, ap, ap₂, subst, arith, codes}
 use Rattle.std.specs.Ordering.{match_ordering}
 use Rattle.std.specs.Cmp.Lexicographic.{slice_cmp}
 use Rattle.serde_json.specs.Data.{Data, null, boolean, number, string, array, object, Members, no_members, member, depth, members_depth}
-use Rattle.serde_json.specs.Find.{get_member}
+use Rattle.serde_json.specs.Find.{get_member, as_null}
 use Rattle.serde_json.specs.Read.{read}
 use Rattle.serde_json.specs.Written.{has_float}
 use Rattle.dbl_record.specs.declared.reading.Line.{Line}
-use Rattle.dbl_record.specs.Acts.{act, act_of_data}
-use Rattle.dbl_record.specs.Reading.{topic_in, part_in, Retells, IsReadFrom, AreAlike, LinesReadAlike, LinesReadOnce, AlikeActAlike, ActsReadData}
+use Rattle.dbl_record.specs.Line.{text_or_null}
+use Rattle.dbl_record.specs.Laws.{IsTextOf}
+use Rattle.dbl_record.specs.Acts.{Reading, json_in}
+use Rattle.dbl_record.specs.Reading.{topic_in, part_in, told_by, Retells, IsReadFrom, LinesTellRecords, LinesReadOnce, RecordsTellData}
+use Rattle.dbl_record.proofs.Back.{read-compact_text}
 
 abbrev depth_or : Option Data → ℕ
 depth_or found = depth (unwrap_or found null)
@@ -32,23 +35,17 @@ part_depth name (array ds) n h = omega arith
 part_depth name (object ms) n h = member_depth name ms n (omega (arith, h))
 
 -- one text is read as one whole
-same_whole : (text : List ℕ) (d e : Data) → read text ≡ Some d → read text ≡ Some e → d ≡ e
+same_whole : (text : List ℕ) (d e : Data) → json_in text ≡ Some d → json_in text ≡ Some e → d ≡ e
 same_whole text d e p q = let same : Some d ≡ Some e = sym p ∙ q in cc
+
+pub lines_tell_records : LinesTellRecords
+lines_tell_records text line h =
+    ap (option_and_then (λ whole. option_map (told_by whole) (topic_in whole))) h.is_read
+    ∙ ap (option_map (told_by h.whole)) h.topic_is
+    ∙ ap₂ (λ key value. Some (record { topic = line.topic; key = key; value = value })) (sym h.key_is.reads) (sym h.value_is.reads)
 
 same_topic : (a b : List ℕ) (o : Option (List ℕ)) → o ≡ Some a → o ≡ Some b → a ≡ b
 same_topic a b o p q = let same : Some a ≡ Some b = sym p ∙ q in cc
-
-same_part : (name : List ℕ) (d e : Data) (a b : List ℕ) → d ≡ e → Retells (part_in name d) a → Retells (part_in name e) b → read a ≡ read b
-same_part name d e a b same p q = p.reads ∙ ap (λ w. Some (part_in name w)) same ∙ sym q.reads
-
-pub lines_read_alike : LinesReadAlike
-lines_read_alike text a b p q =
-    let same = same_whole text p.whole q.whole p.is_read q.is_read in
-    record {
-      topics = same_topic a.topic b.topic (topic_in q.whole) (subst (λ w. topic_in w ≡ Some a.topic) same p.topic_is) q.topic_is;
-      keys = same_part (codes "key") p.whole q.whole a.key b.key same p.key_is q.key_is;
-      values = same_part (codes "value") p.whole q.whole a.value b.value same p.value_is q.value_is;
-    }
 
 same_text : (name : List ℕ) (d e f : Data) (a b : List ℕ) → e ≡ d → f ≡ d → has_float (part_in name d) ≡ false → Retells (part_in name e) a → Retells (part_in name f) b → a ≡ b
 same_text name d e f a b e_is f_is flat p q =
@@ -68,11 +65,18 @@ lines_read_once text whole a b is_read key_flat value_flat p q =
     (same_text (codes "key") whole p.whole q.whole a.key b.key first second key_flat p.key_is q.key_is)
     (same_text (codes "value") whole p.whole q.whole a.value b.value first second value_flat p.value_is q.value_is)
 
-pub alike_act_alike : AlikeActAlike
-unfolding act
-alike_act_alike placeholder a b alike =
-    ap (λ t. act_of_data placeholder t (read a.key) (read a.value)) alike.topics ∙ ap₂ (act_of_data placeholder b.topic) alike.keys alike.values
+pub json_in-text : (deep : ℕ) (text : List ℕ) (d : Data) → deep ≤ 127 → IsTextOf deep text d → json_in text ≡ Some d
+unfolding json_in
+json_in-text deep text d bound h = let shallow = h.shallow in ap read h.compact ∙ read-compact_text d h.whole (omega arith)
 
-pub acts_read_data : ActsReadData
-unfolding act
-acts_read_data placeholder topic key value k v key_is value_is = ap₂ (act_of_data placeholder topic) key_is value_is
+pub records_tell_data : RecordsTellData
+records_tell_data item key value k v =
+    ap₂ (λ a b. record { topic = item.topic; key = a; value = b }) (json_in-text 127 (text_or_null item.key) key (omega arith) k) (json_in-text 127 (text_or_null item.value) value (omega arith) v)
+
+pub null_is : (d : Data) → is_some (as_null d) ≡ true → d ≡ null
+null_is null e = refl
+null_is (boolean b) e = absurd (cc)
+null_is (number x) e = absurd (cc)
+null_is (string s) e = absurd (cc)
+null_is (array ds) e = absurd (cc)
+null_is (object ms) e = absurd (cc)

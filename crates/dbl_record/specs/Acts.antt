@@ -95,14 +95,28 @@ act_by placeholder key value Truncate = Ok Wipe
 act_by placeholder key value Message = Ok Nothing
 
 -- of a key and a value without their schemas; a null value is a tombstone, whose delete went before
-abbrev pub act_of : List ℕ → Data → Data → Result Act ConsumeError
-act_of placeholder key value = if is_some (as_null value) then Ok Nothing else and_go (act_by placeholder key value) (operation_in value)
+abbrev pub act_of_data : List ℕ → Data → Data → Result Act ConsumeError
+act_of_data placeholder key value = if is_some (as_null value) then Ok Nothing else and_go (act_by placeholder key value) (operation_in value)
 
--- of a topic, and of what the key and the value are read as
-abbrev pub act_of_data : List ℕ → List ℕ → Option Data → Option Data → Result Act ConsumeError
-act_of_data placeholder topic key value =
-    if is_progress topic then Ok Nothing else or_error BadJson (λ k. or_error BadJson (λ v. act_of placeholder (unwrapped k) (unwrapped v)) value) key
+-- the JSON of a text (RFC 8259) as serde_json reads it
+unfoldable pub json_in : List ℕ → Option Data
+json_in text = read text
+
+-- a record as it is read: its topic, and the JSON of its key and of its value, where their texts are JSON
+pub record Reading : Type 0 where
+  pub topic : List ℕ
+  pub key : Option Data
+  pub value : Option Data
+
+abbrev pub reading_of : Line → Reading
+reading_of line = record { topic = line.topic; key = json_in line.key; value = json_in line.value }
 
 -- What a record does, or why it is refused, where this is the placeholder of values that weren't sent.
-unfoldable pub act : List ℕ → Line → Result Act ConsumeError
-act placeholder line = act_of_data placeholder line.topic (read line.key) (read line.value)
+unfoldable pub act_of : List ℕ → Reading → Result Act ConsumeError
+act_of placeholder reading =
+    if is_progress reading.topic then Ok Nothing
+    else or_error BadJson (λ key. or_error BadJson (λ value. act_of_data placeholder (unwrapped key) (unwrapped value)) reading.value) reading.key
+
+-- the same of a record's texts
+abbrev pub act : List ℕ → Line → Result Act ConsumeError
+act placeholder line = act_of placeholder (reading_of line)

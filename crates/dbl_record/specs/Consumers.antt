@@ -1,6 +1,6 @@
 -- What a consumer holds after records, row by row. Source: Debezium's PostgreSQL connector manual, "Toasted values", for
 -- a cell that wasn't sent; the rest is own.
-use Rattle.std.specs.Prelude.{ℕ, List, [], if◌then◌else◌, Option, Some, None, unwrap_or, fold, Result, Ok, Err}
+use Rattle.std.specs.Prelude.{ℕ, List, [], if◌then◌else◌, Option, Some, None, unwrap_or, fold, map, Result, Ok, Err}
 use Rattle.std.specs.Str.{bytes_eq}
 use Rattle.std.specs.Map.{lookup}
 use Rattle.std.specs.BTreeMap.{insert_entry, is_at}
@@ -12,7 +12,7 @@ use Rattle.dbl_record.specs.declared.acts.Act.{Act}
 use Rattle.dbl_record.specs.declared.acts.Act.TheVariants.{Nothing, Set, Remove, Wipe}
 use Rattle.dbl_record.specs.declared.acts.ConsumeError.{ConsumeError}
 use Rattle.dbl_record.specs.declared.reading.Line.{Line}
-use Rattle.dbl_record.specs.Acts.{act}
+use Rattle.dbl_record.specs.Acts.{Reading, reading_of, act_of}
 
 -- the cells of a row by their columns, in byte order of the columns
 abbrev pub HeldCells : Type 0
@@ -45,9 +45,13 @@ row_after_result (Ok done) key row = row_after_act done key row
 row_after_result (Err error) key row = row
 
 -- what a record leaves of the row at a topic and a key text
-abbrev pub row_after : List ℕ → List ℕ → List ℕ → Option HeldCells → Line → Option HeldCells
-row_after placeholder topic key row line = if bytes_eq line.topic topic then row_after_result (act placeholder line) key row else row
+abbrev pub row_after : List ℕ → List ℕ → List ℕ → Option HeldCells → Reading → Option HeldCells
+row_after placeholder topic key row reading = if bytes_eq reading.topic topic then row_after_result (act_of placeholder reading) key row else row
 
 -- The row that the consumer of these records holds at a topic and a key text, if it holds one there.
+abbrev pub consumer_of : List ℕ → List Reading → List ℕ → List ℕ → Option HeldCells
+consumer_of placeholder readings topic key = fold (row_after placeholder topic key) None readings
+
+-- the same of the records' texts
 abbrev pub consumer : List ℕ → List Line → List ℕ → List ℕ → Option HeldCells
-consumer placeholder lines topic key = fold (row_after placeholder topic key) None lines
+consumer placeholder lines = consumer_of placeholder (map reading_of lines)

@@ -40,12 +40,12 @@ unfoldable pub line_of : Record → List ℕ
 line_of item =
     object_text ((codes "headers", object_text (headers_of item)) ∷ (codes "key", text_or_null item.key) ∷ (codes "topic", quoted item.topic) ∷ (codes "value", text_or_null item.value) ∷ [])
 
--- ---- for private clauses: the same in the pieces that are appended
-
 -- the piece, which is UTF-8, stands behind what was there
 pub record Appends (old new piece : List ℕ) : Type 0 where
   pub items : new ≡ old ++ piece
   pub utf8 : IsUtf8 piece
+
+-- ---- for private clauses: the line in the pieces that are appended
 
 abbrev pub key_piece : List ℕ → Option (List ℕ) → List ℕ
 key_piece name None = []

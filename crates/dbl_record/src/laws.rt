@@ -1,7 +1,7 @@
 ghost use Rattle.dbl_record.specs.Whole.{ReadsBack, TextsTellData};
 ghost use Rattle.dbl_record.specs.Laws.{LinesReadBack};
 ghost use Rattle.dbl_record.specs.Places.{TopsAreOne, TopsStand};
-ghost use Rattle.dbl_record.specs.Reading.{ActsReadData, AlikeActAlike, LinesHaveTopics, LinesReadAlike, LinesReadOnce};
+ghost use Rattle.dbl_record.specs.Reading.{LinesReadOnce, LinesTellRecords, RecordsTellData};
 
 /// Data is read back from its compact text.
 pub fn compact_texts_read_back()
@@ -18,14 +18,9 @@ pub fn lines_read_back()
     ensures { LinesReadBack }
 {}
 
-/// A record is read from a line with a topic alone.
-pub fn lines_have_topics()
-    ensures { LinesHaveTopics }
-{}
-
-/// Records that are read from one line are alike.
-pub fn lines_read_alike()
-    ensures { LinesReadAlike }
+/// A record that is read from a line is the one that the line tells.
+pub fn lines_tell_records()
+    ensures { LinesTellRecords }
 {}
 
 /// From a line whose numbers are integers of 64 bits one record is read at most.
@@ -33,14 +28,9 @@ pub fn lines_read_once()
     ensures { LinesReadOnce }
 {}
 
-/// Records that are alike do the same.
-pub fn alike_act_alike()
-    ensures { AlikeActAlike }
-{}
-
-/// What a record does is told by the data of its key and its value.
-pub fn acts_read_data()
-    ensures { ActsReadData }
+/// A record's texts tell the data that they were made of.
+pub fn records_tell_data()
+    ensures { RecordsTellData }
 {}
 
 /// Records have one greatest place at most.

@@ -4,6 +4,7 @@
 mod acts;
 mod error;
 mod laws;
+mod parsed;
 mod reading;
 mod record;
 mod writing;
@@ -11,10 +12,11 @@ mod writing;
 pub use acts::{Act, ConsumeError, GivenCell, HeldCell, Operation};
 pub use error::RecordError;
 pub use laws::{
-    acts_read_data, alike_act_alike, compact_texts_read_back, lines_have_topics, lines_read_alike,
-    lines_read_back, lines_read_once, texts_tell_data, tops_are_one, tops_stand,
+    compact_texts_read_back, lines_read_back, lines_read_once, lines_tell_records,
+    records_tell_data, texts_tell_data, tops_are_one, tops_stand,
 };
-pub use reading::{Line, read_line};
+pub use parsed::ParsedLine;
+pub use reading::{Line, parse_line, read_line};
 pub use record::Record;
 pub use writing::{append_line, append_quoted, line};
 

@@ -1,11 +1,12 @@
-ghost use Rattle.std.specs.Prelude.{◌≡◌, ◌≢◌, ◌≤◌, ◌⊎◌, Option, Some, None, IfOk, IfErr, OnOk, option_map, option_and_then, codes};
+ghost use Rattle.std.specs.Prelude.{◌≡◌, ◌≢◌, ◌≤◌, ◌⊎◌, Some, None, IfOk, IfErr, option_and_then, codes};
 ghost use Rattle.serde_json.specs.Data.{null, depth};
-ghost use Rattle.serde_json.specs.Read.{read};
 ghost use Rattle.serde_json.specs.View.{view};
 ghost use Rattle.dbl_record.specs.declared.error.RecordError.TheVariants.{BadRecord, Memory};
-ghost use Rattle.dbl_record.specs.Reading.{topic_in, line_topic, part_in, Retells, IsReadFrom};
+ghost use Rattle.dbl_record.specs.Acts.{json_in};
+ghost use Rattle.dbl_record.specs.Reading.{topic_in, reading_in, part_in, parsed_as, Retells, IsReadFrom};
 
 use crate::error::RecordError;
+use crate::parsed::ParsedLine;
 use dbl_base::Text;
 use serde_json::Value;
 use std::alloc::{AllocError, Global};
@@ -22,10 +23,11 @@ pub struct Line {
 const BAD_RECORD: RecordError = RecordError::BadRecord { at: 0 };
 
 // A text as JSON.
+#[tactic(auto, unfolding(crate::specs::Acts::json_in))]
 fn value_of(alloc: Global, text: &str) -> Result<Value, RecordError>
-    ensures ok { IfOk result (λ value. read text.now ≡ Some (view value)) }
+    ensures ok { IfOk result (λ value. json_in text.now ≡ Some (view value)) }
     ensures nests { IfOk result (λ value. depth (view value) ≤ 127) }
-    ensures bad { IfErr result (λ error. (error ≡ Memory) ⊎ ((error ≡ BadRecord 0) × (read text.now ≡ None))) }
+    ensures bad { IfErr result (λ error. (error ≡ Memory) ⊎ ((error ≡ BadRecord 0) × (json_in text.now ≡ None))) }
 {
     match Value::from_str(alloc, text) {
         Ok(value) => Ok(value),
@@ -57,6 +59,7 @@ fn part_of<'v>(whole: &'v Value, name: &str, absent: &'v Value) -> &'v Value
     }
 }
 
+#[tactic(auto, unfolding(crate::specs::Acts::json_in))]
 fn text_of(alloc: Global, value: &Value) -> Result<Text, AllocError>
     requires { depth (view value.now) ≤ 127 }
     ensures { IfOk result (Retells (view value.now)) }
@@ -76,11 +79,52 @@ fn line_with(alloc: Global, topic: Text, whole: &Value) -> Result<Line, AllocErr
     Ok(Line { topic, key, value })
 }
 
-/// The topic, the key and the value of a record's line. An absent key or value is `null`, and other members are passed
-/// over. The key and the value are compact texts where every number in them is an integer of 64 bits.
+impl ParsedLine {
+    pub fn topic(&self) -> &Text
+        ensures { result.now ≡ (parsed_as self.now).topic }
+    {
+        &self.topic
+    }
+
+    /// `null` where the line has no key.
+    pub fn key(&self) -> &Value
+        ensures { Some (view result.now) ≡ (parsed_as self.now).key }
+    {
+        part_of(&self.whole, "key", &self.absent)
+    }
+
+    /// `null` where the line has no value.
+    pub fn value(&self) -> &Value
+        ensures { Some (view result.now) ≡ (parsed_as self.now).value }
+    {
+        part_of(&self.whole, "value", &self.absent)
+    }
+}
+
+/// Parses a record's line. Members other than `topic`, `key` and `value` are passed over.
+pub fn parse_line(alloc: Global, text: &str) -> Result<ParsedLine, RecordError>
+    ensures ok { IfOk result (λ parsed. reading_in text.now ≡ Some (parsed_as parsed)) }
+    ensures bad { IfErr result (λ error. error ≢ Memory → (error ≡ BadRecord 0) × (reading_in text.now ≡ None)) }
+{
+    let whole = match value_of(alloc, text) {
+        Ok(whole) => whole,
+        Err(error) => return Err(error),
+    };
+    match topic_of(alloc, &whole)? {
+        Some(topic) => Ok(ParsedLine {
+            topic,
+            whole,
+            absent: Value::Null,
+        }),
+        None => Err(BAD_RECORD),
+    }
+}
+
+/// The topic, the key and the value of a record's line, as texts. The key and the value are compact texts where every
+/// number in them is an integer of 64 bits.
 pub fn read_line(alloc: Global, text: &Text) -> Result<Line, RecordError>
     ensures ok { IfOk result (IsReadFrom text.now) }
-    ensures bad { IfErr result (λ error. error ≢ Memory → (error ≡ BadRecord 0) × (line_topic text.now ≡ None)) }
+    ensures bad { IfErr result (λ error. error ≢ Memory → (error ≡ BadRecord 0) × (reading_in text.now ≡ None)) }
 {
     let whole = match value_of(alloc, text.as_str()) {
         Ok(whole) => whole,

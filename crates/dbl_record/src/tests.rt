@@ -1,5 +1,6 @@
-use super::{Record, RecordError, append_line, line, read_line};
+use super::{Record, RecordError, append_line, line, parse_line, read_line};
 use dbl_base::Text;
+use serde_json::Value;
 use std::alloc::{AllocError, Global};
 use std::test::Fail;
 
@@ -61,6 +62,10 @@ fn a_line_is_read(rt: HostRuntime) -> Result<(), Fail> {
     assert_eq!(rt; read.topic.as_str(), "a\"b");
     assert_eq!(rt; read.key.as_str(), "null");
     assert_eq!(rt; read.value.as_str(), "{\"a\":-5,\"z\":[1,\"é\"]}");
+    let parsed = parse_line(rt.alloc(), text.as_str())?;
+    assert_eq!(rt; parsed.topic().as_str(), "a\"b");
+    assert!(rt; parsed.key().is_null());
+    assert_eq!(rt; parsed.value().get("a").and_then(Value::as_i64), Some(-5));
     assert!(rt; is_bad(rt.alloc(), "{\"topic\":1}")?);
     assert!(rt; is_bad(rt.alloc(), "\"topic\"")?);
     assert!(rt; is_bad(rt.alloc(), "{\"topic\":\"t\"")?);

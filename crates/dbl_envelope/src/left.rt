@@ -14,8 +14,8 @@ use dbl_record::Record;
 use std::alloc::Global;
 use std::marker::Model;
 
-/// So many changes' records are made at a time.
-const CHANGES_AT_ONCE: usize = 64;
+/// So many changes' records are made at a time. They are few, so that the memory of the last ones serves the next.
+const CHANGES_AT_ONCE: usize = 6;
 
 /// The records of a commit that are still to be made. Contracts see their list.
 #[derive(Drop)]
@@ -133,7 +133,7 @@ fn next_place(change: usize, count: usize) -> usize
 }
 
 impl<'a> RecordsLeft<'a> {
-    /// Makes the next records, those of up to 64 changes. There are none only where none is left. After an error the same
+    /// Makes the next records, those of up to 6 changes. There are none only where none is left. After an error the same
     /// records are left.
     pub fn next(&mut self, alloc: Global) -> Result<Vec<Record>, EnvelopeError>
         ensures ok { IfOk result (λ made. self.old ≡ made.items ++ self.new) }

@@ -1,16 +1,15 @@
 //! The records of a commit by the definition, by way of JSON trees. It only serves tests of the definitions.
 
-ghost use Rattle.std.specs.Prelude.{◌≡◌, ◌++◌, ℕ, map, false, codes, IfOk, IfErr, OnOk, OnErr, Option, Some, None, [], ◌∷◌, flat_map};
+ghost use Rattle.std.specs.Prelude.{◌≡◌, ◌++◌, ℕ, map, false, IfOk, IfErr, OnOk, OnErr, Option, Some, None, [], ◌∷◌, flat_map};
 ghost use Rattle.serde_json.specs.View.{view};
 ghost use Rattle.serde_json.specs.Written.{compact_text, has_float};
 ghost use Rattle.dbl_model.specs.Infos.{topic_of};
 ghost use Rattle.dbl_model.specs.Image.{key_text};
-ghost use Rattle.dbl_model.specs.Keys.{key_of};
 ghost use Rattle.dbl_model.specs.Rows.{table_of};
-ghost use Rattle.dbl_model.specs.declared.change.Change.TheVariants.{Update, Delete};
-ghost use Rattle.dbl_model.specs.Events.{Content, change_notices, notices};
-ghost use Rattle.dbl_model.specs.EventJson.{source_data, event_data, envelopes};
-ghost use Rattle.dbl_model.specs.PlainEvents.{plain_texts, value_text, event_texts, notice_texts, placed};
+ghost use Rattle.dbl_model.specs.declared.change.Change.TheVariants.{Insert, Update, Delete, Clear};
+ghost use Rattle.dbl_model.specs.Events.{Content, notices};
+ghost use Rattle.dbl_model.specs.EventJson.{envelopes};
+ghost use Rattle.dbl_model.specs.PlainEvents.{event_of, content_text, plain_texts, event_texts, Tells, notice_texts, placed};
 
 use crate::plain_json::{
     event_value, key_text, old_value, row_value, sent_value, source_value, text_of,
@@ -52,7 +51,7 @@ fn event_text(
 ) -> Result<Text, AllocError>
     requires before { has_float (view before) ≡ false }
     requires after { has_float (view after) ≡ false }
-    ensures { IfOk result (λ text. text ≡ compact_text (event_data (source_data frame.now.identity.now frame.now.info.now.name frame.now.commit.now (codes "false")) frame.now.now_ms.now (view before) op.now (view after))) }
+    ensures { IfOk result (λ text. text ≡ compact_text (event_of frame.now (view before) op.now (view after))) }
 {
     let source = source_value(alloc, frame.identity, frame.info, frame.commit)?;
     let value = event_value(alloc, source, frame.now_ms, before, op, after)?;
@@ -60,7 +59,7 @@ fn event_text(
 }
 
 fn created_text(alloc: Global, frame: &Frame<'_>, row: &Row) -> Result<Text, AllocError>
-    ensures { IfOk result (λ text. value_text frame.now.identity.now frame.now.commit.now frame.now.now_ms.now frame.now.info.now (Content.Created row.now) ≡ Some text) }
+    ensures { IfOk result (λ text. content_text frame.now (Content.Created row.now) ≡ Some text) }
 {
     let after = row_value(alloc, frame.info, &row.cells)?;
     event_text(alloc, frame, Value::Null, "c", after)
@@ -72,7 +71,7 @@ fn updated_text(
     old: &Option<Row>,
     cells: &Seq<Cell>,
 ) -> Result<Text, AllocError>
-    ensures { IfOk result (λ text. value_text frame.now.identity.now frame.now.commit.now frame.now.now_ms.now frame.now.info.now (Content.Updated old.now cells.now) ≡ Some text) }
+    ensures { IfOk result (λ text. content_text frame.now (Content.Updated old.now cells.now) ≡ Some text) }
 {
     let before = old_value(alloc, frame.info, old)?;
     let after = sent_value(alloc, &frame.identity.placeholder, frame.info, cells)?;
@@ -80,7 +79,7 @@ fn updated_text(
 }
 
 fn truncated_text(alloc: Global, frame: &Frame<'_>) -> Result<Text, AllocError>
-    ensures { IfOk result (λ text. value_text frame.now.identity.now frame.now.commit.now frame.now.now_ms.now frame.now.info.now Content.Truncated ≡ Some text) }
+    ensures { IfOk result (λ text. content_text frame.now Content.Truncated ≡ Some text) }
 {
     event_text(alloc, frame, Value::Null, "t", Value::Null)
 }
@@ -101,7 +100,7 @@ fn texts_at(
     key: Option<Text>,
     value: Option<Text>,
 ) -> Result<Texts, AllocError>
-    ensures { IfOk result (λ t. t ≡ plain_texts frame.now.identity.now frame.now.info.now key value) }
+    ensures { IfOk result (λ t. t ≡ plain_texts frame.now key value) }
 {
     Ok(Texts {
         topic: topic_text(alloc, frame)?,
@@ -120,7 +119,7 @@ fn tell(
     key: &Key,
     value: Option<Text>,
 ) -> Result<(), AllocError>
-    ensures { OnOk result (out.new.items ≡ out.old.items ++ plain_texts frame.now.identity.now frame.now.info.now (Some (key_text frame.now.info.now key.now)) value ∷ []) }
+    ensures { OnOk result (out.new.items ≡ out.old.items ++ plain_texts frame.now (Some (key_text frame.now.info.now key.now)) value ∷ []) }
 {
     let key = key_text(alloc, frame.info, key)?;
     out.push(texts_at(alloc, frame, Some(key), value)?)?;
@@ -133,7 +132,7 @@ fn tell_insert(
     frame: &Frame<'_>,
     row: &Row,
 ) -> Result<(), AllocError>
-    ensures { OnOk result (out.new.items ≡ out.old.items ++ event_texts frame.now.identity.now frame.now.commit.now frame.now.now_ms.now frame.now.info.now (Some (key_of frame.now.info.now row.now.cells)) (Content.Created row.now) ∷ []) }
+    ensures { OnOk result (Tells frame.now (Insert 0 row.now) out.old.items out.new.items) }
 {
     let key = key_at(alloc, frame.info.key.items().as_slice(), &row.cells)?;
     let value = created_text(alloc, frame, row)?;
@@ -148,7 +147,7 @@ fn left_texts(
     to: &Key,
     old: &Option<Row>,
 ) -> Result<Texts, AllocError>
-    ensures { IfOk result (λ t. t ≡ record (event_texts frame.now.identity.now frame.now.commit.now frame.now.now_ms.now frame.now.info.now (Some from.now) (Content.Deleted old.now)) { newkey = Some (key_text frame.now.info.now to.now) }) }
+    ensures { IfOk result (λ t. t ≡ record (event_texts frame.now (Some from.now) (Content.Deleted old.now)) { newkey = Some (key_text frame.now.info.now to.now) }) }
 {
     let before = old_value(alloc, frame.info, old)?;
     let value = event_text(alloc, frame, before, "d", Value::Null)?;
@@ -167,7 +166,7 @@ fn moved_texts(
     to: &Key,
     row: &Row,
 ) -> Result<Texts, AllocError>
-    ensures { IfOk result (λ t. t ≡ record (event_texts frame.now.identity.now frame.now.commit.now frame.now.now_ms.now frame.now.info.now (Some to.now) (Content.Created row.now)) { oldkey = Some (key_text frame.now.info.now from.now) }) }
+    ensures { IfOk result (λ t. t ≡ record (event_texts frame.now (Some to.now) (Content.Created row.now)) { oldkey = Some (key_text frame.now.info.now from.now) }) }
 {
     let value = created_text(alloc, frame, row)?;
     let key = key_text(alloc, frame.info, to)?;
@@ -185,10 +184,10 @@ fn tell_update(
     old: &Option<Row>,
     cells: &Seq<Cell>,
 ) -> Result<(), AllocError>
-    ensures { OnOk result (out.new.items ≡ out.old.items ++ map (notice_texts frame.now.identity.now frame.now.commit.now frame.now.now_ms.now) (change_notices 0 frame.now.info.now (Update 0 from.now old.now cells.now))) }
+    ensures { OnOk result (Tells frame.now (Update 0 from.now old.now cells.now) out.old.items out.new.items) }
 {
-    let cells_given = given_or_nulls(alloc, cells)?;
-    let row = Row { cells: cells_given };
+    let given = given_or_nulls(alloc, cells)?;
+    let row = Row { cells: given };
     let to = key_at(alloc, frame.info.key.items().as_slice(), &row.cells)?;
     if is_same(from, &to) {
         let value = updated_text(alloc, frame, old, cells)?;
@@ -207,7 +206,7 @@ fn tell_delete(
     key: &Key,
     old: &Row,
 ) -> Result<(), AllocError>
-    ensures { OnOk result (out.new.items ≡ out.old.items ++ map (notice_texts frame.now.identity.now frame.now.commit.now frame.now.now_ms.now) (change_notices 0 frame.now.info.now (Delete 0 key.now old.now))) }
+    ensures { OnOk result (Tells frame.now (Delete 0 key.now old.now) out.old.items out.new.items) }
 {
     let before = row_value(alloc, frame.info, &old.cells)?;
     let value = event_text(alloc, frame, before, "d", Value::Null)?;
@@ -216,7 +215,7 @@ fn tell_delete(
 }
 
 fn tell_clear(out: &mut Vec<Texts>, alloc: Global, frame: &Frame<'_>) -> Result<(), AllocError>
-    ensures { OnOk result (out.new.items ≡ out.old.items ++ event_texts frame.now.identity.now frame.now.commit.now frame.now.now_ms.now frame.now.info.now None Content.Truncated ∷ []) }
+    ensures { OnOk result (Tells frame.now (Clear 0) out.old.items out.new.items) }
 {
     let value = truncated_text(alloc, frame)?;
     out.push(texts_at(alloc, frame, None, Some(value))?)?;
@@ -230,7 +229,7 @@ fn tell_change(
     frame: &Frame<'_>,
     change: &Change,
 ) -> Result<(), AllocError>
-    ensures { OnOk result (out.new.items ≡ out.old.items ++ map (notice_texts frame.now.identity.now frame.now.commit.now frame.now.now_ms.now) (change_notices (table_of change.now) frame.now.info.now change.now)) }
+    ensures { OnOk result (Tells frame.now change.now out.old.items out.new.items) }
 {
     match change {
         Change::Insert { table: _, row } => tell_insert(out, alloc, frame, row),

@@ -1,7 +1,7 @@
 -- How long the spelling of a message is, kind by kind.
-use Rattle.std.proofs.Common.{◌≡◌, ℕ, ℤ, ◌+◌, ◌*◌, List, [], ◌∷◌, ◌++◌, length, Option, refl, sym, subst, arith}
+use Rattle.std.proofs.Common.{◌≡◌, ℕ, ℤ, ◌+◌, ◌*◌, List, [], ◌∷◌, length, Option, refl, sym, subst, arith}
 use Rattle.std.specs.List.{flat_map}
-use Rattle.std.specs.Int.{w32, w64, cast_unsigned}
+use Rattle.std.specs.Int.{w64, cast_unsigned}
 use Rattle.std.proofs.lemmas.List.{length-append}
 use Rattle.dbl_base.specs.declared.lsn.Lsn.{Lsn}
 use Rattle.dbl_pgmsg.specs.declared.messages.Message.{Message}
@@ -9,7 +9,7 @@ use Rattle.dbl_pgmsg.specs.declared.messages.Message.TheVariants.{Begin, Commit,
 use Rattle.dbl_pgmsg.specs.declared.messages.RelationColumn.{RelationColumn}
 use Rattle.dbl_pgmsg.specs.declared.messages.Tuple.{Tuple}
 use Rattle.dbl_pgmsg.specs.declared.messages.OldTuple.{OldTuple}
-use Rattle.dbl_pgmsg.specs.Grammar.{int16, int32, int64, string, tuple, old_tuple, optional_tuple, column, spelling, FitsFields}
+use Rattle.dbl_pgmsg.specs.Grammar.{int32, string, tuple, old_tuple, optional_tuple, column, spelling, FitsFields}
 use Rattle.dbl_pgmsg.specs.Room.{Leaves}
 use Rattle.dbl_pgmsg.proofs.Sizes.{int16_size, int32_size, int64_size}
 

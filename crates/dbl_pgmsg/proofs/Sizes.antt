@@ -1,17 +1,15 @@
 -- How long the spellings are, and how a loop goes on with what is left of a room.
-use Rattle.std.proofs.Common.{◌≡◌, ℕ, suc, ◌+◌, ◌*◌, ◌<◌, ◌≤◌, List, [], ◌∷◌, ◌++◌, length, get_or, drop, Option, Some, None, refl, sym, ap, subst, ◌∙◌, append_assoc, arith}
+use Rattle.std.proofs.Common.{◌≡◌, ℕ, suc, ◌+◌, ◌<◌, ◌≤◌, List, [], ◌∷◌, ◌++◌, length, get_or, drop, Option, Some, None, refl, sym, ap, subst, ◌∙◌, append_assoc, arith}
 use Rattle.std.specs.Prelude.{◌^◌, FitsSigned}
 use Rattle.std.specs.List.{flat_map, AllByRecursion}
-use Rattle.std.specs.Int.{w16, w32, w64, to_be_bytes, cast_unsigned}
+use Rattle.std.specs.Int.{w32, cast_unsigned}
 use Rattle.std.proofs.lemmas.List.{length-append, length-drop, append-nil, nil_from_length}
 use Rattle.std.proofs.Math.Seq.{drop-cons}
 use Rattle.dbl_pgmsg.specs.declared.messages.RelationColumn.{RelationColumn}
 use Rattle.dbl_pgmsg.specs.declared.messages.Tuple.{Tuple}
-use Rattle.dbl_pgmsg.specs.declared.messages.OldTuple.{OldTuple}
 use Rattle.dbl_pgmsg.specs.declared.messages.OldTuple.TheVariants.{Key, Whole}
-use Rattle.dbl_pgmsg.specs.declared.messages.TupleCell.{TupleCell}
-use Rattle.dbl_pgmsg.specs.declared.messages.TupleCell.TheVariants.{Null, Unchanged, Text}
-use Rattle.dbl_pgmsg.specs.Grammar.{int16, int32, int64, signed32, signed64, string, cell, tuple, old_tuple, column, IsString, FitsColumn}
+use Rattle.dbl_pgmsg.specs.declared.messages.TupleCell.TheVariants.{Text}
+use Rattle.dbl_pgmsg.specs.Grammar.{int16, int32, int64, string, cell, tuple, old_tuple, column, IsString, FitsColumn}
 use Rattle.dbl_pgmsg.specs.Room.{Leaves}
 
 pub int16_size : (n : ℕ) → length (int16 n) ≡ 2

@@ -1,5 +1,5 @@
 -- Sizes: how many bytes of a room are left behind the spelling of something.
-use Rattle.std.specs.Prelude.{◌≡◌, ◌<◌, ◌≤◌, ◌+◌, ◌^◌, ◌++◌, ℕ, List, length, Option, Some, None}
+use Rattle.std.specs.Prelude.{◌≡◌, ◌<◌, ◌+◌, ◌++◌, ℕ, List, Option, Some, None}
 
 -- Something of this size leaves so many bytes, where it fits; and nothing is left where it doesn't fit or is larger than the room.
 abbrev pub Leaves : ℕ → ℕ → Type 0 → Option ℕ → Type 0

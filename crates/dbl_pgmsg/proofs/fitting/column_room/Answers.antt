@@ -1,4 +1,4 @@
-use Rattle.std.proofs.Common.{arith, rules, ◌≤◌, ◌<◌, ◌+◌, ◌≡◌}
+use Rattle.std.proofs.Common.{arith, rules, ◌≤◌}
 use Rattle.std.specs.Prelude.{FitsSigned}
 use Rattle.std.specs.Int.{w32}
 use Rattle.dbl_pgmsg.proofs.Sizes.{column_leaves, column_none}

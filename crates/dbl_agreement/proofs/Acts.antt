@@ -1,5 +1,5 @@
 -- What each kind of event does to a consumer. Above this file no JSON is opened.
-use Rattle.std.proofs.Common.{◌≡◌, ◌∙◌, ◌≤◌, ℕ, ℤ, List, false, Option, Some, None, Ok, map, refl, ap, arith, codes}
+use Rattle.std.proofs.Common.{◌≡◌, ◌∙◌, ◌≤◌, ℕ, ℤ, List, false, Option, Some, None, Ok, map, refl, ap, arith, codes, ap₂}
 use Rattle.std.specs.Prelude.{IfSome, option_map}
 use Rattle.std.specs.List.{AllByRecursion}
 use Rattle.serde_json.specs.Data.{Data, null, depth}
@@ -8,9 +8,8 @@ use Rattle.dbl_record.specs.declared.acts.Act.TheVariants.{Nothing, Set, Remove,
 use Rattle.dbl_record.specs.declared.reading.Line.{Line}
 use Rattle.dbl_record.specs.Line.{text_or_null}
 use Rattle.dbl_record.specs.Whole.{IsWhole}
-use Rattle.dbl_record.specs.Acts.{act, act_of, unwrapped, is_progress, cells_of}
+use Rattle.dbl_record.specs.Acts.{json_in, reading_of, act, act_of, act_of_data, unwrapped, is_progress, cells_of}
 use Rattle.dbl_record.proofs.Back.{read-compact_text}
-use Rattle.dbl_record.proofs.ReadingLemmas.{acts_read_data}
 use Rattle.dbl_model.specs.declared.identity.Identity.{Identity}
 use Rattle.dbl_model.specs.declared.row.Key.{Key}
 use Rattle.dbl_model.specs.declared.row.Row.{Row}
@@ -38,9 +37,10 @@ line_of_event identity commit now info key content = record {
 
 -- what is read is done, in a topic that isn't of progress records
 read_act : (placeholder topic : List ℕ) (k v : Data) → is_progress topic ≡ false → IsWhole k → depth k ≤ 127 → IsWhole v → depth v ≤ 127
-    → act placeholder (record { topic = topic; key = compact_text k; value = compact_text v }) ≡ act_of placeholder (unwrapped k) (unwrapped v)
+    → act placeholder (record { topic = topic; key = compact_text k; value = compact_text v }) ≡ act_of_data placeholder (unwrapped k) (unwrapped v)
+unfolding json_in act_of
 read_act placeholder topic k v other kw kd vw vd =
-    acts_read_data placeholder topic (compact_text k) (compact_text v) k v (read-compact_text k kw kd) (read-compact_text v vw vd) ∙ rw other refl
+    ap₂ (λ key value. act_of placeholder (record { topic = topic; key = key; value = value })) (read-compact_text k kw kd) (read-compact_text v vw vd) ∙ rw other refl
 
 module _ (identity : Identity) (commit : Commit) (now : ℤ) (range : IsCommitInRange commit) (moment : IsMomentInRange now) (info : TableInfo) where
   abbrev source : Data
@@ -48,7 +48,7 @@ module _ (identity : Identity) (commit : Commit) (now : ℤ) (range : IsCommitIn
 
   event_act : (k before after : Data) (op : List ℕ) → IsPart k → IsPart before → IsPart after
       → act identity.placeholder (record { topic = topic_of identity info; key = compact_text k; value = compact_text (event_data source now before op after) })
-      ≡ act_of identity.placeholder (unwrapped k) (event_data source now before op after)
+      ≡ act_of_data identity.placeholder (unwrapped k) (event_data source now before op after)
   unfolding event_data
   event_act k before after op kp bp ap =
       let value = event_data source now before op after in

@@ -5,8 +5,9 @@ use Rattle.std.specs.List.{AllByRecursion}
 use Rattle.std.proofs.lemmas.List.{map-append}
 use Rattle.dbl_value.specs.declared.value.Val.{Val}
 use Rattle.dbl_record.specs.declared.reading.Line.{Line}
+use Rattle.dbl_record.specs.Acts.{reading_of}
 use Rattle.dbl_record.specs.Reading.{as_line}
-use Rattle.dbl_record.specs.Consumers.{HeldCells, row_after as held_after}
+use Rattle.dbl_record.specs.Consumers.{HeldCells, consumer, row_after as reading_after}
 use Rattle.dbl_model.specs.declared.identity.Identity.{Identity}
 use Rattle.dbl_model.specs.declared.row.Key.{Key}
 use Rattle.dbl_model.specs.declared.table.TableInfo.{TableInfo}
@@ -27,7 +28,7 @@ use Rattle.dbl_model.specs.Laws.{AreDistinctTables}
 use Rattle.dbl_model.proofs.RowKeys.{AreKeyed, keyed_after, keyed_from, keyed-none}
 use Rattle.dbl_model.proofs.RangeLemmas.{typed_in_range}
 use Rattle.dbl_agreement.specs.Laws.{LacksPlaceholder, Holds, lines_of, held_of, last_rows, IsToldWhole}
-use Rattle.dbl_agreement.proofs.Steps.{line_of_notice, step}
+use Rattle.dbl_agreement.proofs.Steps.{held_after, line_of_notice, step}
 
 -- ---- lists that are put together
 
@@ -121,6 +122,14 @@ take_all (x ∷ xs) = ap (λ l. x ∷ l) (take_all xs)
 columns_at : (infos : List TableInfo) (table : ℕ) (info : TableInfo) → slice_get infos table ≡ Some info → columns_of infos table ≡ info.columns
 columns_at infos table info at = ap (λ (o : Option TableInfo). unwrap_or (option_map (λ (i : TableInfo). i.columns) o) []) at
 
+fold_map : {A B C : Type 0} (f : C → B → C) (g : A → B) (c : C) (xs : List A) → fold f c (map g xs) ≡ fold (λ b x. f b (g x)) c xs
+fold_map f g c [] = refl
+fold_map f g c (x ∷ xs) = fold_map f g (f c (g x)) xs
+
+-- a consumer goes from line to line
+pub by_lines : (placeholder topic text : List ℕ) (lines : List Line) → consumer placeholder lines topic text ≡ fold (held_after placeholder topic text) None lines
+by_lines placeholder topic text lines = fold_map (reading_after placeholder topic text) reading_of None lines
+
 pub named_holds : (history : History) (infos : List TableInfo) (identity : Identity) (now : Commit → ℤ) → IsToldWhole history infos identity now → (topic text : List ℕ) (table : ℕ) (key : Key) → Names identity infos topic text table key
     → Holds (held_of identity infos now history topic text) (image_row infos (last_rows infos (typed infos history)) table key)
 named_holds history infos identity now told topic text table key names =
@@ -130,7 +139,8 @@ named_holds history infos identity now told topic text table key names =
     let all = commits_hold identity infos now told.moments table info names.captured told.captured.distinct key names.is_key commits no_rows None
     (typed_in_range infos history told.fit.ranges) (keyed-none infos) (told.fit.fit infos told.captured) told.lacks tt in
     let rows_are : last_rows infos commits ≡ rows_from infos no_rows (all_changes commits) = ap (rows_from infos no_rows) (take_all (all_changes commits)) in
-    subst (λ t. Holds (fold (held_after identity.placeholder t text) None lines) (image_row infos (last_rows infos commits) table key)) names.topic_is
+    subst (λ h. Holds h (image_row infos (last_rows infos commits) table key)) (sym (by_lines identity.placeholder topic text lines))
+    (subst (λ t. Holds (fold (held_after identity.placeholder t text) None lines) (image_row infos (last_rows infos commits) table key)) names.topic_is
     (subst (λ t. Holds (fold (held_after identity.placeholder (topic_of identity info) t) None lines) (image_row infos (last_rows infos commits) table key)) names.text_is
     (subst (λ (r : Rows). Holds (fold (held_after identity.placeholder (topic_of identity info) (key_text info key)) None lines) (image_row infos r table key)) (sym rows_are)
-    (subst (λ columns. Holds (fold (held_after identity.placeholder (topic_of identity info) (key_text info key)) None lines) (option_map (texts_of columns) (rows_from infos no_rows (all_changes commits) table key))) (sym (columns_at infos table info names.captured)) all)))
+    (subst (λ columns. Holds (fold (held_after identity.placeholder (topic_of identity info) (key_text info key)) None lines) (option_map (texts_of columns) (rows_from infos no_rows (all_changes commits) table key))) (sym (columns_at infos table info names.captured)) all))))

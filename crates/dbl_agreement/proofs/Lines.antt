@@ -11,6 +11,7 @@ use Rattle.dbl_record.specs.declared.record.Record.{Record}
 use Rattle.dbl_record.specs.Line.{text_or_null, line_of}
 use Rattle.dbl_record.specs.Whole.{IsWhole}
 use Rattle.dbl_record.specs.Laws.{IsTextOf, IsDataText, HoldsData, ReadsAs}
+use Rattle.dbl_record.specs.Acts.{json_in}
 use Rattle.dbl_record.specs.Reading.{part_in, Retells, IsReadFrom, as_line}
 use Rattle.dbl_record.proofs.Back.{read-compact_text}
 use Rattle.dbl_record.proofs.Lines.{lines_read_back}
@@ -108,6 +109,7 @@ module _ (identity : Identity) (commit : Commit) (now : ℤ) (range : IsCommitIn
 -- ---- records that hold data are read back
 
 retold : (deep : ℕ) (text : List ℕ) (d whole : Data) (name : List ℕ) → deep ≤ 127 → IsTextOf deep text d → get name whole ≡ Some d → Retells (part_in name whole) text
+unfolding json_in
 retold deep text d whole name low is found =
     let part : part_in name whole ≡ d = ap (λ o. unwrap_or o null) found in
     record {
@@ -119,6 +121,7 @@ plain_part : (deep : ℕ) (text : List ℕ) (d whole : Data) (name : List ℕ) �
 plain_part deep text d whole name is found = ap (λ o. has_float (unwrap_or o null)) found ∙ whole_plain d is.whole
 
 pub read_back : (item : Record) (key value : Data) → HoldsData item key value → IsReadBack item
+unfolding json_in
 read_back item key value h =
     let back : ReadsAs (line_of item) item.topic key value = lines_read_back item key value h in
     let reads : IsReadFrom (line_of item) (as_line item) = record {

@@ -4,37 +4,39 @@ use Rattle.std.specs.Prelude.{option_map, unwrap_or, slice_get}
 use Rattle.std.specs.List.{AllByRecursion}
 use Rattle.std.specs.Str.{bytes_eq}
 use Rattle.std.proofs.lemmas.List.{map-append}
+use Rattle.dbl_value.specs.declared.value.Val.{Val}
 use Rattle.dbl_record.specs.declared.acts.Act.{Act}
 use Rattle.dbl_record.specs.declared.acts.Act.TheVariants.{Nothing, Set, Remove, Wipe}
 use Rattle.dbl_record.specs.declared.acts.GivenCell.{GivenCell}
 use Rattle.dbl_record.specs.declared.reading.Line.{Line}
 use Rattle.dbl_record.specs.Acts.{act}
-use Rattle.dbl_record.specs.Consumers.{HeldCells, row_of, row_after_act, row_after_result, row_after as held_after}
+use Rattle.dbl_record.specs.Consumers.{HeldCells, row_of, row_after_act, row_after_result}
 use Rattle.dbl_model.specs.declared.identity.Identity.{Identity}
 use Rattle.dbl_model.specs.declared.row.Key.{Key}
 use Rattle.dbl_model.specs.declared.row.Row.{Row}
+use Rattle.dbl_model.specs.declared.table.Column.{Column}
 use Rattle.dbl_model.specs.declared.table.TableInfo.{TableInfo}
 use Rattle.dbl_model.specs.declared.change.Cell.{Cell}
 use Rattle.dbl_model.specs.declared.change.Change.{Change}
 use Rattle.dbl_model.specs.declared.change.Change.TheVariants.{Insert, Update, Delete, Clear}
 use Rattle.dbl_model.specs.declared.change.Commit.{Commit}
-use Rattle.dbl_model.specs.Infos.{topic_of}
+use Rattle.dbl_model.specs.Infos.{columns_of, topic_of}
 use Rattle.dbl_model.specs.Keys.{key_of, new_key_of, given_or_null, same_key}
 use Rattle.dbl_model.specs.Rows.{Rows, no_rows, rows_after, rows_from, table_of, changes_of, all_changes}
 use Rattle.dbl_model.specs.Typed.{typed}
 use Rattle.dbl_model.specs.Ranges.{IsChangeInRange, IsCommitInRange, IsMomentInRange}
 use Rattle.dbl_model.specs.Fit.{IsKeyOf, IsFitInsert, IsFitUpdate, IsFitDelete, IsFit, AreFit}
-use Rattle.dbl_model.specs.Image.{key_text, Names}
+use Rattle.dbl_model.specs.Image.{key_text, texts_of, image_row, Names, IsImage}
 use Rattle.dbl_model.specs.Events.{Created, Updated, Deleted, Tombstone, Truncated, Notice, move_notices, change_notices, notices}
 use Rattle.dbl_model.proofs.Lists.{same_text}
 use Rattle.dbl_model.proofs.RowKeys.{some_and, is_some_value}
 use Rattle.dbl_model.proofs.RangeLemmas.{typed_in_range}
-use Rattle.dbl_agreement.specs.Laws.{Holds, lines_of, held_of, ConsumersHoldImages, ConsumersHoldNoOtherRows}
+use Rattle.dbl_agreement.specs.Laws.{Holds, last_rows, lines_of, held_of, ConsumersHoldImages, ImagesStand, ConsumersHoldNoOtherRows}
 use Rattle.dbl_agreement.proofs.Wholes.{AllFit, all_fit_in_range}
 use Rattle.dbl_agreement.proofs.Notices.{key_fits, cells_in_range, given_fit, old_fits}
 use Rattle.dbl_agreement.proofs.Acts.{line_of_event, act_created, act_updated, act_deleted, act_tombstone, act_truncated}
-use Rattle.dbl_agreement.proofs.Steps.{line_of_notice}
-use Rattle.dbl_agreement.proofs.Consumers.{fold_append, first_lines, changes_in_range, fit_left, fit_right, named_holds}
+use Rattle.dbl_agreement.proofs.Steps.{held_after, line_of_notice}
+use Rattle.dbl_agreement.proofs.Consumers.{by_lines, fold_append, first_lines, changes_in_range, fit_left, fit_right, named_holds}
 
 module _ (identity : Identity) (infos : List TableInfo) (topic text : List ℕ) where
   abbrev Found : Type 0
@@ -159,7 +161,7 @@ module _ (identity : Identity) (infos : List TableInfo) (topic text : List ℕ) 
 
 pub no_other_rows : ConsumersHoldNoOtherRows
 no_other_rows history infos identity now told topic text cells is =
-    commits_named identity infos topic text now told.moments (typed infos history) no_rows None (typed_in_range infos history told.fit.ranges) (told.fit.fit infos told.captured) (none_named identity infos topic text) cells is
+    commits_named identity infos topic text now told.moments (typed infos history) no_rows None (typed_in_range infos history told.fit.ranges) (told.fit.fit infos told.captured) (none_named identity infos topic text) cells (sym (by_lines identity.placeholder topic text (lines_of identity infos now (typed infos history))) ∙ is)
 
 pub hold_images : ConsumersHoldImages
 hold_images history infos identity now told topic text (Some texts) image =
@@ -172,3 +174,23 @@ hold_images history infos identity now told topic text None image = by (held_of 
         let found = no_other_rows history infos identity now told topic text cells is in
         let row = image found.0 found.1 found.2 in
         subst (λ r. Holds r None) is (subst (Holds (held_of identity infos now history topic text)) (ap (option_map _) row) (named_holds history infos identity now told topic text found.0 found.1 found.2))
+
+-- where nothing is held there is no row, and where a row is held there is one
+gone : (columns : List Column) (row : Option (List Val)) → Holds None (option_map (texts_of columns) row) → row ≡ None
+gone columns None h = refl
+gone columns (Some values) h = elim h [ ]
+
+there : (columns : List Column) (cells : HeldCells) (row : Option (List Val)) → Holds (Some cells) (option_map (texts_of columns) row) → (values : List Val) × (row ≡ Some values)
+there columns cells None h = elim h [ ]
+there columns cells (Some values) h = (values, refl)
+
+pub images_stand : ImagesStand
+images_stand history infos identity now told topic text = by (held_of identity infos now history topic text) refl
+  where
+    by : (held : Option HeldCells) → held_of identity infos now history topic text ≡ held
+        → (image : Option (List ℕ → Option (List ℕ))) × IsImage identity infos (last_rows infos (typed infos history)) topic text image
+    by None is = (None, λ table key names. gone (columns_of infos table) (last_rows infos (typed infos history) table key) (subst (λ h. Holds h (image_row infos (last_rows infos (typed infos history)) table key)) is (named_holds history infos identity now told topic text table key names)))
+    by (Some cells) is =
+        let found = no_other_rows history infos identity now told topic text cells is in
+        let row = there (columns_of infos found.0) cells (last_rows infos (typed infos history) found.0 found.1) (subst (λ h. Holds h (image_row infos (last_rows infos (typed infos history)) found.0 found.1)) is (named_holds history infos identity now told topic text found.0 found.1 found.2)) in
+        (Some (texts_of (columns_of infos found.0) row.0), record { table = found.0; key = found.1; names = found.2; row = ap (option_map (texts_of (columns_of infos found.0))) row.1 })

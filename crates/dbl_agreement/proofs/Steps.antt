@@ -6,8 +6,8 @@ use Rattle.std.specs.Str.{bytes_eq}
 use Rattle.std.proofs.lemmas.Bool.Decides.{Decides-eqb}
 use Rattle.dbl_value.specs.declared.value.Val.{Val}
 use Rattle.dbl_record.specs.declared.reading.Line.{Line}
-use Rattle.dbl_record.specs.Acts.{cells_of}
-use Rattle.dbl_record.specs.Consumers.{HeldCells, row_of, row_after as held_after}
+use Rattle.dbl_record.specs.Acts.{reading_of, cells_of}
+use Rattle.dbl_record.specs.Consumers.{HeldCells, row_of, row_after as reading_after}
 use Rattle.dbl_model.specs.declared.identity.Identity.{Identity}
 use Rattle.dbl_model.specs.declared.row.Key.{Key}
 use Rattle.dbl_model.specs.declared.row.Row.{Row}
@@ -40,6 +40,10 @@ use Rattle.dbl_agreement.proofs.Notices.{CellFits, key_fits, cells_in_range, giv
 use Rattle.dbl_agreement.proofs.Lines.{sent_fit}
 use Rattle.dbl_agreement.proofs.Acts.{line_of_event, act_created, act_updated, act_deleted, act_tombstone, act_truncated}
 use Rattle.dbl_agreement.proofs.Held.{whole_set, part_set}
+
+-- what is held at a topic and a key's text after a record's line
+abbrev pub held_after : List ℕ → List ℕ → List ℕ → Option HeldCells → Line → Option HeldCells
+held_after placeholder topic text held line = reading_after placeholder topic text held (reading_of line)
 
 abbrev pub line_of_notice : Identity → Commit → ℤ → Notice → Line
 line_of_notice identity commit now n = line_of_event identity commit now n.info n.key n.content

@@ -85,6 +85,11 @@ ConsumersHoldImages = (history : History) (infos : List TableInfo) (identity : I
     → (topic text : List ℕ) (image : Option (List ℕ → Option (List ℕ))) → IsImage identity infos (last_rows infos (typed infos history)) topic text image
     → Holds (held_of identity infos now history topic text) image
 
+-- there is an image at each topic and key text: so at each the consumer holds the one thing that the image has there
+abbrev pub ImagesStand : Type 0
+ImagesStand = (history : History) (infos : List TableInfo) (identity : Identity) (now : Commit → ℤ) → IsToldWhole history infos identity now
+    → (topic text : List ℕ) → (image : Option (List ℕ → Option (List ℕ))) × IsImage identity infos (last_rows infos (typed infos history)) topic text image
+
 -- each row that it holds is at the topic and the key's text of a captured table and a key
 abbrev pub ConsumersHoldNoOtherRows : Type 0
 ConsumersHoldNoOtherRows = (history : History) (infos : List TableInfo) (identity : Identity) (now : Commit → ℤ) → IsToldWhole history infos identity now

@@ -3,7 +3,7 @@ ghost use Rattle.dbl_value.specs.Values.{type_of};
 
 use crate::*;
 use dbl_base::{Lsn, Seq, Text};
-use dbl_record::line;
+use dbl_record::{Record, RecordError, line};
 use dbl_value::{PgType, Val};
 use std::alloc::{AllocError, Global};
 use std::cmp::Ordering;
@@ -318,156 +318,80 @@ fn rows_follow_the_changes(rt: HostRuntime) -> Result<(), Fail> {
     )
 }
 
-/// The line of a record of a commit at LSN 256, at 2000-01-01 UTC, of the transaction 7: its table, its headers before the
-/// position, its key, and its value's `after`, `before` and `op`. Without an `op` it is a tombstone.
-fn line_of(
-    alloc: Global,
-    want: &(&str, &str, &str, &str, &str, &str),
-) -> Result<String, AllocError> {
-    let (table, headers, key, after, before, op) = *want;
-    let mut line = String::new(alloc);
-    for piece in [
-        r#"{"headers":{"#,
-        headers,
-        r#","dblog.position":256},"key":"#,
-        key,
-        r#","topic":"demo.public."#,
-        table,
-        r#"","value":"#,
-    ] {
-        line.push_str(piece)?;
+// The records of commits at LSN 256, at 2000-01-01 UTC, of the transaction 7, as lines: written out by the format of events.
+
+/// A row that is inserted.
+const INSERTED: &str =
+    r#"{"headers":{"dblog.last":true,"dblog.ordinal":0,"dblog.position":256},"key":{"id":1},"topic":"demo.public.users","value":{"after":{"id":1,"name":"Ann"},"before":null,"op":"c","source":{"connector":"postgresql","db":"shop","lsn":256,"name":"demo","schema":"public","snapshot":"false","table":"users","ts_ms":946684800000,"txId":7,"version":"1.0","xmin":null},"transaction":null,"ts_ms":5}}
+"#;
+
+/// An update that leaves the name unsent, with no old row.
+const UNSENT: &str =
+    r#"{"headers":{"dblog.last":true,"dblog.ordinal":0,"dblog.position":256},"key":{"id":1},"topic":"demo.public.users","value":{"after":{"id":1,"name":"__debezium_unavailable_value"},"before":null,"op":"u","source":{"connector":"postgresql","db":"shop","lsn":256,"name":"demo","schema":"public","snapshot":"false","table":"users","ts_ms":946684800000,"txId":7,"version":"1.0","xmin":null},"transaction":null,"ts_ms":5}}
+"#;
+
+/// An update with its whole old row.
+const WHOLE: &str =
+    r#"{"headers":{"dblog.last":true,"dblog.ordinal":0,"dblog.position":256},"key":{"id":1},"topic":"demo.public.users","value":{"after":{"id":1,"name":"Ann"},"before":{"id":1,"name":"Ann"},"op":"u","source":{"connector":"postgresql","db":"shop","lsn":256,"name":"demo","schema":"public","snapshot":"false","table":"users","ts_ms":946684800000,"txId":7,"version":"1.0","xmin":null},"transaction":null,"ts_ms":5}}
+"#;
+
+/// A row that is deleted, and its tombstone.
+const DELETED: &str =
+    r#"{"headers":{"dblog.last":false,"dblog.ordinal":0,"dblog.position":256},"key":{"id":1},"topic":"demo.public.users","value":{"after":null,"before":{"id":1,"name":"Ann"},"op":"d","source":{"connector":"postgresql","db":"shop","lsn":256,"name":"demo","schema":"public","snapshot":"false","table":"users","ts_ms":946684800000,"txId":7,"version":"1.0","xmin":null},"transaction":null,"ts_ms":5}}
+{"headers":{"dblog.last":true,"dblog.ordinal":1,"dblog.position":256},"key":{"id":1},"topic":"demo.public.users","value":null}
+"#;
+
+/// Two tables truncated.
+const TRUNCATED: &str =
+    r#"{"headers":{"dblog.last":false,"dblog.ordinal":0,"dblog.position":256},"key":null,"topic":"demo.public.users","value":{"after":null,"before":null,"op":"t","source":{"connector":"postgresql","db":"shop","lsn":256,"name":"demo","schema":"public","snapshot":"false","table":"users","ts_ms":946684800000,"txId":7,"version":"1.0","xmin":null},"transaction":null,"ts_ms":5}}
+{"headers":{"dblog.last":true,"dblog.ordinal":1,"dblog.position":256},"key":null,"topic":"demo.public.docs","value":{"after":null,"before":null,"op":"t","source":{"connector":"postgresql","db":"shop","lsn":256,"name":"demo","schema":"public","snapshot":"false","table":"docs","ts_ms":946684800000,"txId":7,"version":"1.0","xmin":null},"transaction":null,"ts_ms":5}}
+"#;
+
+/// A row whose key moves from 1 to 2; the name of the old row wasn't sent.
+const MOVED: &str =
+    r#"{"headers":{"__debezium.newkey":{"id":2},"dblog.last":false,"dblog.ordinal":0,"dblog.position":256},"key":{"id":1},"topic":"demo.public.users","value":{"after":null,"before":{"id":1,"name":null},"op":"d","source":{"connector":"postgresql","db":"shop","lsn":256,"name":"demo","schema":"public","snapshot":"false","table":"users","ts_ms":946684800000,"txId":7,"version":"1.0","xmin":null},"transaction":null,"ts_ms":5}}
+{"headers":{"dblog.last":false,"dblog.ordinal":1,"dblog.position":256},"key":{"id":1},"topic":"demo.public.users","value":null}
+{"headers":{"__debezium.oldkey":{"id":1},"dblog.last":true,"dblog.ordinal":2,"dblog.position":256},"key":{"id":2},"topic":"demo.public.users","value":{"after":{"id":2,"name":"Ann"},"before":null,"op":"c","source":{"connector":"postgresql","db":"shop","lsn":256,"name":"demo","schema":"public","snapshot":"false","table":"users","ts_ms":946684800000,"txId":7,"version":"1.0","xmin":null},"transaction":null,"ts_ms":5}}
+"#;
+
+fn lines(alloc: Global, records: &Vec<Record>) -> Result<String, RecordError> {
+    let mut lines = String::new(alloc);
+    for record in records {
+        lines.push_str(line(alloc, record)?.as_str())?;
+        lines.push_str("\n")?;
     }
-    if op.is_empty() {
-        line.push_str("null}")?;
-        return Ok(line);
-    }
-    for piece in [
-        r#"{"after":"#,
-        after,
-        r#","before":"#,
-        before,
-        r#","op":""#,
-        op,
-        r#"","source":{"connector":"postgresql","db":"shop","lsn":256,"name":"demo","schema":"public","snapshot":"false","table":""#,
-        table,
-        r#"","ts_ms":946684800000,"txId":7,"version":"1.0","xmin":null},"transaction":null,"ts_ms":5}}"#,
-    ] {
-        line.push_str(piece)?;
-    }
-    Ok(line)
+    Ok(lines)
 }
 
-/// The steps' commit has these records.
+/// The steps' commit has the records of these lines.
 fn tells(
     rt: &impl Abort,
     alloc: Global,
     steps: &[(char, u32, &str, &str)],
-    wanted: &[(&str, &str, &str, &str, &str, &str)],
+    wanted: &str,
 ) -> Result<(), Fail> {
     let commit = commit(alloc, 256, steps)?;
     let records = plain_envelopes(alloc, &demo(alloc)?, &tables(alloc)?, &commit, 5)?;
-    assert_eq!(rt; records.len(), wanted.len());
-    for (record, want) in records.iter().zip(wanted.iter()) {
-        assert_eq!(rt;
-            line(alloc, record)?.as_str(),
-            line_of(alloc, want)?.as_str()
-        );
-    }
+    assert_eq!(rt; lines(alloc, &records)?.as_str(), wanted);
     Ok(())
 }
-
-const ONE: &str = r#"{"id":1}"#;
-
-const ANN: &str = r#"{"id":1,"name":"Ann"}"#;
-
-const ALONE: &str = r#""dblog.last":true,"dblog.ordinal":0"#;
-
-const FIRST: &str = r#""dblog.last":false,"dblog.ordinal":0"#;
-
-const SECOND: &str = r#""dblog.last":true,"dblog.ordinal":1"#;
 
 #[test]
 fn changes_have_their_records(rt: HostRuntime) -> Result<(), Fail> {
     let alloc = rt.alloc();
-    tells(
-        &rt,
-        alloc,
-        &[('i', 0, "", "1 Ann")],
-        &[("users", ALONE, ONE, ANN, "null", "c")],
-    )?;
-    let unsent = r#"{"id":1,"name":"__debezium_unavailable_value"}"#;
-    tells(
-        &rt,
-        alloc,
-        &[('u', 0, "1", "1 -")],
-        &[("users", ALONE, ONE, unsent, "null", "u")],
-    )?;
-    tells(
-        &rt,
-        alloc,
-        &[('o', 0, "1 Ann", "1 Ann")],
-        &[("users", ALONE, ONE, ANN, ANN, "u")],
-    )?;
-    tells(
-        &rt,
-        alloc,
-        &[('d', 0, "1", "1 Ann")],
-        &[
-            ("users", FIRST, ONE, "null", ANN, "d"),
-            ("users", SECOND, ONE, "", "", ""),
-        ],
-    )?;
-    tells(
-        &rt,
-        alloc,
-        &[('t', 0, "", ""), ('t', 1, "", "")],
-        &[
-            ("users", FIRST, "null", "null", "null", "t"),
-            ("docs", SECOND, "null", "null", "null", "t"),
-        ],
-    )
-}
-
-#[test]
-fn a_moved_key_has_three_records(rt: HostRuntime) -> Result<(), Fail> {
-    tells(
-        &rt,
-        rt.alloc(),
-        &[('o', 0, "1 ~", "2 Ann")],
-        &[
-            (
-                "users",
-                r#""__debezium.newkey":{"id":2},"dblog.last":false,"dblog.ordinal":0"#,
-                ONE,
-                "null",
-                r#"{"id":1,"name":null}"#,
-                "d",
-            ),
-            (
-                "users",
-                r#""dblog.last":false,"dblog.ordinal":1"#,
-                ONE,
-                "",
-                "",
-                "",
-            ),
-            (
-                "users",
-                r#""__debezium.oldkey":{"id":1},"dblog.last":true,"dblog.ordinal":2"#,
-                r#"{"id":2}"#,
-                r#"{"id":2,"name":"Ann"}"#,
-                "null",
-                "c",
-            ),
-        ],
-    )
+    tells(&rt, alloc, &[('i', 0, "", "1 Ann")], INSERTED)?;
+    tells(&rt, alloc, &[('u', 0, "1", "1 -")], UNSENT)?;
+    tells(&rt, alloc, &[('o', 0, "1 Ann", "1 Ann")], WHOLE)?;
+    tells(&rt, alloc, &[('d', 0, "1", "1 Ann")], DELETED)?;
+    tells(&rt, alloc, &[('t', 0, "", ""), ('t', 1, "", "")], TRUNCATED)?;
+    tells(&rt, alloc, &[('o', 0, "1 ~", "2 Ann")], MOVED)
 }
 
 #[test]
 fn some_commits_have_no_record(rt: HostRuntime) -> Result<(), Fail> {
     let alloc = rt.alloc();
-    tells(&rt, alloc, &[], &[])?;
-    tells(&rt, alloc, &[('i', 2, "", "1 Ann")], &[])?;
+    tells(&rt, alloc, &[], "")?;
+    tells(&rt, alloc, &[('i', 2, "", "1 Ann")], "")?;
     let mark = Commit {
         body: Body::Mark(Text::of(alloc, "1-1-L")?),
         ..commit(alloc, 256, &[])?

@@ -1,13 +1,12 @@
 -- What stands at a topic and a key text after a change.
-use Rattle.std.proofs.Common.{◌≡◌, ◌∙◌, ℕ, List, [], Bool, true, false, Option, Some, None, option_map, option_and_then, cond, bytes_eq, refl, sym, ap}
+use Rattle.std.proofs.Common.{◌≡◌, ◌∙◌, ℕ, List, [], Bool, true, false, Option, Some, None, option_map, option_and_then, cond, bytes_eq, refl, ap}
 use Rattle.std.proofs.lemmas.Map.Text.{is_eq-slice_cmp}
 use Rattle.std.proofs.lemmas.Slice.Eq.{bytes_eq-Decides}
 use Rattle.std.specs.Map.{lookup}
-use Rattle.std.specs.BTreeMap.{BTreeMap, get, is_at, Updates}
+use Rattle.std.specs.BTreeMap.{get, is_at, Updates}
 use Rattle.dbl_base.specs.Texts.{text_cmp}
 use Rattle.dbl_record.specs.declared.acts.GivenCell.{GivenCell}
-use Rattle.dbl_record.specs.declared.acts.Act.{Act}
-use Rattle.dbl_record.specs.declared.acts.Act.TheVariants.{Set, Remove}
+use Rattle.dbl_record.specs.declared.acts.Act.TheVariants.{Set}
 use Rattle.dbl_record.specs.Consumers.{HeldCells, row_of, row_after_act}
 use Rattle.dbl_consume.specs.Rows.{Row, Table, Tables, row_in, row_at}
 

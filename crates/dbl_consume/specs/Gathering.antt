@@ -1,5 +1,5 @@
 -- For private clauses: lines that are gathered before they are written.
-use Rattle.std.specs.Prelude.{◌≡◌, ℕ, List, [], ◌∷◌, ◌++◌, Bool, true, false, if◌then◌else◌, Option, Result, MatchResult, map, codes}
+use Rattle.std.specs.Prelude.{◌≡◌, ℕ, List, [], ◌∷◌, ◌++◌, Bool, true, if◌then◌else◌, Option, Result, MatchResult, codes}
 use Rattle.json.specs.Print.{quoted}
 use Rattle.std.specs.BTreeMap.{IsOrdered}
 use Rattle.dbl_base.specs.Texts.{text_cmp}
@@ -7,7 +7,7 @@ use Rattle.dbl_record.specs.declared.acts.HeldCell.{HeldCell}
 use Rattle.dbl_record.specs.Consumers.{HeldCells}
 use Rattle.dbl_consume.specs.declared.error.PrintError.{PrintError}
 use Rattle.dbl_consume.specs.Rows.{Row, Table}
-use Rattle.dbl_consume.specs.Printing.{HeldRow, cell_text, row_line, text_of, Wrote, PrintFails}
+use Rattle.dbl_consume.specs.Printing.{HeldRow, cell_text, text_of, Wrote, PrintFails}
 
 -- a cell, with a comma before it where it isn't the first
 abbrev pub one_cell : Bool → List ℕ → HeldCell → List ℕ

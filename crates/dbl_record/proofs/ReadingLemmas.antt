@@ -9,8 +9,8 @@ use Rattle.serde_json.specs.Written.{has_float}
 use Rattle.dbl_record.specs.declared.reading.Line.{Line}
 use Rattle.dbl_record.specs.Line.{text_or_null}
 use Rattle.dbl_record.specs.Laws.{IsTextOf}
-use Rattle.dbl_record.specs.Acts.{Reading, json_in}
-use Rattle.dbl_record.specs.Reading.{topic_in, part_in, told_by, Retells, IsReadFrom, LinesTellRecords, LinesReadOnce, RecordsTellData}
+use Rattle.dbl_record.specs.Acts.{json_in}
+use Rattle.dbl_record.specs.Reading.{topic_in, part_in, told_by, Retells, LinesTellRecords, LinesReadOnce, RecordsTellData}
 use Rattle.dbl_record.proofs.Back.{read-compact_text}
 
 abbrev depth_or : Option Data → ℕ

@@ -1,5 +1,5 @@
 -- Where a record stands in the log, and which records are fresh. Source: own.
-use Rattle.std.specs.Prelude.{◌≡◌, ◌⊎◌, ◌↔◌, ℕ, ◌<◌, List, [], ◌∷◌, Option, Some, None, All, Contains, map, take, slice_get}
+use Rattle.std.specs.Prelude.{◌≡◌, ◌⊎◌, ℕ, ◌<◌, List, ◌∷◌, Some, All, Contains, map, take, slice_get}
 use Rattle.dbl_record.specs.declared.record.Record.{Record}
 
 -- a position and an ordinal

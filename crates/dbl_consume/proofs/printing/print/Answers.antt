@@ -1,7 +1,7 @@
-use Rattle.std.proofs.Common.{◌≡◌, ◌∙◌, ◌++◌, [], Ok, Err, map, sym, subst, arith}
+use Rattle.std.proofs.Common.{◌≡◌, [], map, arith}
 use Rattle.std.proofs.lemmas.Grind.{common_steps}
-use Rattle.dbl_consume.specs.Printing.{row_line, PrintFails}
-use Rattle.dbl_consume.specs.Gathering.{all_rows, IsGathered}
+use Rattle.dbl_consume.specs.Printing.{row_line}
+use Rattle.dbl_consume.specs.Gathering.{all_rows}
 use Rattle.dbl_consume.proofs.PrintingLemmas.{none_gathered, nothing_left, flush_ends}
 use Rattle.dbl_consume.proofs.printing.print.Goals as goal
 

@@ -1,4 +1,4 @@
-use Rattle.std.proofs.Common.{◌≡◌, ◌≤◌, ◌++◌, ℕ, List, Option, map}
+use Rattle.std.proofs.Common.{◌≤◌, ◌++◌, ℕ, List, Option, map}
 use Rattle.dbl_consume.specs.Printing.{row_line}
 use Rattle.dbl_consume.specs.Gathering.{rows_in, IsGathered}
 use Rattle.dbl_consume.proofs.printing.put_table.Given as goal

@@ -1,9 +1,8 @@
-use Rattle.std.proofs.Common.{◌≡◌, ◌∙◌, ℕ, List, Some, IsSome, refl, ap, sym, subst}
+use Rattle.std.proofs.Common.{◌≡◌, ◌∙◌, Some, IsSome, refl, ap, subst}
 use Rattle.std.specs.BTreeMap.{Updates, get}
 use Rattle.dbl_base.specs.Texts.{text_cmp}
 use Rattle.dbl_record.specs.declared.acts.Act.TheVariants.{Remove}
 use Rattle.dbl_record.specs.Consumers.{row_after_act}
-use Rattle.dbl_consume.specs.Rows.{row_in, row_at}
 use Rattle.dbl_consume.proofs.TableLemmas.{rows_changed, table_at}
 use Rattle.dbl_consume.proofs.tables.remove.Goals as goal
 

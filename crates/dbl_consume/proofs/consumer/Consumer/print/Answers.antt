@@ -1,4 +1,3 @@
-use Rattle.std.proofs.Common.{◌≡◌}
 use Rattle.dbl_record.specs.Consumers.{consumer_of}
 use Rattle.dbl_consume.specs.Gathering.{all_rows}
 use Rattle.dbl_consume.proofs.RowLemmas.{rows_of_tables}

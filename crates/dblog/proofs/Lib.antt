@@ -6,3 +6,6 @@ pub mod SpellingLemmas
 pub mod StatedLemmas
 pub mod ThinLaws
 pub mod ThinLemmas
+pub mod ApplyLaws
+pub mod ApplyLemmas
+pub mod ApplyRunLemmas

@@ -9,9 +9,10 @@ use Rattle.dblog.specs.declared.halt.Halt.TheVariants.{Usage, NotBuilt, BadLine,
 use Rattle.dblog.specs.declared.printing.PrintError.{PrintError}
 use Rattle.dblog.specs.declared.printing.PrintError.TheVariants as print_error
 use Rattle.dblog.specs.Faults.{status_of, fault_line, output_failed_status}
-use Rattle.dblog.specs.Run.{Answer, fault, done, lines_text, replay_words, Replays, too_long, bad_line, not_built, replayed, Means, usage, replay, Wrote, WroteFront, whole, input_failed, out_of_memory, Writes, Ends, IsOutside, Runs, Says, Halts, PrintFails, default_identity, lines_in}
+use Rattle.dblog.specs.Run.{Answer, fault, done, lines_text, replay_words, apply_words, Applies, Replays, too_long, bad_line, not_built, replayed, Means, usage, replay, apply, Wrote, WroteFront, whole, input_failed, out_of_memory, Writes, Ends, IsOutside, Runs, Says, Halts, PrintFails, default_identity, lines_in}
 use Rattle.dbl_model.specs.declared.table.TableInfo.{TableInfo}
 use Rattle.dbl_model.specs.declared.change.Commit.{Commit}
+use Rattle.dblog.proofs.ApplyLaws.{applies_one}
 use Rattle.dblog.proofs.ThinLaws.{SameThings, states_one}
 use Rattle.dblog.proofs.PrintLemmas.{wrote_then, front_then}
 
@@ -40,12 +41,27 @@ replays_one now bytes a b (replayed i c within good states is) (not_built within
 replays_one now bytes a b (replayed i c within good states is) (replayed j d within' good' states' is') =
     is ∙ done_one now i j c d (states_one default_identity.placeholder _ i j c d states states') ∙ sym is'
 
+-- the words of the two commands differ
+pub words_apart : (words : List (List ℕ)) → words ≡ replay_words → words ≡ apply_words → ⊥
+words_apart words same other = let no : replay_words ≡ apply_words = sym same ∙ other in cc
+
+-- what the words of `apply --lines` mean
+pub means_applies : (words : List (List ℕ)) (now : ℤ) (bytes : List ℕ) (answer : Answer) → words ≡ apply_words → Means words now bytes answer → Applies bytes answer
+means_applies words now bytes answer same (usage other another is) = absurd (another same)
+means_applies words now bytes answer same (replay other replays) = absurd (words_apart words other same)
+means_applies words now bytes answer same (apply same' applies) = applies
+
 -- words and bytes have one answer
 pub means_one : (words : List (List ℕ)) (now : ℤ) (bytes : List ℕ) (a b : Answer) → Means words now bytes a → Means words now bytes b → a ≡ b
-means_one words now bytes a b (usage other is) (usage other' is') = is ∙ sym is'
-means_one words now bytes a b (usage other is) (replay same replays) = absurd (other same)
-means_one words now bytes a b (replay same replays) (usage other is) = absurd (other same)
+means_one words now bytes a b (usage other another is) (usage other' another' is') = is ∙ sym is'
+means_one words now bytes a b (usage other another is) (replay same replays) = absurd (other same)
+means_one words now bytes a b (usage other another is) (apply same applies) = absurd (another same)
+means_one words now bytes a b (replay same replays) (usage other another is) = absurd (other same)
 means_one words now bytes a b (replay same replays) (replay same' replays') = replays_one now bytes a b replays replays'
+means_one words now bytes a b (replay same replays) (apply other applies) = absurd (words_apart words same other)
+means_one words now bytes a b (apply same applies) (usage other another is) = absurd (another same)
+means_one words now bytes a b (apply same applies) (replay other replays) = absurd (words_apart words other same)
+means_one words now bytes a b (apply same applies) (apply same' applies') = applies_one bytes a b applies applies'
 
 pub says_ends : (halt : Halt) (status : ℕ) (before after : Option (List ℕ)) → Says halt status before after → Ends (fault halt) status before after
 says_ends halt status before after (inl writes) = record { wanted = status_of halt; text = lines_text (fault_line halt ∷ []); may = whole refl refl; writes = writes }
@@ -90,8 +106,9 @@ replay_reads now bytes answer (not_built within good none is) = ap (λ a. a.read
 replay_reads now bytes answer (replayed i c within good states is) = ap (λ a. a.reads) is
 
 pub meant_reads : (words : List (List ℕ)) (now : ℤ) (bytes : List ℕ) (answer : Answer) → words ≡ replay_words → Means words now bytes answer → answer.reads ≡ true
-meant_reads words now bytes answer same (usage other is) = absurd (other same)
+meant_reads words now bytes answer same (usage other another is) = absurd (other same)
 meant_reads words now bytes answer same (replay same' replays) = replay_reads now bytes answer replays
+meant_reads words now bytes answer same (apply other applies) = absurd (words_apart words same other)
 
 pub outside_runs : (words : List (List ℕ)) (now : ℤ) (bytes : List ℕ) (status : ℕ) (before after : Option (List ℕ)) → ((answer : Answer) → Means words now bytes answer → Ends answer status before after) → IsOutside status → Runs words now bytes status before after
 outside_runs words now bytes status before after ends outside = record { ended = ends; meant = inl outside }

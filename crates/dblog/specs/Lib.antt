@@ -6,3 +6,4 @@ pub mod Printing
 pub mod Run
 pub mod Stated
 pub mod Thin
+pub mod Apply

@@ -12,6 +12,10 @@ use Rattle.dbl_model.specs.declared.table.TableInfo.{TableInfo}
 use Rattle.dbl_model.specs.declared.change.Commit.{Commit}
 use Rattle.dbl_model.specs.Identities.{default_placeholder}
 use Rattle.dbl_model.specs.EventJson.{envelopes}
+use Rattle.dbl_record.specs.Consumers.{HeldCells, consumer_of}
+use Rattle.dbl_consume.specs.Printing.{HeldRow, AreRowsOf, row_line}
+use Rattle.dblog.specs.declared.apply.FaultAt.{FaultAt}
+use Rattle.dblog.specs.Apply.{first_fault, fault_text, readings_of}
 use Rattle.dblog.specs.Lines.{lines_of, messages_in, first_bad}
 use Rattle.dblog.specs.Thin.{States}
 
@@ -32,9 +36,12 @@ done lines = record { status = 0; lines = lines; reads = true }
 abbrev pub fault : Halt → Answer
 fault halt = record { status = status_of halt; lines = fault_line halt ∷ []; reads = reads_input halt }
 
--- the words of the one command
+-- the words of the commands
 abbrev pub replay_words : List (List ℕ)
 replay_words = codes "replay" ∷ []
+
+abbrev pub apply_words : List (List ℕ)
+apply_words = codes "apply" ∷ codes "--lines" ∷ []
 
 -- what all records have in common, as long as no option changes it
 abbrev pub default_identity : Identity
@@ -55,10 +62,23 @@ pub data Replays (now : ℤ) (bytes : List ℕ) (answer : Answer) : Type 0 where
   not_built : length bytes ≤ INPUT_LIMIT → first_bad (lines_of bytes) ≡ None → ((infos : List TableInfo) (commits : List Commit) → ¬ StatedIn bytes infos commits) → answer ≡ fault NotBuilt → Replays now bytes answer
   replayed : (infos : List TableInfo) (commits : List Commit) → length bytes ≤ INPUT_LIMIT → first_bad (lines_of bytes) ≡ None → StatedIn bytes infos commits → answer ≡ done (lines_in infos commits now) → Replays now bytes answer
 
+-- the answer of a line that isn't applied
+abbrev pub line_fault : FaultAt → Answer
+line_fault at = record { status = 13; lines = fault_text at ∷ []; reads = true }
+
+-- what `apply --lines` answers for these bytes of input: the rows that the consumer of its lines holds, or the first line
+-- that isn't applied
+pub data Applies (bytes : List ℕ) (answer : Answer) : Type 0 where
+  long_input : INPUT_LIMIT < length bytes → answer ≡ fault InputTooLong → Applies bytes answer
+  refused : (at : FaultAt) → length bytes ≤ INPUT_LIMIT → first_fault default_identity.placeholder (lines_of bytes) ≡ Some at → answer ≡ line_fault at → Applies bytes answer
+  applied : (rows : List HeldRow) → length bytes ≤ INPUT_LIMIT → first_fault default_identity.placeholder (lines_of bytes) ≡ None
+      → AreRowsOf (consumer_of default_identity.placeholder (readings_of (lines_of bytes))) rows → answer ≡ done (map row_line rows) → Applies bytes answer
+
 -- what the program answers at a moment for these words and these bytes of input
 pub data Means (words : List (List ℕ)) (now : ℤ) (bytes : List ℕ) (answer : Answer) : Type 0 where
-  usage : words ≢ replay_words → answer ≡ fault Usage → Means words now bytes answer
+  usage : words ≢ replay_words → words ≢ apply_words → answer ≡ fault Usage → Means words now bytes answer
   replay : words ≡ replay_words → Replays now bytes answer → Means words now bytes answer
+  apply : words ≡ apply_words → Applies bytes answer → Means words now bytes answer
 
 -- the text was appended
 abbrev pub Wrote : Option (List ℕ) → Option (List ℕ) → List ℕ → Type 0
@@ -119,3 +139,28 @@ PrintFails lines print_error.Memory before after = (n : ℕ) × Wrote before aft
 abbrev pub Prints : {A : Type 0} → List (List ℕ) → Result A PrintError → Option (List ℕ) → Option (List ℕ) → Type 0
 Prints lines (Ok done) before after = Wrote before after (lines_text lines)
 Prints lines (Err error) before after = PrintFails lines error before after
+
+-- for private clauses: the same of `apply --lines`
+abbrev pub HaltsApplying : List ℕ → Halt → Type 0
+HaltsApplying bytes Usage = ⊥
+HaltsApplying bytes InputFailed = Unit {0}
+HaltsApplying bytes Memory = Unit {0}
+HaltsApplying bytes (BadLine number) = ⊥
+HaltsApplying bytes InputTooLong = Applies bytes (fault InputTooLong)
+HaltsApplying bytes NotBuilt = ⊥
+
+-- for private clauses: a run of `apply --lines` ended so
+pub record RunsApplying (bytes : List ℕ) (status : ℕ) (before after : Option (List ℕ)) : Type 0 where
+  pub ended : (answer : Answer) → Applies bytes answer → Ends answer status before after
+  pub meant : IsOutside status ⊎ ((answer : Answer) × Applies bytes answer × (answer.status ≡ status))
+
+-- for private clauses: a run of this answer ended so, with its status or one of the outside
+pub record EndsAs (answer : Answer) (status : ℕ) (before after : Option (List ℕ)) : Type 0 where
+  pub ended : Ends answer status before after
+  pub told : IsOutside status ⊎ (answer.status ≡ status)
+
+-- for private clauses: the lines of the rows that are held were to be written
+pub record PrintedAs (held : List ℕ → List ℕ → Option HeldCells) (status : ℕ) (before after : Option (List ℕ)) : Type 0 where
+  pub rows : List HeldRow
+  pub are : AreRowsOf held rows
+  pub ends : EndsAs (done (map row_line rows)) status before after

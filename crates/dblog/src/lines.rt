@@ -43,7 +43,7 @@ impl<T: Drop> From<AllocFailed<T>> for LineError {
 }
 
 // The first line, and the bytes behind it.
-fn next_line(bytes: &[u8]) -> (&[u8], &[u8])
+pub fn next_line(bytes: &[u8]) -> (&[u8], &[u8])
     requires { 0 < length bytes.now }
     ensures first { lines_of bytes.now ≡ result.0.now ∷ lines_of result.1.now }
     ensures shorter { length result.1.now < length bytes.now }

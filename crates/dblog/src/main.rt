@@ -1,6 +1,7 @@
 //! The program `dblog`: the change events of a PostgreSQL log.
 #![tactic(auto)]
 
+mod apply;
 mod halt;
 mod laws;
 mod lines;

@@ -1,22 +1,30 @@
 ghost use Rattle.std.specs.Prelude.{◌≡◌, ◌≢◌, ◌⊎◌, ◌↔◌, ℕ, ◌≤◌, List, [], length, Some, Err, None, IfOk, IfErr, OnOk, MatchResult, IsTrue, ℤ};
 ghost use Rattle.dbl_base.specs.Streams.{Rose};
 ghost use Rattle.dbl_base.specs.declared.input.TheConstants.{INPUT_LIMIT};
+ghost use Rattle.dbl_record.specs.Acts.{Reading};
+ghost use Rattle.dbl_record.specs.Consumers.{consumer_of};
+ghost use Rattle.dbl_consume.specs.Holdings.{Took, placeholder_of};
 ghost use Rattle.dblog.specs.Faults.{status_of, output_failed_status};
 ghost use Rattle.dblog.specs.Lines.{lines_of, messages_in, first_bad};
-ghost use Rattle.dblog.specs.Run.{Runs, Writes, Says, Halts, Prints, Replays, StatedIn, default_identity, lines_in, done, replay_words};
+ghost use Rattle.dblog.specs.Run.{Runs, Writes, Says, Halts, Prints, Replays, StatedIn, HaltsApplying, RunsApplying, EndsAs, PrintedAs, default_identity, line_fault, lines_in, done, replay_words, apply_words};
 ghost use Rattle.dblog.specs.Stated.{AreInsertCommits};
 
+use crate::apply::{FaultAt, LineFault, consume};
 use crate::halt::Halt;
 use crate::lines::{self, LineError};
 use crate::printing::{PrintError, print};
 use crate::thin::{self, Stated};
 use dbl_base::{Bytes, Input, InputError, Output, Text, read_all};
+use dbl_consume::Consumer;
 use dbl_envelope::{EnvelopeError, EventWriter};
 use dbl_model::Identity;
 use std::alloc::{AllocError, Global};
 
 /// The exit status where the output failed.
 const OUTPUT_FAILED: u8 = 11;
+
+/// The exit status of a line that isn't applied.
+const BAD_INPUT: u8 = 13;
 
 const OUT_OF_MEMORY: &str = "dblog: out of memory\n";
 
@@ -34,17 +42,22 @@ pub fn run<I: Input, O: Output>(
     // What is written and answered is what the words and the input mean.
     ensures told { (bytes : List ℕ) → I.left input.old ≡ Some bytes → Runs words.now.items now_ms bytes result (O.written output.old) (O.written output.new) }
 
-    // Other words than `replay` alone are usage, whether or not the input tells its bytes, and nothing is read.
-    ensures usage { words.now.items ≢ replay_words → Says Halt.Usage result (O.written output.old) (O.written output.new) }
-    ensures unread { words.now.items ≢ replay_words → input.new ≡ input.old }
+    // Other words than those of a command are usage, whether or not the input tells its bytes, and nothing is read.
+    ensures usage { words.now.items ≢ replay_words → words.now.items ≢ apply_words → Says Halt.Usage result (O.written output.old) (O.written output.new) }
+    ensures unread { words.now.items ≢ replay_words → words.now.items ≢ apply_words → input.new ≡ input.old }
 
     // An input within the limit is read to its end.
     ensures whole { (bytes : List ℕ) → I.left input.old ≡ Some bytes → words.now.items ≡ replay_words → length bytes ≤ INPUT_LIMIT
         → (result ≡ 0) ⊎ ((result ≡ 13) ⊎ (result ≡ 16)) → I.left input.new ≡ Some [] }
+    ensures applied_whole { (bytes : List ℕ) → I.left input.old ≡ Some bytes → words.now.items ≡ apply_words → length bytes ≤ INPUT_LIMIT
+        → (result ≡ 0) ⊎ (result ≡ 13) → I.left input.new ≡ Some [] }
 
     ensures input_failed { result ≡ status_of Halt.InputFailed → Rose (I.faults input.old) (I.faults input.new) }
     ensures output_failed { result ≡ output_failed_status → Rose (O.faults output.old) (O.faults output.new) }
 {
+    if is_apply(words) {
+        return apply_lines(alloc, input, output);
+    }
     if !is_replay(words) {
         return say(alloc, Halt::Usage, output);
     }
@@ -64,6 +77,15 @@ fn is_replay(words: &Vec<Text>) -> bool
 {
     match words.as_slice() {
         [word] => word.as_str() == "replay",
+        _ => false,
+    }
+}
+
+fn is_apply(words: &Vec<Text>) -> bool
+    ensures { IsTrue result ↔ (words.now.items ≡ apply_words) }
+{
+    match words.as_slice() {
+        [command, option] => command.as_str() == "apply" && option.as_str() == "--lines",
         _ => false,
     }
 }
@@ -99,6 +121,7 @@ fn read_input<I: Input>(alloc: Global, input: &mut I) -> Result<Bytes, Halt>
     ensures within { IfOk result (λ read. length read ≤ INPUT_LIMIT) }
     ensures halts { (bytes : List ℕ) (now : ℤ) → I.left input.old ≡ Some bytes → IfErr result (Halts now bytes) }
     ensures long { (bytes : List ℕ) → I.left input.old ≡ Some bytes → length bytes ≤ INPUT_LIMIT → IfErr result (λ halt. (halt ≡ Halt.InputFailed) ⊎ (halt ≡ Halt.Memory)) }
+    ensures applying { (bytes : List ℕ) → I.left input.old ≡ Some bytes → IfErr result (HaltsApplying bytes) }
     ensures failed { result ≡ Err Halt.InputFailed → Rose (I.faults input.old) (I.faults input.new) }
 {
     match read_all(alloc, input) {
@@ -186,4 +209,62 @@ fn write_commits<O: Output>(
         Err(EnvelopeError::Memory) => return Err(PrintError::Memory),
     };
     print(alloc, &writer, &commits, &now_ms, output)
+}
+
+// Writes the line of a line that isn't applied, and answers its status.
+fn say_fault<O: Output>(alloc: Global, at: &FaultAt, output: &mut O) -> u8
+    ensures told { at.now.fault ≢ LineFault.Memory → EndsAs (line_fault at.now) result (O.written output.old) (O.written output.new) }
+    ensures memory { at.now.fault ≡ LineFault.Memory → Says Halt.Memory result (O.written output.old) (O.written output.new) }
+    ensures output_failed { result ≡ output_failed_status → Rose (O.faults output.old) (O.faults output.new) }
+    ensures status { (result ≡ 13) ⊎ ((result ≡ output_failed_status) ⊎ (result ≡ status_of Halt.Memory)) }
+{
+    if let LineFault::Memory = &at.fault {
+        return say(alloc, Halt::Memory, output);
+    }
+    match at.text(alloc) {
+        Ok(text) => write_text(text.as_str(), BAD_INPUT, output),
+        Err(_) => say(alloc, Halt::Memory, output),
+    }
+}
+
+// Prints the rows that are held, and answers the status.
+fn print_rows<O: Output>(alloc: Global, held: &Consumer, output: &mut O) -> u8
+    ensures told { (taken : List Reading) → Took taken held.now → PrintedAs (consumer_of (placeholder_of held.now) taken) result (O.written output.old) (O.written output.new) }
+    ensures output_failed { result ≡ output_failed_status → Rose (O.faults output.old) (O.faults output.new) }
+    ensures status { (result ≡ 0) ⊎ ((result ≡ output_failed_status) ⊎ (result ≡ status_of Halt.Memory)) }
+{
+    match held.print(output) {
+        Ok(_) => 0,
+        Err(dbl_consume::PrintError::Failed) => OUTPUT_FAILED,
+        Err(dbl_consume::PrintError::Memory) => say(alloc, Halt::Memory, output),
+    }
+}
+
+// Applies the lines of a text within the limit, and answers the status.
+fn apply_text<O: Output>(alloc: Global, text: &[u8], output: &mut O) -> u8
+    requires { length text.now ≤ INPUT_LIMIT }
+    ensures told { RunsApplying text.now result (O.written output.old) (O.written output.new) }
+    ensures output_failed { result ≡ output_failed_status → Rose (O.faults output.old) (O.faults output.new) }
+    ensures status { result ≢ status_of Halt.InputFailed }
+{
+    let placeholder = match Text::of(alloc, PLACEHOLDER) {
+        Ok(placeholder) => placeholder,
+        Err(_) => return say(alloc, Halt::Memory, output),
+    };
+    match consume(alloc, placeholder, text) {
+        Ok(held) => print_rows(alloc, &held, output),
+        Err(at) => say_fault(alloc, &at, output),
+    }
+}
+
+fn apply_lines<I: Input, O: Output>(alloc: Global, input: &mut I, output: &mut O) -> u8
+    ensures told { (bytes : List ℕ) → I.left input.old ≡ Some bytes → RunsApplying bytes result (O.written output.old) (O.written output.new) }
+    ensures whole { (bytes : List ℕ) → I.left input.old ≡ Some bytes → length bytes ≤ INPUT_LIMIT → (result ≡ 0) ⊎ (result ≡ 13) → I.left input.new ≡ Some [] }
+    ensures input_failed { result ≡ status_of Halt.InputFailed → Rose (I.faults input.old) (I.faults input.new) }
+    ensures output_failed { result ≡ output_failed_status → Rose (O.faults output.old) (O.faults output.new) }
+{
+    match read_input(alloc, input) {
+        Ok(bytes) => apply_text(alloc, bytes.items().as_slice(), output),
+        Err(halt) => say(alloc, halt, output),
+    }
 }

@@ -207,3 +207,64 @@ fn failed_streams_end_a_run(rt: HostRuntime) -> Result<(), Fail> {
     expect_with_faults(&rt, alloc, "replay", "5a", 2, 1, 11, "")?;
     expect_with_faults(&rt, alloc, "replay", ONE_INSERT, 0, 1, 11, "")
 }
+
+const APPLIED: &str =
+    r#"{"topic":"shop.public.items","key":{"schema":{"type":"struct"},"payload":{"sku":"a"}},"value":{"schema":{"type":"struct"},"payload":{"before":null,"after":{"sku":"a","qty":3},"source":{"extra":1},"op":"c","ts_ms":5}}}
+"#;
+
+const REFUSED: &str =
+    r#"{"topic":"shop.public.items","key":{"sku":"a"},"value":{"after":{"sku":"a","qty":1.5},"op":"c"}}
+"#;
+
+const HELD: &str = r#"demo.public.t {"id":1} {"id":1,"name":"Ann"}
+demo.public.t {"id":2} {"id":2,"name":"Bob"}
+demo.public.t {"id":3} {"id":3,"name":null}
+"#;
+
+const WORDS: &str = "apply --lines";
+
+const WANTED: &str = "shop.public.items {\"sku\":\"a\"} {\"qty\":3,\"sku\":\"a\"}\n";
+
+#[test]
+fn applied_lines_give_their_rows(rt: HostRuntime) -> Result<(), Fail> {
+    let alloc = rt.alloc();
+    expect(&rt, alloc, WORDS, APPLIED, 0, WANTED)?;
+    let float = "dblog: line 1: C6 float cell qty\n";
+    expect(&rt, alloc, WORDS, REFUSED, 13, float)?;
+    expect(&rt, alloc, WORDS, CAPTURED_EVENTS, 0, HELD)?;
+    expect(&rt, alloc, WORDS, "", 0, "")?;
+    expect(&rt, alloc, "apply", "", 2, "dblog: usage\n")?;
+    expect_with_faults(&rt, alloc, WORDS, APPLIED, 0, 1, 11, "")?;
+    let failed = "dblog: input failed\n";
+    expect_with_faults(&rt, alloc, WORDS, APPLIED, 1, 0, 10, failed)
+}
+
+// The line of the only line's fault.
+fn expect_fault(rt: &impl Abort, alloc: Global, line: &str, words: &str) -> Result<(), Fail> {
+    let text = format!(in alloc; "dblog: line 2: {words}\n")?;
+    let input = format!(in alloc; "\n{line}")?;
+    expect(rt, alloc, WORDS, input.as_str(), 13, text.as_str())
+}
+
+#[test]
+fn each_fault_has_its_line(rt: HostRuntime) -> Result<(), Fail> {
+    let alloc = rt.alloc();
+    expect_fault(&rt, alloc, "[]", "B1 bad record")?;
+    expect_fault(&rt, alloc, r#"{"topic":"t","value":{"op":1}}"#, "C2 no op")?;
+    expect_fault(
+        &rt,
+        alloc,
+        r#"{"topic":"t","value":{"op":"x"}}"#,
+        "C3 unknown op",
+    )?;
+    expect_fault(
+        &rt,
+        alloc,
+        r#"{"topic":"t","value":{"op":"d"}}"#,
+        "C4 no key",
+    )?;
+    let no_after = r#"{"topic":"t","key":{},"value":{"op":"u"}}"#;
+    expect_fault(&rt, alloc, no_after, "C5 bad after")?;
+    let nested = r#"{"topic":"t","key":{},"value":{"op":"r","after":{"b":[]}}}"#;
+    expect_fault(&rt, alloc, nested, "C7 nested cell b")
+}

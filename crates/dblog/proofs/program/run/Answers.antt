@@ -2,14 +2,30 @@ use Rattle.std.proofs.Common.{ℤ, refl, subst}
 use Rattle.std.proofs.Math.Facts.{to_z-of_z}
 use Rattle.dblog.specs.declared.halt.Halt.TheVariants.{Usage}
 use Rattle.dblog.specs.Run.{usage, Wrote, PrintFails, lines_text, lines_in}
-use Rattle.dblog.proofs.RunLemmas.{said_runs, halt_runs, printed_runs, cut_runs, starved_runs}
+use Rattle.dblog.proofs.ApplyRunLemmas.{runs_applying}
+use Rattle.dblog.proofs.RunLemmas.{words_apart, said_runs, halt_runs, printed_runs, cut_runs, starved_runs}
 use Rattle.dblog.proofs.program.run.Goals as goal
 
+pub returns-then-is_apply-clause-told : goal.returns-then-is_apply-clause-told
+returns-then-is_apply-clause-told g c = λ bytes told. runs_applying _ c.args.now_ms bytes _ _ _ (c.if-is_apply.ensures.0 refl) (c.apply_lines.ensures.told bytes told)
+
+pub returns-then-is_apply-clause-usage : goal.returns-then-is_apply-clause-usage
+returns-then-is_apply-clause-usage g c = λ other another. absurd (another (c.if-is_apply.ensures.0 refl))
+
+pub returns-then-is_apply-clause-unread : goal.returns-then-is_apply-clause-unread
+returns-then-is_apply-clause-unread g c = λ other another. absurd (another (c.if-is_apply.ensures.0 refl))
+
+pub returns-then-is_apply-clause-whole : goal.returns-then-is_apply-clause-whole
+returns-then-is_apply-clause-whole g c = λ bytes told same. absurd (words_apart _ same (c.if-is_apply.ensures.0 refl))
+
+pub returns-then-is_apply-clause-applied_whole : goal.returns-then-is_apply-clause-applied_whole
+returns-then-is_apply-clause-applied_whole g c = λ bytes told same. c.apply_lines.ensures.whole bytes told
+
 pub returns-then-not-is_replay-clause-told : goal.returns-then-not-is_replay-clause-told
-returns-then-not-is_replay-clause-told g c = λ bytes told. said_runs _ c.args.now_ms bytes Usage _ _ _ (usage (λ same. cc (c.if-not-is_replay.ensures.1 same)) refl) c.say.ensures.says
+returns-then-not-is_replay-clause-told g c = λ bytes told. said_runs _ c.args.now_ms bytes Usage _ _ _ (usage (λ same. cc (c.if-not-is_replay.ensures.1 same)) (λ same. cc (c.if-is_apply.ensures.1 same)) refl) c.say.ensures.says
 
 pub returns-then-not-is_replay-clause-usage : goal.returns-then-not-is_replay-clause-usage
-returns-then-not-is_replay-clause-usage g c = λ other. c.say.ensures.says
+returns-then-not-is_replay-clause-usage g c = λ other another. c.say.ensures.says
 
 pub returns-in-Err-clause-told : goal.returns-in-Err-clause-told
 returns-in-Err-clause-told g c = λ bytes told. halt_runs _ c.args.now_ms bytes c.in-Err.halt _ _ _ (c.if-not-is_replay.ensures.0 refl) (c.in-Err.ensures.halts bytes c.args.now_ms told) c.say-in-Err.ensures.says

@@ -18,7 +18,7 @@ use Rattle.dblog.specs.declared.halt.Halt.TheVariants.{Usage, NotBuilt, BadLine,
 use Rattle.dblog.specs.Faults.{status_of, fault_line, output_failed_status}
 use Rattle.dblog.specs.Lines.{lines_of}
 use Rattle.dblog.specs.Apply.{first_fault, fault_text, readings_of}
-use Rattle.dblog.specs.Run.{Answer, fault, done, line_fault, lines_text, replay_words, apply_words, Applies, long_input, refused, applied, Means, apply, Wrote, WroteFront, whole, out_of_memory, Writes, Ends, IsOutside, Runs, Says, HaltsApplying, RunsApplying, EndsAs, PrintedAs, default_identity}
+use Rattle.dblog.specs.Run.{Answer, fault, done, line_fault, lines_text, replay_words, apply_words, Applies, long_input, refused, applied, Means, apply, Wrote, WroteFront, whole, out_of_memory, Writes, Ends, IsOutside, Runs, Says, IsReplayStatus, IsApplyStatus, HaltsApplying, RunsApplying, EndsAs, PrintedAs, default_identity}
 use Rattle.dblog.proofs.ApplyLaws.{applies_one, applies_reads}
 use Rattle.dblog.proofs.RunLemmas.{says_ends, memory_ends, input_ends, input_is_outside, written_or_outside, memory_is_outside, writes_then, means_applies}
 
@@ -184,3 +184,41 @@ word_pair words command option first second are first_is passes second_is =
       λ both. are ∙ ap (λ c. c ∷ option ∷ []) (commands.0 (sym first_is ∙ passes)) ∙ ap (λ o. codes "apply" ∷ o ∷ []) (options.0 (sym second_is ∙ both)),
       λ same. second_is ∙ options.1 (words_are words command option are same).1,
     )
+
+-- ---- statuses
+
+says_is : (halt : Halt) (status : ℕ) (before after : Option (List ℕ)) → Says halt status before after → (status ≡ status_of halt) ⊎ ((status ≡ output_failed_status) ⊎ (status ≡ status_of Memory))
+says_is halt status before after (inl (inl said)) = inl said.0
+says_is halt status before after (inl (inr cut)) = inr (inl cut.0)
+says_is halt status before after (inr (inl said)) = inr (inr said.0)
+says_is halt status before after (inr (inr cut)) = inr (inl cut.0)
+
+outside_of : (status : ℕ) → (status ≡ output_failed_status) ⊎ (status ≡ status_of Memory) → IsOutside status
+outside_of status (inl is) = inr (inl is)
+outside_of status (inr is) = inr (inr is)
+
+-- a fault of `replay` was said
+pub replay_said : (halt : Halt) (status : ℕ) (before after : Option (List ℕ)) → halt ≢ Usage → Says halt status before after → IsReplayStatus status
+replay_said Usage status before after other says = absurd (other refl)
+replay_said InputFailed status before after other says = elim (says_is InputFailed status before after says) [ inl is ↦ inr (inr (inr (inl is))) | inr outside ↦ inr (inr (inr (outside_of status outside))) ]
+replay_said Memory status before after other says = elim (says_is Memory status before after says) [ inl is ↦ inr (inr (inr (inr (inr is)))) | inr outside ↦ inr (inr (inr (outside_of status outside))) ]
+replay_said (BadLine number) status before after other says = elim (says_is (BadLine number) status before after says) [ inl is ↦ inr (inl is) | inr outside ↦ inr (inr (inr (outside_of status outside))) ]
+replay_said InputTooLong status before after other says = elim (says_is InputTooLong status before after says) [ inl is ↦ inr (inl is) | inr outside ↦ inr (inr (inr (outside_of status outside))) ]
+replay_said NotBuilt status before after other says = elim (says_is NotBuilt status before after says) [ inl is ↦ inr (inr (inl is)) | inr outside ↦ inr (inr (inr (outside_of status outside))) ]
+
+pub memory_said : (status : ℕ) (before after : Option (List ℕ)) → Says Memory status before after → IsApplyStatus status
+memory_said status before after says = elim (says_is Memory status before after says) [ inl is ↦ inr (inr (inr (inr is))) | inr outside ↦ inr (inr (outside_of status outside)) ]
+
+-- a fault of reading the lines was said
+pub apply_said : (halt : Halt) (status : ℕ) (before after : Option (List ℕ)) → (halt ≡ InputFailed) ⊎ ((halt ≡ InputTooLong) ⊎ (halt ≡ Memory)) → Says halt status before after → IsApplyStatus status
+apply_said halt status before after (inl is) says = elim (says_is halt status before after says) [ inl said ↦ inr (inr (inl (said ∙ ap status_of is))) | inr outside ↦ inr (inr (outside_of status outside)) ]
+apply_said halt status before after (inr (inl is)) says = elim (says_is halt status before after says) [ inl said ↦ inr (inl (said ∙ ap status_of is)) | inr outside ↦ inr (inr (outside_of status outside)) ]
+apply_said halt status before after (inr (inr is)) says = elim (says_is halt status before after says) [ inl said ↦ inr (inr (inr (inr (said ∙ ap status_of is)))) | inr outside ↦ inr (inr (outside_of status outside)) ]
+
+pub rows_known : (status : ℕ) → (status ≡ 0) ⊎ ((status ≡ output_failed_status) ⊎ (status ≡ status_of Memory)) → IsApplyStatus status
+rows_known status (inl is) = inl is
+rows_known status (inr outside) = inr (inr (outside_of status outside))
+
+pub fault_known : (status : ℕ) → (status ≡ 13) ⊎ ((status ≡ output_failed_status) ⊎ (status ≡ status_of Memory)) → IsApplyStatus status
+fault_known status (inl is) = inr (inl is)
+fault_known status (inr outside) = inr (inr (outside_of status outside))

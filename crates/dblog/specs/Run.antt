@@ -24,17 +24,19 @@ abbrev pub lines_text : List (List ℕ) → List ℕ
 lines_text [] = []
 lines_text (line ∷ lines) = line ++ 10 ∷ lines_text lines
 
--- a status, the lines that are written before it is answered, and whether the input is read for it
+-- a status, the lines that are written before it is answered, those of them that come one by one, and whether the input is
+-- read for it
 pub record Answer : Type 0 where
   pub status : ℕ
   pub lines : List (List ℕ)
+  pub one_by_one : List (List ℕ)
   pub reads : Bool
 
 abbrev pub done : List (List ℕ) → Answer
-done lines = record { status = 0; lines = lines; reads = true }
+done lines = record { status = 0; lines = lines; one_by_one = lines; reads = true }
 
 abbrev pub fault : Halt → Answer
-fault halt = record { status = status_of halt; lines = fault_line halt ∷ []; reads = reads_input halt }
+fault halt = record { status = status_of halt; lines = fault_line halt ∷ []; one_by_one = []; reads = reads_input halt }
 
 -- the words of the commands
 abbrev pub replay_words : List (List ℕ)
@@ -64,7 +66,7 @@ pub data Replays (now : ℤ) (bytes : List ℕ) (answer : Answer) : Type 0 where
 
 -- the answer of a line that isn't applied
 abbrev pub line_fault : FaultAt → Answer
-line_fault at = record { status = 13; lines = fault_text at ∷ []; reads = true }
+line_fault at = record { status = 13; lines = fault_text at ∷ []; one_by_one = []; reads = true }
 
 -- what `apply --lines` answers for these bytes of input: the rows that the consumer of its lines holds, or the first line
 -- that isn't applied
@@ -89,11 +91,11 @@ abbrev pub WroteFront : Option (List ℕ) → Option (List ℕ) → List ℕ →
 WroteFront before after text = (bytes : List ℕ) → before ≡ Some bytes → (n : ℕ) × (after ≡ Some (bytes ++ take n text))
 
 -- a run of this answer may be about to write this text and answer this status: the answer's own, or where an input
--- that is read fails or memory is wanting that fault's, the latter behind some first lines of the answer
+-- that is read fails or memory is wanting that fault's, the latter behind some first ones of the lines that come one by one
 pub data MayEnd (answer : Answer) (status : ℕ) (text : List ℕ) : Type 0 where
   whole : status ≡ answer.status → text ≡ lines_text answer.lines → MayEnd answer status text
   input_failed : answer.reads ≡ true → status ≡ status_of InputFailed → text ≡ lines_text (fault_line InputFailed ∷ []) → MayEnd answer status text
-  out_of_memory : (n : ℕ) → status ≡ status_of Memory → text ≡ lines_text (take n answer.lines) ++ lines_text (fault_line Memory ∷ []) → MayEnd answer status text
+  out_of_memory : (n : ℕ) → status ≡ status_of Memory → text ≡ lines_text (take n answer.one_by_one) ++ lines_text (fault_line Memory ∷ []) → MayEnd answer status text
 
 -- a run that was about to write the text and answer this status did so, or the output failed in the text
 abbrev pub Writes : ℕ → List ℕ → ℕ → Option (List ℕ) → Option (List ℕ) → Type 0
@@ -115,6 +117,13 @@ IsOutside status = (status ≡ status_of InputFailed) ⊎ ((status ≡ output_fa
 pub record Runs (words : List (List ℕ)) (now : ℤ) (bytes : List ℕ) (status : ℕ) (before after : Option (List ℕ)) : Type 0 where
   pub ended : (answer : Answer) → Means words now bytes answer → Ends answer status before after
   pub meant : IsOutside status ⊎ ((answer : Answer) × Means words now bytes answer × (answer.status ≡ status))
+
+-- the statuses of the commands, whatever the streams tell
+abbrev pub IsReplayStatus : ℕ → Type 0
+IsReplayStatus status = (status ≡ 0) ⊎ ((status ≡ 13) ⊎ ((status ≡ 16) ⊎ IsOutside status))
+
+abbrev pub IsApplyStatus : ℕ → Type 0
+IsApplyStatus status = (status ≡ 0) ⊎ ((status ≡ 13) ⊎ IsOutside status)
 
 -- the fault's line was to be written and its status answered, or those of want of memory
 abbrev pub Says : Halt → ℕ → Option (List ℕ) → Option (List ℕ) → Type 0

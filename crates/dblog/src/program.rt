@@ -6,7 +6,7 @@ ghost use Rattle.dbl_record.specs.Consumers.{consumer_of};
 ghost use Rattle.dbl_consume.specs.Holdings.{Took, placeholder_of};
 ghost use Rattle.dblog.specs.Faults.{status_of, output_failed_status};
 ghost use Rattle.dblog.specs.Lines.{lines_of, messages_in, first_bad};
-ghost use Rattle.dblog.specs.Run.{Runs, Writes, Says, Halts, Prints, Replays, StatedIn, HaltsApplying, RunsApplying, EndsAs, PrintedAs, default_identity, line_fault, lines_in, done, replay_words, apply_words};
+ghost use Rattle.dblog.specs.Run.{Runs, Writes, Says, Halts, Prints, Replays, StatedIn, HaltsApplying, RunsApplying, EndsAs, PrintedAs, IsReplayStatus, IsApplyStatus, default_identity, line_fault, lines_in, done, replay_words, apply_words};
 ghost use Rattle.dblog.specs.Stated.{AreInsertCommits};
 
 use crate::apply::{FaultAt, LineFault, consume};
@@ -51,6 +51,10 @@ pub fn run<I: Input, O: Output>(
         → (result ≡ 0) ⊎ ((result ≡ 13) ⊎ (result ≡ 16)) → I.left input.new ≡ Some [] }
     ensures applied_whole { (bytes : List ℕ) → I.left input.old ≡ Some bytes → words.now.items ≡ apply_words → length bytes ≤ INPUT_LIMIT
         → (result ≡ 0) ⊎ (result ≡ 13) → I.left input.new ≡ Some [] }
+
+    // Whatever the streams tell, the status is one of the command's.
+    ensures replay_status { words.now.items ≡ replay_words → IsReplayStatus result }
+    ensures apply_status { words.now.items ≡ apply_words → IsApplyStatus result }
 
     ensures input_failed { result ≡ status_of Halt.InputFailed → Rose (I.faults input.old) (I.faults input.new) }
     ensures output_failed { result ≡ output_failed_status → Rose (O.faults output.old) (O.faults output.new) }
@@ -123,6 +127,8 @@ fn read_input<I: Input>(alloc: Global, input: &mut I) -> Result<Bytes, Halt>
     ensures long { (bytes : List ℕ) → I.left input.old ≡ Some bytes → length bytes ≤ INPUT_LIMIT → IfErr result (λ halt. (halt ≡ Halt.InputFailed) ⊎ (halt ≡ Halt.Memory)) }
     ensures applying { (bytes : List ℕ) → I.left input.old ≡ Some bytes → IfErr result (HaltsApplying bytes) }
     ensures failed { result ≡ Err Halt.InputFailed → Rose (I.faults input.old) (I.faults input.new) }
+    ensures kinds { IfErr result (λ halt. (halt ≡ Halt.InputFailed) ⊎ ((halt ≡ Halt.InputTooLong) ⊎ (halt ≡ Halt.Memory))) }
+    ensures command { IfErr result (λ halt. halt ≢ Halt.Usage) }
 {
     match read_all(alloc, input) {
         Ok(bytes) => Ok(bytes),
@@ -139,6 +145,7 @@ fn messages_of(alloc: Global, text: Bytes) -> Result<Vec<Bytes>, Halt>
     ensures good { OnOk result (first_bad (lines_of text) ≡ None) }
     ensures halts { (now : ℤ) → IfErr result (Halts now text) }
     ensures kinds { IfErr result (λ halt. halt ≢ Halt.InputFailed) }
+    ensures command { IfErr result (λ halt. halt ≢ Halt.Usage) }
 {
     match lines::messages(alloc, text.items().as_slice()) {
         Ok(found) => Ok(found),
@@ -154,6 +161,7 @@ fn stated_in(alloc: Global, text: Bytes) -> Result<Stated, Halt>
     ensures good { OnOk result (first_bad (lines_of text) ≡ None) }
     ensures halts { (now : ℤ) → IfErr result (Halts now text) }
     ensures kinds { IfErr result (λ halt. halt ≢ Halt.InputFailed) }
+    ensures command { IfErr result (λ halt. halt ≢ Halt.Usage) }
     ensures inserts { IfOk result AreInsertCommits }
 {
     let bytes = match messages_of(alloc, text) {
@@ -173,6 +181,7 @@ fn read_commits<I: Input>(alloc: Global, input: &mut I) -> Result<Stated, Halt>
     ensures end { (bytes : List ℕ) → I.left input.old ≡ Some bytes → length bytes ≤ INPUT_LIMIT
         → MatchResult result (λ _. I.left input.new ≡ Some []) (λ halt. (halt ≡ Halt.InputFailed) ⊎ ((halt ≡ Halt.Memory) ⊎ (I.left input.new ≡ Some []))) }
     ensures failed { result ≡ Err Halt.InputFailed → Rose (I.faults input.old) (I.faults input.new) }
+    ensures command { IfErr result (λ halt. halt ≢ Halt.Usage) }
     ensures inserts { IfOk result AreInsertCommits }
 {
     match read_input(alloc, input) {
@@ -246,6 +255,7 @@ fn apply_text<O: Output>(alloc: Global, text: &[u8], output: &mut O) -> u8
     ensures told { RunsApplying text.now result (O.written output.old) (O.written output.new) }
     ensures output_failed { result ≡ output_failed_status → Rose (O.faults output.old) (O.faults output.new) }
     ensures status { result ≢ status_of Halt.InputFailed }
+    ensures known { IsApplyStatus result }
 {
     let placeholder = match Text::of(alloc, PLACEHOLDER) {
         Ok(placeholder) => placeholder,
@@ -260,6 +270,7 @@ fn apply_text<O: Output>(alloc: Global, text: &[u8], output: &mut O) -> u8
 fn apply_lines<I: Input, O: Output>(alloc: Global, input: &mut I, output: &mut O) -> u8
     ensures told { (bytes : List ℕ) → I.left input.old ≡ Some bytes → RunsApplying bytes result (O.written output.old) (O.written output.new) }
     ensures whole { (bytes : List ℕ) → I.left input.old ≡ Some bytes → length bytes ≤ INPUT_LIMIT → (result ≡ 0) ⊎ (result ≡ 13) → I.left input.new ≡ Some [] }
+    ensures known { IsApplyStatus result }
     ensures input_failed { result ≡ status_of Halt.InputFailed → Rose (I.faults input.old) (I.faults input.new) }
     ensures output_failed { result ≡ output_failed_status → Rose (O.faults output.old) (O.faults output.new) }
 {

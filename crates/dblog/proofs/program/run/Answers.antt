@@ -1,8 +1,8 @@
 use Rattle.std.proofs.Common.{ℤ, refl, subst}
 use Rattle.std.proofs.Math.Facts.{to_z-of_z}
-use Rattle.dblog.specs.declared.halt.Halt.TheVariants.{Usage}
+use Rattle.dblog.specs.declared.halt.Halt.TheVariants.{Usage, Memory}
 use Rattle.dblog.specs.Run.{usage, Wrote, PrintFails, lines_text, lines_in}
-use Rattle.dblog.proofs.ApplyRunLemmas.{runs_applying}
+use Rattle.dblog.proofs.ApplyRunLemmas.{runs_applying, replay_said}
 use Rattle.dblog.proofs.RunLemmas.{words_apart, said_runs, halt_runs, printed_runs, cut_runs, starved_runs}
 use Rattle.dblog.proofs.program.run.Goals as goal
 
@@ -51,3 +51,21 @@ returns-in-Err-Memory-clause-told g c = λ bytes told.
     let fails = subst (λ (m : ℤ). PrintFails (lines_in c.in-Ok.stated.infos.items c.in-Ok.stated.commits.items m) c.in-Err-Memory.field-0 before middle) (to_z-of_z c.ranges.now_ms) c.in-Err-Memory.ensures.prints in
     let wrote = rw c.in-Err-Memory.field-0-is at fails in
     starved_runs _ c.args.now_ms bytes _ _ _ _ _ wrote.0 (c.if-not-is_replay.ensures.0 refl) (c.in-Ok.ensures.ok bytes c.args.now_ms told) wrote.1 c.say-in-Err-Memory.ensures.says
+
+pub returns-then-is_apply-clause-replay_status : goal.returns-then-is_apply-clause-replay_status
+returns-then-is_apply-clause-replay_status g c = λ same. absurd (words_apart _ same (c.if-is_apply.ensures.0 refl))
+
+pub returns-then-is_apply-clause-apply_status : goal.returns-then-is_apply-clause-apply_status
+returns-then-is_apply-clause-apply_status g c = λ same. c.apply_lines.ensures.known
+
+pub returns-then-not-is_replay-clause-replay_status : goal.returns-then-not-is_replay-clause-replay_status
+returns-then-not-is_replay-clause-replay_status g c = λ same. absurd (cc (c.if-not-is_replay.ensures.1 same))
+
+pub returns-then-not-is_replay-clause-apply_status : goal.returns-then-not-is_replay-clause-apply_status
+returns-then-not-is_replay-clause-apply_status g c = λ same. absurd (cc (c.if-is_apply.ensures.1 same))
+
+pub returns-in-Err-clause-replay_status : goal.returns-in-Err-clause-replay_status
+returns-in-Err-clause-replay_status g c = λ same. replay_said c.in-Err.halt _ _ _ c.in-Err.ensures.command c.say-in-Err.ensures.says
+
+pub returns-in-Err-clause-apply_status : goal.returns-in-Err-clause-apply_status
+returns-in-Err-clause-apply_status g c = λ same. absurd (cc (c.if-is_apply.ensures.1 same))

@@ -1,4 +1,4 @@
-ghost use Rattle.dbl_value.specs.Laws.{OidsNameTypes, TextsSpellOneValue, DecimalsSpellInt4, TextsReadBack, JsonTellsCells, ValuesAreOrdered};
+ghost use Rattle.dbl_value.specs.Laws.{OidsNameTypes, TextsSpellOneValue, DecimalsSpellIntegers, TextsReadBack, JsonTellsCells, ValuesAreOrdered};
 
 /// An OID is that of at most one type, and each type has one.
 pub fn oids_name_types()
@@ -10,9 +10,9 @@ pub fn texts_spell_one_value()
     ensures { TextsSpellOneValue }
 {}
 
-/// A text spells an int4 exactly where it is the decimal text of an integer of 32 bits.
-pub fn decimals_spell_int4()
-    ensures { DecimalsSpellInt4 }
+/// A text spells an integer exactly where it is the decimal text of one in the range of its type.
+pub fn decimals_spell_integers()
+    ensures { DecimalsSpellIntegers }
 {}
 
 /// The text of a value spells it.

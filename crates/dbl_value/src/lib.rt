@@ -1,20 +1,26 @@
 //! Column types and their values: read from the texts that PostgreSQL sends, printed, and written as JSON.
 #![tactic(auto)]
 
+mod clocks;
 mod column_type;
+mod dates;
 mod encoding;
 mod error;
+mod faults;
+mod integers;
 mod laws;
 mod printing;
 mod reading;
+mod shapes;
+mod stamps;
 mod value;
 
 pub use column_type::{PgType, of, oid};
 pub use encoding::{json, write_json};
 pub use error::ValueError;
 pub use laws::{
-    decimals_spell_int4, json_tells_cells, oids_name_types, texts_read_back, texts_spell_one_value,
-    values_are_ordered,
+    decimals_spell_integers, json_tells_cells, oids_name_types, texts_read_back,
+    texts_spell_one_value, values_are_ordered,
 };
 pub use printing::print;
 pub use reading::{read, read_owned};

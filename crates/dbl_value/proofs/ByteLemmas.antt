@@ -39,7 +39,7 @@ pub bytes_of-text : (bytes : List ℕ) → IsBytes bytes → bytes_of (bytes_tex
 unfolding bytes_of
 bytes_of-text bytes h = rw (encoded_lower bytes h) (ap result_ok (decode_of-encode_lower bytes h))
 
-ok_of : {E : Type 0} (r : Result (List ℕ) E) (bytes : List ℕ) → result_ok r ≡ Some bytes → r ≡ Ok bytes
+pub ok_of : {E : Type 0} (r : Result (List ℕ) E) (bytes : List ℕ) → result_ok r ≡ Some bytes → r ≡ Ok bytes
 ok_of (Ok x) bytes e = ap Ok (let same : Some x ≡ Some bytes = e in cc)
 ok_of (Err x) bytes e = cc
 

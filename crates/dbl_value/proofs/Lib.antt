@@ -12,3 +12,5 @@ pub mod Ordered
 pub mod JsonTexts
 pub mod ZuluLemmas
 pub mod RangeLemmas
+pub mod DateForms
+pub mod HexForms

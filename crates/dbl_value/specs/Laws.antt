@@ -1,5 +1,5 @@
 -- What holds of types, values and their texts.
-use Rattle.std.specs.Prelude.{◌≡◌, ◌↔◌, ◌^◌, ◌⊎◌, ℕ, ℤ, List, IsTrue, Some}
+use Rattle.std.specs.Prelude.{◌≡◌, ◌↔◌, ◌^◌, ℕ, ℤ, List, IsTrue, Some}
 use Rattle.std.specs.Fmt.{signed_decimal}
 use Rattle.std.specs.Cmp.{IsTotalOrder}
 use Rattle.std.specs.declared.cmp.Ordering.TheVariants.{Equal}
@@ -7,7 +7,7 @@ use Rattle.dbl_value.specs.declared.column_type.PgType.{PgType}
 use Rattle.dbl_value.specs.declared.column_type.PgType.TheVariants as type
 use Rattle.dbl_value.specs.declared.value.Val.{Val}
 use Rattle.dbl_value.specs.declared.value.Val.TheVariants as val
-use Rattle.dbl_value.specs.Values.{oid_of, type_of, is_column_type, SpellsValue, IsOf, text_of, json_of}
+use Rattle.dbl_value.specs.Values.{oid_of, type_of, is_column_type, SpellsValue, IsOf, IsCellOf, text_of, json_of}
 use Rattle.dbl_value.specs.Decimals.{is_within}
 use Rattle.dbl_value.specs.Order.{val_cmp}
 
@@ -29,10 +29,6 @@ DecimalsSpellIntegers = AreDecimals type.Int2 (2 ^ 15) × AreDecimals type.Int4 
 -- the text of a value spells it
 abbrev pub TextsReadBack : Type 0
 TextsReadBack = (ty : PgType) (v : Val) → IsOf ty v → SpellsValue ty (text_of v) v
-
--- what stands in a column of the type
-abbrev pub IsCellOf : PgType → Val → Type 0
-IsCellOf ty v = (v ≡ val.Null) ⊎ IsOf ty v
 
 -- cells of one column that have the same JSON text are the same
 abbrev pub JsonTellsCells : Type 0

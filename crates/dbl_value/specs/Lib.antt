@@ -10,3 +10,4 @@ pub mod Values
 pub mod Faults
 pub mod Order
 pub mod Laws
+pub mod Forms

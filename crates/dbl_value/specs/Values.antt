@@ -1,5 +1,5 @@
 -- Which value a text spells at a type, a value's text and its JSON.
-use Rattle.std.specs.Prelude.{ℕ, ℤ, pos, ◌^◌, ◌≡◌, Bool, true, false, if◌then◌else◌, Option, Some, None, option_map, List, [], ◌++◌, unsigned_abs, codes}
+use Rattle.std.specs.Prelude.{ℕ, ℤ, pos, ◌^◌, ◌≡◌, ◌⊎◌, Bool, true, false, if◌then◌else◌, Option, Some, None, option_map, List, [], ◌++◌, unsigned_abs, codes}
 use Rattle.std.specs.Fmt.{signed_decimal}
 use Rattle.std.specs.Str.{bytes_eq, IsUtf8}
 use Rattle.base64.specs.Engines.{standard}
@@ -64,6 +64,10 @@ pub record IsOf (ty : PgType) (v : Val) : Type 0 where
   pub text : List ℕ
   pub utf8 : IsUtf8 text
   pub spells : SpellsValue ty text v
+
+-- what stands in a column of the type, Null among it
+abbrev pub IsCellOf : PgType → Val → Type 0
+IsCellOf ty v = (v ≡ val.Null) ⊎ IsOf ty v
 
 -- the text that PostgreSQL sends for a value of a type, a moment with an offset in UTC; none is sent for Null, which has the
 -- empty one here

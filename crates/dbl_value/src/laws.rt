@@ -1,3 +1,4 @@
+ghost use Rattle.dbl_value.specs.Forms.{DateTextsAreDays, DaysAreDates, ByteTextsAreHex, UuidTextsAreGroups};
 ghost use Rattle.dbl_value.specs.Laws.{OidsNameTypes, TextsSpellOneValue, DecimalsSpellIntegers, TextsReadBack, JsonTellsCells, ValuesAreOrdered};
 
 /// An OID is that of at most one type, and each type has one.
@@ -28,4 +29,24 @@ pub fn json_tells_cells()
 /// Values have a total order, and only a value itself is equal to it.
 pub fn values_are_ordered()
     ensures { ValuesAreOrdered }
+{}
+
+/// A text spells a date exactly where it is `YYYY-MM-DD` of a day of the calendar in the years 1 to 9999.
+pub fn date_texts_are_days()
+    ensures { DateTextsAreDays }
+{}
+
+/// Each day in the years 1 to 9999 is that of one date.
+pub fn days_are_dates()
+    ensures { DaysAreDates }
+{}
+
+/// A text spells bytes exactly where it is `\x` and two digits for each byte, in lower case.
+pub fn byte_texts_are_hex()
+    ensures { ByteTextsAreHex }
+{}
+
+/// A text spells a uuid exactly where it is five groups of hexadecimal digits in lower case.
+pub fn uuid_texts_are_groups()
+    ensures { UuidTextsAreGroups }
 {}

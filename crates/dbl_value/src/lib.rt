@@ -19,8 +19,9 @@ pub use column_type::{PgType, of, oid};
 pub use encoding::{json, write_json};
 pub use error::ValueError;
 pub use laws::{
-    decimals_spell_integers, json_tells_cells, oids_name_types, texts_read_back,
-    texts_spell_one_value, values_are_ordered,
+    byte_texts_are_hex, date_texts_are_days, days_are_dates, decimals_spell_integers,
+    json_tells_cells, oids_name_types, texts_read_back, texts_spell_one_value,
+    uuid_texts_are_groups, values_are_ordered,
 };
 pub use printing::print;
 pub use reading::{read, read_owned};

@@ -63,7 +63,7 @@ date_bytes text h =
         → t ≡ b1 ∷ b2 ∷ b3 ∷ b4 ∷ b5 ∷ b6 ∷ b7 ∷ b8 ∷ b9 ∷ b10 ∷ []
     chain t r1 r2 r3 r4 r5 r6 r7 r8 r9 r10 b1 b2 b3 b4 b5 b6 b7 b8 b9 b10 e1 e2 e3 e4 e5 e6 e7 e8 e9 e10 e11 = cc
 
-read_text : (text : List ℕ) (number : ℤ) → day_of text ≡ Some number → IsDateText text number
+pub read_text : (text : List ℕ) (number : ℤ) → day_of text ≡ Some number → IsDateText text number
 unfolding day_of
 read_text text number e = by_shape (has_shape (codes "9999-99-99") text) refl e
   where

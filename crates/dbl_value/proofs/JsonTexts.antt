@@ -23,7 +23,7 @@ use Rattle.serde_json.proofs.Texts.{print-outline}
 use Rattle.dbl_value.specs.declared.column_type.PgType.{PgType}
 use Rattle.dbl_value.specs.declared.value.Val.{Val}
 use Rattle.dbl_value.specs.declared.value.Val.TheVariants as val
-use Rattle.dbl_value.specs.Values.{json_data, json_of, IsOf, IsCellOf}
+use Rattle.dbl_value.specs.Values.{json_data, json_of, IsOf}
 use Rattle.dbl_value.specs.Order.{rank}
 use Rattle.dbl_value.specs.Decimals.{is_within}
 use Rattle.dbl_value.specs.Dates.{IsInYears}

@@ -14,3 +14,6 @@ pub mod ZuluLemmas
 pub mod RangeLemmas
 pub mod DateForms
 pub mod HexForms
+pub mod ClockForms
+pub mod InstantForms
+pub mod RangeForms

@@ -133,7 +133,7 @@ stamp_of-instant text z e = by_space (slice_index text 10 == 32) e
 -- ---- instants
 
 -- a byte that is no sign
-abbrev no_sign : ℕ → Bool
+abbrev pub no_sign : ℕ → Bool
 no_sign c = not (is_sign c)
 
 digit_no_sign : (c : ℕ) → is_ascii_digit c ≡ true → no_sign c ≡ true
@@ -142,7 +142,7 @@ digit_no_sign c h =
     let low = digit.low in
     rw (ne_eqb c 43 (λ e. omega arith), ne_eqb c 45 (λ e. omega arith)) refl
 
-digits_no_sign : (ds : List ℕ) → list_all is_ascii_digit ds ≡ true → list_all no_sign ds ≡ true
+pub digits_no_sign : (ds : List ℕ) → list_all is_ascii_digit ds ≡ true → list_all no_sign ds ≡ true
 digits_no_sign [] h = refl
 digits_no_sign (d ∷ ds) h = let parts = and_parts _ _ h in and_from _ _ (digit_no_sign d parts.0) (digits_no_sign ds parts.1)
 
@@ -152,14 +152,15 @@ fraction_no_sign micros h = elim (cases_eq micros 0) [
   | inr some ↦ ap (list_all no_sign) (fraction_text-more micros some) ∙ digits_no_sign (short_digits digit_units micros) (fraction_digits micros h some)
 ]
 
-sign_behind : (front rest : List ℕ) → list_all no_sign front ≡ true → prefix_len no_sign (front ++ 43 ∷ rest) ≡ length front
-sign_behind [] rest h = refl
-sign_behind (c ∷ front) rest h = let parts = and_parts (no_sign c) (list_all no_sign front) h in rw (parts.0, sign_behind front rest parts.1) (omega arith)
+pub sign_behind : (front rest : List ℕ) (sign : ℕ) → is_sign sign ≡ true → list_all no_sign front ≡ true → prefix_len no_sign (front ++ sign ∷ rest) ≡ length front
+sign_behind [] rest sign is h = rw is refl
+sign_behind (c ∷ front) rest sign is h = let parts = and_parts (no_sign c) (list_all no_sign front) h in rw (parts.0, sign_behind front rest sign is parts.1) (omega arith)
 
-place_behind : (front rest : List ℕ) → list_all no_sign front ≡ true → position is_sign (front ++ 43 ∷ rest) ≡ Some (length front)
-place_behind front rest h =
-    let longer : length front < length (front ++ 43 ∷ rest) = omega (arith, length-append front (43 ∷ rest)) in
-    rw (sign_behind front rest h, lt-ltb (length front) (length (front ++ 43 ∷ rest)) longer) refl
+-- the first sign stands behind bytes that are none
+pub place_behind : (front rest : List ℕ) (sign : ℕ) → is_sign sign ≡ true → list_all no_sign front ≡ true → position is_sign (front ++ sign ∷ rest) ≡ Some (length front)
+place_behind front rest sign is h =
+    let longer : length front < length (front ++ sign ∷ rest) = omega (arith, length-append front (sign ∷ rest)) in
+    rw (sign_behind front rest sign is h, lt-ltb (length front) (length (front ++ sign ∷ rest)) longer) refl
 
 -- a date, a space and a clock are 19 bytes
 record IsNineteen (date : List ℕ) : Type 0 where
@@ -186,7 +187,7 @@ sign_of-text z h =
     let nineteen = date_nineteen (day_of_stamp z) named in
     let fraction = fraction_text (clock_of_stamp z % 1000000) in
     let seconds = clock_of_stamp z / 1000000 in (
-      ap (position is_sign) (nineteen.behind seconds fraction (codes "+00")) ∙ place_behind fraction (codes "00") (fraction_no_sign (clock_of_stamp z % 1000000) (omega arith)),
+      ap (position is_sign) (nineteen.behind seconds fraction (codes "+00")) ∙ place_behind fraction (codes "00") 43 refl (fraction_no_sign (clock_of_stamp z % 1000000) (omega arith)),
       nineteen.long seconds fraction,
     )
 

@@ -1,5 +1,5 @@
 -- What holds of types, values and their texts.
-use Rattle.std.specs.Prelude.{◌≡◌, ◌↔◌, ◌^◌, ℕ, ℤ, List, IsTrue, Some}
+use Rattle.std.specs.Prelude.{◌≡◌, ◌↔◌, ◌^◌, ℕ, ℤ, List, IsTrue, Some, None}
 use Rattle.std.specs.Fmt.{signed_decimal}
 use Rattle.std.specs.Cmp.{IsTotalOrder}
 use Rattle.std.specs.declared.cmp.Ordering.TheVariants.{Equal}
@@ -7,8 +7,9 @@ use Rattle.dbl_value.specs.declared.column_type.PgType.{PgType}
 use Rattle.dbl_value.specs.declared.column_type.PgType.TheVariants as type
 use Rattle.dbl_value.specs.declared.value.Val.{Val}
 use Rattle.dbl_value.specs.declared.value.Val.TheVariants as val
-use Rattle.dbl_value.specs.Values.{oid_of, type_of, is_column_type, SpellsValue, IsOf, IsCellOf, text_of, json_of}
+use Rattle.dbl_value.specs.Values.{oid_of, type_of, is_column_type, value_of, SpellsValue, IsOf, IsCellOf, text_of, json_of}
 use Rattle.dbl_value.specs.Decimals.{is_within}
+use Rattle.dbl_value.specs.Faults.{is_date_range}
 use Rattle.dbl_value.specs.Order.{val_cmp}
 
 -- an OID is that of at most one type that a column can have, and each such type has one
@@ -18,6 +19,10 @@ OidsNameTypes = (oid : ℕ) (ty : PgType) → (type_of oid ≡ Some ty) ↔ ((oi
 -- a text spells one value of a type at most
 abbrev pub TextsSpellOneValue : Type 0
 TextsSpellOneValue = (ty : PgType) (text : List ℕ) (v w : Val) → SpellsValue ty text v → SpellsValue ty text w → v ≡ w
+
+-- a text that names a date outside the years 1 to 9999 spells no value
+abbrev pub DateRangesSpellNoValue : Type 0
+DateRangesSpellNoValue = (ty : PgType) (text : List ℕ) → IsTrue (is_date_range ty text) → value_of ty text ≡ None
 
 -- a text spells an integer exactly where it is the decimal text of one in the type's range
 abbrev pub AreDecimals : PgType → ℕ → Type 0

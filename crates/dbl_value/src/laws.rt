@@ -1,5 +1,5 @@
-ghost use Rattle.dbl_value.specs.Forms.{DateTextsAreDays, DaysAreDates, ByteTextsAreHex, UuidTextsAreGroups};
-ghost use Rattle.dbl_value.specs.Laws.{OidsNameTypes, TextsSpellOneValue, DecimalsSpellIntegers, TextsReadBack, JsonTellsCells, ValuesAreOrdered};
+ghost use Rattle.dbl_value.specs.Forms.{TimeTextsAreClocks, StampTextsAreMoments, InstantTextsAreInstants, DateTextsAreDays, DaysAreDates, ByteTextsAreHex, UuidTextsAreGroups};
+ghost use Rattle.dbl_value.specs.Laws.{DateRangesSpellNoValue, OidsNameTypes, TextsSpellOneValue, DecimalsSpellIntegers, TextsReadBack, JsonTellsCells, ValuesAreOrdered};
 
 /// An OID is that of at most one type, and each type has one.
 pub fn oids_name_types()
@@ -49,4 +49,24 @@ pub fn byte_texts_are_hex()
 /// A text spells a uuid exactly where it is five groups of hexadecimal digits in lower case.
 pub fn uuid_texts_are_groups()
     ensures { UuidTextsAreGroups }
+{}
+
+/// A text spells a time exactly where it is `HH:MM:SS` up to 23:59:59, perhaps with a fraction of 1 to 6 digits, or `24:00:00`.
+pub fn time_texts_are_clocks()
+    ensures { TimeTextsAreClocks }
+{}
+
+/// A text spells a timestamp exactly where it is a date, one space and a time before 24:00:00.
+pub fn stamp_texts_are_moments()
+    ensures { StampTextsAreMoments }
+{}
+
+/// A text spells an instant exactly where it is a timestamp and an offset, and the instant is in the years 1 to 9999.
+pub fn instant_texts_are_instants()
+    ensures { InstantTextsAreInstants }
+{}
+
+/// A text that names a date outside the years 1 to 9999 spells no value.
+pub fn date_ranges_spell_no_value()
+    ensures { DateRangesSpellNoValue }
 {}

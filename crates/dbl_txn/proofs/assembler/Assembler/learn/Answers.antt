@@ -1,0 +1,9 @@
+use Rattle.std.proofs.Common.{refl}
+use Rattle.dbl_txn.specs.declared.assembler.Assembler.{Assembler}
+use Rattle.dbl_txn.proofs.Steps.{stands_learnt}
+use Rattle.dbl_txn.proofs.assembler.Assembler.learn.Goals as goal
+
+pub returns-clause-learnt : goal.returns-clause-learnt
+returns-clause-learnt c = λ infos after ms held s none. (
+    let now : Assembler = record { infos = c.push.new.self; last = c.args.self.now.last; relations = c.args.self.now.relations; block = c.args.self.now.block } in
+    stands_learnt infos c.args.info after ms held c.args.self.now now s none c.in_ok-push.ensures.items refl refl refl)

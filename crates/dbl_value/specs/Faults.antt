@@ -37,6 +37,10 @@ is_date_range type.Timestamp text = is_beyond text
 is_date_range type.Timestamptz text = is_beyond text || is_moved_out text
 is_date_range ty text = false
 
--- the fault of a text that spells no value of the type, and none of one that does
+-- the fault of a text that spells no value of the type
+abbrev pub fault_of : PgType → List ℕ → ValueError
+fault_of ty text = if is_date_range ty text then error.DateRange else error.BadText
+
+-- the fault of a text, and none of one that spells a value of the type
 abbrev pub value_fault : PgType → List ℕ → Option ValueError
-value_fault ty text = if is_some (value_of ty text) then None else (if is_date_range ty text then Some error.DateRange else Some error.BadText)
+value_fault ty text = if is_some (value_of ty text) then None else Some (fault_of ty text)

@@ -59,7 +59,7 @@ days_mag : (z : ℤ) → IsInYears z → mag z < 2 ^ 63
 days_mag (pos n) h = let low = h.0 in let high = h.1 in omega (arith, signed_arith)
 days_mag (negsuc n) h = let low = h.0 in let high = h.1 in omega (arith, signed_arith)
 
-instant_mag : (z : ℤ) → is_instant z ≡ true → mag z < 2 ^ 63
+pub instant_mag : (z : ℤ) → is_instant z ≡ true → mag z < 2 ^ 63
 instant_mag (pos n) h = let both = and_parts _ _ h in let low = le-true first_instant (pos n) both.0 in let high = le-true (pos n) last_instant both.1 in omega (arith, signed_arith)
 instant_mag (negsuc n) h = let both = and_parts _ _ h in let low = le-true first_instant (negsuc n) both.0 in let high = le-true (negsuc n) last_instant both.1 in omega (arith, signed_arith)
 

@@ -8,10 +8,10 @@ pub enum ValueError {
     #[error("floats aren't captured")]
     FloatType,
     /// The text spells no value of the type.
-    #[error("the text spells no value of its type")]
+    #[error("bad text")]
     BadText,
     /// The text names a date that isn't in the years 1 to 9999.
-    #[error("the text names a date outside the years 1 to 9999")]
+    #[error("date range")]
     DateRange,
     #[error("out of memory")]
     Memory,

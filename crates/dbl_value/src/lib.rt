@@ -13,6 +13,7 @@ mod printing;
 mod reading;
 mod shapes;
 mod stamps;
+mod tree;
 mod value;
 
 pub use column_type::{PgType, of, oid};
@@ -26,6 +27,7 @@ pub use laws::{
 };
 pub use printing::print;
 pub use reading::{read, read_owned};
+pub use tree::json_tree;
 pub use value::Val;
 
 #[cfg(test)]

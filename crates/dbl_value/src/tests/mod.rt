@@ -3,13 +3,21 @@ ghost use Rattle.dbl_value.specs.Order.{val_cmp};
 
 mod server;
 
-use super::{PgType, Val, ValueError, json, of, oid, print, read, read_owned};
+use super::{PgType, Val, ValueError, json, json_tree, of, oid, print, read, read_owned};
 use dbl_base::{Seq, Text};
 use serde_json::Value;
 use std::alloc::Global;
 use std::cmp::Ordering;
 use std::str::FromStr;
 use std::test::Fail;
+
+/// Each control character that a text of PostgreSQL can have: from U+0001 to U+001F, and U+007F.
+const CONTROLS: &str =
+    "\u{1}\u{2}\u{3}\u{4}\u{5}\u{6}\u{7}\u{8}\t\n\u{b}\u{c}\r\u{e}\u{f}\u{10}\u{11}\u{12}\u{13}\u{14}\u{15}\u{16}\u{17}\u{18}\u{19}\u{1a}\u{1b}\u{1c}\u{1d}\u{1e}\u{1f}\u{7f}";
+
+/// The same by RFC 8259, section 7, where U+007F stands as it is.
+const CONTROLS_AS_JSON: &str =
+    "\"\\u0001\\u0002\\u0003\\u0004\\u0005\\u0006\\u0007\\b\\t\\n\\u000b\\f\\r\\u000e\\u000f\\u0010\\u0011\\u0012\\u0013\\u0014\\u0015\\u0016\\u0017\\u0018\\u0019\\u001a\\u001b\\u001c\\u001d\\u001e\\u001f\u{7f}\"";
 
 /// What `==` and `cmp` answer, by their definitions.
 fn compared(a: &Val, b: &Val) -> (bool, Ordering)
@@ -26,6 +34,12 @@ fn shown(alloc: Global, ty: PgType, text: &str) -> Result<(Text, Text), ValueErr
     Ok((printed, json(alloc, &val.copy(alloc)?)?))
 }
 
+/// A text's value as a JSON tree.
+fn tree(alloc: Global, ty: PgType, text: &str) -> Result<Value, ValueError> {
+    let val = read(alloc, ty, &Text::of(alloc, text)?)?;
+    Ok(json_tree(alloc, &val)?)
+}
+
 #[test]
 fn values_are_those_of_the_server(rt: HostRuntime) -> Result<(), Fail> {
     let alloc = rt.alloc();
@@ -34,10 +48,16 @@ fn values_are_those_of_the_server(rt: HostRuntime) -> Result<(), Fail> {
         let row = Value::from_str(alloc, line)?;
         let number = row.get(0).and_then(|v| v.as_u64()).ok_or("no OID")?;
         let text = row.get(1).and_then(|v| v.as_str()).ok_or("no text")?;
-        let wanted = row.get(2).ok_or("no value")?.to_string(alloc)?;
-        let (printed, encoded) = shown(alloc, of(u32::try_from(number)?)?, text)?;
+        let wanted = row.get(2).ok_or("no value")?;
+        let ty = of(u32::try_from(number)?)?;
+        let (printed, encoded) = shown(alloc, ty, text)?;
         assert_eq!(rt; printed.as_str(), text, "{line}");
-        assert_eq!(rt; encoded.as_str(), wanted.as_str(), "{line}");
+        assert_eq!(rt;
+            encoded.as_str(),
+            wanted.to_string(alloc)?.as_str(),
+            "{line}"
+        );
+        assert_eq!(rt; &tree(alloc, ty, text)?, wanted, "{line}");
         count = count.saturating_add(1);
     }
     assert_eq!(rt; count, 111);
@@ -50,6 +70,7 @@ fn values_print_and_have_json(rt: HostRuntime) -> Result<(), Fail> {
         (PgType::Int2, "-32768", "-32768", "-32768"),
         (PgType::Int2, "32767", "32767", "32767"),
         (PgType::Other(600), "(1,2)", "(1,2)", "\"(1,2)\""),
+        (PgType::Text, CONTROLS, CONTROLS, CONTROLS_AS_JSON),
         (PgType::Time, "12:00:00.500", "12:00:00.5", "43200500000"),
         (
             PgType::Timestamp,

@@ -8,10 +8,10 @@ use Rattle.dbl_pgmsg.specs.declared.messages.TupleCell.{TupleCell}
 use Rattle.dbl_pgmsg.specs.declared.messages.TupleCell.TheVariants as cell
 use Rattle.dbl_pgmsg.specs.Grammar.{FitsCell}
 use Rattle.dbl_value.specs.declared.column_type.PgType.{PgType}
-use Rattle.dbl_value.specs.declared.error.ValueError.TheVariants.{BadText}
 use Rattle.dbl_value.specs.declared.value.Val.{Val}
 use Rattle.dbl_value.specs.declared.value.Val.TheVariants as val
 use Rattle.dbl_value.specs.Values.{value_of, IsOf, IsCellOf}
+use Rattle.dbl_value.specs.Faults.{fault_of}
 use Rattle.dbl_model.specs.declared.table.TableName.{TableName}
 use Rattle.dbl_model.specs.declared.table.Column.{Column}
 use Rattle.dbl_model.specs.declared.table.TableInfo.{TableInfo}
@@ -42,7 +42,7 @@ spelled : (table : TableName) (column : Column) (text : List ℕ) (v : Val) → 
 unfolding spelled_value
 spelled table column text v utf8 is = by (value_of column.ty text) refl is
   where
-    by : (o : Option Val) → value_of column.ty text ≡ o → some_or o (errors.Value table column.name BadText) ≡ Ok v → IsOf column.ty v
+    by : (o : Option Val) → value_of column.ty text ≡ o → some_or o (errors.Value table column.name (fault_of column.ty text)) ≡ Ok v → IsOf column.ty v
     by None same told = cc
     by (Some w) same told = let e : w ≡ v = cc in record { text = text; utf8 = utf8; spells = same ∙ ap (λ x. Some x) e }
 

@@ -9,10 +9,10 @@ use Rattle.dbl_pgmsg.specs.declared.messages.OldTuple.TheVariants as old
 use Rattle.dbl_pgmsg.specs.declared.messages.TupleCell.{TupleCell}
 use Rattle.dbl_pgmsg.specs.declared.messages.TupleCell.TheVariants as cell
 use Rattle.dbl_value.specs.declared.column_type.PgType.{PgType}
-use Rattle.dbl_value.specs.declared.error.ValueError.TheVariants.{BadText}
 use Rattle.dbl_value.specs.declared.value.Val.{Val}
 use Rattle.dbl_value.specs.declared.value.Val.TheVariants as val
 use Rattle.dbl_value.specs.Values.{oid_of, value_of}
+use Rattle.dbl_value.specs.Faults.{fault_of}
 use Rattle.dbl_model.specs.declared.table.TableName.{TableName}
 use Rattle.dbl_model.specs.declared.table.Column.{Column}
 use Rattle.dbl_model.specs.declared.table.TableInfo.{TableInfo}
@@ -46,7 +46,7 @@ some_or None e = Err e
 
 -- the value that a text spells at its column's type
 unfoldable pub spelled_value : TableName → Column → List ℕ → Result Val TxnError
-spelled_value table column text = some_or (value_of column.ty text) (errors.Value table column.name BadText)
+spelled_value table column text = some_or (value_of column.ty text) (errors.Value table column.name (fault_of column.ty text))
 
 -- a key column, by its place
 abbrev pub is_key_place : TableInfo → ℕ → Bool

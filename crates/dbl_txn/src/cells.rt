@@ -15,7 +15,7 @@ use std::alloc::Global;
 fn spelled(alloc: Global, table: &TableName, column: &Column, text: Text) -> Result<Val, TxnError>
     ensures { Gives result (spelled_value table.now column.now text) }
 {
-    match read_owned(column.ty, text) {
+    match read_owned(alloc, column.ty, text) {
         Ok(value) => Ok(value),
         Err(ValueError::Memory) => Err(TxnError::Memory),
         Err(error) => Err(TxnError::Value {

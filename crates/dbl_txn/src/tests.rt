@@ -1,13 +1,10 @@
-ghost use Rattle.std.specs.Prelude.{IsSome, IfOk};
-ghost use Rattle.dbl_value.specs.Values.{type_of};
-
 use crate::*;
 use dbl_base::{Lsn, Seq, Text};
 use dbl_model::{
     Body, Cell, Change, Commit, ModelError, RawColumn, RawTable, TableInfo, TableName,
 };
 use dbl_pgmsg::{Message, OldTuple, RelationColumn, Tuple, TupleCell};
-use dbl_value::Val;
+use dbl_value::{Val, json};
 use std::alloc::{AllocError, Global};
 use std::process::Abort;
 use std::test::Fail;
@@ -156,20 +153,15 @@ fn message(alloc: Global, line: &str) -> Result<Message, AllocError> {
     }
 }
 
-fn raw_column(alloc: Global, name: &str) -> Result<RawColumn, AllocError>
-    ensures { IfOk result (λ c. IsSome (type_of c.oid)) }
-{
-    Ok(RawColumn {
-        name: Text::of(alloc, name)?,
-        oid: if name == "id" { 23 } else { 25 },
-    })
-}
-
-/// A table of `public`, whose columns are texts but for `id`.
+/// A table of `public`, whose columns are written as in a Relation.
 fn table(alloc: Global, name: &str, columns: &str, key: &str) -> Result<TableInfo, ModelError> {
     let mut raw_columns = Vec::new(alloc);
-    for column in columns.split(' ') {
-        raw_columns.push(raw_column(alloc, column)?)?;
+    for word in columns.split(' ') {
+        let column = column(alloc, word)?;
+        raw_columns.push(RawColumn {
+            name: column.name,
+            oid: column.oid,
+        })?;
     }
     let mut raw_key = Vec::new(alloc);
     raw_key.push(Text::of(alloc, key)?)?;
@@ -186,8 +178,9 @@ fn table(alloc: Global, name: &str, columns: &str, key: &str) -> Result<TableInf
 
 fn assembler(alloc: Global) -> Result<Assembler, ModelError> {
     let mut infos = Vec::new(alloc);
-    infos.push(table(alloc, "users", "id name", "id")?)?;
-    infos.push(table(alloc, "docs", "slug body", "slug")?)?;
+    infos.push(table(alloc, "users", "id:23 name:25", "id")?)?;
+    infos.push(table(alloc, "docs", "slug:25 body:25", "slug")?)?;
+    infos.push(table(alloc, "kinds", "id:2950 day:1082 raw:17", "id")?)?;
     Ok(Assembler::make(alloc, infos, Lsn(100)))
 }
 
@@ -196,6 +189,10 @@ fn shown_val(alloc: Global, val: &Val) -> Result<String, AllocError> {
         Val::Null => String::from_str(alloc, "~"),
         Val::Int(number) => format!(in alloc; "{number}"),
         Val::Text(text) => format!(in alloc; "{text}"),
+        other => match json(alloc, other) {
+            Ok(text) => Ok(text.into_string()),
+            Err(_) => Err(AllocError),
+        },
     }
 }
 
@@ -293,6 +290,8 @@ const UNFLAGGED: &str = "R/1/public/users/d/id:23:0 name:25:1";
 
 const DOCS: &str = "R/2/public/docs/d/slug:25:1 body:25:0";
 
+const KINDS: &str = "R/6/public/kinds/d/id:2950:1 day:1082:0 raw:17:0";
+
 const OTHERS: &str = "R/3/public/others/d/id:23:1";
 
 const MARKS: &str = "R/4/public/dblog_watermark/d/id:23:1 value:25:0";
@@ -351,6 +350,16 @@ fn messages_state_commits(rt: HostRuntime) -> Result<(), Fail> {
             (
                 &[DOCS, "B/256/7", "U/2/K/a ~/? ?", "C/256/296"],
                 "256 296 5 7; update 1 a, old a ~, new a ?",
+            ),
+            (
+                &[
+                    KINDS,
+                    "B/256/7",
+                    "I/6/abcdef01-2345-6789-abcd-ef0123456789 2024-02-29 \\x0102ff",
+                    "U/6/-//abcdef01-2345-6789-abcd-ef0123456789 ~ ?",
+                    "C/256/296",
+                ],
+                "256 296 5 7; insert 2 abcdef01-2345-6789-abcd-ef0123456789 19782 \"AQL/\"; update 2 abcdef01-2345-6789-abcd-ef0123456789, old none, new abcdef01-2345-6789-abcd-ef0123456789 ~ ?",
             ),
             (
                 &[
@@ -459,7 +468,27 @@ fn faults_are_answered(rt: HostRuntime) -> Result<(), Fail> {
             (&[USERS, "B/256/7", "I/1/~ Ann"], "null key public.users"),
             (
                 &[USERS, "B/256/7", "I/1/007 Ann"],
-                "public.users.id: the text spells no value of its type",
+                "bad text public.users.id",
+            ),
+            (
+                &[
+                    KINDS,
+                    "B/256/7",
+                    "I/6/abcdef01-2345-6789-abcd-ef0123456789 infinity ~",
+                ],
+                "date range public.kinds.day",
+            ),
+            (
+                &[KINDS, "B/256/7", "I/6/1 infinity ~"],
+                "bad text public.kinds.id",
+            ),
+            (
+                &[
+                    KINDS,
+                    "B/256/7",
+                    "U/6/-//abcdef01-2345-6789-abcd-ef0123456789 ? ~",
+                ],
+                "unchanged cell public.kinds.day",
             ),
             (&[MARKS, "B/256/7", "I/4/1 x"], "bad watermark"),
             (&[MARKS, "B/256/7", "U/4/-//1 ~"], "bad watermark"),
@@ -486,8 +515,8 @@ fn tables_are_learnt(rt: HostRuntime) -> Result<(), Fail> {
     let mut assembler = assembler(alloc)?;
     assert!(rt; assembler.take(alloc, message(alloc, "B/256/7")?)?.is_none());
     assert!(rt; assembler.inside());
-    assembler.learn(table(alloc, "tags", "id", "id")?)?;
-    assert_eq!(rt; assembler.infos().len(), 3);
+    assembler.learn(table(alloc, "tags", "id:23", "id")?)?;
+    assert_eq!(rt; assembler.infos().len(), 4);
     for line in ["R/5/public/tags/d/id:23:1", "I/5/1"] {
         assert!(rt; assembler.take(alloc, message(alloc, line)?)?.is_none());
     }
@@ -499,7 +528,7 @@ fn tables_are_learnt(rt: HostRuntime) -> Result<(), Fail> {
     };
     assert_eq!(rt;
         shown_commit(alloc, &commit)?.as_str(),
-        "256 296 5 7; insert 2 1"
+        "256 296 5 7; insert 3 1"
     );
     Ok(())
 }

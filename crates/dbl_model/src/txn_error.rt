@@ -69,7 +69,7 @@ pub enum TxnError {
         table: TableName,
     },
     /// A text spells no value of its column's type.
-    #[error("{table}.{column}: {error}")]
+    #[error("{error} {table}.{column}")]
     Value {
         table: TableName,
         column: Text,

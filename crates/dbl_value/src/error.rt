@@ -5,7 +5,7 @@ use thiserror::Error;
 #[derive(Debug, Drop, PartialEq, Eq, Error)]
 pub enum ValueError {
     /// The text spells no value of the type.
-    #[error("the text spells no value of its type")]
+    #[error("bad text")]
     BadText,
     #[error("out of memory")]
     Memory,

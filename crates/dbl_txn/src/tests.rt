@@ -459,7 +459,7 @@ fn faults_are_answered(rt: HostRuntime) -> Result<(), Fail> {
             (&[USERS, "B/256/7", "I/1/~ Ann"], "null key public.users"),
             (
                 &[USERS, "B/256/7", "I/1/007 Ann"],
-                "public.users.id: the text spells no value of its type",
+                "bad text public.users.id",
             ),
             (&[MARKS, "B/256/7", "I/4/1 x"], "bad watermark"),
             (&[MARKS, "B/256/7", "U/4/-//1 ~"], "bad watermark"),

@@ -13,7 +13,7 @@ use Rattle.dbl_model.specs.declared.txn_error.TxnError.{TxnError}
 use Rattle.dbl_model.specs.declared.txn_error.TxnError.TheVariants as errors
 use Rattle.dbl_model.specs.Past.{Begun, begin_of}
 use Rattle.dbl_model.specs.Stated.{is_empty, mismatch, first_of, place_fault, own_fault, transaction_fault, commits_of}
-use Rattle.dbl_model.specs.Blocks.{onto, Block, Part, Between, Whole, messages_of, IsFurther, IsPart, IsRest, commits_in, States, IsAccepted}
+use Rattle.dbl_model.specs.Blocks.{onto, Block, Part, Between, Whole, messages_of, IsFurther, IsPart, IsRest, commits_in, States, IsAccepted, first_fault}
 use Rattle.dbl_model.proofs.BlockLemmas.{onto-append, parts_closed, inside_rest, one_reading, begin_onto}
 
 all-append : {A : Type 0} (P : A → Type 0) (xs : List A) (y : A) → AllByRecursion P xs → P y → AllByRecursion P (xs ++ y ∷ [])
@@ -42,6 +42,14 @@ with_message m ms parts rest more left spelled all is e = record {
   is_rest = is;
   spelled = ap (λ (l : List Message). m ∷ l) spelled ∙ sym (onto-append [] (flat_map messages_of parts ++ rest) (m ∷ [])) ∙ ap (onto []) e;
 }
+
+onto-twice : (after before xs : List Message) → onto after (onto before xs) ≡ onto (xs ++ after) before
+onto-twice after before [] = refl
+onto-twice after before (x ∷ xs) = onto-twice after (x ∷ before) xs
+
+-- put one by one before nothing twice, messages stand as they were
+onto-back : (xs : List Message) → onto [] (onto [] xs) ≡ xs
+onto-back xs = onto-twice [] [] xs ∙ append-nil xs
 
 first_none : (a b : Option TxnError) → first_of a b ≡ None → (a ≡ None) × (b ≡ None)
 first_none None b h = (refl, h)
@@ -145,3 +153,17 @@ module _ (infos : List TableInfo) (after : Lsn) where
       let given : States infos list (commits_in infos [] s.parts) s.rest = record { parts = s.parts; are_parts = s.are_parts; is_rest = s.is_rest; spelled = refl; stated = refl } in
       let same : commits_in infos [] s.parts ≡ commits_of infos ms = one_reading infos list (commits_in infos [] s.parts) s.rest given ∙ ap (commits_of infos) (sym s.spelled) in
       (list, s.rest, subst (λ (cs : List Commit). States infos list cs s.rest) same given, sym s.spelled)
+
+  accepted_onto : (before list : List Message) → IsAccepted infos after before → first_fault infos after before list ≡ None → IsAccepted infos after (onto before list)
+  accepted_onto before [] was none = was
+  accepted_onto before (m ∷ ms) was none =
+      let both = first_none (transaction_fault infos after m before) (first_fault infos after (m ∷ before) ms) none in
+      accepted_onto (m ∷ before) ms (both.0, was) both.1
+
+  -- The same of messages in order.
+  pub faultless_states : (list : List Message) → first_fault infos after [] list ≡ None → (rest : List Message) × States infos list (commits_of infos (onto [] list)) rest
+  faultless_states list none =
+      let s = splits (onto [] list) (accepted_onto [] list tt none) in
+      let spelled : list ≡ flat_map messages_of s.parts ++ s.rest = sym (onto-back list) ∙ ap (onto []) s.spelled ∙ onto-back (flat_map messages_of s.parts ++ s.rest) in
+      let given : States infos list (commits_in infos [] s.parts) s.rest = record { parts = s.parts; are_parts = s.are_parts; is_rest = s.is_rest; spelled = spelled; stated = refl } in
+      (s.rest, subst (λ (cs : List Commit). States infos list cs s.rest) (one_reading infos list (commits_in infos [] s.parts) s.rest given) given)

@@ -10,7 +10,7 @@ use Rattle.dbl_model.specs.declared.change.Change.{Change}
 use Rattle.dbl_model.specs.declared.change.Commit.{Commit}
 use Rattle.dbl_model.specs.declared.txn_error.TxnError.{TxnError}
 use Rattle.dbl_model.specs.Past.{begin_of, mark_of, HasNoRelation}
-use Rattle.dbl_model.specs.Stated.{is_empty, stated, ok_or_none, commit_of, commits_of, first_of, transaction_fault}
+use Rattle.dbl_model.specs.Stated.{is_empty, stated, ok_or_none, open_changes, commit_of, commits_of, first_of, transaction_fault}
 
 -- messages in order, put one by one before what is there
 abbrev pub onto : List Message → List Message → List Message
@@ -113,8 +113,14 @@ abbrev pub AcceptedAreBlocks : Type 0
 AcceptedAreBlocks = (infos : List TableInfo) (after : Lsn) (ms : List Message) → IsAccepted infos after ms
     → (list : List Message) × (rest : List Message) × States infos list (commits_of infos ms) rest × (onto [] list ≡ ms)
 
+-- The same of messages in order.
+abbrev pub FaultlessAreBlocks : Type 0
+FaultlessAreBlocks = (infos : List TableInfo) (after : Lsn) (ms : List Message) → first_fault infos after [] ms ≡ None
+    → (rest : List Message) × States infos ms (commits_of infos (onto [] ms)) rest
+
 -- A table that comes to the captured ones before its first Relation changes nothing of what earlier messages state, nor of
 -- their faults.
 pub record LaterTablesChangeNothing (infos : List TableInfo) (info : TableInfo) : Type 0 where
   pub commits : (ms : List Message) → HasNoRelation info.name ms → commits_of (infos ++ info ∷ []) ms ≡ commits_of infos ms
+  pub changes : (ms : List Message) → HasNoRelation info.name ms → open_changes (infos ++ info ∷ []) ms ≡ open_changes infos ms
   pub faults : (after : Lsn) (m : Message) (ms : List Message) → HasNoRelation info.name (m ∷ ms) → transaction_fault (infos ++ info ∷ []) after m ms ≡ transaction_fault infos after m ms

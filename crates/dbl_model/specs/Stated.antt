@@ -105,7 +105,7 @@ abbrev pub ok_or_none : {A : Type 0} → Result (List A) TxnError → List A
 ok_or_none (Ok xs) = xs
 ok_or_none (Err e) = []
 
--- the changes that the open transaction states so far
+-- the changes that the open transaction states so far; where none is open they are part of no commit
 abbrev pub open_changes : List TableInfo → List Message → List Change
 open_changes infos [] = []
 open_changes infos (says.Begin lsn time xid ∷ ms) = []

@@ -33,8 +33,8 @@ pub use plain_records::plain_envelopes;
 pub use plain_rows::row_at;
 pub use row::{Key, Row, compare};
 pub use state_laws::{
-    accepted_are_blocks, blocks_state_one_list, later_tables_change_nothing, rests_are_one,
-    rests_are_open, stated_changes_fit,
+    accepted_are_blocks, blocks_state_one_list, faultless_are_blocks, later_tables_change_nothing,
+    rests_are_one, rests_are_open, stated_changes_fit,
 };
 pub use table::{Column, RawColumn, RawRow, RawTable, TableInfo, TableName};
 pub use time::milliseconds;

@@ -2,7 +2,7 @@
 
 ghost use Rattle.std.specs.Prelude.{List};
 ghost use Rattle.dbl_model.specs.declared.table.TableInfo.{TableInfo};
-ghost use Rattle.dbl_model.specs.Blocks.{BlocksStateOneList, RestsAreOne, RestsAreOpen, AcceptedAreBlocks, LaterTablesChangeNothing};
+ghost use Rattle.dbl_model.specs.Blocks.{BlocksStateOneList, RestsAreOne, RestsAreOpen, AcceptedAreBlocks, FaultlessAreBlocks, LaterTablesChangeNothing};
 ghost use Rattle.dbl_model.specs.StatedFits.{StatedChangesFit};
 
 /// However messages are taken apart into transactions, these state one list of commits: the one that looking back gives.
@@ -23,6 +23,12 @@ pub fn rests_are_open()
 /// Messages without a fault are transactions, messages between them, and an unfinished transaction or nothing.
 pub fn accepted_are_blocks()
     ensures { AcceptedAreBlocks }
+{}
+
+/// The same of messages in order: where none has a fault behind those before it, they are transactions, messages between
+/// them, and an unfinished transaction or nothing.
+pub fn faultless_are_blocks()
+    ensures { FaultlessAreBlocks }
 {}
 
 /// A table that is captured from its first Relation on changes nothing of what earlier messages state.

@@ -31,6 +31,13 @@ begun : (o : Option Begun) (mark : Option (List ℕ)) (changed : Bool) (held : L
 begun None mark changed held block h = absurd h
 begun (Some b) mark changed held block h = record { begin = b; found = refl; is = h }
 
+-- a transaction is open where one has begun
+pub is_open_so : (mark : Option (List ℕ)) (changed : Bool) (held : List Change) (o : Option Begun) (block : Option Block) → IsOpen mark changed held o block → is_some block ≡ is_some o
+is_open_so mark changed held None None h = refl
+is_open_so mark changed held None (Some block) h = absurd h
+is_open_so mark changed held (Some begin) None h = absurd h
+is_open_so mark changed held (Some begin) (Some block) h = refl
+
 open_with : (infos : List TableInfo) (after : Lsn) (ms : List Message) (held : List Change) (a : Assembler) (block : Block) → Stands infos after ms held a → a.block ≡ Some block
     → IsBegun (begin_of ms) (mark_of ms) (has_some (open_changes infos ms)) held block
 open_with infos after ms held a block s was =

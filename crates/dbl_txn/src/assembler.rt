@@ -5,10 +5,12 @@ ghost use Rattle.dbl_base.specs.declared.lsn.Lsn.{Lsn};
 ghost use Rattle.dbl_pgmsg.specs.declared.messages.Message.{Message};
 ghost use Rattle.dbl_pgmsg.specs.declared.messages.Message.TheVariants as says;
 ghost use Rattle.dbl_model.specs.declared.change.Change.{Change};
+ghost use Rattle.dbl_model.specs.declared.change.Commit.{Commit};
 ghost use Rattle.dbl_model.specs.declared.table.TableInfo.{TableInfo};
 ghost use Rattle.dbl_model.specs.Past.{Begun, begin_of, second_text, mark_in, HasNoRelation};
 ghost use Rattle.dbl_model.specs.Tuples.{refuse_if};
-ghost use Rattle.dbl_model.specs.Stated.{has_some, in_table, row_stated, targets_at, is_the_watermark, clears, truncate_stated, truncated, commit_of};
+ghost use Rattle.dbl_model.specs.Stated.{is_empty, has_some, in_table, row_stated, targets_at, is_the_watermark, clears, truncate_stated, truncated, commit_of};
+ghost use Rattle.dbl_model.specs.Blocks.{onto, States};
 ghost use Rattle.dbl_txn.specs.Stands.{message_of, IsBlock, Recalls, Stands, StandsWhole, Moves, Says, Takes};
 ghost use Rattle.dbl_txn.specs.Answers.{Gives};
 
@@ -262,7 +264,9 @@ impl Assembler {
 
     /// Whether a transaction is open. Takes no memory.
     pub fn inside(&self) -> bool
-        ensures { (infos : List TableInfo) (after : Lsn) (ms : List Message) (held : List Change) → Stands infos after ms held self.now → result ≡ is_some (begin_of ms) }
+        ensures begun { (infos : List TableInfo) (after : Lsn) (ms : List Message) (held : List Change) → Stands infos after ms held self.now → result ≡ is_some (begin_of ms) }
+        ensures rest { (infos : List TableInfo) (after : Lsn) (ms : List Message) (held : List Change) (commits : List Commit) (rest : List Message) →
+            Stands infos after (onto [] ms) held self.now → States infos ms commits rest → result ≡ not (is_empty rest) }
     {
         self.block.is_some()
     }
@@ -271,6 +275,8 @@ impl Assembler {
     pub fn learn(&mut self, info: TableInfo) -> Result<(), TxnError>
         ensures learnt { (infos : List TableInfo) (after : Lsn) (ms : List Message) (held : List Change) → Stands infos after ms held self.old → HasNoRelation info.name ms →
             OnOk result (Stands (infos ++ info ∷ []) after ms held self.new) }
+        ensures whole { (infos : List TableInfo) (after : Lsn) (ms : List Message) → StandsWhole infos after ms self.old → HasNoRelation info.name ms →
+            OnOk result (StandsWhole (infos ++ info ∷ []) after ms self.new) }
         ensures kept { (infos : List TableInfo) (after : Lsn) (ms : List Message) (held : List Change) → Stands infos after ms held self.old → OnErr result (Stands infos after ms held self.new) }
         ensures err { IfErr result (λ e. e ≡ TxnError.Memory) }
     {

@@ -2,7 +2,10 @@ use Rattle.std.proofs.Common.{arith, sym, ◌∙◌, ap, subst, List, [], ◌≡
 use Rattle.std.proofs.lemmas.Result.{err_from_is_err_and}
 use Rattle.std.specs.Vec.Iter.{into_iter_items}
 use Rattle.dbl_pgmsg.specs.declared.messages.Message.{Message}
+use Rattle.dbl_model.specs.declared.change.Commit.{Commit}
 use Rattle.dbl_model.specs.Stated.{commits_of}
+use Rattle.dbl_model.specs.Blocks.{States}
+use Rattle.dbl_model.proofs.Splitting.{faultless_states}
 use Rattle.dbl_txn.specs.Stands.{StandsWhole}
 use Rattle.dbl_txn.proofs.Wholes.{one_more, stopped, at_end, end_clean, no_items}
 use Rattle.dbl_txn.proofs.whole.take_all.Goals as goal
@@ -37,3 +40,13 @@ returns-clause-clean c = λ infos after ms s. (
     let t = c.loop-message.invariant infos after ms s in
     let none : into_iter_items c.loop-message.message-iterator ≡ [] = no_items (into_iter_items c.loop-message.message-iterator) (omega (arith, c.in-None.ensures.steps.0, c.loop-message.message-iterator.rest.ok)) in
     end_clean infos after ms c.args.messages.items (into_iter_items c.loop-message.message-iterator) c.loop-message.assembler c.loop-message.commits.items t none)
+
+pub returns-clause-blocks : goal.returns-clause-blocks
+returns-clause-blocks c = λ infos after s. (
+    let t = c.loop-message.invariant infos after [] s in
+    let none : into_iter_items c.loop-message.message-iterator ≡ [] = no_items (into_iter_items c.loop-message.message-iterator) (omega (arith, c.in-None.ensures.steps.0, c.loop-message.message-iterator.rest.ok)) in
+    let found = faultless_states infos after c.args.messages.items (end_clean infos after [] c.args.messages.items (into_iter_items c.loop-message.message-iterator) c.loop-message.assembler c.loop-message.commits.items t none) in (
+      found.0,
+      subst (λ (cs : List Commit). States infos c.args.messages.items cs found.0)
+          (ap (commits_of infos) (sym (at_end infos after [] c.args.messages.items (into_iter_items c.loop-message.message-iterator) c.loop-message.assembler c.loop-message.commits.items t none)) ∙ t.commits) found.1,
+    ))

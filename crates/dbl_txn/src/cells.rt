@@ -1,6 +1,6 @@
 //! How one cell of a row is read.
 
-ghost use Rattle.std.specs.Prelude.{◌≡◌};
+ghost use Rattle.std.specs.Prelude.{◌≡◌, ◌≢◌, ◌⊎◌};
 ghost use Rattle.std.specs.Option.{option_copied};
 ghost use Rattle.dbl_model.specs.Tuples.{spelled_value, null_cell, given_cell, is_fixed, filled_cell, new_cell};
 ghost use Rattle.dbl_txn.specs.Answers.{Gives};
@@ -11,18 +11,32 @@ use dbl_pgmsg::TupleCell;
 use dbl_value::{PgType, Val, ValueError, oid, read_owned};
 use std::alloc::Global;
 
+// What is answered of a text that spells no value of its column's type.
+fn refused(
+    alloc: Global,
+    table: &TableName,
+    column: &Column,
+    error: ValueError,
+) -> Result<Val, TxnError>
+    ensures { (result ≡ Err TxnError.Memory) ⊎ ((error ≢ ValueError.Memory) × (result ≡ Err (TxnError.Value table.now column.now.name error))) }
+{
+    match error {
+        ValueError::Memory => Err(TxnError::Memory),
+        error => Err(TxnError::Value {
+            table: table.copy(alloc)?,
+            column: column.name.copy(alloc)?,
+            error,
+        }),
+    }
+}
+
 #[tactic(auto, unfolding(dbl_model::specs::Tuples::spelled_value))]
 fn spelled(alloc: Global, table: &TableName, column: &Column, text: Text) -> Result<Val, TxnError>
     ensures { Gives result (spelled_value table.now column.now text) }
 {
     match read_owned(alloc, column.ty, text) {
         Ok(value) => Ok(value),
-        Err(ValueError::Memory) => Err(TxnError::Memory),
-        Err(error) => Err(TxnError::Value {
-            table: table.copy(alloc)?,
-            column: column.name.copy(alloc)?,
-            error,
-        }),
+        Err(error) => refused(alloc, table, column, error),
     }
 }
 

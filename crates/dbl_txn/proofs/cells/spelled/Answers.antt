@@ -1,4 +1,4 @@
-use Rattle.std.proofs.Common.{◌≡◌, inl, inr, refl}
+use Rattle.std.proofs.Common.{inl, inr, refl}
 use Rattle.dbl_model.specs.Tuples.{spelled_value}
 use Rattle.dbl_txn.proofs.Texts.{unread}
 use Rattle.dbl_txn.proofs.cells.spelled.Goals as goal

@@ -10,9 +10,9 @@ use std::process::Abort;
 use std::test::Fail;
 
 // Messages are written as words between slashes: `B/256/7` a Begin with its LSN and transaction, `C/256/296` a Commit with its
-// LSNs, `R/1/public/users/d/id:23:1 name:25:0` a Relation with each column's type and flags, `I/1/1 Ann` an Insert,
-// `U/1/K/1 ~/2 Ann` an Update (`-` where no old row is sent), `D/1/O/1 Ann` a Delete, `T/1 2` a Truncate, and `O`, `Y` and `M`.
-// A cell is null (`~`), unchanged (`?`) or its text.
+// LSNs, `R/1/public/users/d/id:23:1 name:25:0` a Relation with each column's type and flags (and `:m` behind them for a type
+// modifier), `I/1/1 Ann` an Insert, `U/1/K/1 ~/2 Ann` an Update (`-` where no old row is sent), `D/1/O/1 Ann` a Delete,
+// `T/1 2` a Truncate, and `O`, `Y` and `M`. A cell is null (`~`), unchanged (`?`) or its text.
 
 fn field<'a>(line: &'a str, place: usize) -> &'a str {
     line.split('/').nth(place).unwrap_or("")
@@ -48,7 +48,7 @@ fn column(alloc: Global, word: &str) -> Result<RelationColumn, AllocError> {
         flags: if parts.next() == Some("1") { 1 } else { 0 },
         name: Text::of(alloc, name)?,
         oid,
-        modifier: -1,
+        modifier: if parts.next() == Some("m") { 12 } else { -1 },
     })
 }
 
@@ -393,9 +393,11 @@ fn messages_state_commits(rt: HostRuntime) -> Result<(), Fail> {
                     USERS,
                     "B/512/8",
                     "U/1/-//1 Bo",
+                    "R/1/public/users/d/id:23:1 name:25:0:m",
+                    "I/1/2 Cy",
                     "C/512/552",
                 ],
-                "512 552 5 8; update 0 1, old none, new 1 Bo",
+                "512 552 5 8; update 0 1, old none, new 1 Bo; insert 0 2 Cy",
             ),
             (
                 &["R/1//users/d/id:23:1", "B/256/7", "I/1/~", "C/256/296"],

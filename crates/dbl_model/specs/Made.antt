@@ -3,6 +3,7 @@ use Rattle.std.specs.Prelude.{ℕ, ◌&&◌, nat_lt, not, Bool, false, if◌then
 use Rattle.std.specs.List.{find, list_any, list_all, position_from}
 use Rattle.dbl_value.specs.declared.column_type.PgType.{PgType}
 use Rattle.dbl_value.specs.Types.{is_float, type_of}
+use Rattle.dbl_model.specs.declared.table.TableName.{TableName}
 use Rattle.dbl_model.specs.declared.table.RawColumn.{RawColumn}
 use Rattle.dbl_model.specs.declared.table.RawTable.{RawTable}
 use Rattle.dbl_model.specs.declared.error.ModelError.{ModelError}

@@ -1,6 +1,8 @@
-use Rattle.std.proofs.Common.{◌≡◌, ◌∙◌, Some, sym, ap, inr}
+use Rattle.std.proofs.Common.{◌≡◌, ◌∙◌, Option, Some, None, List, ℕ, sym, ap, inr}
 use Rattle.std.specs.Prelude.{option_map}
+use Rattle.std.specs.List.{find}
 use Rattle.dbl_model.specs.declared.error.ModelError.TheVariants.{KeyType}
+use Rattle.dbl_model.specs.Tables.{is_unfit}
 use Rattle.dbl_model.specs.Infos.{name_at}
 use Rattle.dbl_model.specs.Made.{first_unfit}
 use Rattle.dbl_model.proofs.Making.{unfit_named}

@@ -1,4 +1,4 @@
-use Rattle.std.proofs.Common.{◌≡◌, ◌∙◌, Option, Some, map, ap, inr}
+use Rattle.std.proofs.Common.{◌≡◌, ◌∙◌, Option, Some, None, map, ap, inr}
 use Rattle.std.specs.Prelude.{option_map}
 use Rattle.std.specs.List.{find}
 use Rattle.dbl_model.specs.declared.table.RawColumn.{RawColumn}

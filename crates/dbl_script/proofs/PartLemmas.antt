@@ -1,6 +1,6 @@
 -- The first separator of some bytes, and the parts and lines that it ends.
-use Rattle.std.proofs.Common.{◌≡◌, ◌∙◌, ℕ, zero, suc, ◌+◌, ◌<◌, ◌==◌, if◌then◌else◌, Bool, true, false, List, [], ◌∷◌, Option, Some, None, option_map, length, get_or, take, drop, refl, ap, sym, arith}
-use Rattle.std.specs.List.{slice_split, onto_first}
+use Rattle.std.proofs.Common.{◌≡◌, ℕ, zero, suc, ◌<◌, ◌==◌, if◌then◌else◌, Bool, true, false, List, [], ◌∷◌, Option, Some, None, option_map, length, get_or, take, drop, refl, ap, arith}
+use Rattle.std.specs.List.{onto_first}
 use Rattle.dbl_script.specs.Words.{cut_at, parts_at, lines_of}
 
 pub is_false : (b : Bool) → (b ≡ true → ⊥) → b ≡ false

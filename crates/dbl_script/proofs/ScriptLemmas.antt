@@ -1,10 +1,8 @@
 -- A script that is built line by line.
-use Rattle.std.proofs.Common.{◌≡◌, ◌∙◌, ℕ, ◌+◌, ◌<◌, ◌≤◌, ◌==◌, Bool, true, false, if◌then◌else◌, List, [], ◌∷◌, ◌++◌, append_assoc, add_assoc, Option, Some, None, length, length-append, refl, ap, sym, arith}
+use Rattle.std.proofs.Common.{◌≡◌, ◌∙◌, ℕ, ◌+◌, Bool, true, false, List, [], ◌∷◌, ◌++◌, append_assoc, Option, Some, None, length, length-append, refl, ap, sym, arith}
 use Rattle.std.proofs.lemmas.List.{append-nil}
 use Rattle.std.specs.List.{filter_map, cons_option}
-use Rattle.std.specs.Option.{option_to_list}
 use Rattle.dbl_script.specs.declared.script.Script.{Script}
-use Rattle.dbl_script.specs.declared.script.ScriptTable.{ScriptTable}
 use Rattle.dbl_script.specs.declared.line.Line.{Line}
 use Rattle.dbl_script.specs.declared.line.Line.TheVariants.{Passed, Table, Row, Act}
 use Rattle.dbl_script.specs.Grammar.{line_at}

@@ -1,5 +1,5 @@
 -- Texts of bytes that are known.
-use Rattle.std.proofs.Common.{◌≡◌, ◌∙◌, ℕ, zero, suc, ◌<◌, ◌≤◌, ◌&&◌, ◌||◌, ◌==◌, Bool, true, false, List, [], ◌∷◌, ◌++◌, ◌^◌, append_assoc, length, get_or, Result, Ok, Option, Some, None, option_map, option_and_then, refl, sym, ap, arith, rules}
+use Rattle.std.proofs.Common.{◌≡◌, ◌∙◌, ℕ, zero, suc, ◌<◌, ◌≤◌, ◌&&◌, ◌||◌, Bool, true, false, List, [], ◌∷◌, ◌++◌, ◌^◌, append_assoc, length, get_or, Result, Ok, Option, Some, None, option_and_then, refl, sym, ap, arith, rules}
 use Rattle.std.specs.Char.{is_ascii_digit, is_ascii_lowercase}
 use Rattle.std.specs.Int.{is_in_range}
 use Rattle.std.specs.Str.Parse.{ParsesUnsigned, digits_value}

@@ -1,6 +1,5 @@
 -- What a line of a workload says. Source: own.
 use Rattle.std.specs.Prelude.{ℕ, ◌==◌, Bool, true, false, if◌then◌else◌, Option, Some, None, option_map, List, [], ◌∷◌, length, bytes_eq, codes}
-use Rattle.dbl_model.specs.declared.table.RawTable.{RawTable}
 use Rattle.dbl_script.specs.declared.script.NamedCell.{NamedCell}
 use Rattle.dbl_script.specs.declared.script.ScriptTable.{ScriptTable}
 use Rattle.dbl_script.specs.declared.script.ScriptRow.{ScriptRow}
@@ -10,7 +9,7 @@ use Rattle.dbl_script.specs.declared.line.Line.{Line}
 use Rattle.dbl_script.specs.declared.line.Line.TheVariants.{Passed, Table, Row, Act}
 use Rattle.dbl_script.specs.Columns.{columns_in, key_in, columns_of}
 use Rattle.dbl_script.specs.Words.{cut_at, words_of}
-use Rattle.dbl_script.specs.Reads.{◌>>=◌, all_of, some_of}
+use Rattle.dbl_script.specs.Reads.{◌>>=◌, some_of}
 use Rattle.dbl_script.specs.Texts.{table_name_of, session_of, column_name_of, number_of, text_of}
 
 -- ---- cells

@@ -1,7 +1,7 @@
 -- What a reader answers beside what is wanted of it.
-use Rattle.std.specs.Prelude.{◌≡◌, ◌==◌, ◌⊎◌, ℕ, Bool, if◌then◌else◌, Option, Some, None, option_and_then, Result, Ok, Err, List, [], ◌∷◌, length}
+use Rattle.std.specs.Prelude.{◌≡◌, ◌==◌, ◌⊎◌, if◌then◌else◌, Option, Some, None, option_and_then, Result, Ok, Err, List, [], ◌∷◌, length}
 use Rattle.dbl_script.specs.declared.fault.Fault.{Fault}
-use Rattle.dbl_script.specs.declared.fault.Fault.TheVariants.{Bad, Memory}
+use Rattle.dbl_script.specs.declared.fault.Fault.TheVariants.{Memory}
 
 infixl 10 ◌>>=◌
 abbrev pub ◌>>=◌ : {A B : Type 0} → Option A → (A → Option B) → Option B

@@ -1,12 +1,12 @@
 -- The words of the workload language: names, numbers, types and texts. Source: own.
-use Rattle.std.specs.Prelude.{ℕ, ◌+◌, ◌*◌, ◌==◌, ◌&&◌, ◌||◌, not, nat_eq, nat_lt, nat_le, Bool, true, false, if◌then◌else◌, Option, Some, None, is_none, option_map, List, [], ◌∷◌, ◌++◌, length, drop, bytes_eq, codes}
+use Rattle.std.specs.Prelude.{ℕ, ◌+◌, ◌*◌, ◌==◌, ◌&&◌, ◌||◌, not, nat_eq, nat_lt, nat_le, Bool, if◌then◌else◌, Option, Some, None, is_none, List, [], ◌∷◌, ◌++◌, length, drop, bytes_eq, codes}
 use Rattle.std.specs.Char.{is_ascii_digit, is_ascii_lowercase, digit_value}
 use Rattle.std.specs.List.{list_all, starts_with}
 use Rattle.std.specs.Str.{is_utf8}
 use Rattle.std.specs.Str.Parse.{digits_value}
 use Rattle.dbl_model.specs.declared.table.TableName.{TableName}
 use Rattle.dbl_script.specs.Words.{cut_at, parts_at}
-use Rattle.dbl_script.specs.Reads.{◌>>=◌, all_of}
+use Rattle.dbl_script.specs.Reads.{◌>>=◌}
 
 -- bytes as a text: they are UTF-8
 unfoldable pub utf8_text : List ℕ → Option (List ℕ)

@@ -1,5 +1,5 @@
 -- Lines, words and the parts of words.
-use Rattle.std.specs.Prelude.{ℕ, ◌==◌, Bool, if◌then◌else◌, Option, Some, None, option_map, List, [], ◌∷◌}
+use Rattle.std.specs.Prelude.{ℕ, ◌==◌, if◌then◌else◌, Option, Some, None, option_map, List, [], ◌∷◌}
 use Rattle.std.specs.List.{slice_split, onto_first}
 
 -- the bytes before the first separator and those behind it

@@ -1,6 +1,6 @@
 use Rattle.std.proofs.Common.{ap, sym, ◌∙◌}
 use Rattle.std.proofs.lemmas.Result.{err_from_is_err_and}
-use Rattle.dbl_script.specs.Grammar.{cell_of, before_set, behind_set}
+use Rattle.dbl_script.specs.Grammar.{cell_of, before_set}
 use Rattle.dbl_script.proofs.Many.{takes, refuses, finishes}
 use Rattle.dbl_script.proofs.SetLemmas.{before_goes_on, behind_goes_on, before_ends}
 use Rattle.dbl_script.proofs.cells.all_key_cells.Goals as goal

@@ -1,6 +1,5 @@
-use Rattle.std.proofs.Common.{inl, inr}
 use Rattle.std.proofs.lemmas.Result.{err_from_is_err_and}
-use Rattle.dbl_script.proofs.ColumnLemmas.{reading_begins, reading_more, reading_refuses, reading_ends}
+use Rattle.dbl_script.proofs.ColumnLemmas.{reading_more, reading_refuses, reading_ends}
 use Rattle.dbl_script.proofs.columns.all_columns.Goals as goal
 
 pub returns-in_err-word : goal.returns-in_err-word

@@ -1,4 +1,4 @@
-use Rattle.std.proofs.Common.{◌≡◌, ◌∙◌, ◌∷◌, ◌++◌, Some, None, inr, ap, sym}
+use Rattle.std.proofs.Common.{◌≡◌, ◌∙◌, ◌∷◌, ◌++◌, Some, inr, ap, sym}
 use Rattle.dbl_script.specs.Texts.{escape_of, escapes_of}
 use Rattle.dbl_script.proofs.Many.{with_front}
 use Rattle.dbl_script.proofs.TextLemmas.{escapes_more, escapes_fail, escapes_end}

@@ -1,4 +1,4 @@
-use Rattle.std.proofs.Common.{◌≡◌, ◌++◌, length, option_map}
+use Rattle.std.proofs.Common.{◌≡◌, length}
 use Rattle.dbl_script.specs.Texts.{escapes_of}
 use Rattle.dbl_script.proofs.Many.{with_front}
 use Rattle.dbl_script.proofs.words.read_escapes.Given as goal

@@ -1,4 +1,4 @@
-use Rattle.std.proofs.Common.{◌≡◌, ◌<◌, ℕ, List, Option, length, subst, sym, arith}
+use Rattle.std.proofs.Common.{◌<◌, ℕ, List, Option, length, subst, sym, arith}
 use Rattle.std.proofs.lemmas.Bool.Decides.{nat_tests}
 use Rattle.dbl_script.specs.Reads.{Reads}
 use Rattle.dbl_script.proofs.TextLemmas.{session_text}

@@ -1,4 +1,4 @@
-use Rattle.std.proofs.Common.{◌≡◌, ◌∙◌, ◌∷◌, [], Some, ap, sym, option_copied}
+use Rattle.std.proofs.Common.{◌≡◌, ◌∙◌, Some, ap, sym, option_copied}
 use Rattle.dbl_script.specs.Words.{parts_at, parts_left}
 use Rattle.dbl_script.proofs.PartLemmas.{parts_from, parts_of_cut}
 use Rattle.dbl_script.proofs.parts.Parts.next_part.Goals as goal

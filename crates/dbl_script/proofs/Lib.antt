@@ -1,0 +1,6 @@
+pub mod PartLemmas
+pub mod Many
+pub mod TextLemmas
+pub mod SetLemmas
+pub mod ColumnLemmas
+pub mod ScriptLemmas

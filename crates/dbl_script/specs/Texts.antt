@@ -1,0 +1,108 @@
+-- The words of the workload language: names, numbers, types and texts. Source: own.
+use Rattle.std.specs.Prelude.{ℕ, ◌+◌, ◌*◌, ◌==◌, ◌&&◌, ◌||◌, not, nat_eq, nat_lt, nat_le, Bool, if◌then◌else◌, Option, Some, None, is_none, List, [], ◌∷◌, ◌++◌, length, drop, bytes_eq, codes}
+use Rattle.std.specs.Char.{is_ascii_digit, is_ascii_lowercase, digit_value}
+use Rattle.std.specs.List.{list_all, starts_with}
+use Rattle.std.specs.Str.{is_utf8}
+use Rattle.std.specs.Str.Parse.{digits_value}
+use Rattle.dbl_model.specs.declared.table.TableName.{TableName}
+use Rattle.dbl_script.specs.Words.{cut_at, parts_at}
+use Rattle.dbl_script.specs.Reads.{◌>>=◌}
+
+-- bytes as a text: they are UTF-8
+unfoldable pub utf8_text : List ℕ → Option (List ℕ)
+utf8_text bytes = if is_utf8 bytes then Some bytes else None
+
+-- ---- names
+
+-- a schema's or a table's name: one or more characters, none of them a dot. A word has no space and no newline.
+unfoldable pub name_of : List ℕ → Option (List ℕ)
+name_of bytes = if not (length bytes == 0) && is_none (cut_at 46 bytes) then utf8_text bytes else None
+
+abbrev pub names_of : Option (List ℕ × List ℕ) → Option TableName
+names_of None = None
+names_of (Some p) = do
+  schema ← name_of p.0
+  name ← name_of p.1
+  Some (record { schema = schema; name = name })
+
+-- `<schema>.<table>`
+unfoldable pub table_name_of : List ℕ → Option TableName
+table_name_of word = names_of (cut_at 46 word)
+
+abbrev pub is_session_byte : ℕ → Bool
+is_session_byte c = is_ascii_lowercase c || is_ascii_digit c
+
+-- a session's name: 1 to 16 lower-case letters and digits. `table`, `row` and `tick` begin lines of their own.
+unfoldable pub session_of : List ℕ → Option (List ℕ)
+session_of word = if nat_lt 0 (length word) && nat_le (length word) 16 && list_all is_session_byte word then Some word else None
+
+abbrev pub is_column_byte : ℕ → Bool
+is_column_byte c = is_ascii_lowercase c || is_ascii_digit c || (c == 95)
+
+-- a column's name: 1 to 63 lower-case letters, digits and `_`
+unfoldable pub column_name_of : List ℕ → Option (List ℕ)
+column_name_of word = if nat_lt 0 (length word) && nat_le (length word) 63 && list_all is_column_byte word then Some word else None
+
+-- ---- numbers and types
+
+-- a number of 1 to 9 decimal digits
+unfoldable pub number_of : List ℕ → Option ℕ
+number_of word = if nat_lt 0 (length word) && nat_le (length word) 9 && list_all is_ascii_digit word then Some (digits_value 10 word) else None
+
+-- the OIDs of PostgreSQL's types of numbers, truth values and moments (catalog `pg_type`)
+unfoldable pub measured_oid_of : List ℕ → Option ℕ
+measured_oid_of word =
+    if bytes_eq word (codes "bool") then Some 16
+    else (if bytes_eq word (codes "int2") then Some 21
+    else (if bytes_eq word (codes "int4") then Some 23
+    else (if bytes_eq word (codes "int8") then Some 20
+    else (if bytes_eq word (codes "float4") then Some 700
+    else (if bytes_eq word (codes "float8") then Some 701
+    else (if bytes_eq word (codes "date") then Some 1082
+    else (if bytes_eq word (codes "time") then Some 1083
+    else (if bytes_eq word (codes "timestamp") then Some 1114
+    else (if bytes_eq word (codes "timestamptz") then Some 1184 else None)))))))))
+
+-- the OIDs of the other types that have a name
+unfoldable pub listed_oid_of : List ℕ → Option ℕ
+listed_oid_of word =
+    if bytes_eq word (codes "text") then Some 25
+    else (if bytes_eq word (codes "varchar") then Some 1043
+    else (if bytes_eq word (codes "bpchar") then Some 1042
+    else (if bytes_eq word (codes "json") then Some 114
+    else (if bytes_eq word (codes "jsonb") then Some 3802
+    else (if bytes_eq word (codes "numeric") then Some 1700
+    else (if bytes_eq word (codes "uuid") then Some 2950
+    else (if bytes_eq word (codes "bytea") then Some 17
+    else measured_oid_of word)))))))
+
+-- a type's OID, by its name or written out, as `oid600`
+unfoldable pub oid_of : List ℕ → Option ℕ
+oid_of word = if starts_with nat_eq word (codes "oid") then number_of (drop 3 word) else listed_oid_of word
+
+-- ---- texts
+
+-- what stands behind a `%`: two hexadecimal digits, in either case, are one byte
+unfoldable pub escape_of : List ℕ → Option (List ℕ)
+escape_of [] = None
+escape_of (high ∷ []) = None
+escape_of (high ∷ low ∷ rest) = if nat_lt (digit_value high) 16 && nat_lt (digit_value low) 16 then Some ((digit_value high * 16 + digit_value low) ∷ rest) else None
+
+unfoldable pub escapes_of : List (List ℕ) → Option (List ℕ)
+escapes_of [] = Some []
+escapes_of (part ∷ parts) = do
+  bytes ← escape_of part
+  others ← escapes_of parts
+  Some (bytes ++ others)
+
+unfoldable pub unescaped : List (List ℕ) → Option (List ℕ)
+unescaped [] = None
+unescaped (plain ∷ parts) = do
+  bytes ← escapes_of parts
+  Some (plain ++ bytes)
+
+-- the text of a cell: the bytes that the word spells, which are UTF-8
+unfoldable pub text_of : List ℕ → Option (List ℕ)
+text_of word = do
+  bytes ← unescaped (parts_at 37 word)
+  utf8_text bytes

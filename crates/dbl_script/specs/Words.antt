@@ -1,0 +1,26 @@
+-- Lines, words and the parts of words.
+use Rattle.std.specs.Prelude.{ℕ, ◌==◌, if◌then◌else◌, Option, Some, None, option_map, List, [], ◌∷◌}
+use Rattle.std.specs.List.{slice_split, onto_first}
+
+-- the bytes before the first separator and those behind it
+abbrev pub cut_at : ℕ → List ℕ → Option (List ℕ × List ℕ)
+cut_at separator [] = None
+cut_at separator (b ∷ bs) = if b == separator then Some ([], bs) else option_map (λ (p : List ℕ × List ℕ). (b ∷ p.0, p.1)) (cut_at separator bs)
+
+-- the parts of some bytes between separators; there is always one
+abbrev pub parts_at : ℕ → List ℕ → List (List ℕ)
+parts_at separator bytes = slice_split (λ b. b == separator) bytes
+
+-- the words of a line, with one space between two
+abbrev pub words_of : List ℕ → List (List ℕ)
+words_of line = parts_at 32 line
+
+-- the parts of what is left behind a separator, if anything is
+abbrev pub parts_left : ℕ → Option (List ℕ) → List (List ℕ)
+parts_left separator None = []
+parts_left separator (Some bytes) = parts_at separator bytes
+
+-- the lines of a text, each without its newline; the last one may lack it
+abbrev pub lines_of : List ℕ → List (List ℕ)
+lines_of [] = []
+lines_of (c ∷ cs) = if c == 10 then [] ∷ lines_of cs else onto_first c (lines_of cs)

@@ -1,0 +1,64 @@
+//! Lines, each by itself.
+
+ghost use Rattle.std.specs.Prelude.{◌≡◌};
+ghost use Rattle.dbl_script.specs.Reads.{Reads};
+ghost use Rattle.dbl_script.specs.Words.{words_of};
+ghost use Rattle.dbl_script.specs.Grammar.{is_passed_over, worded, line_at};
+
+use crate::columns::table;
+use crate::fault::Fault;
+use crate::parts::Parts;
+use crate::steps::{alone, row, step};
+use crate::words::is_word;
+use crate::{ScriptRow, ScriptTable, Step};
+use std::alloc::Global;
+
+/// What a line says.
+#[derive(Debug, Drop)]
+pub enum Line {
+    Passed,
+    Table(ScriptTable),
+    Row(ScriptRow),
+    Act(Step),
+}
+
+#[tactic(auto, unfolding(crate::specs::Grammar::worded))]
+fn worded_line(alloc: Global, number: u32, bytes: &[u8]) -> Result<Line, Fault>
+    ensures { Reads (worded number (words_of bytes.now)) result }
+{
+    let mut words = Parts::of(b' ', bytes);
+    let first = words.wanted()?;
+    if is_word(first, "table") {
+        let table = table(alloc, number, &mut words)?;
+        Ok(Line::Table(table))
+    } else if is_word(first, "row") {
+        let row = row(alloc, number, &mut words)?;
+        Ok(Line::Row(row))
+    } else if is_word(first, "tick") {
+        let tick = alone(Step::Tick, &mut words)?;
+        Ok(Line::Act(tick))
+    } else {
+        let step = step(alloc, first, &mut words)?;
+        Ok(Line::Act(step))
+    }
+}
+
+fn is_passed_over(line: &[u8]) -> bool
+    ensures { result ≡ is_passed_over line.now }
+{
+    match line {
+        [] => true,
+        [first, ..] => *first == b'#',
+    }
+}
+
+/// What the line with this number says.
+#[tactic(auto, unfolding(crate::specs::Grammar::line_at))]
+pub fn read_line(alloc: Global, number: u32, bytes: &[u8]) -> Result<Line, Fault>
+    ensures { Reads (line_at number bytes.now) result }
+{
+    if is_passed_over(bytes) {
+        return Ok(Line::Passed);
+    }
+    worded_line(alloc, number, bytes)
+}

@@ -1,0 +1,70 @@
+use dbl_base::{Seq, Text};
+use dbl_model::{RawTable, TableName};
+
+/// A cell by the name of its column: its text, or null.
+#[derive(Debug, Drop)]
+pub struct NamedCell {
+    pub column: Text,
+    pub text: Option<Text>,
+}
+
+/// A table of the script's database. `full` says that its replica identity is full, else it is default; a text of at
+/// least `toast` bytes is stored out of line. `line` is the number of its line, from 1.
+#[derive(Debug, Drop)]
+pub struct ScriptTable {
+    pub raw: RawTable,
+    pub full: bool,
+    pub toast: u32,
+    pub line: u32,
+}
+
+/// A row that stands in the database before the first step, with the number of its line, from 1.
+#[derive(Debug, Drop)]
+pub struct ScriptRow {
+    pub table: TableName,
+    pub cells: Seq<NamedCell>,
+    pub line: u32,
+}
+
+/// What a session does, or the end of a group of steps.
+#[derive(Debug, Drop)]
+pub enum Step {
+    Begin {
+        session: Text,
+    },
+    Commit {
+        session: Text,
+    },
+    Rollback {
+        session: Text,
+    },
+    Insert {
+        session: Text,
+        table: TableName,
+        cells: Seq<NamedCell>,
+    },
+    Update {
+        session: Text,
+        table: TableName,
+        key: Seq<NamedCell>,
+        set: Seq<NamedCell>,
+    },
+    Delete {
+        session: Text,
+        table: TableName,
+        key: Seq<NamedCell>,
+    },
+    Truncate {
+        session: Text,
+        tables: Seq<TableName>,
+    },
+    Tick,
+}
+
+/// What the lines of a workload say, in their order.
+#[derive(Debug, Drop)]
+pub struct Script {
+    pub tables: Seq<ScriptTable>,
+    pub rows: Seq<ScriptRow>,
+    pub steps: Seq<Step>,
+}

@@ -103,6 +103,7 @@ fn captures_tables(rt: HostRuntime) -> Result<(), Fail> {
     let columns = "a:21 b:23 c:20 d:2950 e:25 f:1043 g:16 h:600";
     let info = table(alloc, keys, columns, "f e d c b a")?;
     assert_eq!(rt; info.key.items().as_slice(), [5, 4, 3, 2, 1, 0].as_slice());
+    assert_eq!(rt; info.columns.items().len(), 8);
     assert_eq!(rt; info.columns.items()[6].ty, PgType::Bool);
     assert_eq!(rt; info.columns.items()[7].ty, PgType::Other(600));
     Ok(())

@@ -6,7 +6,8 @@ use Rattle.dbl_consume.proofs.RowLemmas.{rows_are_one}
 use Rattle.dblog.specs.declared.apply.FaultAt.{FaultAt}
 use Rattle.dblog.specs.Lines.{lines_of}
 use Rattle.dblog.specs.Apply.{readings_of}
-use Rattle.dblog.specs.Run.{Answer, done, line_fault, Applies, long_input, refused, applied, default_identity}
+use Rattle.dblog.specs.Run.{Answer, done, line_fault, Applies, long_input, refused, applied}
+use Rattle.dblog.specs.Log.{default_identity}
 
 -- bytes have one answer
 pub applies_one : (bytes : List ℕ) (a b : Answer) → Applies bytes a → Applies bytes b → a ≡ b

@@ -14,11 +14,12 @@ use Rattle.dblog.specs.declared.apply.FaultAt.{FaultAt}
 use Rattle.dblog.specs.declared.apply.LineFault.{LineFault}
 use Rattle.dblog.specs.declared.apply.LineFault.TheVariants as line
 use Rattle.dblog.specs.declared.halt.Halt.{Halt}
-use Rattle.dblog.specs.declared.halt.Halt.TheVariants.{Usage, NotBuilt, BadLine, InputTooLong, InputFailed, Memory}
+use Rattle.dblog.specs.declared.halt.Halt.TheVariants.{Usage, BadLine, InputTooLong, InputFailed, Memory}
 use Rattle.dblog.specs.Faults.{status_of, fault_line, output_failed_status}
 use Rattle.dblog.specs.Lines.{lines_of}
 use Rattle.dblog.specs.Apply.{first_fault, fault_text, readings_of}
-use Rattle.dblog.specs.Run.{Answer, fault, done, line_fault, lines_text, replay_words, apply_words, Applies, long_input, refused, applied, Means, apply, Wrote, WroteFront, whole, out_of_memory, Writes, Ends, IsOutside, Runs, Says, IsReplayStatus, IsApplyStatus, HaltsApplying, RunsApplying, EndsAs, PrintedAs, default_identity}
+use Rattle.dblog.specs.Run.{Answer, fault, done, line_fault, lines_text, replay_words, apply_words, Applies, long_input, refused, applied, Means, apply, Wrote, WroteFront, whole, out_of_memory, Writes, Ends, IsOutside, Runs, Says, IsApplyStatus, HaltsApplying, RunsApplying, EndsAs, PrintedAs}
+use Rattle.dblog.specs.Log.{default_identity}
 use Rattle.dblog.proofs.ApplyLaws.{applies_one, applies_reads}
 use Rattle.dblog.proofs.RunLemmas.{says_ends, memory_ends, input_ends, input_is_outside, written_or_outside, memory_is_outside, writes_then, means_applies}
 
@@ -29,11 +30,11 @@ answered bytes answer status before after applies ends = record {
   meant = elim ends.told [ inl outside ↦ inl outside | inr is ↦ inr (answer, applies, is) ];
 }
 
-memory_outside : (status : ℕ) (before after : Option (List ℕ)) → Says Memory status before after → IsOutside status
+pub memory_outside : (status : ℕ) (before after : Option (List ℕ)) → Says Memory status before after → IsOutside status
 memory_outside status before after (inl writes) = memory_is_outside status (written_or_outside _ _ status before after writes)
 memory_outside status before after (inr writes) = memory_is_outside status (written_or_outside _ _ status before after writes)
 
-memory_written : (status : ℕ) (before after : Option (List ℕ)) → Says Memory status before after → Writes (status_of Memory) (lines_text (fault_line Memory ∷ [])) status before after
+pub memory_written : (status : ℕ) (before after : Option (List ℕ)) → Says Memory status before after → Writes (status_of Memory) (lines_text (fault_line Memory ∷ [])) status before after
 memory_written status before after (inl writes) = writes
 memory_written status before after (inr writes) = writes
 
@@ -60,7 +61,6 @@ halt_applies bytes InputFailed status before after halts says = record {
 halt_applies bytes Memory status before after halts says = memory_applies bytes status before after says
 halt_applies bytes (BadLine number) status before after halts says = absurd halts
 halt_applies bytes InputTooLong status before after halts says = answered bytes (fault InputTooLong) status before after halts (too_long_ends status before after says)
-halt_applies bytes NotBuilt status before after halts says = absurd halts
 
 -- the line of a line that isn't applied was to be written
 pub line_ends : (at : FaultAt) (status : ℕ) (before after : Option (List ℕ)) → Writes 13 (lines_text (fault_text at ∷ [])) status before after → EndsAs (line_fault at) status before after
@@ -187,24 +187,15 @@ word_pair words command option first second are first_is passes second_is =
 
 -- ---- statuses
 
-says_is : (halt : Halt) (status : ℕ) (before after : Option (List ℕ)) → Says halt status before after → (status ≡ status_of halt) ⊎ ((status ≡ output_failed_status) ⊎ (status ≡ status_of Memory))
+pub says_is : (halt : Halt) (status : ℕ) (before after : Option (List ℕ)) → Says halt status before after → (status ≡ status_of halt) ⊎ ((status ≡ output_failed_status) ⊎ (status ≡ status_of Memory))
 says_is halt status before after (inl (inl said)) = inl said.0
 says_is halt status before after (inl (inr cut)) = inr (inl cut.0)
 says_is halt status before after (inr (inl said)) = inr (inr said.0)
 says_is halt status before after (inr (inr cut)) = inr (inl cut.0)
 
-outside_of : (status : ℕ) → (status ≡ output_failed_status) ⊎ (status ≡ status_of Memory) → IsOutside status
+pub outside_of : (status : ℕ) → (status ≡ output_failed_status) ⊎ (status ≡ status_of Memory) → IsOutside status
 outside_of status (inl is) = inr (inl is)
 outside_of status (inr is) = inr (inr is)
-
--- a fault of `replay` was said
-pub replay_said : (halt : Halt) (status : ℕ) (before after : Option (List ℕ)) → halt ≢ Usage → Says halt status before after → IsReplayStatus status
-replay_said Usage status before after other says = absurd (other refl)
-replay_said InputFailed status before after other says = elim (says_is InputFailed status before after says) [ inl is ↦ inr (inr (inr (inl is))) | inr outside ↦ inr (inr (inr (outside_of status outside))) ]
-replay_said Memory status before after other says = elim (says_is Memory status before after says) [ inl is ↦ inr (inr (inr (inr (inr is)))) | inr outside ↦ inr (inr (inr (outside_of status outside))) ]
-replay_said (BadLine number) status before after other says = elim (says_is (BadLine number) status before after says) [ inl is ↦ inr (inl is) | inr outside ↦ inr (inr (inr (outside_of status outside))) ]
-replay_said InputTooLong status before after other says = elim (says_is InputTooLong status before after says) [ inl is ↦ inr (inl is) | inr outside ↦ inr (inr (inr (outside_of status outside))) ]
-replay_said NotBuilt status before after other says = elim (says_is NotBuilt status before after says) [ inl is ↦ inr (inr (inl is)) | inr outside ↦ inr (inr (inr (outside_of status outside))) ]
 
 pub memory_said : (status : ℕ) (before after : Option (List ℕ)) → Says Memory status before after → IsApplyStatus status
 memory_said status before after says = elim (says_is Memory status before after says) [ inl is ↦ inr (inr (inr (inr is))) | inr outside ↦ inr (inr (outside_of status outside)) ]

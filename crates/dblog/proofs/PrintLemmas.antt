@@ -6,7 +6,7 @@ use Rattle.std.proofs.lemmas.Bool.Decides.{Decides-eqb}
 use Rattle.std.proofs.Math.Seq.{take-append-add, take-append_seam}
 use Rattle.dblog.specs.declared.printing.PrintError.{PrintError}
 use Rattle.dblog.specs.declared.printing.PrintError.TheVariants.{OutputFailed, Memory}
-use Rattle.dblog.specs.Run.{Wrote, WroteFront, lines_text, Prints, PrintFails}
+use Rattle.dblog.specs.Run.{Wrote, WroteFront, lines_text}
 use Rattle.dblog.specs.Printing.{Gathers, LineFails, Puts, kept, passed, LinesFail}
 
 pub lines_text-append : (xs ys : List (List ℕ)) → lines_text (xs ++ ys) ≡ lines_text xs ++ lines_text ys
@@ -57,7 +57,7 @@ behind_passed xs ys first rest gathered later all is =
     ∙ ap (λ t. gathered ++ (t ++ lines_text ys)) (sym (lines_text-append first rest) ∙ ap lines_text all)
     ∙ ap (λ t. gathered ++ t) (sym (lines_text-append xs ys))
 
-puts_then : (xs ys : List (List ℕ)) (gathered middle later : List ℕ) (before now after : Option (List ℕ)) → Puts xs gathered middle before now → Puts ys middle later now after → Puts (xs ++ ys) gathered later before after
+pub puts_then : (xs ys : List (List ℕ)) (gathered middle later : List ℕ) (before now after : Option (List ℕ)) → Puts xs gathered middle before now → Puts ys middle later now after → Puts (xs ++ ys) gathered later before after
 puts_then xs ys gathered middle later before now after (kept stays is) (kept stays' is') = kept (stays' ∙ stays) (is' ∙ behind_kept xs ys gathered middle is)
 puts_then xs ys gathered middle later before now after (kept stays is) (passed first rest all wrote left) =
     passed (xs ++ first) rest (append_assoc xs first rest ∙ ap (λ l. xs ++ l) all)
@@ -131,6 +131,15 @@ putting_line_fails all left next line gathered middle error before now after so_
 
 -- ---- at the end
 
+-- lines were to be written, and were, or in part where the output failed or memory was wanting
+abbrev pub PrintFails : List (List ℕ) → PrintError → Option (List ℕ) → Option (List ℕ) → Type 0
+PrintFails lines OutputFailed before after = WroteFront before after (lines_text lines)
+PrintFails lines Memory before after = (n : ℕ) × Wrote before after (lines_text (take n lines))
+
+abbrev pub Prints : {A : Type 0} → List (List ℕ) → Result A PrintError → Option (List ℕ) → Option (List ℕ) → Type 0
+Prints lines (Ok done) before after = Wrote before after (lines_text lines)
+Prints lines (Err error) before after = PrintFails lines error before after
+
 at_end_prints : (lines : List (List ℕ)) (later : List ℕ) (before now after : Option (List ℕ)) (result : Result (Unit {0}) PrintError) → Puts lines [] later before now
     → OnOk result (Wrote now after later) → IfErr result (λ error. (error ≡ OutputFailed) × WroteFront now after later) → Prints lines result before after
 at_end_prints lines later before now after (Ok done) (kept stays is) wrote front = subst (λ o. Wrote o after (lines_text lines)) stays (subst (Wrote now after) is wrote)
@@ -141,12 +150,6 @@ at_end_prints lines later before now after (Err error) (kept stays is) wrote fro
 at_end_prints lines later before now after (Err error) (passed first rest all wrote' left) wrote front =
     subst (λ e. PrintFails lines e before after) (sym front.0)
     (subst (WroteFront before after) (ap (λ l. lines_text first ++ l) left ∙ sym (lines_text-append first rest) ∙ ap lines_text all) (front_then before now after (lines_text first) later wrote' front.1))
-
--- the output already has the lines where nothing is gathered
-at_end_printed : (lines : List (List ℕ)) (later : List ℕ) (before after : Option (List ℕ)) → Puts lines [] later before after → later ≡ [] → Wrote before after (lines_text lines)
-at_end_printed lines later before after (kept stays is) none = λ bytes told. stays ∙ told ∙ ap (λ t. Some t) (sym (append-nil bytes) ∙ ap (λ t. bytes ++ t) (sym none ∙ is))
-at_end_printed lines later before after (passed first rest all wrote left) none =
-    subst (Wrote before after) (sym (append-nil (lines_text first)) ∙ ap (λ l. lines_text first ++ l) (sym none ∙ left) ∙ sym (lines_text-append first rest) ∙ ap lines_text all) wrote
 
 first_lines : (first rest others lines : List (List ℕ)) → (first ++ rest) ++ others ≡ lines → take (length first) lines ≡ first
 first_lines first rest others lines is = ap (take (length first)) (sym is ∙ append_assoc first rest others) ∙ take-append_seam first (rest ++ others)
@@ -165,9 +168,6 @@ pub put_prints : (lines : List (List ℕ)) (gathered later : List ℕ) (before n
     → OnOk result (Wrote now after later) → IfErr result (λ error. (error ≡ OutputFailed) × WroteFront now after later) → Prints lines result before after
 put_prints lines gathered later before now after result none puts = at_end_prints lines later before now after result (subst (λ b. Puts lines b later before now) none puts)
 
-pub put_printed : (lines : List (List ℕ)) (gathered later : List ℕ) (before after : Option (List ℕ)) → gathered ≡ [] → Puts lines gathered later before after → later ≡ [] → Wrote before after (lines_text lines)
-put_printed lines gathered later before after none puts = at_end_printed lines later before after (subst (λ b. Puts lines b later before after) none puts)
-
 pub put_fails_prints : (lines : List (List ℕ)) (gathered : List ℕ) (error : PrintError) (before after : Option (List ℕ)) → gathered ≡ [] → LinesFail lines gathered error before after → PrintFails lines error before after
 put_fails_prints lines gathered error before after none fails = at_end_fails lines error before after (subst (λ b. LinesFail lines b error before after) none fails)
 
@@ -175,14 +175,6 @@ put_fails_prints lines gathered error before after none fails = at_end_fails lin
 
 pub none_left : {A : Type 0} (f : A → List ℕ) (xs : List A) (i : ℕ) → length xs ≡ i → map f (drop i xs) ≡ []
 none_left f xs i all = ap (map f) (drop_all i xs (omega arith))
-
-pub lists_here : {A B : Type 0} (g : B → List ℕ) (f : A → List B) (xs : List A) (i : ℕ) (x : A) → i < length xs → x ≡ slice_index_or xs i x
-    → map g (flat_map f (drop i xs)) ≡ map g (f x) ++ map g (flat_map f (drop (i + 1) xs))
-lists_here g f xs i x within is =
-    ap (λ ys. map g (flat_map f ys)) (drop_more xs i x within ∙ ap (λ y. y ∷ drop (i + 1) xs) (sym is)) ∙ map-append g (f x) (flat_map f (drop (i + 1) xs))
-
-pub no_lists_left : {A B : Type 0} (g : B → List ℕ) (f : A → List B) (xs : List A) (i : ℕ) → length xs ≡ i → map g (flat_map f (drop i xs)) ≡ []
-no_lists_left g f xs i all = ap (λ ys. map g (flat_map f ys)) (drop_all i xs (omega arith))
 
 pub no_items : {A : Type 0} (xs : List A) (n : ℕ) → n ≡ length xs → (n == 0) ≡ true → xs ≡ []
 no_items [] n is test = refl
@@ -194,3 +186,9 @@ some_items (x ∷ xs) n is test = omega arith
 
 pub left_here : {A : Type 0} (f : A → List ℕ) (xs : List A) (i : ℕ) (x : A) → i < length xs → x ≡ slice_index_or xs i x → map f (drop i xs) ≡ f x ∷ map f (drop (i + 1) xs)
 left_here f xs i x within is = ap (map f) (drop_more xs i x within ∙ ap (λ y. y ∷ drop (i + 1) xs) (sym is))
+
+-- ---- the lines of a log
+
+-- a text behind lines
+pub puts_text : (xs ys : List (List ℕ)) (gathered middle later : List ℕ) (before after : Option (List ℕ)) → Puts xs gathered middle before after → later ≡ middle ++ lines_text ys → Puts (xs ++ ys) gathered later before after
+puts_text xs ys gathered middle later before after puts is = puts_then xs ys gathered middle later before after after puts (kept refl is)

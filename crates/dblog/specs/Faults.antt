@@ -1,7 +1,7 @@
--- The status and the line of each fault.
+-- The status and the line of each fault that ends a run before records are printed.
 use Rattle.std.specs.Prelude.{ℕ, Bool, true, false, List, ◌++◌, codes, decimal}
 use Rattle.dblog.specs.declared.halt.Halt.{Halt}
-use Rattle.dblog.specs.declared.halt.Halt.TheVariants.{Usage, NotBuilt, BadLine, InputTooLong, InputFailed, Memory}
+use Rattle.dblog.specs.declared.halt.Halt.TheVariants.{Usage, BadLine, InputTooLong, InputFailed, Memory}
 
 abbrev pub status_of : Halt → ℕ
 status_of Usage = 2
@@ -9,7 +9,6 @@ status_of InputFailed = 10
 status_of Memory = 12
 status_of (BadLine number) = 13
 status_of InputTooLong = 13
-status_of NotBuilt = 16
 
 -- the line of the fault, without its newline
 abbrev pub fault_line : Halt → List ℕ
@@ -18,7 +17,6 @@ fault_line InputFailed = codes "dblog: input failed"
 fault_line Memory = codes "dblog: out of memory"
 fault_line (BadLine number) = codes "dblog: line " ++ decimal number ++ codes ": bad line"
 fault_line InputTooLong = codes "dblog: input too long"
-fault_line NotBuilt = codes "dblog: not built"
 
 -- the status of a run whose output failed; there is no line of it, as nothing can be written any more
 abbrev pub output_failed_status : ℕ
@@ -31,4 +29,3 @@ reads_input InputFailed = true
 reads_input Memory = true
 reads_input (BadLine number) = true
 reads_input InputTooLong = true
-reads_input NotBuilt = true

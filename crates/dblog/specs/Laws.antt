@@ -1,13 +1,46 @@
--- What the definitions of the program's answers determine.
-use Rattle.std.specs.Prelude.{◌≡◌, ℕ, ℤ, List}
+-- What the definitions of the program's answers determine, and what they come to.
+use Rattle.std.specs.Prelude.{◌≡◌, ℕ, ℤ, Option, Some, is_some, List, [], ◌∷◌, ◌++◌}
+use Rattle.dbl_pgmsg.specs.declared.messages.Message.{Message}
+use Rattle.dbl_pgmsg.specs.Grammar.{Spells}
 use Rattle.dbl_model.specs.declared.table.TableInfo.{TableInfo}
-use Rattle.dbl_model.specs.declared.change.Commit.{Commit}
-use Rattle.dblog.specs.Run.{Answer, Means, StatedIn}
+use Rattle.dbl_model.specs.Past.{begin_of}
+use Rattle.dbl_model.specs.Stated.{commits_of}
+use Rattle.dbl_model.specs.Blocks.{onto, IsAccepted}
+use Rattle.dblog.specs.declared.log_fault.LogFault.{LogFault}
+use Rattle.dblog.specs.Captures.{AreCaptured}
+use Rattle.dblog.specs.Log.{lines_in, log_start, IsLogFault, end_fault, LogWrites}
+use Rattle.dblog.specs.Run.{Answer, Means}
 
 -- words and bytes have at most one answer at a moment
 abbrev pub AnswersAreOne : Type 0
 AnswersAreOne = (words : List (List ℕ)) (now : ℤ) (bytes : List ℕ) (a b : Answer) → Means words now bytes a → Means words now bytes b → a ≡ b
 
--- bytes state at most one list of tables and one of commits
-abbrev pub StatementsAreOne : Type 0
-StatementsAreOne = (bytes : List ℕ) (i j : List TableInfo) (c d : List Commit) → StatedIn bytes i c → StatedIn bytes j d → (i ≡ j) × (c ≡ d)
+-- each of the byte strings spells the message at its place
+abbrev pub AreSpelled : List (List ℕ) → List Message → Type 0
+AreSpelled [] [] = Unit {0}
+AreSpelled [] (m ∷ ms) = ⊥
+AreSpelled (b ∷ bs) [] = ⊥
+AreSpelled (b ∷ bs) (m ∷ ms) = Spells b m × AreSpelled bs ms
+
+-- behind these messages nothing is left, or bytes with the fault that ends the log
+abbrev pub EndsLog : List Message → List (List ℕ) → Option LogFault → Type 0
+EndsLog ms [] end = end ≡ end_fault (is_some (begin_of ms))
+EndsLog ms (b ∷ bs) end = (fault : LogFault) × IsLogFault ms b fault × (end ≡ Some fault)
+
+-- The messages of byte strings up to the first fault: what is captured of their tables, none of them has a fault where it
+-- stands, the lines are those of all commits that they state, and the fault is that of the next bytes, or of the log's end.
+pub record IsReplayed (now : ℤ) (bs : List (List ℕ)) (lines : List (List ℕ)) (end : Option LogFault) : Type 0 where
+  pub messages : List Message
+  pub front : List (List ℕ)
+  pub rest : List (List ℕ)
+  pub infos : List TableInfo
+  pub parts : bs ≡ front ++ rest
+  pub spelled : AreSpelled front messages
+  pub captured : AreCaptured (onto [] messages) infos
+  pub accepted : IsAccepted infos log_start (onto [] messages)
+  pub commits : lines ≡ lines_in infos (commits_of infos (onto [] messages)) now
+  pub ends : EndsLog (onto [] messages) rest end
+
+-- what is written of a log are the lines of all commits that its messages state up to the first fault
+abbrev pub CommitsAreWritten : Type 0
+CommitsAreWritten = (now : ℤ) (bs : List (List ℕ)) (lines : List (List ℕ)) (end : Option LogFault) → LogWrites now [] bs lines end → IsReplayed now bs lines end

@@ -1,23 +1,18 @@
 -- What a run of the program writes and answers.
-use Rattle.std.specs.Prelude.{◌≡◌, ◌≢◌, ◌⊎◌, ℕ, ℤ, ◌<◌, ◌≤◌, Bool, true, Option, Some, None, List, [], ◌∷◌, ◌++◌, take, length, map, flat_map, codes, Result, Ok, Err}
+use Rattle.std.specs.Prelude.{◌≡◌, ◌≢◌, ◌⊎◌, ℕ, ℤ, ◌<◌, ◌≤◌, Bool, true, Option, Some, None, List, [], ◌∷◌, ◌++◌, take, length, map, codes, Result, Ok, Err}
 use Rattle.dbl_base.specs.declared.input.TheConstants.{INPUT_LIMIT}
 use Rattle.dblog.specs.declared.halt.Halt.{Halt}
-use Rattle.dblog.specs.declared.halt.Halt.TheVariants.{Usage, NotBuilt, BadLine, InputTooLong, InputFailed, Memory}
+use Rattle.dblog.specs.declared.halt.Halt.TheVariants.{Usage, BadLine, InputTooLong, InputFailed, Memory}
 use Rattle.dblog.specs.declared.printing.PrintError.{PrintError}
 use Rattle.dblog.specs.declared.printing.PrintError.TheVariants as print_error
 use Rattle.dblog.specs.Faults.{status_of, fault_line, reads_input, output_failed_status}
-use Rattle.dbl_record.specs.Line.{line_of}
-use Rattle.dbl_model.specs.declared.identity.Identity.{Identity}
-use Rattle.dbl_model.specs.declared.table.TableInfo.{TableInfo}
-use Rattle.dbl_model.specs.declared.change.Commit.{Commit}
-use Rattle.dbl_model.specs.Identities.{default_placeholder}
-use Rattle.dbl_model.specs.EventJson.{envelopes}
 use Rattle.dbl_record.specs.Consumers.{HeldCells, consumer_of}
 use Rattle.dbl_consume.specs.Printing.{HeldRow, AreRowsOf, row_line}
 use Rattle.dblog.specs.declared.apply.FaultAt.{FaultAt}
 use Rattle.dblog.specs.Apply.{first_fault, fault_text, readings_of}
 use Rattle.dblog.specs.Lines.{lines_of, messages_in, first_bad}
-use Rattle.dblog.specs.Thin.{States}
+use Rattle.dblog.specs.declared.log_fault.LogFault.{LogFault}
+use Rattle.dblog.specs.Log.{default_identity, LogWrites, end_status, end_lines}
 
 -- lines as a text, a newline behind each
 abbrev pub lines_text : List (List ℕ) → List ℕ
@@ -45,24 +40,15 @@ replay_words = codes "replay" ∷ []
 abbrev pub apply_words : List (List ℕ)
 apply_words = codes "apply" ∷ codes "--lines" ∷ []
 
--- what all records have in common, as long as no option changes it
-abbrev pub default_identity : Identity
-default_identity = record { prefix = codes "demo"; db = codes "demo"; placeholder = default_placeholder }
-
--- the lines of the records of these commits
-abbrev pub lines_in : List TableInfo → List Commit → ℤ → List (List ℕ)
-lines_in infos commits now = map line_of (flat_map (λ commit. envelopes default_identity infos commit now) commits)
-
--- the messages of these lines of hexadecimal state these commits of these tables
-abbrev pub StatedIn : List ℕ → List TableInfo → List Commit → Type 0
-StatedIn bytes infos commits = States default_identity.placeholder (messages_in (lines_of bytes)) infos commits
+-- the answer of a log that writes these lines and ends with this fault, or none
+abbrev pub log_answer : List (List ℕ) → Option LogFault → Answer
+log_answer lines end = record { status = end_status end; lines = lines ++ end_lines end; one_by_one = lines; reads = true }
 
 -- what `replay` answers at a moment for these bytes of input
 pub data Replays (now : ℤ) (bytes : List ℕ) (answer : Answer) : Type 0 where
   too_long : INPUT_LIMIT < length bytes → answer ≡ fault InputTooLong → Replays now bytes answer
   bad_line : (number : ℕ) → length bytes ≤ INPUT_LIMIT → first_bad (lines_of bytes) ≡ Some number → answer ≡ fault (BadLine number) → Replays now bytes answer
-  not_built : length bytes ≤ INPUT_LIMIT → first_bad (lines_of bytes) ≡ None → ((infos : List TableInfo) (commits : List Commit) → ¬ StatedIn bytes infos commits) → answer ≡ fault NotBuilt → Replays now bytes answer
-  replayed : (infos : List TableInfo) (commits : List Commit) → length bytes ≤ INPUT_LIMIT → first_bad (lines_of bytes) ≡ None → StatedIn bytes infos commits → answer ≡ done (lines_in infos commits now) → Replays now bytes answer
+  replayed : (lines : List (List ℕ)) (end : Option LogFault) → length bytes ≤ INPUT_LIMIT → first_bad (lines_of bytes) ≡ None → LogWrites now [] (messages_in (lines_of bytes)) lines end → answer ≡ log_answer lines end → Replays now bytes answer
 
 -- the answer of a line that isn't applied
 abbrev pub line_fault : FaultAt → Answer
@@ -118,9 +104,13 @@ pub record Runs (words : List (List ℕ)) (now : ℤ) (bytes : List ℕ) (status
   pub ended : (answer : Answer) → Means words now bytes answer → Ends answer status before after
   pub meant : IsOutside status ⊎ ((answer : Answer) × Means words now bytes answer × (answer.status ≡ status))
 
+-- the statuses with which `replay` tells what its input means
+abbrev pub IsReplayAnswer : ℕ → Type 0
+IsReplayAnswer status = (status ≡ 0) ⊎ ((status ≡ 5) ⊎ ((status ≡ 6) ⊎ ((status ≡ 13) ⊎ (status ≡ 16))))
+
 -- the statuses of the commands, whatever the streams tell
 abbrev pub IsReplayStatus : ℕ → Type 0
-IsReplayStatus status = (status ≡ 0) ⊎ ((status ≡ 13) ⊎ ((status ≡ 16) ⊎ IsOutside status))
+IsReplayStatus status = IsReplayAnswer status ⊎ IsOutside status
 
 abbrev pub IsApplyStatus : ℕ → Type 0
 IsApplyStatus status = (status ≡ 0) ⊎ ((status ≡ 13) ⊎ IsOutside status)
@@ -132,22 +122,17 @@ Says halt status before after =
     ⊎ Writes (status_of Memory) (lines_text (fault_line Memory ∷ [])) status before after
 
 -- for private clauses: the fault is what the bytes mean, unless it is one of the outside
-abbrev pub Halts : ℤ → List ℕ → Halt → Type 0
-Halts now bytes Usage = ⊥
-Halts now bytes InputFailed = Unit {0}
-Halts now bytes Memory = Unit {0}
-Halts now bytes (BadLine number) = Replays now bytes (fault (BadLine number))
-Halts now bytes InputTooLong = Replays now bytes (fault InputTooLong)
-Halts now bytes NotBuilt = Replays now bytes (fault NotBuilt)
+abbrev pub HaltsReplaying : ℤ → List ℕ → Halt → Type 0
+HaltsReplaying now bytes Usage = ⊥
+HaltsReplaying now bytes InputFailed = Unit {0}
+HaltsReplaying now bytes Memory = Unit {0}
+HaltsReplaying now bytes (BadLine number) = Replays now bytes (fault (BadLine number))
+HaltsReplaying now bytes InputTooLong = Replays now bytes (fault InputTooLong)
 
--- for private clauses: lines were to be written, and were, or in part where the output failed or memory was wanting
-abbrev pub PrintFails : List (List ℕ) → PrintError → Option (List ℕ) → Option (List ℕ) → Type 0
-PrintFails lines print_error.OutputFailed before after = WroteFront before after (lines_text lines)
-PrintFails lines print_error.Memory before after = (n : ℕ) × Wrote before after (lines_text (take n lines))
-
-abbrev pub Prints : {A : Type 0} → List (List ℕ) → Result A PrintError → Option (List ℕ) → Option (List ℕ) → Type 0
-Prints lines (Ok done) before after = Wrote before after (lines_text lines)
-Prints lines (Err error) before after = PrintFails lines error before after
+-- for private clauses: a run of `replay` ended so
+pub record RunsReplaying (now : ℤ) (bytes : List ℕ) (status : ℕ) (before after : Option (List ℕ)) : Type 0 where
+  pub ended : (answer : Answer) → Replays now bytes answer → Ends answer status before after
+  pub meant : IsOutside status ⊎ ((answer : Answer) × Replays now bytes answer × (answer.status ≡ status))
 
 -- for private clauses: the same of `apply --lines`
 abbrev pub HaltsApplying : List ℕ → Halt → Type 0
@@ -156,7 +141,6 @@ HaltsApplying bytes InputFailed = Unit {0}
 HaltsApplying bytes Memory = Unit {0}
 HaltsApplying bytes (BadLine number) = ⊥
 HaltsApplying bytes InputTooLong = Applies bytes (fault InputTooLong)
-HaltsApplying bytes NotBuilt = ⊥
 
 -- for private clauses: a run of `apply --lines` ended so
 pub record RunsApplying (bytes : List ℕ) (status : ℕ) (before after : Option (List ℕ)) : Type 0 where

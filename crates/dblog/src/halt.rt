@@ -14,8 +14,6 @@ pub enum Halt {
     /// The line's number, counted from 1.
     BadLine { number: u64 },
     InputTooLong,
-    /// Messages that this stage of the program doesn't replay.
-    NotBuilt,
 }
 
 impl Halt {
@@ -29,7 +27,6 @@ impl Halt {
             Halt::Memory => 12,
             Halt::BadLine { number: _ } => 13,
             Halt::InputTooLong => 13,
-            Halt::NotBuilt => 16,
         }
     }
 
@@ -45,7 +42,6 @@ impl Halt {
                 "dblog: line {number}: bad line\n"
             ),
             Halt::InputTooLong => "dblog: input too long\n",
-            Halt::NotBuilt => "dblog: not built\n",
         };
         String::from_str(alloc, line)
     }

@@ -1,13 +1,13 @@
-//! What the definitions behind `run`'s clauses determine, as calls without a body.
+//! What the definitions behind `run`'s clauses determine and come to, as calls without a body.
 
-ghost use Rattle.dblog.specs.Laws.{AnswersAreOne, StatementsAreOne};
+ghost use Rattle.dblog.specs.Laws.{AnswersAreOne, CommitsAreWritten};
 
 /// Words and bytes have at most one answer at a moment.
 pub fn answers_are_one()
     ensures { AnswersAreOne }
 {}
 
-/// Bytes state at most one list of tables and one of commits.
-pub fn statements_are_one()
-    ensures { StatementsAreOne }
+/// What is written of a log are the lines of all commits that its messages state, up to the first fault.
+pub fn commits_are_written()
+    ensures { CommitsAreWritten }
 {}

@@ -2,14 +2,17 @@
 #![tactic(auto)]
 
 mod apply;
+mod capture;
+mod clash;
 mod halt;
 mod laws;
 mod lines;
+mod log_fault;
 mod printing;
 mod program;
+mod replay;
 #[cfg(test)]
 mod tests;
-mod thin;
 
 use dbl_base::{StdInput, StdOutput, Text};
 use std::process::ExitCode;

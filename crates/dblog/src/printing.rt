@@ -1,17 +1,22 @@
-ghost use Rattle.std.specs.Prelude.{◌≡◌, ◌≤◌, ◌++◌, ◌∷◌, [], map, flat_map, All, IfErr, OnOk, Err};
+ghost use Rattle.std.specs.Prelude.{◌≡◌, ◌≢◌, Some, ◌≤◌, ◌++◌, ◌∷◌, [], map, flat_map, All, IfSome, IfOk, IfErr, OnOk, Err};
 ghost use Rattle.dbl_base.specs.Streams.{Rose};
 ghost use Rattle.dbl_record.specs.Line.{line_of};
 ghost use Rattle.dbl_model.specs.Rows.{changes_of};
 ghost use Rattle.dbl_model.specs.EventJson.{envelopes};
+ghost use Rattle.dbl_model.specs.Stated.{list_of};
 ghost use Rattle.dbl_envelope.specs.Inserts.{IsInsert};
-ghost use Rattle.dblog.specs.Run.{Wrote, WroteFront, Prints};
+ghost use Rattle.dblog.specs.Log.{end_fault, end_status, end_lines};
+ghost use Rattle.dblog.specs.Run.{Wrote, WroteFront, lines_text};
 ghost use Rattle.dblog.specs.Printing.{PutsLine, PutsLines};
+ghost use Rattle.dblog.specs.LogPrinting.{PutsLog, PrintsLog};
 
-use dbl_base::Output;
+use crate::log_fault::LogFault;
+use crate::replay::Replayer;
+use dbl_base::{Bytes, Output};
 use dbl_envelope::{EnvelopeError, EventWriter};
 use dbl_model::Commit;
 use dbl_record::{Record, append_line};
-use std::alloc::{AllocError, Global};
+use std::alloc::{AllocError, AllocFailed, Global};
 use thiserror::Error;
 
 /// The output takes pieces of about this length, which end at a newline.
@@ -39,6 +44,17 @@ impl From<AllocError> for PrintError {
     }
 }
 
+impl<T: Drop> From<AllocFailed<T>> for PrintError {
+    ghost use Rattle.std.specs.Prelude.{◌≡◌};
+    ghost use Rattle.dblog.specs.declared.printing.PrintError.TheVariants.{Memory};
+
+    ghost from_gives = { λ _ e. e ≡ Memory };
+
+    fn from(_error: AllocFailed<T>) -> PrintError {
+        PrintError::Memory
+    }
+}
+
 // Writes what the buffer holds, and empties it.
 fn flush<O: Output>(output: &mut O, buffer: &mut Vec<u8>) -> Result<(), PrintError>
     ensures wrote { OnOk result (Wrote (O.written output.old) (O.written output.new) buffer.old.items) }
@@ -54,6 +70,19 @@ fn flush<O: Output>(output: &mut O, buffer: &mut Vec<u8>) -> Result<(), PrintErr
         }
         Err(_) => Err(PrintError::OutputFailed),
     }
+}
+
+// Writes what the buffer holds, if it holds anything.
+fn flush_rest<O: Output>(output: &mut O, buffer: &mut Vec<u8>) -> Result<(), PrintError>
+    ensures wrote { OnOk result (Wrote (O.written output.old) (O.written output.new) buffer.old.items) }
+    ensures front { IfErr result (λ error. (error ≡ PrintError.OutputFailed) × WroteFront (O.written output.old) (O.written output.new) buffer.old.items) }
+    ensures failed { result ≡ Err PrintError.OutputFailed → Rose (O.faults output.old) (O.faults output.new) }
+    ensures later { O.faults output.old ≤ O.faults output.new }
+{
+    if buffer.is_empty() {
+        return Ok(());
+    }
+    flush(output, buffer)
 }
 
 // Puts a record's line behind the others in the buffer, and writes them where they are many.
@@ -129,49 +158,137 @@ fn put_commit<O: Output>(
     }
 }
 
-fn put_commits<O: Output>(
+// Puts the lines of the records of a commit, if there is one.
+fn put_ended<O: Output>(
     alloc: Global,
     writer: &EventWriter,
-    commits: &Vec<Commit>,
+    ended: &Option<Commit>,
     now_ms: &i64,
     output: &mut O,
     buffer: Vec<u8>,
 ) -> Result<Vec<u8>, PrintError>
-    requires { All (λ commit. All (IsInsert writer.now.infos) (changes_of commit)) commits.now.items }
-    ensures puts { PutsLines (λ filled. filled.items) (map line_of (flat_map (λ commit. envelopes writer.now.identity writer.now.infos commit now_ms.now) commits.now.items)) buffer.items result (O.written output.old) (O.written output.new) }
+    requires { IfSome ended.now (λ commit. All (IsInsert writer.now.infos) (changes_of commit)) }
+    ensures puts { PutsLines (λ filled. filled.items) (map line_of (flat_map (λ commit. envelopes writer.now.identity writer.now.infos commit now_ms.now) (list_of ended.now))) buffer.items result (O.written output.old) (O.written output.new) }
     ensures failed { result ≡ Err PrintError.OutputFailed → Rose (O.faults output.old) (O.faults output.new) }
     ensures later { O.faults output.old ≤ O.faults output.new }
 {
+    match ended {
+        Some(commit) => put_commit(alloc, writer, commit, now_ms, output, buffer),
+        None => Ok(buffer),
+    }
+}
+
+/// The lines of a log that aren't written yet, and its fault.
+#[derive(Drop)]
+struct LogPut {
+    filled: Vec<u8>,
+    fault: Option<LogFault>,
+}
+
+fn unfinished(inside: bool) -> Option<LogFault>
+    ensures { result ≡ end_fault inside }
+{
+    if inside {
+        Some(LogFault::Unfinished)
+    } else {
+        None
+    }
+}
+
+// The lines before a fault, unless memory was wanting.
+fn stopped(filled: Vec<u8>, fault: LogFault) -> Result<LogPut, PrintError>
+    ensures filled { IfOk result (λ put. put.filled.items ≡ filled.items) }
+    ensures fault { IfOk result (λ put. put.fault ≡ Some fault) }
+    ensures other { OnOk result (fault ≢ LogFault.Memory) }
+    ensures err { IfErr result (λ e. e ≡ PrintError.Memory) }
+{
+    match fault {
+        LogFault::Memory => Err(PrintError::Memory),
+        fault => Ok(LogPut {
+            filled,
+            fault: Some(fault),
+        }),
+    }
+}
+
+// Puts the lines of the records of each commit that the messages state, up to the first fault.
+fn put_log<O: Output>(
+    alloc: Global,
+    messages: Vec<Bytes>,
+    now_ms: &i64,
+    output: &mut O,
+    buffer: Vec<u8>,
+) -> Result<LogPut, PrintError>
+    ensures puts { PutsLog now_ms.now messages.items buffer.items result (O.written output.old) (O.written output.new) }
+    ensures failed { result ≡ Err PrintError.OutputFailed → Rose (O.faults output.old) (O.faults output.new) }
+    ensures later { O.faults output.old ≤ O.faults output.new }
+{
+    let mut replayer = match Replayer::make(alloc) {
+        Ok(replayer) => replayer,
+        Err(_) => return Err(PrintError::Memory),
+    };
     let mut filled = buffer;
-    for commit in commits {
-        filled = match put_commit(alloc, writer, commit, now_ms, output, filled) {
+    let mut number = 0u64;
+    'messages: for bytes in messages {
+        number += 1;
+        let ended = match replayer.take(alloc, &number, bytes.items().as_slice()) {
+            Ok(ended) => ended,
+            Err(fault) => match stopped(filled, fault) {
+                Ok(put) => return Ok(put),
+                Err(error) => return Err(error),
+            },
+        };
+        filled = match put_ended(alloc, &replayer.writer, &ended, now_ms, output, filled) {
             Ok(filled) => filled,
             Err(error) => return Err(error),
         };
     }
-    Ok(filled)
+    Ok(LogPut {
+        filled,
+        fault: unfinished(replayer.inside()),
+    })
 }
 
-/// Writes the lines of the commits' records.
-pub fn print<O: Output>(
+// Puts the line of a log's fault, if there is one, and answers the status.
+fn put_end(alloc: Global, fault: &Option<LogFault>, filled: &mut Vec<u8>) -> Result<u8, PrintError>
+    ensures status { IfOk result (λ status. status ≡ end_status fault.now) }
+    ensures line { OnOk result (filled.new.items ≡ filled.old.items ++ lines_text (end_lines fault.now)) }
+    ensures err { IfErr result (λ e. e ≡ PrintError.Memory) }
+{
+    match fault {
+        None => Ok(0),
+        Some(fault) => {
+            let line = fault.line(alloc)?;
+            filled.extend_from_slice(line.as_bytes())?;
+            filled.push(b'\n')?;
+            Ok(fault.status())
+        }
+    }
+}
+
+/// Writes the lines of the records of each commit that the messages state, up to the first fault, and that fault's line, and
+/// answers the status.
+pub fn print_log<O: Output>(
     alloc: Global,
-    writer: &EventWriter,
-    commits: &Vec<Commit>,
+    messages: Vec<Bytes>,
     now_ms: &i64,
     output: &mut O,
-) -> Result<(), PrintError>
-    requires { All (λ commit. All (IsInsert writer.now.infos) (changes_of commit)) commits.now.items }
-    ensures prints { Prints (map line_of (flat_map (λ commit. envelopes writer.now.identity writer.now.infos commit now_ms.now) commits.now.items)) result (O.written output.old) (O.written output.new) }
+) -> Result<u8, PrintError>
+    ensures prints { PrintsLog now_ms.now messages.items result (O.written output.old) (O.written output.new) }
     ensures failed { result ≡ Err PrintError.OutputFailed → Rose (O.faults output.old) (O.faults output.new) }
     ensures later { O.faults output.old ≤ O.faults output.new }
 {
     let buffer = Vec::with_capacity(alloc, BUFFER_LENGTH)?;
-    let mut filled = match put_commits(alloc, writer, commits, now_ms, output, buffer) {
-        Ok(filled) => filled,
+    let LogPut { mut filled, fault } = match put_log(alloc, messages, now_ms, output, buffer) {
+        Ok(put) => put,
         Err(error) => return Err(error),
     };
-    if filled.is_empty() {
-        return Ok(());
+    let status = match put_end(alloc, &fault, &mut filled) {
+        Ok(status) => status,
+        Err(error) => return Err(error),
+    };
+    match flush_rest(output, &mut filled) {
+        Ok(()) => Ok(status),
+        Err(error) => Err(error),
     }
-    flush(output, &mut filled)
 }

@@ -6,19 +6,17 @@ ghost use Rattle.dbl_record.specs.Consumers.{consumer_of};
 ghost use Rattle.dbl_consume.specs.Holdings.{Took, placeholder_of};
 ghost use Rattle.dblog.specs.Faults.{status_of, output_failed_status};
 ghost use Rattle.dblog.specs.Lines.{lines_of, messages_in, first_bad};
-ghost use Rattle.dblog.specs.Run.{Runs, Writes, Says, Halts, Prints, Replays, StatedIn, HaltsApplying, RunsApplying, EndsAs, PrintedAs, IsReplayStatus, IsApplyStatus, default_identity, line_fault, lines_in, done, replay_words, apply_words};
-ghost use Rattle.dblog.specs.Stated.{AreInsertCommits};
+ghost use Rattle.dblog.specs.LogPrinting.{RunsLog};
+ghost use Rattle.dblog.specs.Run.{Runs, Writes, Says, HaltsReplaying, RunsReplaying, HaltsApplying, RunsApplying, EndsAs, PrintedAs, IsReplayAnswer, IsReplayStatus, IsApplyStatus, line_fault, replay_words, apply_words};
 
 use crate::apply::{FaultAt, LineFault, consume};
+use crate::clash::PLACEHOLDER;
 use crate::halt::Halt;
 use crate::lines::{self, LineError};
-use crate::printing::{PrintError, print};
-use crate::thin::{self, Stated};
+use crate::printing::{PrintError, print_log};
 use dbl_base::{Bytes, Input, InputError, Output, Text, read_all};
 use dbl_consume::Consumer;
-use dbl_envelope::{EnvelopeError, EventWriter};
-use dbl_model::Identity;
-use std::alloc::{AllocError, Global};
+use std::alloc::Global;
 
 /// The exit status where the output failed.
 const OUTPUT_FAILED: u8 = 11;
@@ -27,9 +25,6 @@ const OUTPUT_FAILED: u8 = 11;
 const BAD_INPUT: u8 = 13;
 
 const OUT_OF_MEMORY: &str = "dblog: out of memory\n";
-
-/// Debezium's `unavailable.value.placeholder`, by its default.
-const PLACEHOLDER: &str = "__debezium_unavailable_value";
 
 /// Runs the program on the words behind its name, at a moment in milliseconds since 1970, and answers its exit status.
 pub fn run<I: Input, O: Output>(
@@ -48,7 +43,7 @@ pub fn run<I: Input, O: Output>(
 
     // An input within the limit is read to its end.
     ensures whole { (bytes : List ℕ) → I.left input.old ≡ Some bytes → words.now.items ≡ replay_words → length bytes ≤ INPUT_LIMIT
-        → (result ≡ 0) ⊎ ((result ≡ 13) ⊎ (result ≡ 16)) → I.left input.new ≡ Some [] }
+        → IsReplayAnswer result → I.left input.new ≡ Some [] }
     ensures applied_whole { (bytes : List ℕ) → I.left input.old ≡ Some bytes → words.now.items ≡ apply_words → length bytes ≤ INPUT_LIMIT
         → (result ≡ 0) ⊎ (result ≡ 13) → I.left input.new ≡ Some [] }
 
@@ -65,15 +60,7 @@ pub fn run<I: Input, O: Output>(
     if !is_replay(words) {
         return say(alloc, Halt::Usage, output);
     }
-    let stated = match read_commits(alloc, input) {
-        Ok(stated) => stated,
-        Err(halt) => return say(alloc, halt, output),
-    };
-    match write_commits(alloc, stated, now_ms, output) {
-        Ok(()) => 0,
-        Err(PrintError::OutputFailed) => OUTPUT_FAILED,
-        Err(PrintError::Memory) => say(alloc, Halt::Memory, output),
-    }
+    replay_lines(alloc, &now_ms, input, output)
 }
 
 fn is_replay(words: &Vec<Text>) -> bool
@@ -123,7 +110,7 @@ fn read_input<I: Input>(alloc: Global, input: &mut I) -> Result<Bytes, Halt>
     ensures all { (bytes : List ℕ) → I.left input.old ≡ Some bytes → IfOk result (λ read. read ≡ bytes) }
     ensures end { (bytes : List ℕ) → I.left input.old ≡ Some bytes → OnOk result (I.left input.new ≡ Some []) }
     ensures within { IfOk result (λ read. length read ≤ INPUT_LIMIT) }
-    ensures halts { (bytes : List ℕ) (now : ℤ) → I.left input.old ≡ Some bytes → IfErr result (Halts now bytes) }
+    ensures halts { (bytes : List ℕ) (now : ℤ) → I.left input.old ≡ Some bytes → IfErr result (HaltsReplaying now bytes) }
     ensures long { (bytes : List ℕ) → I.left input.old ≡ Some bytes → length bytes ≤ INPUT_LIMIT → IfErr result (λ halt. (halt ≡ Halt.InputFailed) ⊎ (halt ≡ Halt.Memory)) }
     ensures applying { (bytes : List ℕ) → I.left input.old ≡ Some bytes → IfErr result (HaltsApplying bytes) }
     ensures failed { result ≡ Err Halt.InputFailed → Rose (I.faults input.old) (I.faults input.new) }
@@ -143,7 +130,7 @@ fn messages_of(alloc: Global, text: Bytes) -> Result<Vec<Bytes>, Halt>
     requires { length text ≤ INPUT_LIMIT }
     ensures ok { IfOk result (λ found. found.items ≡ messages_in (lines_of text)) }
     ensures good { OnOk result (first_bad (lines_of text) ≡ None) }
-    ensures halts { (now : ℤ) → IfErr result (Halts now text) }
+    ensures halts { (now : ℤ) → IfErr result (HaltsReplaying now text) }
     ensures kinds { IfErr result (λ halt. halt ≢ Halt.InputFailed) }
     ensures command { IfErr result (λ halt. halt ≢ Halt.Usage) }
 {
@@ -154,70 +141,55 @@ fn messages_of(alloc: Global, text: Bytes) -> Result<Vec<Bytes>, Halt>
     }
 }
 
-// What an input within the limit states.
-fn stated_in(alloc: Global, text: Bytes) -> Result<Stated, Halt>
-    requires { length text ≤ INPUT_LIMIT }
-    ensures ok { IfOk result (λ stated. StatedIn text stated.infos.items stated.commits.items) }
-    ensures good { OnOk result (first_bad (lines_of text) ≡ None) }
-    ensures halts { (now : ℤ) → IfErr result (Halts now text) }
-    ensures kinds { IfErr result (λ halt. halt ≢ Halt.InputFailed) }
-    ensures command { IfErr result (λ halt. halt ≢ Halt.Usage) }
-    ensures inserts { IfOk result AreInsertCommits }
+// Replays messages, and answers the status.
+fn replay_messages<O: Output>(
+    alloc: Global,
+    messages: Vec<Bytes>,
+    now_ms: &i64,
+    output: &mut O,
+) -> u8
+    ensures told { RunsLog now_ms.now messages.items result (O.written output.old) (O.written output.new) }
+    ensures output_failed { result ≡ output_failed_status → Rose (O.faults output.old) (O.faults output.new) }
+    ensures status { result ≢ status_of Halt.InputFailed }
+    ensures known { IsReplayStatus result }
 {
-    let bytes = match messages_of(alloc, text) {
-        Ok(bytes) => bytes,
-        Err(halt) => return Err(halt),
-    };
-    let placeholder = Text::of(alloc, PLACEHOLDER)?;
-    match thin::stated_by(alloc, &placeholder, bytes)? {
-        Some(stated) => Ok(stated),
-        None => Err(Halt::NotBuilt),
+    match print_log(alloc, messages, now_ms, output) {
+        Ok(status) => status,
+        Err(PrintError::OutputFailed) => OUTPUT_FAILED,
+        Err(PrintError::Memory) => say(alloc, Halt::Memory, output),
     }
 }
 
-fn read_commits<I: Input>(alloc: Global, input: &mut I) -> Result<Stated, Halt>
-    ensures ok { (bytes : List ℕ) (now : ℤ) → I.left input.old ≡ Some bytes → IfOk result (λ stated. Replays now bytes (done (lines_in stated.infos.items stated.commits.items now))) }
-    ensures halts { (bytes : List ℕ) (now : ℤ) → I.left input.old ≡ Some bytes → IfErr result (Halts now bytes) }
-    ensures end { (bytes : List ℕ) → I.left input.old ≡ Some bytes → length bytes ≤ INPUT_LIMIT
-        → MatchResult result (λ _. I.left input.new ≡ Some []) (λ halt. (halt ≡ Halt.InputFailed) ⊎ ((halt ≡ Halt.Memory) ⊎ (I.left input.new ≡ Some []))) }
-    ensures failed { result ≡ Err Halt.InputFailed → Rose (I.faults input.old) (I.faults input.new) }
-    ensures command { IfErr result (λ halt. halt ≢ Halt.Usage) }
-    ensures inserts { IfOk result AreInsertCommits }
+// Replays the messages of a text within the limit, and answers the status.
+fn replay_text<O: Output>(alloc: Global, text: Bytes, now_ms: &i64, output: &mut O) -> u8
+    requires { length text ≤ INPUT_LIMIT }
+    ensures told { RunsReplaying now_ms.now text result (O.written output.old) (O.written output.new) }
+    ensures output_failed { result ≡ output_failed_status → Rose (O.faults output.old) (O.faults output.new) }
+    ensures status { result ≢ status_of Halt.InputFailed }
+    ensures known { IsReplayStatus result }
+{
+    match messages_of(alloc, text) {
+        Ok(messages) => replay_messages(alloc, messages, now_ms, output),
+        Err(halt) => say(alloc, halt, output),
+    }
+}
+
+fn replay_lines<I: Input, O: Output>(
+    alloc: Global,
+    now_ms: &i64,
+    input: &mut I,
+    output: &mut O,
+) -> u8
+    ensures told { (bytes : List ℕ) → I.left input.old ≡ Some bytes → RunsReplaying now_ms.now bytes result (O.written output.old) (O.written output.new) }
+    ensures whole { (bytes : List ℕ) → I.left input.old ≡ Some bytes → length bytes ≤ INPUT_LIMIT → IsReplayAnswer result → I.left input.new ≡ Some [] }
+    ensures known { IsReplayStatus result }
+    ensures input_failed { result ≡ status_of Halt.InputFailed → Rose (I.faults input.old) (I.faults input.new) }
+    ensures output_failed { result ≡ output_failed_status → Rose (O.faults output.old) (O.faults output.new) }
 {
     match read_input(alloc, input) {
-        Ok(bytes) => stated_in(alloc, bytes),
-        Err(halt) => Err(halt),
+        Ok(bytes) => replay_text(alloc, bytes, now_ms, output),
+        Err(halt) => say(alloc, halt, output),
     }
-}
-
-fn default_identity(alloc: Global) -> Result<Identity, AllocError>
-    ensures { IfOk result (λ identity. identity ≡ default_identity) }
-{
-    Ok(Identity {
-        prefix: Text::of(alloc, "demo")?,
-        db: Text::of(alloc, "demo")?,
-        placeholder: Text::of(alloc, PLACEHOLDER)?,
-    })
-}
-
-fn write_commits<O: Output>(
-    alloc: Global,
-    stated: Stated,
-    now_ms: i64,
-    output: &mut O,
-) -> Result<(), PrintError>
-    requires { AreInsertCommits stated }
-    ensures prints { Prints (lines_in stated.infos.items stated.commits.items now_ms) result (O.written output.old) (O.written output.new) }
-    ensures failed { result ≡ Err PrintError.OutputFailed → Rose (O.faults output.old) (O.faults output.new) }
-    ensures later { O.faults output.old ≤ O.faults output.new }
-{
-    let Stated { infos, commits } = stated;
-    let identity = default_identity(alloc)?;
-    let writer = match EventWriter::make(alloc, identity, infos) {
-        Ok(writer) => writer,
-        Err(EnvelopeError::Memory) => return Err(PrintError::Memory),
-    };
-    print(alloc, &writer, &commits, &now_ms, output)
 }
 
 // Writes the line of a line that isn't applied, and answers its status.

@@ -1,0 +1,125 @@
+//! The tables that `replay` captures: each is learnt at its first Relation.
+
+ghost use Rattle.std.specs.Prelude.{◌≡◌, ◌||◌, not, All, IsSome, IfOk, option_map};
+ghost use Rattle.std.specs.List.{list_any, list_all};
+ghost use Rattle.dbl_value.specs.Values.{type_of};
+ghost use Rattle.dbl_model.specs.declared.table.TableName.{TableName};
+ghost use Rattle.dbl_model.specs.Tables.{same_name, is_watermark};
+ghost use Rattle.dbl_model.specs.Infos.{IsInfoOf};
+ghost use Rattle.dbl_model.specs.Made.{table_fault};
+ghost use Rattle.dbl_model.specs.Past.{schema_of};
+ghost use Rattle.dblog.specs.Built.{is_built_column};
+ghost use Rattle.dblog.specs.Captures.{entry_of, capture_fault};
+ghost use Rattle.dblog.specs.Judged.{Judges};
+
+use crate::log_fault::LogFault;
+use dbl_base::{Seq, Text};
+use dbl_model::{ModelError, RawColumn, RawTable, TableInfo, TableName};
+use dbl_pgmsg::RelationColumn;
+use std::alloc::{AllocError, Global};
+
+/// So many tables are captured at most.
+pub const TABLE_LIMIT: usize = 64;
+
+/// The schema that a Relation names: an empty namespace is `pg_catalog`.
+pub fn schema_of(namespace: &Text) -> &str
+    ensures { result.now ≡ schema_of namespace.now }
+{
+    let schema = namespace.as_str();
+    if schema.is_empty() {
+        "pg_catalog"
+    } else {
+        schema
+    }
+}
+
+fn has_name(info: &TableInfo, schema: &str, name: &str) -> bool
+    ensures { result ≡ same_name info.now.name (record { schema = schema.now; name = name.now }) }
+{
+    info.name.schema.as_str() == schema && info.name.name.as_str() == name
+}
+
+fn is_captured(infos: &Vec<TableInfo>, schema: &str, name: &str) -> bool
+    ensures { result ≡ list_any (λ info. same_name info.name (record { schema = schema.now; name = name.now })) infos.now.items }
+{
+    infos.iter().any(|info| has_name(info, schema, name))
+}
+
+fn is_watermark(schema: &str, name: &str) -> bool
+    ensures { result ≡ is_watermark (record { schema = schema.now; name = name.now }) }
+{
+    schema == "public" && name == "dblog_watermark"
+}
+
+/// Whether a table of this name is still to be captured. Takes no memory.
+pub fn is_new(infos: &Vec<TableInfo>, schema: &str, name: &str) -> bool
+    ensures { let table : TableName = record { schema = schema.now; name = name.now } in
+        result ≡ not (is_watermark table || list_any (λ info. same_name info.name table) infos.now.items) }
+{
+    !(is_watermark(schema, name) || is_captured(infos, schema, name))
+}
+
+/// The catalogue's entry that a Relation tells.
+pub fn entry_of(
+    alloc: Global,
+    schema: &str,
+    name: &str,
+    columns: &Vec<RelationColumn>,
+) -> Result<RawTable, AllocError>
+    ensures { IfOk result (λ raw. raw ≡ entry_of (record { schema = schema.now; name = name.now }) columns.now.items) }
+{
+    let mut raw_columns = Vec::with_capacity(alloc, columns.len())?;
+    let mut key = Vec::new(alloc);
+    for column in columns {
+        raw_columns.push(RawColumn {
+            name: column.name.copy(alloc)?,
+            oid: column.oid,
+        })?;
+        if column.flags % 2 == 1 {
+            key.push(column.name.copy(alloc)?)?;
+        }
+    }
+    Ok(RawTable {
+        name: TableName {
+            schema: Text::of(alloc, schema)?,
+            name: Text::of(alloc, name)?,
+        },
+        columns: Seq::make(raw_columns),
+        key: Seq::make(key),
+    })
+}
+
+fn are_built(columns: &Vec<RawColumn>) -> bool
+    ensures { result ≡ list_all is_built_column columns.now.items }
+{
+    columns
+        .iter()
+        .all(|column| column.oid == 23 || column.oid == 25)
+}
+
+fn made(alloc: Global, raw: &RawTable) -> Result<TableInfo, LogFault>
+    requires { All (λ column. IsSome (type_of column.oid)) raw.now.columns }
+    ensures info { IfOk result (IsInfoOf raw.now) }
+    ensures fault { Judges (option_map LogFault.Table (table_fault raw.now)) result }
+{
+    match TableInfo::make(alloc, raw) {
+        Ok(info) => Ok(info),
+        Err(ModelError::Memory) => Err(LogFault::Memory),
+        Err(error) => Err(LogFault::Table { error }),
+    }
+}
+
+/// What is captured of a table, beside so many others.
+pub fn captured(alloc: Global, count: usize, raw: &RawTable) -> Result<TableInfo, LogFault>
+    ensures info { IfOk result (IsInfoOf raw.now) }
+    ensures fault { Judges (capture_fault count raw.now) result }
+{
+    if !are_built(raw.columns.items()) {
+        return Err(LogFault::NotBuilt);
+    }
+    let info = made(alloc, raw)?;
+    if count >= TABLE_LIMIT {
+        return Err(LogFault::TooManyTables);
+    }
+    Ok(info)
+}

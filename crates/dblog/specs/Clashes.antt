@@ -2,8 +2,9 @@
 -- Debezium's manual of the PostgreSQL connector, "Toasted values".
 use Rattle.std.specs.Prelude.{ℕ, Bool, true, false, bytes_eq, if◌then◌else◌, Option, Some, None, option_map, option_and_then, List, [], ◌∷◌, slice_get}
 use Rattle.std.specs.List.{position_from, list_all}
+use Rattle.serde_json.specs.Find.{as_str}
 use Rattle.dbl_value.specs.declared.value.Val.{Val}
-use Rattle.dbl_value.specs.declared.value.Val.TheVariants as val
+use Rattle.dbl_value.specs.Values.{json_data}
 use Rattle.dbl_model.specs.declared.row.Row.{Row}
 use Rattle.dbl_model.specs.declared.table.TableInfo.{TableInfo}
 use Rattle.dbl_model.specs.declared.change.Cell.{Cell}
@@ -17,11 +18,13 @@ use Rattle.dblog.specs.declared.log_fault.LogFault.{LogFault}
 use Rattle.dblog.specs.declared.log_fault.LogFault.TheVariants.{Placeholder, NotBuilt}
 use Rattle.dblog.specs.Built.{is_built_change}
 
--- the value is printed as the placeholder of values that weren't sent
+abbrev pub is_this : List ℕ → Option (List ℕ) → Bool
+is_this text None = false
+is_this text (Some other) = bytes_eq other text
+
+-- the value's JSON is a string, and that of values that weren't sent
 abbrev pub is_placeholder : List ℕ → Val → Bool
-is_placeholder placeholder val.Null = false
-is_placeholder placeholder (val.Int n) = false
-is_placeholder placeholder (val.Text text) = bytes_eq text placeholder
+is_placeholder placeholder v = is_this placeholder (as_str (json_data v))
 
 abbrev pub is_placeholder_cell : List ℕ → Cell → Bool
 is_placeholder_cell placeholder (Given v) = is_placeholder placeholder v

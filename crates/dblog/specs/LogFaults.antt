@@ -34,7 +34,9 @@ column_text name column = full_name name ++ (codes "." ++ column)
 
 -- why a cell's text spells no value
 abbrev pub value_words : ValueError → List ℕ
+value_words value.FloatType = codes "float type"
 value_words value.BadText = codes "bad text"
+value_words value.DateRange = codes "date range"
 value_words value.Memory = codes "out of memory"
 
 -- a message that can't stand where it stands
@@ -59,7 +61,9 @@ transaction_text txn.Memory = codes "out of memory"
 abbrev pub table_text : ModelError → List ℕ
 table_text (table.BadName name) = codes "bad name " ++ full_name name
 table_text (table.DuplicateColumn name column) = codes "duplicate column " ++ column_text name column
+table_text (table.FloatColumn name column) = codes "float column " ++ column_text name column
 table_text (table.NoKey name) = codes "no key " ++ full_name name
+table_text (table.KeyType name column) = codes "key type " ++ column_text name column
 table_text table.Memory = codes "out of memory"
 
 -- 5 where the log is malformed, 6 where its content isn't supported

@@ -1,8 +1,7 @@
 //! The tables that `replay` captures: each is learnt at its first Relation.
 
-ghost use Rattle.std.specs.Prelude.{◌≡◌, ◌||◌, not, All, IsSome, IfOk, option_map};
+ghost use Rattle.std.specs.Prelude.{◌≡◌, ◌||◌, not, IfOk, option_map};
 ghost use Rattle.std.specs.List.{list_any, list_all};
-ghost use Rattle.dbl_value.specs.Values.{type_of};
 ghost use Rattle.dbl_model.specs.declared.table.TableName.{TableName};
 ghost use Rattle.dbl_model.specs.Tables.{same_name, is_watermark};
 ghost use Rattle.dbl_model.specs.Infos.{IsInfoOf};
@@ -98,7 +97,6 @@ fn are_built(columns: &Vec<RawColumn>) -> bool
 }
 
 fn made(alloc: Global, raw: &RawTable) -> Result<TableInfo, LogFault>
-    requires { All (λ column. IsSome (type_of column.oid)) raw.now.columns }
     ensures info { IfOk result (IsInfoOf raw.now) }
     ensures fault { Judges (option_map LogFault.Table (table_fault raw.now)) result }
 {

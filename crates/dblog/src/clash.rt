@@ -2,35 +2,59 @@
 
 ghost use Rattle.std.specs.Prelude.{◌≡◌, true, IfOk, option_and_then};
 ghost use Rattle.std.specs.List.{position_from, list_all};
+ghost use Rattle.serde_json.specs.Find.{as_str};
+ghost use Rattle.serde_json.specs.View.{view};
 ghost use Rattle.dbl_model.specs.Identities.{default_placeholder};
 ghost use Rattle.dbl_model.specs.Infos.{name_at};
 ghost use Rattle.dbl_model.specs.Rows.{changes_of};
 ghost use Rattle.dblog.specs.Built.{is_built_change};
-ghost use Rattle.dblog.specs.Clashes.{is_placeholder, row_clash, change_clash, clash_in, commit_fault};
+ghost use Rattle.dblog.specs.Clashes.{is_this, is_placeholder, row_clash, change_clash, clash_in, commit_fault};
 ghost use Rattle.dblog.specs.Judged.{Judges};
 
 use crate::log_fault::LogFault;
 use dbl_base::{Seq, Text};
 use dbl_model::{Body, Change, Column, Commit, TableInfo};
-use dbl_value::Val;
+use dbl_value::{Val, json_tree};
+use serde_json::Value;
 use std::alloc::{AllocError, Global};
 
 /// Debezium's `unavailable.value.placeholder`, by its default.
 pub const PLACEHOLDER: &str = "__debezium_unavailable_value";
 
-fn is_placeholder(value: &Val) -> bool
-    ensures { result ≡ is_placeholder default_placeholder value.now }
+fn is_placeholder_text(tree: &Value) -> bool
+    ensures { result ≡ is_this default_placeholder (as_str (view tree.now)) }
 {
-    match value {
-        Val::Text(text) => text.as_str() == PLACEHOLDER,
-        _ => false,
+    match tree.as_str() {
+        Some(text) => text == PLACEHOLDER,
+        None => false,
     }
 }
 
-fn first_placeholder(values: &Seq<Val>) -> Option<usize>
-    ensures { result ≡ position_from (is_placeholder default_placeholder) 0 values.now }
+// Byte strings and instants are strings in JSON too, and take memory to be compared.
+fn is_placeholder(alloc: Global, value: &Val) -> Result<bool, AllocError>
+    ensures { IfOk result (λ b. b ≡ is_placeholder default_placeholder value.now) }
 {
-    values.items().iter().position(is_placeholder)
+    match value {
+        Val::Text(text) => Ok(text.as_str() == PLACEHOLDER),
+        Val::Bytes(_) | Val::StampTz(_) => {
+            let tree = json_tree(alloc, value)?;
+            Ok(is_placeholder_text(&tree))
+        }
+        Val::Null | Val::Bool(_) | Val::Int(_) | Val::Date(_) | Val::Time(_) | Val::Stamp(_) => {
+            Ok(false)
+        }
+    }
+}
+
+fn first_placeholder(alloc: Global, values: &[Val]) -> Result<Option<usize>, AllocError>
+    ensures { IfOk result (λ place. place ≡ position_from (is_placeholder default_placeholder) 0 values.now) }
+{
+    for (i, value) in values.iter().enumerate() {
+        if is_placeholder(alloc, value)? {
+            return Ok(Some(i));
+        }
+    }
+    Ok(None)
 }
 
 fn name_at(alloc: Global, columns: &Vec<Column>, place: usize) -> Result<Text, AllocError>
@@ -45,7 +69,7 @@ fn name_at(alloc: Global, columns: &Vec<Column>, place: usize) -> Result<Text, A
 fn check_row(alloc: Global, info: &TableInfo, values: &Seq<Val>) -> Result<(), LogFault>
     ensures { Judges (row_clash default_placeholder info.now values.now) result }
 {
-    match first_placeholder(values) {
+    match first_placeholder(alloc, values.items().as_slice())? {
         None => Ok(()),
         Some(place) => Err(LogFault::Placeholder {
             table: info.name.copy(alloc)?,

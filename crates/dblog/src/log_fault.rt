@@ -55,7 +55,9 @@ fn value_words(error: &ValueError) -> &'static str
     ensures { result.now ≡ value_words error.now }
 {
     match error {
+        ValueError::FloatType => "float type",
         ValueError::BadText => "bad text",
+        ValueError::DateRange => "date range",
         ValueError::Memory => "out of memory",
     }
 }
@@ -112,7 +114,11 @@ fn table_text(alloc: Global, error: &ModelError) -> Result<String, AllocError>
         ModelError::DuplicateColumn { table, column } => {
             format!(in alloc; "duplicate column {table}.{column}")
         }
+        ModelError::FloatColumn { table, column } => {
+            format!(in alloc; "float column {table}.{column}")
+        }
         ModelError::NoKey { table } => format!(in alloc; "no key {table}"),
+        ModelError::KeyType { table, column } => format!(in alloc; "key type {table}.{column}"),
         ModelError::Memory => String::from_str(alloc, "out of memory"),
     }
 }

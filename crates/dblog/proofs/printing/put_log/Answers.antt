@@ -15,8 +15,8 @@ returns-in-Err-clause-puts g c = λ lines end writes. putting_starves lines line
 pub messages-init : goal.messages-init
 messages-init g c = (
   subst (λ (left : List (List ℕ)). IsLogging c.args.now_ms.now c.args.messages.items left c.args.buffer.items c.args.buffer.items (g.O.Output.written c.args.output.now) (g.O.Output.written c.args.output.now) 0 c.in-Ok.replayer)
-  (sym c.into_iter-bytes-iterator.ensures.into_iter_gives.0)
-  (logging_begins c.args.now_ms.now c.args.messages.items c.args.buffer.items (g.O.Output.written c.args.output.now) c.in-Ok.replayer c.in-Ok.ensures),
+      (sym c.into_iter-bytes-iterator.ensures.into_iter_gives.0)
+      (logging_begins c.args.now_ms.now c.args.messages.items c.args.buffer.items (g.O.Output.written c.args.output.now) c.in-Ok.replayer c.in-Ok.ensures),
   omega arith,
 )
 

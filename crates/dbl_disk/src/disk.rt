@@ -1,4 +1,4 @@
-ghost use Rattle.std.specs.Prelude.{◌≡◌, ◌↔◌, ℕ, ◌+◌, ◌-◌, ◌^◌, ◌<◌, ◌≤◌, List, length, take, drop, min, Option, Some, IsErr, IfOk, OnOk, OnErr};
+ghost use Rattle.std.specs.Prelude.{◌≡◌, ◌↔◌, ℕ, ◌+◌, ◌-◌, ◌^◌, ◌<◌, ◌≤◌, List, length, take, drop, min, Option, Some, None, IsErr, IfOk, OnOk, OnErr};
 ghost use Rattle.dbl_base.specs.Streams.{Rose};
 ghost use Rattle.dbl_disk.specs.Disks.{Follows, IsOnly, Torn, written};
 
@@ -49,6 +49,7 @@ pub trait Disk {
         ensures torn { (old : List ℕ) → seen self.old ≡ Some old → OnErr result ((new : List ℕ) × (seen self.new ≡ Some new) × Torn at (length bytes.now) old new) }
         ensures images { Follows (Torn at (length bytes.now)) (may_leave self.old) (may_leave self.new) }
         ensures beyond { 2 ^ 40 ≤ at + length bytes.now → seen self.new ≡ seen self.old }
+        ensures silent { seen self.old ≡ None → seen self.new ≡ None }
         ensures untried { 2 ^ 40 ≤ at + length bytes.now → (image : List ℕ) → may_leave self.new image ↔ may_leave self.old image }
         ensures later { faults self.old ≤ faults self.new }
         ensures cause { OnErr result (Rose (faults self.old) (faults self.new)) };

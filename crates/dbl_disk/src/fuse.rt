@@ -1,4 +1,4 @@
-ghost use Rattle.std.specs.Prelude.{◌≡◌, ◌↔◌, ℕ, ◌+◌, ◌-◌, ◌^◌, ◌<◌, ◌≤◌, List, length, take, drop, min, Some, IfOk, OnOk, OnErr};
+ghost use Rattle.std.specs.Prelude.{◌≡◌, ◌↔◌, ℕ, ◌+◌, ◌-◌, ◌^◌, ◌<◌, ◌≤◌, List, length, take, drop, min, Some, None, IfOk, OnOk, OnErr};
 ghost use Rattle.dbl_base.specs.Streams.{Rose, raised};
 ghost use Rattle.dbl_disk.specs.Disks.{Follows, IsOnly, Torn, written};
 ghost use Rattle.dbl_disk.specs.Fuse.{Burns, fuse_faults};
@@ -109,6 +109,7 @@ impl<D: Disk> Disk for FuseDisk<D> {
         ensures torn { (old : List ℕ) → D.seen self.old.inner ≡ Some old → OnErr result ((new : List ℕ) × (D.seen self.new.inner ≡ Some new) × Torn at (length bytes.now) old new) }
         ensures images { Follows (Torn at (length bytes.now)) (D.may_leave self.old.inner) (D.may_leave self.new.inner) }
         ensures beyond { 2 ^ 40 ≤ at + length bytes.now → D.seen self.new.inner ≡ D.seen self.old.inner }
+        ensures silent { D.seen self.old.inner ≡ None → D.seen self.new.inner ≡ None }
         ensures untried { 2 ^ 40 ≤ at + length bytes.now → (image : List ℕ) → D.may_leave self.new.inner image ↔ D.may_leave self.old.inner image }
         ensures later { fuse_faults D.faults self.old ≤ fuse_faults D.faults self.new }
         ensures cause { OnErr result (Rose (fuse_faults D.faults self.old) (fuse_faults D.faults self.new)) }

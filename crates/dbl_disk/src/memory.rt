@@ -1,4 +1,4 @@
-ghost use Rattle.std.specs.Prelude.{◌≡◌, ◌↔◌, ◌⊎◌, ℕ, ◌+◌, ◌-◌, ◌^◌, ◌<◌, ◌≤◌, ◌++◌, List, [], ◌∷◌, length, take, drop, replicate, min, slice_index, Some, Ok, Err, IsErr, IfOk, OnOk, OnErr, Contains};
+ghost use Rattle.std.specs.Prelude.{◌≡◌, ◌↔◌, ◌⊎◌, ℕ, ◌+◌, ◌-◌, ◌^◌, ◌<◌, ◌≤◌, ◌++◌, List, [], ◌∷◌, length, take, drop, replicate, min, slice_index, Some, None, Ok, Err, IsErr, IfOk, OnOk, OnErr, Contains};
 ghost use Rattle.std.specs.List.{All};
 ghost use Rattle.dbl_base.specs.Streams.{Rose, raised};
 ghost use Rattle.dbl_base.specs.Memory.{new_plan};
@@ -280,6 +280,7 @@ impl Disk for MemDisk {
         ensures torn { (old : List ℕ) → Some self.old.current ≡ Some old → OnErr result ((new : List ℕ) × (Some self.new.current ≡ Some new) × Torn at (length bytes.now) old new) }
         ensures images { Follows (Torn at (length bytes.now)) (IsImage self.old) (IsImage self.new) }
         ensures beyond { 2 ^ 40 ≤ at + length bytes.now → Some self.new.current ≡ Some self.old.current }
+        ensures silent { Some self.old.current ≡ None → Some self.new.current ≡ None }
         ensures untried { 2 ^ 40 ≤ at + length bytes.now → (image : List ℕ) → IsImage self.new image ↔ IsImage self.old image }
         ensures later { self.old.plan.faults ≤ self.new.plan.faults }
         ensures cause { OnErr result (Rose self.old.plan.faults self.new.plan.faults) }

@@ -1,0 +1,8 @@
+use Rattle.dbl_disk.proofs.Tears.{one_less, one_more, only_stable, stable_only}
+use Rattle.dbl_disk.proofs.laws.torn_writes_add_up.Goals as goal
+
+pub returns-clause-none : goal.returns-clause-none
+returns-clause-none c stable image = (only_stable stable image, stable_only stable image)
+
+pub returns-clause-more : goal.returns-clause-more
+returns-clause-more c stable image extents extent = (one_less stable extents extent image, λ made. one_more stable extents extent made.0 image made.1 made.2)

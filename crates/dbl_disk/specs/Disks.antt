@@ -1,0 +1,42 @@
+-- Disks, as bytes: what a write does, and what a stop may leave between two syncs. Nothing is assumed of the order in
+-- which a device keeps what it was told to write, nor of its parts.
+use Rattle.std.specs.Prelude.{◌≡◌, ◌⊎◌, ℕ, ◌+◌, ◌-◌, ◌<◌, ◌≤◌, max, List, [], ◌∷◌, ◌++◌, length, take, drop, replicate, slice_index}
+use Rattle.std.specs.List.{All}
+use Rattle.dbl_disk.specs.declared.extent.Extent.{Extent}
+
+-- the extent does not have the place
+abbrev pub IsAside : Extent → ℕ → Type 0
+IsAside extent place = (place < extent.at) ⊎ (extent.at + extent.length ≤ place)
+
+-- none of the extents has the place
+abbrev pub IsOutside : List Extent → ℕ → Type 0
+IsOutside extents place = All (λ extent. IsAside extent place) extents
+
+-- the greatest of this end and the ends of the extents
+abbrev pub farthest : ℕ → List Extent → ℕ
+farthest end [] = end
+farthest end (extent ∷ extents) = farthest (max end (extent.at + extent.length)) extents
+
+-- What a stop may leave of these stable bytes, where the extents were written, or tried to be, since they were synced: the
+-- extents and what lies past the old end may hold any bytes, bytes elsewhere stay, and the end lies anywhere from the old
+-- end to the greatest end that was written or tried.
+pub record MayLeave (stable : List ℕ) (extents : List Extent) (image : List ℕ) : Type 0 where
+  pub kept : (place : ℕ) → place < length stable → IsOutside extents place → slice_index image place ≡ slice_index stable place
+  pub no_shorter : length stable ≤ length image
+  pub no_longer : length image ≤ farthest (length stable) extents
+
+-- what one write of so many bytes at the place may leave of bytes, whether it was done or cut short
+abbrev pub Torn : ℕ → ℕ → List ℕ → List ℕ → Type 0
+Torn at count = λ old new. MayLeave old (record { at = at; length = count } ∷ []) new
+
+-- the bytes with these written at the place; a gap before them is zeros
+abbrev pub written : List ℕ → ℕ → List ℕ → List ℕ
+written old at bytes = take at (old ++ replicate (at - length old) 0) ++ bytes ++ drop (at + length bytes) old
+
+-- each of the new images is one of the old images after the step
+abbrev pub Follows : (List ℕ → List ℕ → Type 0) → (List ℕ → Type 0) → (List ℕ → Type 0) → Type 0
+Follows step old new = (image : List ℕ) → new image → (before : List ℕ) × old before × step before image
+
+-- there is no image but these bytes
+abbrev pub IsOnly : List ℕ → (List ℕ → Type 0) → Type 0
+IsOnly bytes images = (image : List ℕ) → images image → image ≡ bytes

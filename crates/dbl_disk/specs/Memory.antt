@@ -1,0 +1,48 @@
+-- Disks in memory.
+use Rattle.std.specs.Prelude.{◌≡◌, ◌⊎◌, ℕ, ◌+◌, ◌^◌, ◌<◌, ◌≤◌, List, [], length, slice_index, Some}
+use Rattle.std.proofs.Common.{inl}
+use Rattle.std.specs.List.{All}
+use Rattle.dbl_base.specs.Memory.{Plan, new_plan}
+use Rattle.dbl_disk.specs.declared.extent.Extent.{Extent}
+use Rattle.dbl_disk.specs.Disks.{IsOutside, MayLeave}
+
+-- the bytes at the last sync, the bytes that a read gives, the extents written since that sync, and the plan of faults
+pub record Platter : Type 0 where
+  pub stable : List ℕ
+  pub current : List ℕ
+  pub dirty : List Extent
+  pub plan : Plan
+
+-- a disk on which these bytes are synced, which is to fail at none of its calls
+abbrev pub synced : List ℕ → Platter
+synced bytes = record { stable = bytes; current = bytes; dirty = []; plan = new_plan [] }
+
+-- a stop may leave this image
+abbrev pub IsImage : Platter → List ℕ → Type 0
+IsImage disk image = (image ≡ disk.current) ⊎ MayLeave disk.stable disk.dirty image
+
+-- two lists of bytes, as long as each other, differ in these extents alone
+pub record DiffersInside (extents : List Extent) (left right : List ℕ) : Type 0 where
+  pub long : length left ≡ length right
+  pub same : (place : ℕ) → place < length right → IsOutside extents place → slice_index left place ≡ slice_index right place
+
+-- the bytes with this one in the extents
+pub record AreFilled (byte : ℕ) (extents : List Extent) (old new : List ℕ) : Type 0 where
+  pub long : length new ≡ length old
+  pub clean : (place : ℕ) → IsOutside extents place → slice_index new place ≡ slice_index old place
+  pub filled : (place : ℕ) → place < length old → ¬ IsOutside extents place → slice_index new place ≡ byte
+
+-- the bytes that a read gives, with this byte in the dirty extents and past the old end
+pub record IsFilled (byte : ℕ) (stable current : List ℕ) (dirty : List Extent) (image : List ℕ) : Type 0 where
+  pub long : length image ≡ length current
+  pub clean : (place : ℕ) → place < length stable → IsOutside dirty place → slice_index image place ≡ slice_index current place
+  pub filled : (place : ℕ) → place < length image → ¬ ((place < length stable) × IsOutside dirty place) → slice_index image place ≡ byte
+
+-- what holds of each disk in memory: its bytes are one of the images, and have each dirty extent
+pub record IsKept (stable current : List ℕ) (dirty : List Extent) : Type 0 where
+  pub image : MayLeave stable dirty current
+  pub within : All (λ extent. extent.at + extent.length ≤ length current) dirty
+  pub small : length current < 2 ^ 40
+
+pub told_is_image : (disk : Platter) (bytes : List ℕ) → Some disk.current ≡ Some bytes → IsImage disk bytes
+told_is_image disk bytes told = inl (cc)

@@ -1,0 +1,6 @@
+/// Consecutive places of a disk: `length` bytes from `at` on.
+#[derive(Clone, Copy, Debug, PartialEq, Eq)]
+pub struct Extent {
+    pub at: u64,
+    pub length: u64,
+}

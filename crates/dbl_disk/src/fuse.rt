@@ -1,0 +1,133 @@
+ghost use Rattle.std.specs.Prelude.{◌≡◌, ◌↔◌, ℕ, ◌+◌, ◌-◌, ◌^◌, ◌<◌, ◌≤◌, List, length, take, drop, min, Some, None, IfOk, OnOk, OnErr};
+ghost use Rattle.dbl_base.specs.Streams.{Rose, raised};
+ghost use Rattle.dbl_disk.specs.Disks.{Follows, IsOnly, Torn, written};
+ghost use Rattle.dbl_disk.specs.Fuse.{Burns, fuse_faults};
+
+use crate::Disk;
+use dbl_base::Failed;
+use std::marker::Model;
+
+/// A disk that passes some calls on to another one, and then fails every call.
+#[derive(Debug, Drop)]
+pub struct FuseDisk<D> {
+    inner: D,
+    left: u64,
+    refused: u64,
+}
+
+impl<D> Model for FuseDisk<D> {
+    ghost use Rattle.dbl_disk.specs.Fuse.{Fused};
+
+    ghost Value = { Fused D };
+
+    ghost view = { λ f. record { inner = f.inner; left = f.left; refused = f.refused } };
+}
+
+impl<D> FuseDisk<D> {
+    /// A disk that passes so many calls on to the other one. Takes no memory.
+    pub fn make(inner: D, pass: u64) -> FuseDisk<D>
+        ensures { result ≡ record { inner = inner; left = pass; refused = 0 } }
+    {
+        FuseDisk {
+            inner,
+            left: pass,
+            refused: 0,
+        }
+    }
+
+    /// The disk behind the fuse, as it stands. Takes no memory.
+    pub fn into_inner(self) -> D
+        ensures { result ≡ self.inner }
+    {
+        let FuseDisk {
+            inner,
+            left: _,
+            refused: _,
+        } = self;
+        inner
+    }
+}
+
+// Takes a call, where one is left.
+fn take_call(left: &mut u64, refused: &mut u64) -> Result<(), Failed>
+    ensures passed { OnOk result (0 < left.old) }
+    ensures blown { OnErr result (left.old ≡ 0) }
+    ensures left { left.new ≡ left.old - 1 }
+    ensures counted { OnOk result (refused.new ≡ refused.old) }
+    ensures refused { OnErr result (refused.new ≡ raised refused.old) }
+{
+    if *left == 0 {
+        *refused = refused.saturating_add(1);
+        return Err(Failed);
+    }
+    *left -= 1;
+    Ok(())
+}
+
+impl<D: Disk> Disk for FuseDisk<D> {
+    ghost use Rattle.dbl_disk.specs.Fuse.{fuse_faults};
+
+    ghost seen = { λ f. D.seen f.inner };
+
+    ghost may_leave = { λ f image. D.may_leave f.inner image };
+
+    ghost faults = { λ f. fuse_faults D.faults f };
+
+    ghost seen_is_image = { λ f bytes told. D.seen_is_image f.inner bytes told };
+
+    fn len(&mut self) -> Result<u64, Failed>
+        ensures below { IfOk result (λ n. n < 2 ^ 40) }
+        ensures told { (bytes : List ℕ) → D.seen self.old.inner ≡ Some bytes → IfOk result (λ n. n ≡ length bytes) }
+        ensures seen { D.seen self.new.inner ≡ D.seen self.old.inner }
+        ensures images { (image : List ℕ) → D.may_leave self.new.inner image ↔ D.may_leave self.old.inner image }
+        ensures later { fuse_faults D.faults self.old ≤ fuse_faults D.faults self.new }
+        ensures cause { OnErr result (Rose (fuse_faults D.faults self.old) (fuse_faults D.faults self.new)) }
+        ensures fuse { Burns D.faults self.old self.new result }
+    {
+        take_call(&mut self.left, &mut self.refused)?;
+        self.inner.len()
+    }
+
+    fn read_at(&mut self, at: u64, buffer: &mut [u8]) -> Result<usize, Failed>
+        ensures bound { IfOk result (λ n. n ≤ length buffer.old) }
+        ensures told { (bytes : List ℕ) → D.seen self.old.inner ≡ Some bytes → IfOk result (λ n. n ≡ min (length buffer.old) (length bytes - at)) }
+        ensures moved { (bytes : List ℕ) → D.seen self.old.inner ≡ Some bytes → IfOk result (λ n. take n buffer.new ≡ take n (drop at bytes)) }
+        ensures seen { D.seen self.new.inner ≡ D.seen self.old.inner }
+        ensures images { (image : List ℕ) → D.may_leave self.new.inner image ↔ D.may_leave self.old.inner image }
+        ensures later { fuse_faults D.faults self.old ≤ fuse_faults D.faults self.new }
+        ensures cause { OnErr result (Rose (fuse_faults D.faults self.old) (fuse_faults D.faults self.new)) }
+        ensures fuse { Burns D.faults self.old self.new result }
+    {
+        take_call(&mut self.left, &mut self.refused)?;
+        self.inner.read_at(at, buffer)
+    }
+
+    fn write_at(&mut self, at: u64, bytes: &[u8]) -> Result<(), Failed>
+        requires { (old : List ℕ) → D.seen self.old.inner ≡ Some old → 2 ^ 40 ≤ at + length bytes.now → 2 ^ 39 ≤ length old }
+        ensures room { OnOk result (at + length bytes.now < 2 ^ 40) }
+        ensures written { (old : List ℕ) → D.seen self.old.inner ≡ Some old → OnOk result (D.seen self.new.inner ≡ Some (written old at bytes.now)) }
+        ensures torn { (old : List ℕ) → D.seen self.old.inner ≡ Some old → OnErr result ((new : List ℕ) × (D.seen self.new.inner ≡ Some new) × Torn at (length bytes.now) old new) }
+        ensures images { Follows (Torn at (length bytes.now)) (D.may_leave self.old.inner) (D.may_leave self.new.inner) }
+        ensures beyond { 2 ^ 40 ≤ at + length bytes.now → D.seen self.new.inner ≡ D.seen self.old.inner }
+        ensures silent { D.seen self.old.inner ≡ None → D.seen self.new.inner ≡ None }
+        ensures untried { 2 ^ 40 ≤ at + length bytes.now → (image : List ℕ) → D.may_leave self.new.inner image ↔ D.may_leave self.old.inner image }
+        ensures later { fuse_faults D.faults self.old ≤ fuse_faults D.faults self.new }
+        ensures cause { OnErr result (Rose (fuse_faults D.faults self.old) (fuse_faults D.faults self.new)) }
+        ensures fuse { Burns D.faults self.old self.new result }
+    {
+        take_call(&mut self.left, &mut self.refused)?;
+        self.inner.write_at(at, bytes)
+    }
+
+    fn sync(&mut self) -> Result<(), Failed>
+        ensures stable { (bytes : List ℕ) → D.seen self.old.inner ≡ Some bytes → OnOk result (IsOnly bytes (D.may_leave self.new.inner)) }
+        ensures seen { D.seen self.new.inner ≡ D.seen self.old.inner }
+        ensures images { (image : List ℕ) → D.may_leave self.new.inner image → D.may_leave self.old.inner image }
+        ensures later { fuse_faults D.faults self.old ≤ fuse_faults D.faults self.new }
+        ensures cause { OnErr result (Rose (fuse_faults D.faults self.old) (fuse_faults D.faults self.new)) }
+        ensures fuse { Burns D.faults self.old self.new result }
+    {
+        take_call(&mut self.left, &mut self.refused)?;
+        self.inner.sync()
+    }
+}

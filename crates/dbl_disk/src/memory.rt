@@ -1,0 +1,329 @@
+ghost use Rattle.std.specs.Prelude.{◌≡◌, ◌↔◌, ◌⊎◌, ℕ, ◌+◌, ◌-◌, ◌^◌, ◌<◌, ◌≤◌, ◌++◌, List, [], ◌∷◌, length, take, drop, replicate, min, slice_index, Some, None, Ok, Err, IsErr, IfOk, OnOk, OnErr, Contains};
+ghost use Rattle.std.specs.List.{All};
+ghost use Rattle.dbl_base.specs.Streams.{Rose, raised};
+ghost use Rattle.dbl_base.specs.Memory.{new_plan};
+ghost use Rattle.dbl_disk.specs.Disks.{Follows, IsAside, IsOnly, MayLeave, Torn, written};
+ghost use Rattle.dbl_disk.specs.Memory.{AreFilled, DiffersInside, IsImage, IsFilled, IsKept, synced};
+
+use crate::{DISK_LIMIT, Disk, Extent};
+use dbl_base::{Failed, FaultPlan};
+use std::alloc::{AllocError, Global};
+use std::marker::Model;
+
+/// What a stop leaves of a disk in memory.
+#[derive(Clone, Copy, Debug, PartialEq, Eq)]
+pub enum Choice {
+    /// The bytes at the last sync.
+    Old,
+    /// The bytes that a read gives.
+    New,
+    /// The bytes that a read gives, with this byte wherever a stop may leave any byte.
+    Fill(u8),
+}
+
+/// A disk in memory. Where it finds no room it counts a fault of its own.
+#[derive(Debug, Drop)]
+pub struct MemDisk {
+    alloc: Global,
+    stable: Vec<u8>,
+    current: Vec<u8>,
+    dirty: Vec<Extent>,
+    plan: FaultPlan,
+}
+
+impl Model for MemDisk {
+    ghost use Rattle.std.specs.Prelude.{length, ◌<◌, ◌^◌};
+    ghost use Rattle.dbl_disk.specs.Memory.{Platter, IsKept};
+
+    ghost Value = { Platter };
+
+    ghost view = { λ d. record { stable = d.stable.items; current = d.current.items; dirty = d.dirty.items; plan = d.plan } };
+
+    ghost invariant = { λ d. IsKept d.stable.items d.current.items d.dirty.items };
+}
+
+// Zeros up to the end, where the bytes don't reach it.
+fn extend_to(current: &mut Vec<u8>, end: usize) -> Result<(), AllocError>
+    ensures ok { OnOk result (current.new.items ≡ current.old.items ++ replicate (end - length current.old.items) 0) }
+    ensures err { OnErr result (current.new.items ≡ current.old.items) }
+{
+    if current.len() < end {
+        current.resize(end, 0)?;
+    }
+    Ok(())
+}
+
+// Writes the bytes over those at the place.
+fn overwrite(current: &mut Vec<u8>, at: usize, bytes: &[u8])
+    requires { at + length bytes.now ≤ length current.old.items }
+    ensures { current.new.items ≡ take at current.old.items ++ bytes.now ++ drop (at + length bytes.now) current.old.items }
+{
+    current[at..at + bytes.len()].copy_from_slice(bytes);
+}
+
+// Writes the bytes at the place, and notes the extent.
+fn put(
+    current: &mut Vec<u8>,
+    dirty: &mut Vec<Extent>,
+    at: usize,
+    bytes: &[u8],
+) -> Result<(), AllocError>
+    requires { at + length bytes.now < 2 ^ 40 }
+    ensures written { OnOk result (current.new.items ≡ written current.old.items at bytes.now) }
+    ensures dirty { OnOk result (dirty.new.items ≡ dirty.old.items ++ record { at = at; length = length bytes.now } ∷ []) }
+    ensures current_stays { OnErr result (current.new.items ≡ current.old.items) }
+    ensures dirty_stays { OnErr result (dirty.new.items ≡ dirty.old.items) }
+{
+    let before = current.len();
+    extend_to(current, at + bytes.len())?;
+    let extent = Extent {
+        at: at as u64,
+        length: bytes.len() as u64,
+    };
+    if dirty.push(extent).is_err() {
+        current.truncate(before);
+        return Err(AllocError);
+    }
+    overwrite(current, at, bytes);
+    Ok(())
+}
+
+// Sets the bytes of the extent.
+fn fill(image: &mut [u8], extent: Extent, byte: u8)
+    requires { extent.at + extent.length ≤ length image.old }
+    ensures inside { (place : ℕ) → extent.at ≤ place → place < extent.at + extent.length → slice_index image.new place ≡ byte }
+    ensures aside { (place : ℕ) → IsAside extent place → slice_index image.new place ≡ slice_index image.old place }
+{
+    let at = extent.at as usize;
+    image[at..at + extent.length as usize].fill(byte);
+}
+
+// Copies the bytes of the extent.
+fn copy(stable: &mut [u8], current: &[u8], extent: Extent)
+    requires same { length stable.old ≡ length current.now }
+    requires within { extent.at + extent.length ≤ length current.now }
+    ensures inside { (place : ℕ) → extent.at ≤ place → place < extent.at + extent.length → slice_index stable.new place ≡ slice_index current.now place }
+    ensures aside { (place : ℕ) → IsAside extent place → slice_index stable.new place ≡ slice_index stable.old place }
+{
+    let at = extent.at as usize;
+    let end = at + extent.length as usize;
+    stable[at..end].copy_from_slice(&current[at..end]);
+}
+
+// Makes the stable bytes the current ones, where they differ in the dirty extents alone.
+fn copy_extents(stable: &mut [u8], current: &[u8], dirty: &[Extent])
+    requires differ { DiffersInside dirty.now stable.old current.now }
+    requires within { All (λ extent. extent.at + extent.length ≤ length current.now) dirty.now }
+    ensures { stable.new ≡ current.now }
+{
+    'extents: for extent in dirty {
+        copy(stable, current, *extent);
+    }
+}
+
+// Makes the stable bytes the current ones, where they differ in the dirty extents and past their end alone.
+fn settle(stable: &mut Vec<u8>, current: &[u8], dirty: &[Extent]) -> Result<(), AllocError>
+    requires { IsKept stable.old.items current.now dirty.now }
+    ensures ok { OnOk result (stable.new.items ≡ current.now) }
+    ensures err { OnErr result (stable.new.items ≡ stable.old.items) }
+{
+    let old = stable.len();
+    stable.extend_from_slice(&current[old..])?;
+    copy_extents(stable, current, dirty);
+    Ok(())
+}
+
+// Sets the bytes of the extents.
+fn fill_extents(image: &mut [u8], dirty: &[Extent], byte: u8)
+    requires { All (λ extent. extent.at + extent.length ≤ length image.old) dirty.now }
+    ensures { AreFilled byte dirty.now image.old image.new }
+{
+    'extents: for extent in dirty {
+        fill(image, *extent, byte);
+    }
+}
+
+// The current bytes with this one wherever a stop may leave any byte.
+fn filled(
+    alloc: Global,
+    stable: &[u8],
+    current: &[u8],
+    dirty: &[Extent],
+    byte: u8,
+) -> Result<Vec<u8>, AllocError>
+    requires { IsKept stable.now current.now dirty.now }
+    ensures { IfOk result (λ image. IsFilled byte stable.now current.now dirty.now image.items) }
+{
+    let mut image = Vec::from_slice(alloc, &current[..stable.len()])?;
+    image.resize(current.len(), byte)?;
+    fill_extents(&mut image, dirty, byte);
+    Ok(image)
+}
+
+// The bytes that the choice leaves.
+fn chosen(
+    alloc: Global,
+    stable: &Vec<u8>,
+    current: &Vec<u8>,
+    dirty: &[Extent],
+    choice: Choice,
+) -> Result<Vec<u8>, AllocError>
+    requires { IsKept stable.now.items current.now.items dirty.now }
+    ensures old { choice ≡ Choice.Old → IfOk result (λ image. image.items ≡ stable.now.items) }
+    ensures new { choice ≡ Choice.New → IfOk result (λ image. image.items ≡ current.now.items) }
+    ensures fill { (byte : ℕ) → choice ≡ Choice.Fill byte → IfOk result (λ image. IsFilled byte stable.now.items current.now.items dirty.now image.items) }
+    ensures allowed { IfOk result (λ image. (image.items ≡ current.now.items) ⊎ MayLeave stable.now.items dirty.now image.items) }
+    ensures small { IfOk result (λ image. length image.items < 2 ^ 40) }
+{
+    match choice {
+        Choice::Old => stable.clone(),
+        Choice::New => current.clone(),
+        Choice::Fill(byte) => filled(alloc, stable, current, dirty, byte),
+    }
+}
+
+impl MemDisk {
+    /// An empty disk, whose listed calls, counted from 1, are to fail. Takes no memory; later calls use the allocator.
+    pub fn make(alloc: Global, fails: Vec<u64>) -> MemDisk
+        ensures { result ≡ record (synced []) { plan = new_plan fails.items } }
+    {
+        MemDisk {
+            alloc,
+            stable: Vec::new(alloc),
+            current: Vec::new(alloc),
+            dirty: Vec::new(alloc),
+            plan: FaultPlan::make(fails),
+        }
+    }
+
+    /// The bytes that a read gives.
+    pub fn bytes(&self) -> &Vec<u8>
+        ensures { result.now.items ≡ self.now.current }
+    {
+        &self.current
+    }
+
+    /// The disk as it is found after a stop: with no dirty extent, no fault and no call that is to fail.
+    pub fn crash(&self, choice: Choice) -> Result<MemDisk, AllocError>
+        ensures allowed { IfOk result (λ disk. IsImage self.now disk.current) }
+        ensures synced { IfOk result (λ disk. disk ≡ synced disk.current) }
+        ensures old { choice ≡ Choice.Old → IfOk result (λ disk. disk.current ≡ self.now.stable) }
+        ensures new { choice ≡ Choice.New → IfOk result (λ disk. disk.current ≡ self.now.current) }
+        ensures fill { (byte : ℕ) → choice ≡ Choice.Fill byte → IfOk result (λ disk. IsFilled byte self.now.stable self.now.current self.now.dirty disk.current) }
+    {
+        let current = chosen(self.alloc, &self.stable, &self.current, &self.dirty, choice)?;
+        Ok(MemDisk {
+            alloc: self.alloc,
+            stable: current.clone()?,
+            current,
+            dirty: Vec::new(self.alloc),
+            plan: FaultPlan::make(Vec::new(self.alloc)),
+        })
+    }
+}
+
+impl Disk for MemDisk {
+    ghost use Rattle.std.specs.Prelude.{Some};
+    ghost use Rattle.dbl_disk.specs.Memory.{IsImage, told_is_image};
+
+    ghost seen = { λ d. Some d.current };
+
+    ghost may_leave = { IsImage };
+
+    ghost faults = { λ d. d.plan.faults };
+
+    ghost seen_is_image = { λ d bytes told. told_is_image d bytes told };
+
+    fn len(&mut self) -> Result<u64, Failed>
+        ensures below { IfOk result (λ n. n < 2 ^ 40) }
+        ensures told { (bytes : List ℕ) → Some self.old.current ≡ Some bytes → IfOk result (λ n. n ≡ length bytes) }
+        ensures seen { Some self.new.current ≡ Some self.old.current }
+        ensures images { (image : List ℕ) → IsImage self.new image ↔ IsImage self.old image }
+        ensures later { self.old.plan.faults ≤ self.new.plan.faults }
+        ensures cause { OnErr result (Rose self.old.plan.faults self.new.plan.faults) }
+
+        // A call fails exactly where it is planned to, and changes the plan alone.
+        ensures planned { IsErr result ↔ Contains self.old.plan.planned (raised self.old.plan.calls) }
+        ensures calls { self.new.plan.calls ≡ raised self.old.plan.calls }
+        ensures same { self.new ≡ record self.old { plan = record self.old.plan { calls = self.new.plan.calls; faults = self.new.plan.faults } } }
+    {
+        self.plan.call()?;
+        Ok(self.current.len() as u64)
+    }
+
+    fn read_at(&mut self, at: u64, buffer: &mut [u8]) -> Result<usize, Failed>
+        ensures bound { IfOk result (λ n. n ≤ length buffer.old) }
+        ensures told { (bytes : List ℕ) → Some self.old.current ≡ Some bytes → IfOk result (λ n. n ≡ min (length buffer.old) (length bytes - at)) }
+        ensures moved { (bytes : List ℕ) → Some self.old.current ≡ Some bytes → IfOk result (λ n. take n buffer.new ≡ take n (drop at bytes)) }
+        ensures seen { Some self.new.current ≡ Some self.old.current }
+        ensures images { (image : List ℕ) → IsImage self.new image ↔ IsImage self.old image }
+        ensures later { self.old.plan.faults ≤ self.new.plan.faults }
+        ensures cause { OnErr result (Rose self.old.plan.faults self.new.plan.faults) }
+
+        // A call fails exactly where it is planned to, and changes the plan alone.
+        ensures planned { IsErr result ↔ Contains self.old.plan.planned (raised self.old.plan.calls) }
+        ensures calls { self.new.plan.calls ≡ raised self.old.plan.calls }
+        ensures same { self.new ≡ record self.old { plan = record self.old.plan { calls = self.new.plan.calls; faults = self.new.plan.faults } } }
+    {
+        self.plan.call()?;
+        let length = self.current.len();
+        let from = (at as usize).min(length);
+        let count = buffer.len().min(length - from);
+        buffer[..count].copy_from_slice(&self.current[from..from + count]);
+        Ok(count)
+    }
+
+    fn write_at(&mut self, at: u64, bytes: &[u8]) -> Result<(), Failed>
+        requires { (old : List ℕ) → Some self.old.current ≡ Some old → 2 ^ 40 ≤ at + length bytes.now → 2 ^ 39 ≤ length old }
+        ensures room { OnOk result (at + length bytes.now < 2 ^ 40) }
+        ensures written { (old : List ℕ) → Some self.old.current ≡ Some old → OnOk result (Some self.new.current ≡ Some (written old at bytes.now)) }
+        ensures torn { (old : List ℕ) → Some self.old.current ≡ Some old → OnErr result ((new : List ℕ) × (Some self.new.current ≡ Some new) × Torn at (length bytes.now) old new) }
+        ensures images { Follows (Torn at (length bytes.now)) (IsImage self.old) (IsImage self.new) }
+        ensures beyond { 2 ^ 40 ≤ at + length bytes.now → Some self.new.current ≡ Some self.old.current }
+        ensures silent { Some self.old.current ≡ None → Some self.new.current ≡ None }
+        ensures untried { 2 ^ 40 ≤ at + length bytes.now → (image : List ℕ) → IsImage self.new image ↔ IsImage self.old image }
+        ensures later { self.old.plan.faults ≤ self.new.plan.faults }
+        ensures cause { OnErr result (Rose self.old.plan.faults self.new.plan.faults) }
+
+        // A call that is planned to fail does, and one that fails changes the plan alone.
+        ensures planned { Contains self.old.plan.planned (raised self.old.plan.calls) → IsErr result }
+        ensures calls { self.new.plan.calls ≡ raised self.old.plan.calls }
+        ensures plan { self.new.plan.planned ≡ self.old.plan.planned }
+        ensures dirty { OnOk result (self.new.dirty ≡ self.old.dirty ++ record { at = at; length = length bytes.now } ∷ []) }
+        ensures stable { self.new.stable ≡ self.old.stable }
+        ensures unchanged { OnErr result (self.new ≡ record self.old { plan = self.new.plan }) }
+    {
+        self.plan.call()?;
+        if at >= DISK_LIMIT || bytes.len() as u64 >= DISK_LIMIT - at {
+            return Err(self.plan.fault());
+        }
+        match put(&mut self.current, &mut self.dirty, at as usize, bytes) {
+            Ok(()) => Ok(()),
+            Err(AllocError) => Err(self.plan.fault()),
+        }
+    }
+
+    fn sync(&mut self) -> Result<(), Failed>
+        ensures stable { (bytes : List ℕ) → Some self.old.current ≡ Some bytes → OnOk result (IsOnly bytes (IsImage self.new)) }
+        ensures seen { Some self.new.current ≡ Some self.old.current }
+        ensures images { (image : List ℕ) → IsImage self.new image → IsImage self.old image }
+        ensures later { self.old.plan.faults ≤ self.new.plan.faults }
+        ensures cause { OnErr result (Rose self.old.plan.faults self.new.plan.faults) }
+
+        // A call that is planned to fail does, and one that fails changes the plan alone.
+        ensures planned { Contains self.old.plan.planned (raised self.old.plan.calls) → IsErr result }
+        ensures calls { self.new.plan.calls ≡ raised self.old.plan.calls }
+        ensures plan { self.new.plan.planned ≡ self.old.plan.planned }
+        ensures synced { OnOk result (self.new ≡ record (synced self.old.current) { plan = self.new.plan }) }
+        ensures unchanged { OnErr result (self.new ≡ record self.old { plan = self.new.plan }) }
+    {
+        self.plan.call()?;
+        match settle(&mut self.stable, &self.current, &self.dirty) {
+            Ok(()) => {
+                self.dirty.clear();
+                Ok(())
+            }
+            Err(AllocError) => Err(self.plan.fault()),
+        }
+    }
+}

@@ -1,0 +1,155 @@
+-- What the two writes of an append do to the bytes of a journal.
+use Rattle.std.proofs.Common.{◌≡◌, ◌≢◌, ◌⊎◌, inl, inr, ◌∙◌, ℕ, ◌+◌, ◌-◌, ◌<◌, ◌≤◌, List, [], ◌∷◌, ◌++◌, length, take, drop, get_or, replicate, refl, sym, ap, arith, append_assoc, length-append, take-append-drop}
+use Rattle.std.proofs.lemmas.List.{take_at, drop_at, drop_more, take-append-le, append-nil}
+use Rattle.std.proofs.lemmas.List.Concat.{flat_map-append}
+use Rattle.std.proofs.lemmas.List.Elements.{All-push}
+use Rattle.std.proofs.lemmas.Bool.{cases_eq}
+use Rattle.std.specs.Int.{to_be_bytes, w32}
+use Rattle.std.specs.List.{All, flat_map}
+use Rattle.dbl_disk.specs.Disks.{Torn, written}
+use Rattle.dbl_disk.specs.declared.extent.Extent.{Extent}
+use Rattle.dbl_journal.specs.Form.{IsJournal, IsClosed, IsEntry, body, frame, front, magic}
+use Rattle.dbl_journal.specs.Steps.{IsStaged}
+use Rattle.dbl_journal.specs.Stored.{places_from}
+use Rattle.dbl_journal.proofs.Tears.{torn_front, torn_back, torn_long}
+
+-- lengths
+pub length-body : (entry : List ℕ) → length (body entry) ≡ length entry + 4
+unfolding body
+length-body entry = length-append (to_be_bytes w32 (length entry)) entry ∙ omega arith
+
+pub length-magic : length magic ≡ 8
+unfolding magic
+length-magic = refl
+
+pub front-nil : front [] ≡ magic
+unfolding front
+front-nil = append-nil magic
+
+-- one entry more
+pub front-push : (entries : List (List ℕ)) (entry : List ℕ) → front (entries ++ entry ∷ []) ≡ front entries ++ frame entry
+unfolding front
+front-push entries entry =
+    ap (λ (l : List ℕ). magic ++ l) (flat_map-append frame entries (entry ∷ []) ∙ ap (λ (l : List ℕ). flat_map frame entries ++ l) (append-nil (frame entry)))
+    ∙ sym (append_assoc magic (flat_map frame entries) (frame entry))
+
+pub length-front-push : (entries : List (List ℕ)) (entry : List ℕ) → length (front (entries ++ entry ∷ [])) ≡ length (front entries) + 5 + length entry
+length-front-push entries entry = omega (arith, ap length (front-push entries entry), length-append (front entries) (frame entry), length-body entry)
+
+places_from-push : (entries : List (List ℕ)) (entry : List ℕ) (at : ℕ) → places_from at (entries ++ entry ∷ []) ≡ places_from at entries ++ record { at = at + length (flat_map frame entries) + 5; length = length entry } ∷ []
+places_from-push [] entry at = ap (λ (n : ℕ). record { at = n; length = length entry } ∷ []) (omega arith)
+places_from-push (e ∷ entries) entry at =
+    let sum : at + 5 + length e + length (flat_map frame entries) ≡ at + length (flat_map frame (e ∷ entries)) = omega (arith, length-append (frame e) (flat_map frame entries), length-body e) in
+    ap (λ (l : List Extent). record { at = at + 5; length = length e } ∷ l)
+    (places_from-push entries entry (at + 5 + length e) ∙ ap (λ (n : ℕ). places_from (at + 5 + length e) entries ++ record { at = n + 5; length = length entry } ∷ []) sum)
+
+pub places-push : (entries : List (List ℕ)) (entry : List ℕ) (gate : ℕ) → gate ≡ length (front entries) → places_from 8 (entries ++ entry ∷ []) ≡ places_from 8 entries ++ record { at = gate + 5; length = length entry } ∷ []
+unfolding front
+places-push entries entry gate gate_is =
+    let here : 8 + length (flat_map frame entries) ≡ gate = omega (arith, gate_is, length-append magic (flat_map frame entries), length-magic) in
+    places_from-push entries entry 8 ∙ ap (λ (n : ℕ). places_from 8 entries ++ record { at = n + 5; length = length entry } ∷ []) here
+
+pub length-places : (entries : List (List ℕ)) (at : ℕ) → length (places_from at entries) ≡ length entries
+length-places [] at = refl
+length-places (e ∷ entries) at = omega (arith, length-places entries (at + 5 + length e))
+
+record HasGate (bytes : List ℕ) (entries : List (List ℕ)) : Type 0 where
+  pub gate : ℕ
+  pub tail : List ℕ
+  pub spelled : bytes ≡ front entries ++ gate ∷ tail
+  pub closed : gate ≢ 1
+
+has_gate : (bytes : List ℕ) (entries : List (List ℕ)) (rest : List ℕ) → bytes ≡ front entries ++ rest → IsClosed rest → HasGate bytes entries
+has_gate bytes entries [] spelled closed = absurd closed
+has_gate bytes entries (gate ∷ tail) spelled closed = record { gate = gate; tail = tail; spelled = spelled; closed = closed }
+
+module _ (entries : List (List ℕ)) (gate : ℕ) (gate_is : gate ≡ length (front entries)) where
+  to_gate : (g : ℕ) (r bytes : List ℕ) → bytes ≡ front entries ++ g ∷ r → take (gate + 1) bytes ≡ front entries ++ g ∷ []
+  to_gate g r bytes is =
+      ap (λ (l : List ℕ). take (gate + 1) l) (is ∙ sym (append_assoc (front entries) (g ∷ []) r))
+      ∙ take_at (front entries ++ g ∷ []) r (gate + 1) (omega (arith, length-append (front entries) (g ∷ [])))
+
+  long : (g : ℕ) (r bytes : List ℕ) → bytes ≡ front entries ++ g ∷ r → length bytes ≡ gate + 1 + length r
+  long g r bytes is = omega (arith, ap length is, length-append (front entries) (g ∷ r))
+
+  pub gate_is_there : (bytes : List ℕ) → IsJournal bytes entries → gate < length bytes
+  gate_is_there bytes journal =
+      let h = has_gate bytes entries journal.rest journal.spelled journal.closed in
+      omega (arith, long h.gate h.tail bytes h.spelled)
+
+  -- the closed gate stands in each outcome of the first write
+  pub behind : (n : ℕ) (bytes image : List ℕ) → IsJournal bytes entries → Torn (gate + 1) n bytes image → IsJournal image entries
+  behind n bytes image journal torn =
+      let h = has_gate bytes entries journal.rest journal.spelled journal.closed in
+      let same : take (gate + 1) image ≡ front entries ++ h.gate ∷ [] = torn_front (gate + 1) n bytes image torn (omega (arith, long h.gate h.tail bytes h.spelled)) ∙ to_gate h.gate h.tail bytes h.spelled in
+      record {
+        rest = h.gate ∷ drop (gate + 1) image;
+        spelled = sym (take-append-drop (gate + 1) image) ∙ ap (λ (l : List ℕ). l ++ drop (gate + 1) image) same ∙ append_assoc (front entries) (h.gate ∷ []) (drop (gate + 1) image);
+        closed = h.closed;
+        each = journal.each;
+      }
+
+  pub staged : (entry bytes : List ℕ) → IsJournal bytes entries → IsStaged (written bytes (gate + 1) (body entry ++ 0 ∷ [])) entries entry
+  staged entry bytes journal =
+      let h = has_gate bytes entries journal.rest journal.spelled journal.closed in
+      let piece : List ℕ = body entry ++ 0 ∷ [] in
+      let tail : List ℕ = drop (gate + 1 + length piece) bytes in
+      let head : take (gate + 1) (bytes ++ replicate (gate + 1 - length bytes) 0) ≡ front entries ++ h.gate ∷ [] =
+      take-append-le (gate + 1) bytes (replicate (gate + 1 - length bytes) 0) (omega (arith, long h.gate h.tail bytes h.spelled)) ∙ to_gate h.gate h.tail bytes h.spelled in
+      record {
+        gate = h.gate;
+        tail = tail;
+        spelled =
+            ap (λ (l : List ℕ). l ++ piece ++ tail) head
+            ∙ append_assoc (front entries ++ h.gate ∷ []) piece tail
+            ∙ append_assoc (front entries) (h.gate ∷ []) (piece ++ tail)
+            ∙ ap (λ (l : List ℕ). front entries ++ h.gate ∷ l) (append_assoc (body entry) (0 ∷ []) tail);
+        closed = h.closed;
+        each = journal.each;
+      }
+
+  module _ (entry : List ℕ) (short : IsEntry entry) where
+    -- an open gate before the staged entry
+    with_gate : (tail bytes : List ℕ) (g : ℕ) → All IsEntry entries → bytes ≡ front entries ++ g ∷ (body entry ++ 0 ∷ tail) → g ≡ 1 → IsJournal bytes (entries ++ entry ∷ [])
+    with_gate tail bytes g each is opened =
+        record {
+          rest = 0 ∷ tail;
+          spelled =
+              is ∙ ap (λ (x : ℕ). front entries ++ x ∷ (body entry ++ 0 ∷ tail)) opened
+              ∙ sym (append_assoc (front entries) (1 ∷ body entry) (0 ∷ tail))
+              ∙ ap (λ (l : List ℕ). l ++ 0 ∷ tail) (sym (front-push entries entry));
+          closed = λ (e : 0 ≡ 1). cc;
+          each = All-push IsEntry entries entry each short;
+        }
+
+    pub torn_gate : (bytes image : List ℕ) → IsStaged bytes entries entry → Torn gate 1 bytes image → IsJournal image entries ⊎ IsJournal image (entries ++ entry ∷ [])
+    torn_gate bytes image s torn =
+        let tail : List ℕ = body entry ++ 0 ∷ s.tail in
+        let enough : length bytes ≡ gate + 1 + length tail = long s.gate tail bytes s.spelled in
+        let inside : gate + 1 ≤ length bytes = omega (arith, enough) in
+        let head : take gate image ≡ front entries = torn_front gate 1 bytes image torn (omega (arith, enough)) ∙ ap (λ (l : List ℕ). take gate l) s.spelled ∙ take_at (front entries) (s.gate ∷ tail) gate (sym gate_is) in
+        let back : drop (gate + 1) bytes ≡ tail =
+        ap (λ (l : List ℕ). drop (gate + 1) l) (s.spelled ∙ sym (append_assoc (front entries) (s.gate ∷ []) tail))
+        ∙ drop_at (front entries ++ s.gate ∷ []) tail (gate + 1) (omega (arith, length-append (front entries) (s.gate ∷ []))) in
+        let rest : drop (gate + 1) image ≡ tail = torn_back gate 1 bytes image torn inside ∙ back in
+        let here : gate < length image = omega (arith, torn_long gate 1 bytes image torn inside, enough) in
+        let whole : image ≡ front entries ++ get_or image gate 0 ∷ tail =
+        sym (take-append-drop gate image) ∙ ap (λ (l : List ℕ). l ++ drop gate image) head
+        ∙ ap (λ (l : List ℕ). front entries ++ l) (drop_more image gate 0 here ∙ ap (λ (l : List ℕ). get_or image gate 0 ∷ l) rest) in
+        elim (cases_eq (get_or image gate 0) 1) [
+          | inl opened ↦ inr (with_gate s.tail image (get_or image gate 0) s.each whole opened)
+          | inr shut ↦ inl (record { rest = get_or image gate 0 ∷ tail; spelled = whole; closed = shut; each = s.each })
+        ]
+
+    pub gate_written : (bytes : List ℕ) → IsStaged bytes entries entry → IsJournal (written bytes gate (1 ∷ [])) (entries ++ entry ∷ [])
+    gate_written bytes s =
+        let tail : List ℕ = body entry ++ 0 ∷ s.tail in
+        let enough : length bytes ≡ gate + 1 + length tail = long s.gate tail bytes s.spelled in
+        let head : take gate (bytes ++ replicate (gate - length bytes) 0) ≡ front entries =
+        take-append-le gate bytes (replicate (gate - length bytes) 0) (omega (arith, enough)) ∙ ap (λ (l : List ℕ). take gate l) s.spelled ∙ take_at (front entries) (s.gate ∷ tail) gate (sym gate_is) in
+        let back : drop (gate + 1) bytes ≡ tail =
+        ap (λ (l : List ℕ). drop (gate + 1) l) (s.spelled ∙ sym (append_assoc (front entries) (s.gate ∷ []) tail))
+        ∙ drop_at (front entries ++ s.gate ∷ []) tail (gate + 1) (omega (arith, length-append (front entries) (s.gate ∷ []))) in
+        with_gate s.tail _ 1 s.each
+        (ap (λ (l : List ℕ). l ++ (1 ∷ []) ++ drop (gate + 1) bytes) head ∙ append_assoc (front entries) (1 ∷ []) (drop (gate + 1) bytes) ∙ ap (λ (l : List ℕ). front entries ++ 1 ∷ l) back)
+        refl

@@ -1,0 +1,30 @@
+use Rattle.std.proofs.Common.{◌∷◌, [], ◌∙◌, ℕ, List, sym}
+use Rattle.std.proofs.lemmas.Result.{on_ok_weaker}
+use Rattle.dbl_disk.specs.Disks.{written}
+use Rattle.dbl_journal.proofs.Appends.{gate_written}
+use Rattle.dbl_journal.proofs.Images.{gate_images, longest_done, longest_torn, on_ok, reaches_old}
+use Rattle.dbl_journal.proofs.appending.open_gate.Goals as goal
+
+pub returns-in_err-write_at-clause-one_of : goal.returns-in_err-write_at-clause-one_of
+returns-in_err-write_at-clause-one_of g c entries entry s gate_is short =
+    gate_images entries entry c.args.gate s.bytes _ _ gate_is short s.staged s.only c.write_at.ensures.images
+
+pub returns-clause-one_of : goal.returns-clause-one_of
+returns-clause-one_of g c entries entry s gate_is short image left =
+    gate_images entries entry c.args.gate s.bytes _ _ gate_is short s.staged s.only c.write_at.ensures.images image (c.sync.ensures.images image left)
+
+pub returns-clause-opened : goal.returns-clause-opened
+returns-clause-opened g c entries entry s gate_is short =
+    let file : List ℕ = written s.bytes c.args.gate (1 ∷ []) in
+    let now = c.in_ok-write_at.ensures.written s.bytes s.told in
+    on_ok_weaker c.sync.result (λ stable. (file, c.sync.ensures.seen ∙ now, stable, gate_written entries c.args.gate gate_is entry short s.bytes s.staged)) (c.sync.ensures.stable file now)
+
+pub returns-clause-reaches : goal.returns-clause-reaches
+returns-clause-reaches g c new told =
+    on_ok c.sync.result (reaches_old _ _ c.args.gate (1 ∷ []) new c.write_at.ensures.silent c.in_ok-write_at.ensures.written (sym c.sync.ensures.seen ∙ told))
+
+pub returns-in_err-write_at-clause-longest : goal.returns-in_err-write_at-clause-longest
+returns-in_err-write_at-clause-longest g c old new was told = longest_torn _ _ c.args.gate 1 old new was c.in_err-write_at.ensures.torn told
+
+pub returns-clause-longest : goal.returns-clause-longest
+returns-clause-longest g c old new was told = longest_done _ _ c.args.gate (1 ∷ []) old new was c.in_ok-write_at.ensures.written (sym c.sync.ensures.seen ∙ told)

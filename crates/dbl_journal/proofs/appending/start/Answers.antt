@@ -1,0 +1,40 @@
+use Rattle.std.proofs.Common.{◌≡◌, ◌+◌, ◌++◌, ◌∷◌, [], ◌∙◌, ℕ, List, length, ap, arith, sym, subst}
+use Rattle.std.proofs.lemmas.List.{drop_all, append-nil, length_push}
+use Rattle.std.proofs.lemmas.List.Elements.{All-nil}
+use Rattle.std.proofs.lemmas.Result.{on_ok_weaker}
+use Rattle.dbl_disk.specs.Disks.{Torn, written}
+use Rattle.dbl_journal.specs.Form.{IsEntry, IsJournal, front, magic}
+use Rattle.dbl_journal.proofs.Appends.{front-nil, length-magic}
+use Rattle.dbl_journal.proofs.Images.{on_ok, reaches}
+use Rattle.dbl_journal.proofs.appending.start.Goals as goal
+
+nine : (bytes : List ℕ) → bytes ≡ front [] ++ 0 ∷ [] → length bytes ≡ 9
+nine bytes is = ap length (is ∙ ap (λ (l : List ℕ). l ++ 0 ∷ []) front-nil) ∙ length_push magic 0 ∙ omega (arith, length-magic)
+
+pub write_at-requires : goal.write_at-requires
+write_at-requires g c old told beyond = let long = nine c.args.bytes.now c.requires in omega (arith, long)
+
+pub returns-in_err-write_at-clause-images : goal.returns-in_err-write_at-clause-images
+returns-in_err-write_at-clause-images g c image left =
+    let from = c.write_at.ensures.images image left in
+    (from.0, from.1, subst (λ (n : ℕ). Torn 0 n from.0 image) (nine c.args.bytes.now c.requires) from.2)
+
+pub returns-clause-images : goal.returns-clause-images
+returns-clause-images g c image left =
+    let from = c.write_at.ensures.images image (c.sync.ensures.images image left) in
+    (from.0, from.1, subst (λ (n : ℕ). Torn 0 n from.0 image) (nine c.args.bytes.now c.requires) from.2)
+
+pub returns-clause-stored : goal.returns-clause-stored
+returns-clause-stored g c told =
+    let bytes : List ℕ = c.args.bytes.now in
+    let file : List ℕ = written [] 0 bytes in
+    let now = c.in_ok-write_at.ensures.written [] told in
+    let is : file ≡ front [] ++ 0 ∷ [] = ap (λ (l : List ℕ). bytes ++ l) (drop_all (0 + length bytes) [] (omega arith)) ∙ append-nil bytes ∙ c.requires in
+    let journal : IsJournal file [] = record { rest = 0 ∷ []; spelled = is; closed = λ (e : 0 ≡ 1). cc; each = All-nil IsEntry } in
+    on_ok_weaker c.sync.result (λ stable. (file, c.sync.ensures.seen ∙ now, stable, journal)) (c.sync.ensures.stable file now)
+
+pub returns-clause-reaches : goal.returns-clause-reaches
+returns-clause-reaches g c new told =
+    let long = nine c.args.bytes.now c.requires in
+    let enough = reaches _ _ 0 c.args.bytes.now new c.write_at.ensures.silent c.in_ok-write_at.ensures.written (sym c.sync.ensures.seen ∙ told) in
+    on_ok c.sync.result (omega (arith, long, enough))

@@ -1,0 +1,13 @@
+use Rattle.std.proofs.Common.{◌++◌, ◌∷◌, [], List, ℕ, ap, length, sym, refl, ◌∙◌}
+use Rattle.dbl_journal.specs.Form.{magic}
+use Rattle.dbl_journal.proofs.Appends.{front-nil, length-magic}
+use Rattle.dbl_journal.proofs.journal.Journal.make.Goals as goal
+
+pub start-requires : goal.start-requires
+unfolding magic
+start-requires g c = ap (λ (l : List ℕ). l ++ 0 ∷ []) (sym front-nil)
+
+pub returns-in-Ok-clause-made : goal.returns-in-Ok-clause-made
+returns-in-Ok-clause-made g c told =
+    let made = c.in-Ok.ensures.stored told in
+    record { live = refl; bytes = made.0; told = made.1; only = made.2; spelled = made.3; gate = sym (ap length front-nil ∙ length-magic); places = c.new.ensures.items }

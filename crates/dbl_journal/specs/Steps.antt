@@ -1,0 +1,35 @@
+-- The steps of reading a journal and of appending to it.
+use Rattle.std.specs.Prelude.{◌≡◌, ◌≢◌, ℕ, ◌+◌, Option, Some, None, List, ◌∷◌, ◌++◌, length, drop}
+use Rattle.std.specs.List.{All}
+use Rattle.dbl_disk.specs.Disks.{IsOnly}
+use Rattle.dbl_disk.specs.declared.extent.Extent.{Extent}
+use Rattle.dbl_journal.specs.Form.{IsClosed, IsEntry, body, frame, front}
+use Rattle.dbl_journal.specs.Stored.{places_from}
+
+-- at the gate stands a closed one, or an open one and an entry, whose place is told
+abbrev pub IsStep : List ℕ → ℕ → Option Extent → Type 0
+IsStep bytes gate None = IsClosed (drop gate bytes)
+IsStep bytes gate (Some place) = (entry : List ℕ) × IsEntry entry × (drop gate bytes ≡ frame entry ++ drop (gate + 5 + length entry) bytes) × (place ≡ record { at = gate + 5; length = length entry })
+
+-- these entries were read, up to the gate
+pub record AreRead (bytes : List ℕ) (gate : ℕ) (places : List Extent) : Type 0 where
+  pub entries : List (List ℕ)
+  pub spelled : bytes ≡ front entries ++ drop gate bytes
+  pub each : All IsEntry entries
+  pub gate_is : gate ≡ length (front entries)
+  pub places_are : places ≡ places_from 8 entries
+
+-- behind the closed gate stands an entry and the next gate, closed
+pub record IsStaged (bytes : List ℕ) (entries : List (List ℕ)) (entry : List ℕ) : Type 0 where
+  pub gate : ℕ
+  pub tail : List ℕ
+  pub spelled : bytes ≡ front entries ++ gate ∷ (body entry ++ 0 ∷ tail)
+  pub closed : gate ≢ 1
+  pub each : All IsEntry entries
+
+-- the disk tells bytes on which the entry is staged, and a stop leaves nothing else
+pub record Stages {D : Type 0} (seen : D → Option (List ℕ)) (may_leave : D → List ℕ → Type 0) (disk : D) (entries : List (List ℕ)) (entry : List ℕ) : Type 0 where
+  pub bytes : List ℕ
+  pub told : seen disk ≡ Some bytes
+  pub only : IsOnly bytes (may_leave disk)
+  pub staged : IsStaged bytes entries entry

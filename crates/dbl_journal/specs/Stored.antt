@@ -1,0 +1,50 @@
+-- A journal on a disk.
+use Rattle.std.specs.Prelude.{◌≡◌, ℕ, ◌+◌, ◌^◌, ◌<◌, Bool, IsTrue, Option, Some, List, [], ◌∷◌, length}
+use Rattle.dbl_disk.specs.Disks.{IsOnly}
+use Rattle.dbl_disk.specs.declared.extent.Extent.{Extent}
+use Rattle.dbl_journal.specs.Form.{IsJournal, front}
+
+-- the disk, the place of the last gate, where what each entry holds stands, and whether the journal can be used
+pub record OnDisk (D : Type 0) : Type 0 where
+  pub disk : D
+  pub gate : ℕ
+  pub places : List Extent
+  pub live : Bool
+
+-- how many entries the journal has
+abbrev pub count_of : {D : Type 0} → OnDisk D → ℕ
+count_of journal = length journal.places
+
+-- how many bytes a journal of these entries takes, up to its last gate and with it
+abbrev pub size : List (List ℕ) → ℕ
+size entries = length (front entries) + 1
+
+-- where what these entries hold stands, the first one's gate being at this place
+abbrev pub places_from : ℕ → List (List ℕ) → List Extent
+places_from gate [] = []
+places_from gate (entry ∷ entries) = record { at = gate + 5; length = length entry } ∷ places_from (gate + 5 + length entry) entries
+
+-- The journal lists these entries: it can be used, its disk tells its bytes, which are a journal of the entries, and a stop
+-- leaves nothing else.
+pub record Lists {D : Type 0} (seen : D → Option (List ℕ)) (may_leave : D → List ℕ → Type 0) (journal : OnDisk D) (entries : List (List ℕ)) : Type 0 where
+  pub live : IsTrue journal.live
+  pub bytes : List ℕ
+  pub told : seen journal.disk ≡ Some bytes
+  pub only : IsOnly bytes (may_leave journal.disk)
+  pub spelled : IsJournal bytes entries
+  pub gate : journal.gate ≡ length (front entries)
+  pub places : journal.places ≡ places_from 8 entries
+
+-- a stop may leave a journal of these entries
+abbrev pub MayLeaveEntries : {D : Type 0} → (D → List ℕ → Type 0) → D → List (List ℕ) → Type 0
+MayLeaveEntries may_leave disk entries = (image : List ℕ) × may_leave disk image × IsJournal image entries
+
+-- whatever a stop leaves is a journal, of entries of which this holds
+abbrev pub LeavesEntries : {D : Type 0} → (D → List ℕ → Type 0) → D → (List (List ℕ) → Type 0) → Type 0
+LeavesEntries may_leave disk P = (image : List ℕ) → may_leave disk image → (entries : List (List ℕ)) × IsJournal image entries × P entries
+
+-- what holds of the parts of each journal: the place of the last gate is small, and where the journal can be used and its
+-- disk tells its bytes, it is among them
+pub record IsPlaced {D : Type 0} (seen : D → Option (List ℕ)) (disk : D) (gate : ℕ) (live : Bool) : Type 0 where
+  pub small : gate < 2 ^ 40
+  pub there : IsTrue live → (bytes : List ℕ) → seen disk ≡ Some bytes → gate < length bytes

@@ -1,0 +1,71 @@
+ghost use Rattle.std.specs.Prelude.{◌≡◌, ◌⊎◌, ℕ, ◌+◌, ◌^◌, ◌<◌, ◌≤◌, ◌++◌, List, [], ◌∷◌, length, max, Some, IfOk, OnOk, OnErr};
+ghost use Rattle.dbl_base.specs.Streams.{Rose};
+ghost use Rattle.dbl_disk.specs.Disks.{Follows, IsOnly, Torn};
+ghost use Rattle.dbl_journal.specs.Form.{IsEntry, IsJournal, body, front};
+ghost use Rattle.dbl_journal.specs.Steps.{Stages};
+ghost use Rattle.dbl_journal.specs.Stored.{LeavesEntries};
+
+use dbl_base::Failed;
+use dbl_disk::Disk;
+use std::alloc::{AllocError, Global};
+
+// The entry behind its length, and the next gate, closed.
+pub(crate) fn spell(alloc: Global, entry: &[u8]) -> Result<Vec<u8>, AllocError>
+    requires { IsEntry entry.now }
+    ensures bytes { IfOk result (λ bytes. bytes.items ≡ body entry.now ++ 0 ∷ []) }
+    ensures long { IfOk result (λ bytes. length bytes.items ≡ length entry.now + 5) }
+{
+    let mut bytes = Vec::with_capacity(alloc, entry.len() + 5)?;
+    bytes.extend_from_slice(&(entry.len() as u32).to_be_bytes())?;
+    bytes.extend_from_slice(entry)?;
+    bytes.push(0)?;
+    Ok(bytes)
+}
+
+// Writes the entry behind the closed gate, and makes it stable. Until then, and after a fault, a stop leaves the same list.
+pub(crate) fn stage<D: Disk>(disk: &mut D, gate: u64, bytes: &[u8]) -> Result<(), Failed>
+    requires small { gate < 2 ^ 40 }
+    requires short { length bytes.now ≤ 2 ^ 28 + 5 }
+    requires there { (old : List ℕ) → D.seen disk.old ≡ Some old → gate < length old }
+    ensures room { OnOk result (gate + 1 + length bytes.now < 2 ^ 40) }
+    ensures kept { (old : List ℕ) (entries : List (List ℕ)) → IsOnly old (D.may_leave disk.old) → IsJournal old entries → gate ≡ length (front entries) → LeavesEntries D.may_leave disk.new (λ left. left ≡ entries) }
+    ensures staged { (old : List ℕ) (entries : List (List ℕ)) (entry : List ℕ) → D.seen disk.old ≡ Some old → IsOnly old (D.may_leave disk.old) → IsJournal old entries → gate ≡ length (front entries) → bytes.now ≡ body entry ++ 0 ∷ [] →
+        OnOk result (Stages D.seen D.may_leave disk.new entries entry) }
+    ensures reaches { (new : List ℕ) → D.seen disk.new ≡ Some new → OnOk result (gate + 1 + length bytes.now ≤ length new) }
+    ensures longest { (old new : List ℕ) → D.seen disk.old ≡ Some old → D.seen disk.new ≡ Some new → length new ≤ max (length old) (gate + 1 + length bytes.now) }
+    ensures later { D.faults disk.old ≤ D.faults disk.new }
+    ensures cause { OnErr result (Rose (D.faults disk.old) (D.faults disk.new)) }
+{
+    disk.write_at(gate + 1, bytes)?;
+    disk.sync()
+}
+
+// Opens the gate before a staged entry. Until this is stable, and after a fault, a stop leaves the list or the one with the
+// entry.
+pub(crate) fn open_gate<D: Disk>(disk: &mut D, gate: u64) -> Result<(), Failed>
+    requires { gate + 1 < 2 ^ 40 }
+    ensures one_of { (entries : List (List ℕ)) (entry : List ℕ) → Stages D.seen D.may_leave disk.old entries entry → gate ≡ length (front entries) → IsEntry entry →
+        LeavesEntries D.may_leave disk.new (λ left. (left ≡ entries) ⊎ (left ≡ entries ++ entry ∷ [])) }
+    ensures opened { (entries : List (List ℕ)) (entry : List ℕ) → Stages D.seen D.may_leave disk.old entries entry → gate ≡ length (front entries) → IsEntry entry →
+        OnOk result ((new : List ℕ) × (D.seen disk.new ≡ Some new) × IsOnly new (D.may_leave disk.new) × IsJournal new (entries ++ entry ∷ [])) }
+    ensures longest { (old new : List ℕ) → D.seen disk.old ≡ Some old → D.seen disk.new ≡ Some new → length new ≤ max (length old) (gate + 1) }
+    ensures reaches { (new : List ℕ) → D.seen disk.new ≡ Some new → OnOk result ((old : List ℕ) × (D.seen disk.old ≡ Some old) × (length old ≤ length new)) }
+    ensures later { D.faults disk.old ≤ D.faults disk.new }
+    ensures cause { OnErr result (Rose (D.faults disk.old) (D.faults disk.new)) }
+{
+    disk.write_at(gate, &[1])?;
+    disk.sync()
+}
+
+// Writes the magic and a closed gate on an empty disk.
+pub(crate) fn start<D: Disk>(disk: &mut D, bytes: &[u8]) -> Result<(), Failed>
+    requires { bytes.now ≡ front [] ++ 0 ∷ [] }
+    ensures stored { D.seen disk.old ≡ Some [] → OnOk result ((new : List ℕ) × (D.seen disk.new ≡ Some new) × IsOnly new (D.may_leave disk.new) × IsJournal new []) }
+    ensures images { Follows (Torn 0 9) (D.may_leave disk.old) (D.may_leave disk.new) }
+    ensures reaches { (new : List ℕ) → D.seen disk.new ≡ Some new → OnOk result (9 ≤ length new) }
+    ensures later { D.faults disk.old ≤ D.faults disk.new }
+    ensures cause { OnErr result (Rose (D.faults disk.old) (D.faults disk.new)) }
+{
+    disk.write_at(0, bytes)?;
+    disk.sync()
+}

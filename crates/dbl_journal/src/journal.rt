@@ -1,0 +1,172 @@
+ghost use Rattle.std.specs.Prelude.{◌≡◌, ◌≢◌, ◌⊎◌, ◌↔◌, ℕ, ◌+◌, ◌^◌, ◌<◌, ◌≤◌, ◌++◌, List, [], ◌∷◌, length, max, false, Some, IsTrue, IfOk, IfErr, OnOk, OnErr, MatchResult, slice_get};
+ghost use Rattle.dbl_base.specs.Streams.{Rose};
+ghost use Rattle.dbl_disk.specs.Disks.{Follows, Torn};
+ghost use Rattle.dbl_journal.specs.Form.{IsFaultAt, IsJournal};
+ghost use Rattle.dbl_journal.specs.Stored.{LeavesEntries, Lists, count_of, size};
+
+use crate::JournalError;
+use crate::appending::{open_gate, spell, stage, start};
+use crate::scanning::scan;
+use dbl_base::{Bytes, Failed};
+use dbl_disk::{Disk, Extent, Refused};
+use std::alloc::Global;
+use std::marker::Model;
+
+/// An entry holds at most so many bytes: 2^28.
+pub const ENTRY_LIMIT: usize = 1 << 28;
+
+pub(crate) const MAGIC: [u8; 8] = *b"DBLJRNL1";
+
+/// A list of entries on a disk. A stop while an entry is appended leaves the list as it was, or the list with the entry.
+///
+/// On the disk stand the bytes `DBLJRNL1`, then each entry: a gate of one byte, 1, its length in four bytes, the highest
+/// first, and what it holds. Behind the last entry stands a gate that is closed, which is any byte but 1.
+#[derive(Drop)]
+pub struct Journal<D: Disk> {
+    disk: D,
+    gate: u64,
+    places: Vec<Extent>,
+    live: bool,
+}
+
+impl<D: Disk> Model for Journal<D> {
+    ghost use Rattle.dbl_journal.specs.Stored.{IsPlaced, OnDisk};
+
+    ghost Value = { OnDisk D };
+
+    ghost view = { λ j. record { disk = j.disk; gate = j.gate; places = j.places.items; live = j.live } };
+
+    ghost invariant = { λ j. IsPlaced D.seen j.disk j.gate j.live };
+}
+
+impl<D: Disk> Journal<D> {
+    /// An empty journal on an empty disk: a write and a sync. The allocator is for the places of entries, and no memory is
+    /// taken now.
+    pub fn make(alloc: Global, mut disk: D) -> Result<Journal<D>, Refused<D, JournalError>>
+        requires { (bytes : List ℕ) → D.seen disk ≡ Some bytes → bytes ≡ [] }
+        ensures made { D.seen disk ≡ Some [] → IfOk result (λ journal. Lists D.seen D.may_leave journal []) }
+        ensures live { IfOk result (λ journal. IsTrue journal.live) }
+        ensures count { IfOk result (λ journal. count_of journal ≡ 0) }
+        ensures refused { IfErr result (λ refused. refused.error ≡ JournalError.Failed) }
+        ensures failed { IfErr result (λ refused. Rose (D.faults disk) (D.faults refused.disk)) }
+        ensures left { IfErr result (λ refused. Follows (Torn 0 9) (D.may_leave disk) (D.may_leave refused.disk)) }
+        ensures later { MatchResult result (λ journal. D.faults disk ≤ D.faults journal.disk) (λ refused. D.faults disk ≤ D.faults refused.disk) }
+    {
+        match start(&mut disk, b"DBLJRNL1\0") {
+            Ok(()) => Ok(Journal {
+                disk,
+                gate: 8,
+                places: Vec::new(alloc),
+                live: true,
+            }),
+            Err(Failed) => Err(Refused {
+                disk,
+                error: JournalError::Failed,
+            }),
+        }
+    }
+
+    /// The journal on the disk, as a stop may have left it: a sync, and then a few bytes are read of each entry.
+    pub fn open(alloc: Global, mut disk: D) -> Result<Journal<D>, Refused<D, JournalError>>
+        ensures opened { (bytes : List ℕ) → D.seen disk ≡ Some bytes → IfOk result (λ journal. (entries : List (List ℕ)) × IsJournal bytes entries × Lists D.seen D.may_leave journal entries) }
+        ensures refused { (bytes : List ℕ) → D.seen disk ≡ Some bytes → IfErr result (λ refused. (at : ℕ) → refused.error ≡ JournalError.NotAJournal at → IsFaultAt bytes at) }
+        ensures live { IfOk result (λ journal. IsTrue journal.live) }
+        ensures short { IfErr result (λ refused. (len : ℕ) → refused.error ≢ JournalError.EntryTooLong len) }
+        ensures failed { IfErr result (λ refused. refused.error ≡ JournalError.Failed → Rose (D.faults disk) (D.faults refused.disk)) }
+        ensures seen { MatchResult result (λ journal. D.seen journal.disk ≡ D.seen disk) (λ refused. D.seen refused.disk ≡ D.seen disk) }
+        ensures images { (image : List ℕ) → MatchResult result (λ journal. D.may_leave journal.disk image → D.may_leave disk image) (λ refused. D.may_leave refused.disk image → D.may_leave disk image) }
+        ensures later { MatchResult result (λ journal. D.faults disk ≤ D.faults journal.disk) (λ refused. D.faults disk ≤ D.faults refused.disk) }
+    {
+        match scan(alloc, &mut disk) {
+            Ok(found) => Ok(Journal {
+                disk,
+                gate: found.gate,
+                places: found.places,
+                live: true,
+            }),
+            Err(error) => Err(Refused { disk, error }),
+        }
+    }
+
+    /// Adds an entry: a write and a sync behind the last gate, and a write and a sync of that gate. After `Failed` the
+    /// journal isn't live; the other errors come before the first of these calls.
+    pub fn append(&mut self, alloc: Global, entry: &[u8]) -> Result<(), JournalError>
+        requires { IsTrue self.old.live }
+        ensures added { (entries : List (List ℕ)) → Lists D.seen D.may_leave self.old entries → OnOk result (Lists D.seen D.may_leave self.new (entries ++ entry.now ∷ [])) }
+        ensures left { (entries : List (List ℕ)) → Lists D.seen D.may_leave self.old entries → LeavesEntries D.may_leave self.new.disk (λ left. (left ≡ entries) ⊎ (left ≡ entries ++ entry.now ∷ [])) }
+        ensures grows { (entries : List (List ℕ)) (old new : List ℕ) → Lists D.seen D.may_leave self.old entries → D.seen self.old.disk ≡ Some old → D.seen self.new.disk ≡ Some new → length new ≤ max (length old) (size (entries ++ entry.now ∷ [])) }
+        ensures live { OnOk result (IsTrue self.new.live) }
+        ensures count { OnOk result (count_of self.new ≡ count_of self.old + 1) }
+        ensures too_long { (len : ℕ) → (result ≡ Err (JournalError.EntryTooLong len)) ↔ ((2 ^ 28 < length entry.now) × (len ≡ length entry.now)) }
+        ensures failed { result ≡ Err JournalError.Failed → Rose (D.faults self.old.disk) (D.faults self.new.disk) }
+        ensures dead { result ≡ Err JournalError.Failed → self.new.live ≡ false }
+        ensures journal { (at : ℕ) → result ≢ Err (JournalError.NotAJournal at) }
+        ensures unchanged { OnErr result (result ≢ Err JournalError.Failed → self.new ≡ self.old) }
+        ensures later { D.faults self.old.disk ≤ D.faults self.new.disk }
+    {
+        if entry.len() > ENTRY_LIMIT {
+            return Err(JournalError::EntryTooLong {
+                len: entry.len() as u64,
+            });
+        }
+        let bytes = spell(alloc, entry)?;
+        self.places.push(Extent {
+            at: self.gate + 5,
+            length: entry.len() as u64,
+        })?;
+        self.live = false;
+        stage(&mut self.disk, self.gate, &bytes)?;
+        open_gate(&mut self.disk, self.gate)?;
+        self.gate += bytes.len() as u64;
+        self.live = true;
+        Ok(())
+    }
+
+    /// What the entry with this number, counted from 0, holds. It alone is read. The journal stays live.
+    pub fn entry(&mut self, alloc: Global, number: u64) -> Result<Bytes, JournalError>
+        requires live { IsTrue self.old.live }
+        requires within { number < count_of self.old }
+        ensures found { (entries : List (List ℕ)) → Lists D.seen D.may_leave self.old entries → IfOk result (λ bytes. slice_get entries number ≡ Some bytes) }
+        ensures lists { (entries : List (List ℕ)) → Lists D.seen D.may_leave self.old entries → Lists D.seen D.may_leave self.new entries }
+        ensures same { self.new ≡ record self.old { disk = self.new.disk } }
+        ensures seen { D.seen self.new.disk ≡ D.seen self.old.disk }
+        ensures images { (image : List ℕ) → D.may_leave self.new.disk image ↔ D.may_leave self.old.disk image }
+        ensures failed { result ≡ Err JournalError.Failed → Rose (D.faults self.old.disk) (D.faults self.new.disk) }
+        ensures journal { (at : ℕ) → result ≢ Err (JournalError.NotAJournal at) }
+        ensures short { (len : ℕ) → result ≢ Err (JournalError.EntryTooLong len) }
+        ensures later { D.faults self.old.disk ≤ D.faults self.new.disk }
+    {
+        let place = self.places[number as usize];
+        let mut bytes = vec![in alloc; 0u8; place.length as usize]?;
+        self.disk.read_at(place.at, &mut bytes)?;
+        Ok(Bytes::make(bytes))
+    }
+
+    /// The number of entries. Takes no memory.
+    pub fn count(&self) -> u64
+        requires { IsTrue self.now.live }
+        ensures { result ≡ count_of self.now }
+    {
+        self.places.len() as u64
+    }
+
+    /// Whether the journal can be used: until an append fails. Takes no memory.
+    pub fn is_live(&self) -> bool
+        ensures { result ≡ self.now.live }
+    {
+        self.live
+    }
+
+    /// The disk, as it stands. Takes no memory and makes no call of the disk.
+    pub fn into_disk(self) -> D
+        ensures { result ≡ self.disk }
+    {
+        let Journal {
+            disk,
+            gate: _,
+            places: _,
+            live: _,
+        } = self;
+        disk
+    }
+}

@@ -1,0 +1,14 @@
+//! A list of entries on a disk, whose append is all or nothing.
+#![tactic(auto)]
+
+mod appending;
+mod error;
+mod journal;
+mod laws;
+mod scanning;
+#[cfg(test)]
+mod tests;
+
+pub use error::JournalError;
+pub use journal::{ENTRY_LIMIT, Journal};
+pub use laws::{journals_are_read_once, journals_or_faults, lists_are_one};

@@ -1,0 +1,4 @@
+pub mod TextLemmas
+pub mod Changes
+pub mod Plain
+pub mod Steps

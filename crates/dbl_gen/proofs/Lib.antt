@@ -2,3 +2,4 @@ pub mod TextLemmas
 pub mod Changes
 pub mod Plain
 pub mod Steps
+pub mod Accepted

@@ -26,7 +26,7 @@ ascii_at [] is i = omega arith
 ascii_at (c ∷ cs) is zero = ltb-true c 128 (and_first _ _ (and_first _ _ is))
 ascii_at (c ∷ cs) is (suc i) = ascii_at cs (and_second _ _ is) i
 
-utf8_plain : (bytes : List ℕ) → is_plain bytes ≡ true → text.utf8_text bytes ≡ Some bytes
+pub utf8_plain : (bytes : List ℕ) → is_plain bytes ≡ true → text.utf8_text bytes ≡ Some bytes
 unfolding text.utf8_text
 utf8_plain bytes is = rw (is_utf8-from_IsUtf8 bytes (IsUtf8-from_ascii bytes (λ i. ascii_at bytes is i))) refl
 
@@ -126,11 +126,11 @@ unfolding worded
 tick_steps = steps_by_words (codes "tick") [] Tick refl refl (λ number. refl)
 
 module _ (digit : ℕ) (reads : text.session_of (115 ∷ digit ∷ []) ≡ Some (115 ∷ digit ∷ [])) (plain : is_plain (115 ∷ digit ∷ []) ≡ true) where
-  begin_steps : IsStep (line_of ((115 ∷ digit ∷ []) ∷ codes "begin" ∷ []))
+  pub begin_steps : IsStep (line_of ((115 ∷ digit ∷ []) ∷ codes "begin" ∷ []))
   unfolding worded step_in verb_in
   begin_steps = steps_by_words (115 ∷ digit ∷ []) (codes "begin" ∷ []) (Begin (115 ∷ digit ∷ [])) refl (and_both _ _ plain refl) (λ number. rw reads refl)
 
-  commit_steps : IsStep (line_of ((115 ∷ digit ∷ []) ∷ codes "commit" ∷ []))
+  pub commit_steps : IsStep (line_of ((115 ∷ digit ∷ []) ∷ codes "commit" ∷ []))
   unfolding worded step_in verb_in
   commit_steps = steps_by_words (115 ∷ digit ∷ []) (codes "commit" ∷ []) (Commit (115 ∷ digit ∷ [])) refl (and_both _ _ plain refl) (λ number. rw reads refl)
 
@@ -138,7 +138,7 @@ module _ (digit : ℕ) (reads : text.session_of (115 ∷ digit ∷ []) ≡ Some 
     id_cells : List NamedCell
     id_cells = named (codes "id") (decimal key) ∷ []
 
-    delete_steps : IsStep (line_of ((115 ∷ digit ∷ []) ∷ codes "delete" ∷ accounts ∷ id_cell key ∷ []))
+    pub delete_steps : IsStep (line_of ((115 ∷ digit ∷ []) ∷ codes "delete" ∷ accounts ∷ id_cell key ∷ []))
     unfolding worded step_in verb_in delete_in some_of all_of id_cells
     delete_steps = steps_by_words (115 ∷ digit ∷ []) (codes "delete" ∷ accounts ∷ id_cell key ∷ []) (Delete (115 ∷ digit ∷ []) account_name id_cells) refl
         (and_both _ _ plain (and_both _ _ (plain_decimal key small) refl))
@@ -147,19 +147,19 @@ module _ (digit : ℕ) (reads : text.session_of (115 ∷ digit ∷ []) ≡ Some 
     insert_cells : List NamedCell
     insert_cells = named (codes "id") (decimal key) ∷ named (codes "owner") (117 ∷ decimal key) ∷ named (codes "balance") (codes "0") ∷ named (codes "note") (codes "new") ∷ []
 
-    insert_steps : IsStep (line_of ((115 ∷ digit ∷ []) ∷ codes "insert" ∷ accounts ∷ id_cell key ∷ owner_cell key ∷ codes "balance=0" ∷ codes "note=new" ∷ []))
+    pub insert_steps : IsStep (line_of ((115 ∷ digit ∷ []) ∷ codes "insert" ∷ accounts ∷ id_cell key ∷ owner_cell key ∷ codes "balance=0" ∷ codes "note=new" ∷ []))
     unfolding worded step_in verb_in insert_in some_of all_of insert_cells
     insert_steps = steps_by_words (115 ∷ digit ∷ []) (codes "insert" ∷ accounts ∷ id_cell key ∷ owner_cell key ∷ codes "balance=0" ∷ codes "note=new" ∷ []) (Insert (115 ∷ digit ∷ []) account_name insert_cells) refl
         (and_both _ _ plain (and_both _ _ (plain_decimal key small) (and_both _ _ (plain_decimal key small) refl)))
         (λ number. rw (reads, accounts_named, id_read key small, owner_read key small, no_balance, new_note) refl)
 
-    balance_steps : (balance : ℕ) → balance < 2 ^ 64 → IsStep (line_of ((115 ∷ digit ∷ []) ∷ codes "update" ∷ accounts ∷ id_cell key ∷ codes "set" ∷ numbered (codes "balance=") balance ∷ []))
+    pub balance_steps : (balance : ℕ) → balance < 2 ^ 64 → IsStep (line_of ((115 ∷ digit ∷ []) ∷ codes "update" ∷ accounts ∷ id_cell key ∷ codes "set" ∷ numbered (codes "balance=") balance ∷ []))
     unfolding worded step_in verb_in update_in some_of all_of id_cells
     balance_steps balance fits = steps_by_words (115 ∷ digit ∷ []) (codes "update" ∷ accounts ∷ id_cell key ∷ codes "set" ∷ numbered (codes "balance=") balance ∷ []) (Update (115 ∷ digit ∷ []) account_name id_cells (named (codes "balance") (decimal balance) ∷ [])) refl
         (and_both _ _ plain (and_both _ _ (plain_decimal key small) (and_both _ _ (plain_decimal balance fits) refl)))
         (λ number. rw (reads, accounts_named, id_read key small, balance_read balance fits) refl)
 
-    note_steps : (group : ℕ) → group < 2 ^ 64 → IsStep (line_of ((115 ∷ digit ∷ []) ∷ codes "update" ∷ accounts ∷ id_cell key ∷ codes "set" ∷ numbered (codes "note=g") group ∷ []))
+    pub note_steps : (group : ℕ) → group < 2 ^ 64 → IsStep (line_of ((115 ∷ digit ∷ []) ∷ codes "update" ∷ accounts ∷ id_cell key ∷ codes "set" ∷ numbered (codes "note=g") group ∷ []))
     unfolding worded step_in verb_in update_in some_of all_of id_cells
     note_steps group fits = steps_by_words (115 ∷ digit ∷ []) (codes "update" ∷ accounts ∷ id_cell key ∷ codes "set" ∷ numbered (codes "note=g") group ∷ []) (Update (115 ∷ digit ∷ []) account_name id_cells (named (codes "note") (103 ∷ decimal group) ∷ [])) refl
         (and_both _ _ plain (and_both _ _ (plain_decimal key small) (and_both _ _ (plain_decimal group fits) refl)))

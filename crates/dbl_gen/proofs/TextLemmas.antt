@@ -38,7 +38,7 @@ unfolding groups_from
 groups_more before after whole rows group count state next less so_far is next_is =
     let left : count - group ≡ suc (count - (group + 1)) = omega arith in
     let one : text_of (groups_from rows (group + 1) (count - group) state) ≡ text_of (group_lines rows (group + 1) state).0 ++ text_of (groups_from rows (group + 1 + 1) (count - (group + 1)) (group_lines rows (group + 1) state).1)
-          = rw left (text_of-append (group_lines rows (group + 1) state).0 (groups_from rows (group + 1 + 1) (count - (group + 1)) (group_lines rows (group + 1) state).1)) in
+    = rw left (text_of-append (group_lines rows (group + 1) state).0 (groups_from rows (group + 1 + 1) (count - (group + 1)) (group_lines rows (group + 1) state).1)) in
     ap (λ front. front ++ text_of (groups_from rows (group + 1 + 1) (count - (group + 1)) next)) is
     ∙ append_assoc before (text_of (group_lines rows (group + 1) state).0) (text_of (groups_from rows (group + 1 + 1) (count - (group + 1)) next))
     ∙ ap (λ s. before ++ (text_of (group_lines rows (group + 1) state).0 ++ text_of (groups_from rows (group + 1 + 1) (count - (group + 1)) s))) next_is

@@ -2,8 +2,8 @@
 #![tactic(auto)]
 
 mod draws;
-mod writing;
 #[cfg(test)]
 mod tests;
+mod writing;
 
 pub use writing::script;

@@ -1,4 +1,6 @@
-ghost use Rattle.std.specs.Prelude.{◌≡◌, ◌≤◌, ◌<◌, ◌++◌, ◌+◌, ◌%◌, ◌∷◌, [], IfOk, OnOk};
+ghost use Rattle.std.specs.Prelude.{◌≡◌, ◌≤◌, ◌<◌, ◌++◌, ◌+◌, ◌%◌, ◌∷◌, [], None, length, IfOk, OnOk};
+ghost use Rattle.dbl_script.specs.Words.{lines_of};
+ghost use Rattle.dbl_script.specs.Scripts.{first_bad};
 ghost use Rattle.std.specs.String.{string_bytes};
 ghost use Rattle.dbl_gen.specs.Workload.{text_of, row_line, row_lines, insert_line, balance_line, delete_line, note_line, tick_line, change, begin_line, commit_line, lines_before, group_lines, groups_from, last_lines, workload};
 
@@ -7,7 +9,8 @@ use dbl_base::Text;
 use std::alloc::{AllocError, Global};
 use std::fmt::Write;
 
-const TABLES: &str = "table public.accounts default toast 64 id:int8:key owner:text balance:int8 note:text
+const TABLES: &str =
+    "table public.accounts default toast 64 id:int8:key owner:text balance:int8 note:text
 table public.empty default toast 64 id:int4:key name:text
 ";
 
@@ -31,12 +34,7 @@ fn write_insert(text: &mut String, group: u32, key: u64) -> Result<(), AllocErro
     )
 }
 
-fn write_balance(
-    text: &mut String,
-    group: u32,
-    key: u64,
-    balance: u64,
-) -> Result<(), AllocError>
+fn write_balance(text: &mut String, group: u32, key: u64, balance: u64) -> Result<(), AllocError>
     ensures { OnOk result (string_bytes text.new ≡ string_bytes text.old ++ text_of (balance_line group key balance ∷ [])) }
 {
     let session = group % 3;
@@ -151,12 +149,7 @@ fn write_rows(text: &mut String, rows: u32) -> Result<(), AllocError>
     Ok(())
 }
 
-fn write_groups(
-    text: &mut String,
-    number: u64,
-    rows: u32,
-    groups: u32,
-) -> Result<(), AllocError>
+fn write_groups(text: &mut String, number: u64, rows: u32, groups: u32) -> Result<(), AllocError>
     requires rows { rows ≤ 400_000 }
     requires groups { groups ≤ 90_000 }
     ensures { OnOk result (string_bytes text.new ≡ string_bytes text.old ++ text_of (groups_from rows 1 groups number)) }
@@ -182,7 +175,11 @@ fn write_last(text: &mut String, groups: u32) -> Result<(), AllocError>
 pub fn script(alloc: Global, number: u64, rows: u32, groups: u32) -> Result<Text, AllocError>
     requires rows { rows ≤ 400_000 }
     requires groups { groups ≤ 90_000 }
-    ensures { IfOk result (λ text. text ≡ workload number rows groups) }
+    ensures text { IfOk result (λ text. text ≡ workload number rows groups) }
+
+    // So `dbl_script::parse` reads it, unless memory runs out.
+    ensures good { IfOk result (λ text. first_bad (lines_of text) ≡ None) }
+    ensures few { IfOk result (λ text. length (lines_of text) ≤ 1_000_000) }
 {
     let mut text = String::from_str(alloc, TABLES)?;
     write_rows(&mut text, rows)?;

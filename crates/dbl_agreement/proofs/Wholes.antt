@@ -1,7 +1,7 @@
 -- The JSON data of keys, rows, sources and events of changes in range are whole, and their cells can be held.
 use Rattle.std.proofs.Common.{◌≡◌, ◌≤◌, ◌<◌, ◌^◌, ◌+◌, ◌-◌, cond, ltb, ℕ, ℤ, pos, negsuc, suc, List, [], ◌∷◌, Bool, true, false, ◌&&◌, Option, Some, None, Ordering, Less, Equal, Greater, refl, arith, codes}
-use Rattle.std.specs.Prelude.{FitsSigned, option_and_then}
-use Rattle.std.specs.Int.{w64, int_div_euclid}
+use Rattle.std.specs.Prelude.{FitsSigned, if◌then◌else◌, option_and_then}
+use Rattle.std.specs.Int.{w32, w64, int_div_euclid}
 use Rattle.std.specs.List.{AllByRecursion}
 use Rattle.std.specs.Ordering.{nat_cmp, match_ordering}
 use Rattle.std.specs.Cmp.Lexicographic.{slice_cmp}
@@ -13,6 +13,7 @@ use Rattle.serde_json.specs.Written.{has_float, items_have_float, members_have_f
 use Rattle.dbl_value.specs.declared.value.Val.{Val}
 use Rattle.dbl_value.specs.declared.value.Val.TheVariants as val
 use Rattle.dbl_value.specs.Values.{json_data}
+use Rattle.dbl_value.specs.Stamps.{is_instant, zulu_text}
 use Rattle.dbl_record.specs.declared.acts.ConsumeError.{ConsumeError}
 use Rattle.dbl_record.specs.Whole.{IsInteger, IsWhole, ItemsAreWhole, IsBelow, MembersAreWhole}
 use Rattle.dbl_record.specs.Acts.{cell_error, or_later, first_error, unwrapped}
@@ -38,16 +39,32 @@ integer_whole (negsuc n) h = let fits = h.sfits in omega arith
 -- of a value alone its number matters
 abbrev pub Fits : Val → Type 0
 Fits val.Null = Unit {0}
+Fits (val.Bool truth) = Unit {0}
 Fits (val.Int z) = FitsSigned w64 z
 Fits (val.Text text) = Unit {0}
+Fits (val.Bytes bytes) = Unit {0}
+Fits (val.Date z) = FitsSigned w64 z
+Fits (val.Time z) = FitsSigned w64 z
+Fits (val.Stamp z) = FitsSigned w64 z
+Fits (val.StampTz z) = FitsSigned w64 z
 
 abbrev pub AllFit : List Val → Type 0
 AllFit values = AllByRecursion Fits values
 
+wider : (z : ℤ) → FitsSigned w32 z → FitsSigned w64 z
+wider (pos n) h = let fits = h.sfits in record { sfits = omega arith }
+wider (negsuc n) h = let fits = h.sfits in record { sfits = omega arith }
+
 pub fits_in_range : (v : Val) → IsValueInRange v → Fits v
 fits_in_range val.Null h = tt
+fits_in_range (val.Bool truth) h = tt
 fits_in_range (val.Int z) h = h
 fits_in_range (val.Text text) h = tt
+fits_in_range (val.Bytes bytes) h = tt
+fits_in_range (val.Date z) h = wider z h
+fits_in_range (val.Time z) h = h
+fits_in_range (val.Stamp z) h = h
+fits_in_range (val.StampTz z) h = h
 
 pub all_fit_in_range : (values : List Val) → AreValuesInRange values → AllFit values
 all_fit_in_range [] h = tt
@@ -55,8 +72,18 @@ all_fit_in_range (v ∷ values) h = (fits_in_range v h.0, all_fit_in_range value
 
 value_whole : (v : Val) → Fits v → IsWhole (json_data v)
 value_whole val.Null h = tt
+value_whole (val.Bool truth) h = tt
 value_whole (val.Int z) h = integer_whole z h
 value_whole (val.Text text) h = tt
+value_whole (val.Bytes bytes) h = tt
+value_whole (val.Date z) h = integer_whole z h
+value_whole (val.Time z) h = integer_whole z h
+value_whole (val.Stamp z) h = integer_whole z h
+value_whole (val.StampTz z) h = either (is_instant z)
+  where
+    either : (b : Bool) → IsWhole (if b then string (zulu_text z) else number (of_integer z))
+    either true = tt
+    either false = integer_whole z h
 
 integer_flat : (column : List ℕ) (z : ℤ) → cell_error column (number (of_integer z)) ≡ None
 integer_flat column (pos n) = refl
@@ -64,8 +91,18 @@ integer_flat column (negsuc n) = refl
 
 value_flat : (column : List ℕ) (v : Val) → cell_error column (json_data v) ≡ None
 value_flat column val.Null = refl
+value_flat column (val.Bool truth) = refl
 value_flat column (val.Int z) = integer_flat column z
 value_flat column (val.Text text) = refl
+value_flat column (val.Bytes bytes) = refl
+value_flat column (val.Date z) = integer_flat column z
+value_flat column (val.Time z) = integer_flat column z
+value_flat column (val.Stamp z) = integer_flat column z
+value_flat column (val.StampTz z) = either (is_instant z)
+  where
+    either : (b : Bool) → cell_error column (if b then string (zulu_text z) else number (of_integer z)) ≡ None
+    either true = refl
+    either false = integer_flat column z
 
 first_none : (a b : Option ConsumeError) → or_later a b ≡ None → (a ≡ None) × (b ≡ None)
 first_none None b e = (refl, e)

@@ -26,7 +26,12 @@ const KEY_CAPACITY: usize = 64;
 
 const VALUE_CAPACITY: usize = 640;
 
-fn write_head(writer: &mut Writer, columns: &Seq<Place>, cells: &Seq<Val>) -> Result<(), AllocError>
+fn write_head(
+    alloc: Global,
+    writer: &mut Writer,
+    columns: &Seq<Place>,
+    cells: &Seq<Val>,
+) -> Result<(), AllocError>
     requires places { All (λ p. p.index < length cells.now) columns.now }
     ensures ok { OnOk result (writer.new.tokens ≡ writer.old.tokens
         ++ head_tokens (json_tokens (outline (object (members_at cells.now columns.now))))) }
@@ -34,13 +39,14 @@ fn write_head(writer: &mut Writer, columns: &Seq<Place>, cells: &Seq<Val>) -> Re
 {
     writer.begin_object()?;
     writer.key("after")?;
-    write_cells(writer, columns, cells)?;
+    write_cells(alloc, writer, columns, cells)?;
     null_member(writer, "before")?;
     text_member(writer, "op", "c")?;
     writer.key("source")
 }
 
 fn write_value(
+    alloc: Global,
     writer: &mut Writer,
     identity: &Identity,
     info: &TableInfo,
@@ -55,7 +61,7 @@ fn write_value(
         null (codes "c") (object (members_at cells.now columns.now))))) }
     ensures before { writer.new.before ≡ writer.old.before }
 {
-    write_head(writer, columns, cells)?;
+    write_head(alloc, writer, columns, cells)?;
     write_source(writer, identity, &info.name, commit)?;
     null_member(writer, "transaction")?;
     i64_member(writer, "ts_ms", now_ms)?;
@@ -76,7 +82,7 @@ fn key_text(alloc: Global, layout: &Layout, cells: &Seq<Val>) -> Result<Text, En
     ensures err { IfErr result (λ e. e ≡ EnvelopeError.Memory) }
 {
     let mut writer = Writer::new(Vec::with_capacity(alloc, KEY_CAPACITY)?);
-    write_cells(&mut writer, &layout.key, cells)?;
+    write_cells(alloc, &mut writer, &layout.key, cells)?;
     Ok(written(writer))
 }
 
@@ -97,6 +103,7 @@ fn value_text(
 {
     let mut writer = Writer::new(Vec::with_capacity(alloc, VALUE_CAPACITY)?);
     write_value(
+        alloc,
         &mut writer,
         identity,
         info,

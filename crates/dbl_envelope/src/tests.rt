@@ -1,5 +1,4 @@
-ghost use Rattle.std.specs.Prelude.{◌≡◌, [], ◌∷◌, All, IsSome, IfOk, length};
-ghost use Rattle.dbl_value.specs.Values.{type_of};
+ghost use Rattle.std.specs.Prelude.{◌≡◌, [], ◌∷◌, IfOk, length};
 ghost use Rattle.dbl_model.specs.Infos.{width};
 ghost use Rattle.dbl_model.specs.declared.change.Body.TheVariants.{Changes};
 ghost use Rattle.dbl_model.specs.declared.change.Change.TheVariants.{Insert};
@@ -22,20 +21,14 @@ fn demo(alloc: Global) -> Result<Identity, AllocError> {
     })
 }
 
-fn raw_column(alloc: Global, column: &str, is_number: bool) -> Result<RawColumn, AllocError>
-    ensures { IfOk result (λ c. IsSome (type_of c.oid)) }
-{
-    Ok(RawColumn {
-        name: Text::of(alloc, column)?,
-        oid: if is_number { 23 } else { 25 },
-    })
-}
-
-/// The table `public.users` of these columns, each a number or a text, whose key is the columns of these names.
-fn users(alloc: Global, columns: &[(&str, bool)], key: &[&str]) -> Result<TableInfo, ModelError> {
+/// The table `public.users` of these columns, each with its type's OID, whose key is the columns of these names.
+fn users(alloc: Global, columns: &[(&str, u32)], key: &[&str]) -> Result<TableInfo, ModelError> {
     let mut raw_columns = Vec::new(alloc);
-    for (column, is_number) in columns {
-        raw_columns.push(raw_column(alloc, column, *is_number)?)?;
+    for (column, oid) in columns {
+        raw_columns.push(RawColumn {
+            name: Text::of(alloc, column)?,
+            oid: *oid,
+        })?;
     }
     let mut raw_key = Vec::new(alloc);
     for column in key {
@@ -73,7 +66,7 @@ const HARD_CELLS: &str =
 #[test]
 fn one_insert(rt: HostRuntime) -> Result<(), Fail> {
     let alloc = rt.alloc();
-    let info = users(alloc, &[("id", true), ("name", false)], &["id"])?;
+    let info = users(alloc, &[("id", 23), ("name", 25)], &["id"])?;
     let cells = vec![in alloc; Val::Int(1), Val::Text(Text::of(alloc, "Ann")?)]?;
     assert_eq!(rt; cells.len(), info.columns.items().len());
     let writer = EventWriter::make(alloc, demo(alloc)?, vec![in alloc; info]?)?;
@@ -93,7 +86,7 @@ fn one_insert(rt: HostRuntime) -> Result<(), Fail> {
 #[test]
 fn a_row_of_hard_cells(rt: HostRuntime) -> Result<(), Fail> {
     let alloc = rt.alloc();
-    let columns = [("zeta", false), ("id", true), ("Alpha", false)];
+    let columns = [("zeta", 1043), ("id", 20), ("Alpha", 25)];
     let info = users(alloc, &columns, &["zeta", "id"])?;
     let text = Val::Text(Text::of(alloc, "q\"\\\u{1}\n")?);
     let cells = vec![in alloc; text, Val::Int(-5), Val::Null]?;
@@ -111,5 +104,48 @@ fn a_row_of_hard_cells(rt: HostRuntime) -> Result<(), Fail> {
     assert_eq!(rt; made.len(), 1);
     assert_eq!(rt; line(alloc, &made[0])?.as_str(), HARD_CELLS);
     assert!(rt; left.next(alloc)?.is_empty());
+    Ok(())
+}
+
+// Values of every kind; the bytes are 1, 2 and 255, and the moments those of 2024-02-29 10:00:00.
+const EVERY_KIND: &str =
+    r#"{"headers":{"dblog.last":true,"dblog.ordinal":0,"dblog.position":256},"key":{"id":-9223372036854775808},"topic":"demo.public.users","value":{"after":{"b":true,"c":"AQL/","d":19782,"e":86400000000,"f":1709200800000000,"g":"2024-02-29T10:00:00.000000Z","h":null,"id":-9223372036854775808},"before":null,"op":"c","source":{"connector":"postgresql","db":"demo","lsn":256,"name":"demo","schema":"public","snapshot":"false","table":"users","ts_ms":946684800000,"txId":7,"version":"1.0","xmin":null},"transaction":null,"ts_ms":0}}"#;
+
+#[test]
+fn a_row_of_every_kind(rt: HostRuntime) -> Result<(), Fail> {
+    let alloc = rt.alloc();
+    let columns = [
+        ("id", 20),
+        ("b", 16),
+        ("c", 17),
+        ("d", 1082),
+        ("e", 1083),
+        ("f", 1114),
+        ("g", 1184),
+        ("h", 1700),
+    ];
+    let info = users(alloc, &columns, &["id"])?;
+    let cells = vec![in alloc;
+        Val::Int(-9223372036854775808),
+        Val::Bool(true),
+        Val::Bytes(Seq::make(vec![in alloc; 1, 2, 255]?)),
+        Val::Date(19782),
+        Val::Time(86400000000),
+        Val::Stamp(1709200800000000),
+        Val::StampTz(1709200800000000),
+        Val::Null,
+    ]?;
+    assert_eq!(rt; cells.len(), info.columns.items().len());
+    let writer = EventWriter::make(alloc, demo(alloc)?, vec![in alloc; info]?)?;
+    let commit = Commit {
+        lsn: Lsn(256),
+        end_lsn: Lsn(296),
+        time: 0,
+        xid: 7,
+        body: inserted(alloc, cells)?,
+    };
+    let made = writer.records(alloc, &commit, 0)?;
+    assert_eq!(rt; made.len(), 1);
+    assert_eq!(rt; line(alloc, &made[0])?.as_str(), EVERY_KIND);
     Ok(())
 }

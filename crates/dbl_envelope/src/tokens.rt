@@ -10,7 +10,7 @@ use crate::layout::Place;
 use dbl_base::Seq;
 use dbl_value::{Val, write_json};
 use json::Writer;
-use std::alloc::AllocError;
+use std::alloc::{AllocError, Global};
 
 pub(crate) fn text_member(writer: &mut Writer, name: &str, text: &str) -> Result<(), AllocError>
     ensures ok { OnOk result (writer.new.tokens ≡ writer.old.tokens ++ key name.now ∷ string text.now ∷ []) }
@@ -47,6 +47,7 @@ pub(crate) fn null_member(writer: &mut Writer, name: &str) -> Result<(), AllocEr
 
 /// The object of the cells at these places, under their names.
 pub(crate) fn write_cells(
+    alloc: Global,
     writer: &mut Writer,
     order: &Seq<Place>,
     cells: &Seq<Val>,
@@ -60,7 +61,7 @@ pub(crate) fn write_cells(
     writer.begin_object()?;
     for place in order.items() {
         writer.key(place.name.as_str())?;
-        write_json(writer, &cells[place.index])?;
+        write_json(alloc, writer, &cells[place.index])?;
     }
     writer.end_object()
 }

@@ -1,4 +1,4 @@
-ghost use Rattle.std.specs.Prelude.{◌≡◌, map, IfOk, IfErr};
+ghost use Rattle.std.specs.Prelude.{◌≡◌, ◌++◌, ◌∷◌, [], map, IfOk, IfErr, OnOk, OnErr};
 ghost use Rattle.dbl_envelope.specs.Layouts.{layout_of};
 
 use crate::error::EnvelopeError;
@@ -59,5 +59,20 @@ impl EventWriter {
             infos,
             layouts,
         })
+    }
+
+    /// One more captured table, behind the others. Takes n log n steps for its n columns.
+    pub fn learn(&mut self, alloc: Global, info: TableInfo) -> Result<(), EnvelopeError>
+        ensures learnt { OnOk result (self.new ≡ record self.old { infos = self.old.infos ++ info ∷ [] }) }
+        ensures kept { OnErr result (self.new ≡ self.old) }
+        ensures err { IfErr result (λ e. e ≡ EnvelopeError.Memory) }
+    {
+        let layout = Layout::make(alloc, &self.identity, &info)?;
+        self.layouts.push(layout)?;
+        if self.infos.push(info).is_err() {
+            self.layouts.pop();
+            return Err(EnvelopeError::Memory);
+        }
+        Ok(())
     }
 }

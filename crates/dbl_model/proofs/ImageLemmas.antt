@@ -1,6 +1,7 @@
 -- A key's text is of one key, and rows have one image.
 use Rattle.std.proofs.Common.{◌≡◌, ◌∙◌, ◌≤◌, ◌<◌, ◌^◌, inl, inr, ℕ, ℤ, zero, suc, pos, negsuc, Bool, true, false, not, ◌&&◌, ◌||◌, Option, Some, None, List, [], ◌∷◌, length, map, refl, sym, ap, subst, arith}
-use Rattle.std.specs.Prelude.{option_map, slice_get}
+use Rattle.std.specs.Prelude.{if◌then◌else◌, option_map, slice_get}
+use lib.Signed.{mag}
 use Rattle.std.specs.List.{list_any}
 use Rattle.std.specs.Str.{bytes_eq}
 use Rattle.std.specs.Ordering.{nat_cmp, match_ordering, ordering_reverse}
@@ -10,20 +11,18 @@ use Rattle.std.specs.Cmp.Lexicographic.{slice_cmp}
 use Rattle.std.proofs.lemmas.Cmp.{nat_list_cmp_total}
 use Rattle.std.proofs.lemmas.List.{length-map}
 use Rattle.std.proofs.lemmas.Slice.Eq.{bytes_eq-Decides}
-use Rattle.std.proofs.lemmas.Bool.Decides.{Decides-ltb}
-use Rattle.serde_json.specs.Data.{Data, Members, no_members, member, put, depth, members_depth}
-use Rattle.serde_json.specs.Find.{get, get_member}
+use Rattle.serde_json.specs.Data.{Data, number, string, Members, no_members, member, put, depth, members_depth}
+use Rattle.serde_json.specs.Find.{of_integer, get, get_member}
 use Rattle.serde_json.specs.Written.{compact_text}
 use Rattle.serde_json.proofs.Views.{get_member-put, get_member-put_other}
 use Rattle.dbl_record.specs.Whole.{IsWhole, MembersAreWhole, IsBelow}
 use Rattle.dbl_record.proofs.Back.{texts_tell_data}
 use Rattle.dbl_value.specs.declared.column_type.PgType.{PgType}
-use Rattle.dbl_value.specs.declared.column_type.PgType.TheVariants as type
 use Rattle.dbl_value.specs.declared.value.Val.{Val}
 use Rattle.dbl_value.specs.declared.value.Val.TheVariants as val
-use Rattle.dbl_value.specs.Values.{json_data, is_within, IsOf}
-use Rattle.dbl_value.proofs.Decimals.{int4-IsRead}
-use Rattle.dbl_value.proofs.JsonTexts.{json_tells_cells}
+use Rattle.dbl_value.specs.Values.{json_data, IsOf}
+use Rattle.dbl_value.specs.Stamps.{is_instant, zulu_text}
+use Rattle.dbl_value.proofs.JsonTexts.{IsInRange, IsOf-IsInRange, json_tells_cells}
 use Rattle.dbl_model.specs.declared.row.Key.{Key}
 use Rattle.dbl_model.specs.declared.table.TableName.{TableName}
 use Rattle.dbl_model.specs.declared.table.TableInfo.{TableInfo}
@@ -39,15 +38,23 @@ use Rattle.dbl_model.proofs.InfoLemmas.{key_names_distinct, topic_one, true_fals
 
 -- ---- the members of a key are whole and shallow
 
+number_whole : (z : ℤ) → mag z < 2 ^ 63 → IsWhole (number (of_integer z))
+number_whole (pos n) small = omega (arith, small)
+number_whole (negsuc n) small = omega (arith, small)
+
+whole_in_range : (v : Val) → IsInRange v → IsWhole (json_data v)
+whole_in_range val.Null range = tt
+whole_in_range (val.Bool truth) range = tt
+whole_in_range (val.Int z) range = number_whole z range
+whole_in_range (val.Text text) range = tt
+whole_in_range (val.Bytes bytes) range = tt
+whole_in_range (val.Date z) range = number_whole z range
+whole_in_range (val.Time z) range = number_whole z range
+whole_in_range (val.Stamp z) range = number_whole z range
+whole_in_range (val.StampTz z) range = rw range tt
+
 whole_value : (ty : PgType) (v : Val) → IsOf ty v → IsWhole (json_data v)
-whole_value ty val.Null is = tt
-whole_value ty (val.Text text) is = tt
-whole_value type.Text (val.Int z) is = let other = is.spells in cc
-whole_value type.Int4 (val.Int z) is = number_whole z (int4-IsRead is.text z is.spells).within
-  where
-    number_whole : (z : ℤ) → is_within (2 ^ 31) z ≡ true → IsWhole (json_data (val.Int z))
-    number_whole (pos n) within = let small : n < 2 ^ 31 = (Decides-ltb n (2 ^ 31)).0 within in omega arith
-    number_whole (negsuc n) within = let small : n < 2 ^ 31 = (Decides-ltb n (2 ^ 31)).0 within in omega arith
+whole_value ty v is = whole_in_range v (IsOf-IsInRange ty v is)
 
 below_more : (k l : List ℕ) (ms : Members) → slice_cmp nat_cmp k l ≡ Less → IsBelow l ms → IsBelow k ms
 below_more k l no_members lt below = tt
@@ -82,8 +89,18 @@ put_shallow k d (member l e ms) low rest = step (slice_cmp nat_cmp k l) (put_sha
 
 flat_value : (v : Val) → depth (json_data v) ≤ 0
 flat_value val.Null = omega arith
+flat_value (val.Bool truth) = omega arith
 flat_value (val.Int z) = omega arith
 flat_value (val.Text text) = omega arith
+flat_value (val.Bytes bytes) = omega arith
+flat_value (val.Date z) = omega arith
+flat_value (val.Time z) = omega arith
+flat_value (val.Stamp z) = omega arith
+flat_value (val.StampTz z) = either (is_instant z)
+  where
+    either : (b : Bool) → depth (if b then string (zulu_text z) else number (of_integer z)) ≤ 0
+    either true = omega arith
+    either false = omega arith
 
 members_whole : (names : List (List ℕ)) (types : List PgType) (values : List Val) → AreOf types values → MembersAreWhole (members_of names values)
 members_whole [] types values are = tt

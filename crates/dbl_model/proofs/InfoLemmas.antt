@@ -1,6 +1,6 @@
 -- A catalogue entry has one info, and a topic one table.
 use Rattle.std.proofs.Common.{◌≡◌, ◌∙◌, ◌<◌, ℕ, zero, suc, Bool, true, false, not, ◌&&◌, ◌||◌, List, [], ◌∷◌, ◌++◌, inl, inr, length, map, refl, sym, ap, arith, append_assoc}
-use Rattle.std.specs.Prelude.{IsTrue, nat_eq, nat_lt, nat_le, codes}
+use Rattle.std.specs.Prelude.{Some, IsTrue, nat_eq, nat_lt, nat_le, codes}
 use Rattle.std.specs.List.{list_any, list_all}
 use Rattle.std.specs.Str.{bytes_eq}
 use Rattle.std.proofs.Math.Bool.{Bool-set}
@@ -9,53 +9,54 @@ use Rattle.std.proofs.lemmas.List.{append_cancel_left}
 use Rattle.std.proofs.lemmas.Slice.Eq.{bytes_eq-Decides}
 use Rattle.std.proofs.lemmas.Bool.Decides.{Decides-eqb, Decides-ltb}
 use Rattle.dbl_value.specs.declared.column_type.PgType.{PgType}
-use Rattle.dbl_value.specs.declared.column_type.PgType.TheVariants as type
-use Rattle.dbl_value.specs.Values.{oid_of}
+use Rattle.dbl_value.specs.Values.{oid_of, type_of, is_column_type}
+use Rattle.dbl_value.proofs.TypeLemmas.{type_of-oid_of}
 use Rattle.dbl_model.specs.declared.table.Column.{Column}
 use Rattle.dbl_model.specs.declared.table.RawColumn.{RawColumn}
 use Rattle.dbl_model.specs.declared.table.RawTable.{RawTable}
 use Rattle.dbl_model.specs.declared.table.TableInfo.{TableInfo}
 use Rattle.dbl_model.specs.declared.identity.Identity.{Identity}
-use Rattle.dbl_model.specs.Tables.{is_name_byte, is_good_name, are_distinct, column_names, is_key, is_table, full_name}
+use Rattle.dbl_model.specs.Tables.{is_name_byte, is_good_name, are_distinct, column_names, are_typed, is_key, is_table, full_name}
 use Rattle.dbl_model.specs.Infos.{raw_column, name_at, key_names, catalogue_of, IsInfoOf, topic_of}
 use Rattle.dbl_model.proofs.Lists.{bool_case, and_left, and_right, and_both, or_false}
 
 -- ---- what soundness says
 
 pub good_name : (info : TableInfo) → is_good_name info.name ≡ true
-good_name info = and_left _ _ (and_left _ _ info.sound)
+good_name info = and_left _ _ (and_left _ _ (and_left _ _ info.sound))
 
 pub distinct_columns : (info : TableInfo) → are_distinct bytes_eq (column_names info.columns) ≡ true
-distinct_columns info = and_right (is_good_name info.name) _ (and_left _ _ info.sound)
+distinct_columns info = and_right (is_good_name info.name) _ (and_left _ _ (and_left _ _ info.sound))
+
+pub typed_columns : (info : TableInfo) → are_typed info.columns ≡ true
+typed_columns info = and_right (is_good_name info.name && are_distinct bytes_eq (column_names info.columns)) _ (and_left _ _ info.sound)
 
 pub sound_key : (info : TableInfo) → is_key info.columns info.key ≡ true
-sound_key info = and_right (is_good_name info.name && are_distinct bytes_eq (column_names info.columns)) _ info.sound
+sound_key info = and_right (is_good_name info.name && are_distinct bytes_eq (column_names info.columns) && are_typed info.columns) _ info.sound
 
 pub places_within : (info : TableInfo) → list_all (λ place. nat_lt place (length info.columns)) info.key ≡ true
 places_within info = and_right (nat_lt 0 (length info.key)) _ (and_left _ _ (and_left _ _ (sound_key info)))
 
 -- ---- one info
 
-oid_of-one : (a b : PgType) → oid_of a ≡ oid_of b → a ≡ b
-oid_of-one type.Int4 type.Int4 h = refl
-oid_of-one type.Int4 type.Text h = absurd (omega (arith, h))
-oid_of-one type.Text type.Int4 h = absurd (omega (arith, h))
-oid_of-one type.Text type.Text h = refl
+oid_of-one : (a b : PgType) → is_column_type a ≡ true → is_column_type b ≡ true → oid_of a ≡ oid_of b → a ≡ b
+oid_of-one a b of_a of_b h = let same : Some a ≡ Some b = sym (type_of-oid_of a of_a) ∙ (ap type_of h ∙ type_of-oid_of b of_b) in cc
 
-column_one : (a b : Column) → raw_column a ≡ raw_column b → a ≡ b
-column_one a b h =
+column_one : (a b : Column) → is_column_type a.ty ≡ true → is_column_type b.ty ≡ true → raw_column a ≡ raw_column b → a ≡ b
+column_one a b of_a of_b h =
     let name : a.name ≡ b.name = ap (λ (c : RawColumn). c.name) h in
-    let ty : a.ty ≡ b.ty = oid_of-one a.ty b.ty (ap (λ (c : RawColumn). c.oid) h) in
+    let ty : a.ty ≡ b.ty = oid_of-one a.ty b.ty of_a of_b (ap (λ (c : RawColumn). c.oid) h) in
     λ i. record { name = name i; ty = ty i }
 
-columns_one : (a b : List Column) → map raw_column a ≡ map raw_column b → a ≡ b
-columns_one [] [] h = refl
-columns_one [] (d ∷ b) h = cc
-columns_one (c ∷ a) [] h = cc
-columns_one (c ∷ a) (d ∷ b) h =
+columns_one : (a b : List Column) → are_typed a ≡ true → are_typed b ≡ true → map raw_column a ≡ map raw_column b → a ≡ b
+columns_one [] [] of_a of_b h = refl
+columns_one [] (d ∷ b) of_a of_b h = cc
+columns_one (c ∷ a) [] of_a of_b h = cc
+columns_one (c ∷ a) (d ∷ b) of_a of_b h =
     let first : raw_column c ≡ raw_column d = cc in
     let rest : map raw_column a ≡ map raw_column b = cc in
-    ap (λ (x : Column). x ∷ a) (column_one c d first) ∙ ap (λ (l : List Column). d ∷ l) (columns_one a b rest)
+    ap (λ (x : Column). x ∷ a) (column_one c d (and_left _ _ of_a) (and_left _ _ of_b) first)
+    ∙ ap (λ (l : List Column). d ∷ l) (columns_one a b (and_right (is_column_type c.ty) _ of_a) (and_right (is_column_type d.ty) _ of_b) rest)
 
 pub has_name : (columns : List Column) (i : ℕ) → i < length columns → list_any (bytes_eq (name_at columns i)) (column_names columns) ≡ true
 has_name [] i lt = absurd (omega arith)
@@ -73,7 +74,7 @@ not_true false h = refl
 clash : (x : List ℕ) (xs : List (List ℕ)) (y : List ℕ) → list_any (bytes_eq x) xs ≡ false → x ≡ y → list_any (bytes_eq y) xs ≡ true → ⊥
 clash x xs y new same there = let contra : true ≡ false = sym there ∙ (ap (λ (z : List ℕ). list_any (bytes_eq z) xs) (sym same) ∙ new) in cc
 
-place_one : (columns : List Column) (i j : ℕ) → are_distinct bytes_eq (column_names columns) ≡ true → i < length columns → j < length columns → name_at columns i ≡ name_at columns j → i ≡ j
+pub place_one : (columns : List Column) (i j : ℕ) → are_distinct bytes_eq (column_names columns) ≡ true → i < length columns → j < length columns → name_at columns i ≡ name_at columns j → i ≡ j
 place_one [] i j apart li lj h = absurd (omega arith)
 place_one (c ∷ columns) zero zero apart li lj h = refl
 place_one (c ∷ columns) zero (suc j) apart li lj h = absurd (clash c.name (column_names columns) (name_at columns j) (not_true _ (and_left _ _ apart)) h (has_name columns j (omega arith)))
@@ -103,7 +104,7 @@ info_one a b names columns key = λ i. record {
 pub one_info : (raw : RawTable) (a b : TableInfo) → IsInfoOf raw a → IsInfoOf raw b → a ≡ b
 one_info raw a b of_a of_b =
     let same : catalogue_of a ≡ catalogue_of b = of_a ∙ sym of_b in
-    let columns : a.columns ≡ b.columns = columns_one a.columns b.columns (ap (λ (r : RawTable). r.columns) same) in
+    let columns : a.columns ≡ b.columns = columns_one a.columns b.columns (typed_columns a) (typed_columns b) (ap (λ (r : RawTable). r.columns) same) in
     let names : map (name_at a.columns) a.key ≡ map (name_at a.columns) b.key = ap (λ (r : RawTable). r.key) same ∙ ap (λ (l : List Column). map (name_at l) b.key) (sym columns) in
     let within : list_all (λ place. nat_lt place (length a.columns)) b.key ≡ true = ap (λ (l : List Column). list_all (λ place. nat_lt place (length l)) b.key) columns ∙ places_within b in
     info_one a b (ap (λ (r : RawTable). r.name) same) columns (places_one a.columns a.key b.key (distinct_columns a) (places_within a) within names)

@@ -13,3 +13,8 @@ pub mod RowKeys
 pub mod RangeLemmas
 pub mod Capturable
 pub mod FitsInfosLemmas
+pub mod BlockLemmas
+pub mod Splitting
+pub mod Learning
+pub mod CellFits
+pub mod ChangeFits

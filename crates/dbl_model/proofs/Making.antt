@@ -1,21 +1,24 @@
 -- What is captured of a catalogue's table.
 use Rattle.std.proofs.lemmas.List.{length-map, length-take-le, map-append, take_more, drop_more, take-append-drop}
 use Rattle.std.proofs.Common.{◌≡◌, ◌≢◌, ◌∙◌, ◌+◌, ◌<◌, ℕ, zero, suc, Bool, true, false, cond, not, ◌&&◌, ◌||◌, ◌⊎◌, inl, inr, Option, Some, None, List, [], ◌∷◌, ◌++◌, length, map, take, drop, get_or, refl, sym, ap, subst, arith}
-use Rattle.std.specs.Prelude.{nat_eq, nat_lt, is_some, slice_get, if◌then◌else◌}
-use Rattle.std.specs.List.{list_any, list_all}
+use Rattle.std.specs.Prelude.{nat_eq, nat_lt, is_some, slice_get, option_map, option_and_then, unwrap_or, if◌then◌else◌}
+use Rattle.std.specs.List.{find, list_any, list_all}
+use Rattle.std.proofs.lemmas.Option.{slice_get-map}
 use Rattle.std.specs.Str.{bytes_eq}
 use Rattle.std.proofs.lemmas.Slice.Eq.{bytes_eq-Decides}
 use Rattle.std.proofs.lemmas.Bool.Decides.{Decides-eqb, Decides-ltb}
 use Rattle.dbl_value.specs.declared.column_type.PgType.{PgType}
 use Rattle.dbl_value.specs.declared.column_type.PgType.TheVariants as type
-use Rattle.dbl_value.specs.Values.{oid_of, type_of}
+use Rattle.dbl_value.specs.Types.{oid_of, listed, is_float, has_oid, type_of, is_column_type}
+use Rattle.dbl_value.proofs.TypeLemmas.{type_of-oid_of, oids_name_types}
 use Rattle.dbl_model.specs.declared.table.TableName.{TableName}
 use Rattle.dbl_model.specs.declared.table.Column.{Column}
 use Rattle.dbl_model.specs.declared.table.RawColumn.{RawColumn}
 use Rattle.dbl_model.specs.declared.table.RawTable.{RawTable}
-use Rattle.dbl_model.specs.Tables.{is_good_name, are_distinct, column_names, type_at, is_key_type, is_table}
+use Rattle.dbl_model.specs.declared.error.ModelError.{ModelError}
+use Rattle.dbl_model.specs.Tables.{is_good_name, are_distinct, column_names, type_at, is_key_type, are_typed, is_unfit, is_table}
 use Rattle.dbl_model.specs.Infos.{raw_column, name_at}
-use Rattle.dbl_model.specs.Made.{raw_names, place_of, first_repeated, has_key}
+use Rattle.dbl_model.specs.Made.{raw_names, place_of, first_repeated, has_key, may_be_key, is_key_column, has_key_type, first_fault}
 use Rattle.dbl_model.proofs.Lists.{bool_case, and_left, and_right, and_both, and_false, or_false, or_none, same_text, text_itself, text_flip, any-push, any_here, all_not, distinct-push, distinct_not, or_else, or_else-none, position_from-push, is_some-position_from, position_from-at, slice_get-lt}
 
 -- ---- columns by their names
@@ -109,24 +112,55 @@ has_key_made raw places all apart some =
 -- ---- types
 
 pub oid_of-type_of : (oid : ℕ) (ty : PgType) → type_of oid ≡ Some ty → oid_of ty ≡ oid
-oid_of-type_of oid ty h = elim (bool_case (nat_eq oid 23)) [
-  | inl int ↦ (
-      let e : Some type.Int4 ≡ Some ty = sym (ap (λ (b : Bool). if b then Some type.Int4 else (if nat_eq oid 25 then Some type.Text else None)) int) ∙ h in
-      let same : type.Int4 ≡ ty = cc in
-      ap oid_of (sym same) ∙ sym ((Decides-eqb oid 23).0 int))
-  | inr other ↦ (
-      let e : (if nat_eq oid 25 then Some type.Text else None) ≡ Some ty = sym (ap (λ (b : Bool). if b then Some type.Int4 else (if nat_eq oid 25 then Some type.Text else None)) other) ∙ h in
-      step (bool_case (nat_eq oid 25)) e)
-]
+oid_of-type_of oid ty h = ((oids_name_types oid ty).0 h).0
+
+pub type_of-typed : (oid : ℕ) (ty : PgType) → type_of oid ≡ Some ty → is_column_type ty ≡ true
+type_of-typed oid ty h = ((oids_name_types oid ty).0 h).1
+
+pub no_float : (oid : ℕ) (ty : PgType) → type_of oid ≡ Some ty → is_float oid ≡ false
+unfolding type_of
+no_float oid ty h = step (is_float oid) h
   where
-    step : (nat_eq oid 25 ≡ true) ⊎ (nat_eq oid 25 ≡ false) → (if nat_eq oid 25 then Some type.Text else None) ≡ Some ty → oid_of ty ≡ oid
-    step (inl text) e =
-        let f : Some type.Text ≡ Some ty = sym (ap (λ (b : Bool). if b then Some type.Text else None) text) ∙ e in
-        let same : type.Text ≡ ty = cc in
-        ap oid_of (sym same) ∙ sym ((Decides-eqb oid 25).0 text)
-    step (inr other) e =
-        let f : None ≡ Some ty = sym (ap (λ (b : Bool). if b then Some type.Text else None) other) ∙ e in
-        cc
+    step : (b : Bool) → (if b then None else Some (unwrap_or (find (has_oid oid) listed) (type.Other oid))) ≡ Some ty → b ≡ false
+    step true e = cc
+    step false e = refl
+
+pub a_float : (oid : ℕ) → type_of oid ≡ None → is_float oid ≡ true
+unfolding type_of
+a_float oid h = step (is_float oid) h
+  where
+    step : (b : Bool) → (if b then None else Some (unwrap_or (find (has_oid oid) listed) (type.Other oid))) ≡ None → b ≡ true
+    step true e = refl
+    step false e = cc
+
+pub typed_of : (oid : ℕ) → is_float oid ≡ false → (ty : PgType) × (type_of oid ≡ Some ty)
+unfolding type_of
+typed_of oid h = (unwrap_or (find (has_oid oid) listed) (type.Other oid), rw h refl)
+
+abbrev pub is_float_column : RawColumn → Bool
+is_float_column column = is_float column.oid
+
+-- ---- the types of a key's columns
+
+-- the column at a place is of a column's type
+typed_at : (columns : List Column) (place : ℕ) (column : Column) → are_typed columns ≡ true → slice_get columns place ≡ Some column → is_column_type column.ty ≡ true
+typed_at [] place column typed h = cc
+typed_at (c ∷ columns) zero column typed h = let same : c ≡ column = cc in subst (λ (x : Column). is_column_type x.ty ≡ true) same (and_left _ _ typed)
+typed_at (c ∷ columns) (suc place) column typed h = typed_at columns place column (and_right (is_column_type c.ty) _ typed) h
+
+column_there : (columns : List Column) (place : ℕ) → place < length columns → (column : Column) × (slice_get columns place ≡ Some column)
+column_there [] place lt = absurd (omega arith)
+column_there (c ∷ columns) zero lt = (c, refl)
+column_there (c ∷ columns) (suc place) lt = column_there columns place (omega arith)
+
+key_type_at : (columns : List Column) (place : ℕ) → are_typed columns ≡ true → place < length columns → is_key_column (slice_get (map raw_column columns) place) ≡ is_key_type (type_at columns place)
+key_type_at columns place typed lt =
+    let found = column_there columns place lt in
+    let known : type_of (oid_of found.0.ty) ≡ Some found.0.ty = type_of-oid_of found.0.ty (typed_at columns place found.0 typed found.1) in
+    ap is_key_column (slice_get-map raw_column columns place)
+    ∙ (ap (λ (o : Option Column). is_key_column (option_map raw_column o)) found.1
+    ∙ (ap may_be_key known
+    ∙ sym (ap (λ (o : Option Column). is_key_type (unwrap_or (option_map (λ (c : Column). c.ty) o) type.Text)) found.1)))
 
 -- ---- the table is one that can be captured
 
@@ -224,25 +258,47 @@ places_distinct columns (name ∷ key) (place ∷ places) h apart =
     not_true true e = sym e
     not_true false e = refl
 
-key_types_fit : (columns : List Column) (places : List ℕ) → list_all (λ place. is_key_type (type_at columns place)) places ≡ true
-key_types_fit columns [] = refl
-key_types_fit columns (place ∷ places) = and_both _ _ (fits (type_at columns place)) (key_types_fit columns places)
+all_fit : (columns : List Column) (places : List ℕ) → find (is_unfit columns) places ≡ None → list_all (λ place. is_key_type (type_at columns place)) places ≡ true
+all_fit columns [] none = refl
+all_fit columns (place ∷ places) none = step (is_key_type (type_at columns place)) none (all_fit columns places)
   where
-    fits : (ty : PgType) → is_key_type ty ≡ true
-    fits type.Int4 = refl
-    fits type.Text = refl
+    step : (b : Bool) → (if not b then Some place else find (is_unfit columns) places) ≡ None → (find (is_unfit columns) places ≡ None → list_all (λ p. is_key_type (type_at columns p)) places ≡ true)
+        → (b && list_all (λ p. is_key_type (type_at columns p)) places) ≡ true
+    step true e later = later e
+    step false e later = cc
+
+-- the first name of a key whose column is unfit is that of the first such place
+pub unfit_named : (columns : List Column) (raws : List RawColumn) (key : List (List ℕ)) (places : List ℕ) → map raw_column columns ≡ raws → are_typed columns ≡ true
+    → map (place_of (raw_names raws)) key ≡ map Some places → find (λ name. not (has_key_type raws name)) key ≡ option_map (name_at columns) (find (is_unfit columns) places)
+unfit_named columns raws [] [] made typed h = refl
+unfit_named columns raws [] (place ∷ places) made typed h = cc
+unfit_named columns raws (name ∷ key) [] made typed h = cc
+unfit_named columns raws (name ∷ key) (place ∷ places) made typed h =
+    let first : place_of (raw_names raws) name ≡ Some place = cc in
+    let rest : map (place_of (raw_names raws)) key ≡ map Some places = cc in
+    let at = placed columns name place (ap (λ (l : List (List ℕ)). place_of l name) (names_made columns raws made) ∙ first) in
+    let same : has_key_type raws name ≡ is_key_type (type_at columns place) =
+    ap (λ (o : Option ℕ). is_key_column (option_and_then (slice_get raws) o)) first ∙ (ap (λ (l : List RawColumn). is_key_column (slice_get l place)) (sym made) ∙ key_type_at columns place typed at.1) in
+    step (has_key_type raws name) (is_key_type (type_at columns place)) same at.0 (unfit_named columns raws key places made typed rest)
+  where
+    step : (b c : Bool) → b ≡ c → name_at columns place ≡ name → find (λ n. not (has_key_type raws n)) key ≡ option_map (name_at columns) (find (is_unfit columns) places)
+        → (if not b then Some name else find (λ n. not (has_key_type raws n)) key) ≡ option_map (name_at columns) (if not c then Some place else find (is_unfit columns) places)
+    step true true e named later = later
+    step true false e named later = cc
+    step false true e named later = cc
+    step false false e named later = ap Some (sym named)
 
 pub table_made : (raw : RawTable) (columns : List Column) (places : List ℕ) → is_good_name raw.name ≡ true → map raw_column columns ≡ raw.columns → first_repeated [] (raw_names raw.columns) ≡ None
-    → map (place_of (raw_names raw.columns)) raw.key ≡ map Some places → has_key raw ≡ true → is_table raw.name columns places ≡ true
-table_made raw columns places good cs new at key =
+    → map (place_of (raw_names raw.columns)) raw.key ≡ map Some places → has_key raw ≡ true → are_typed columns ≡ true → find (is_unfit columns) places ≡ None → is_table raw.name columns places ≡ true
+table_made raw columns places good cs new at key typed fit =
     let names : column_names columns ≡ raw_names raw.columns = names_made columns raw.columns cs in
     let found_at : map (place_of (column_names columns)) raw.key ≡ map Some places = ap (λ (l : List (List ℕ)). map (place_of l) raw.key) names ∙ at in
     let long : length raw.key ≡ length places = sym (length-map raw.key (place_of (raw_names raw.columns))) ∙ (ap length at ∙ length-map places Some) in
     let apart : are_distinct bytes_eq raw.key ≡ true = and_right (nat_lt 0 (length raw.key) && list_all (λ (n : List ℕ). list_any (bytes_eq n) (raw_names raw.columns)) raw.key) _ key in
     let some : nat_lt 0 (length raw.key) ≡ true = and_left _ _ (and_left _ _ key) in
     let some_places : nat_lt 0 (length places) ≡ true = ap (λ (n : ℕ). nat_lt 0 n) (sym long) ∙ some in
-    and_both _ _ (and_both _ _ good (ap (are_distinct bytes_eq) names ∙ (new_names [] (raw_names raw.columns) new).0))
-    (and_both _ _ (and_both _ _ (and_both _ _ some_places (places_within columns raw.key places found_at)) (places_distinct columns raw.key places found_at apart)) (key_types_fit columns places))
+    and_both _ _ (and_both _ _ (and_both _ _ good (ap (are_distinct bytes_eq) names ∙ (new_names [] (raw_names raw.columns) new).0)) typed)
+    (and_both _ _ (and_both _ _ (and_both _ _ some_places (places_within columns raw.key places found_at)) (places_distinct columns raw.key places found_at apart)) (all_fit columns places fit))
 
 -- ---- one more column, in a list
 
@@ -313,3 +369,38 @@ entry_made raw name columns places names cs at =
     let same : column_names columns ≡ raw_names raw.columns = names_made columns raw.columns cs in
     let key : map (name_at columns) places ≡ raw.key = names_placed columns raw.key places (ap (λ (l : List (List ℕ)). map (place_of l) raw.key) same ∙ at) in
     λ i. entry (names i) (cs i) (key i)
+
+-- ---- one more column with its type
+
+pub typed_more : (columns : List RawColumn) (typed : List Column) (i : ℕ) (column : RawColumn) (name : List ℕ) (ty : PgType) → i < length columns → column ≡ get_or columns i column → name ≡ column.name → type_of column.oid ≡ Some ty
+    → map raw_column typed ≡ take i columns → map raw_column (typed ++ record { name = name; ty = ty } ∷ []) ≡ take (i + 1) columns
+typed_more columns typed i column name ty lt is names of so_far =
+    let here : record { name = name; oid = oid_of ty } ≡ column = (let oid = oid_of-type_of column.oid ty of in λ k. record { name = names k; oid = oid k }) in
+    map-append raw_column typed (record { name = name; ty = ty } ∷ [])
+    ∙ (ap (λ (l : List RawColumn). l ++ record { name = name; oid = oid_of ty } ∷ []) so_far
+    ∙ (ap (λ (c : RawColumn). take i columns ++ c ∷ []) (here ∙ is) ∙ sym (take_more columns i column lt)))
+
+pub all_typed_more : (typed : List Column) (oid : ℕ) (name : List ℕ) (ty : PgType) → type_of oid ≡ Some ty → are_typed typed ≡ true → are_typed (typed ++ record { name = name; ty = ty } ∷ []) ≡ true
+all_typed_more [] oid name ty of all = and_both _ _ (type_of-typed oid ty of) refl
+all_typed_more (c ∷ typed) oid name ty of all = and_both _ _ (and_left _ _ all) (all_typed_more typed oid name ty of (and_right (is_column_type c.ty) _ all))
+
+find_here : (columns : List RawColumn) (i : ℕ) (column : RawColumn) → i < length columns → column ≡ get_or columns i column → find is_float_column (drop i columns) ≡ cond (is_float column.oid) (Some column) (find is_float_column (drop (i + 1) columns))
+find_here columns i column lt is = ap (find is_float_column) (drop_more columns i column lt ∙ ap (λ (c : RawColumn). c ∷ drop (i + 1) columns) (sym is))
+
+pub float_here : (columns : List RawColumn) (i : ℕ) (column : RawColumn) → i < length columns → column ≡ get_or columns i column → type_of column.oid ≡ None
+    → find is_float_column (drop i columns) ≡ find is_float_column columns → find is_float_column columns ≡ Some column
+float_here columns i column lt is of so_far =
+    sym so_far ∙ (find_here columns i column lt is ∙ ap (λ (b : Bool). cond b (Some column) (find is_float_column (drop (i + 1) columns))) (a_float column.oid of))
+
+pub float_later : (columns : List RawColumn) (i : ℕ) (column : RawColumn) (ty : PgType) → i < length columns → column ≡ get_or columns i column → type_of column.oid ≡ Some ty
+    → find is_float_column (drop i columns) ≡ find is_float_column columns → find is_float_column (drop (i + 1) columns) ≡ find is_float_column columns
+float_later columns i column ty lt is of so_far =
+    sym (find_here columns i column lt is ∙ ap (λ (b : Bool). cond b (Some column) (find is_float_column (drop (i + 1) columns))) (no_float column.oid ty of)) ∙ so_far
+
+-- ---- the first of some faults
+
+pub passes : (o : Option ModelError) (faults : List (Option ModelError)) → o ≡ None → first_fault (o ∷ faults) ≡ first_fault faults
+passes o faults none = ap (λ (x : Option ModelError). first_fault (x ∷ faults)) none
+
+pub stops : (o : Option ModelError) (faults : List (Option ModelError)) (e : ModelError) → o ≡ Some e → first_fault (o ∷ faults) ≡ Some e
+stops o faults e some = ap (λ (x : Option ModelError). first_fault (x ∷ faults)) some

@@ -1,16 +1,17 @@
 -- Lemmas of the plain functions on JSON.
 use Rattle.std.proofs.Common.{◌≡◌, ◌≤◌, ◌||◌, ℕ, ℤ, pos, negsuc, zero, suc, Bool, true, false, List, [], ◌∷◌, length, drop, refl, arith}
-use Rattle.std.specs.Prelude.{min}
+use Rattle.std.specs.Prelude.{min, if◌then◌else◌}
 use Rattle.std.specs.Ordering.{nat_cmp, match_ordering}
 use Rattle.std.specs.declared.cmp.Ordering.{Ordering}
 use Rattle.std.specs.declared.cmp.Ordering.TheVariants.{Less, Equal, Greater}
 use Rattle.std.specs.Cmp.Lexicographic.{slice_cmp}
-use Rattle.serde_json.specs.Data.{Data, Members, no_members, member, put}
+use Rattle.serde_json.specs.Data.{Data, number, string, Members, no_members, member, put}
 use Rattle.serde_json.specs.Find.{of_integer, is_float}
 use Rattle.serde_json.specs.Written.{has_float, members_have_float}
 use Rattle.dbl_value.specs.declared.value.Val.{Val}
 use Rattle.dbl_value.specs.declared.value.Val.TheVariants as val
 use Rattle.dbl_value.specs.Values.{json_data}
+use Rattle.dbl_value.specs.Stamps.{is_instant, zulu_text}
 use Rattle.dbl_model.specs.declared.identity.Identity.{Identity}
 use Rattle.dbl_model.specs.declared.table.TableName.{TableName}
 use Rattle.dbl_model.specs.declared.table.TableInfo.{TableInfo}
@@ -40,8 +41,18 @@ is_float-integer (negsuc n) = refl
 
 no_float-value : (v : Val) → has_float (json_data v) ≡ false
 no_float-value val.Null = refl
+no_float-value (val.Bool truth) = refl
 no_float-value (val.Int z) = is_float-integer z
 no_float-value (val.Text text) = refl
+no_float-value (val.Bytes bytes) = refl
+no_float-value (val.Date z) = is_float-integer z
+no_float-value (val.Time z) = is_float-integer z
+no_float-value (val.Stamp z) = is_float-integer z
+no_float-value (val.StampTz z) = either (is_instant z)
+  where
+    either : (b : Bool) → has_float (if b then string (zulu_text z) else number (of_integer z)) ≡ false
+    either true = refl
+    either false = is_float-integer z
 
 neither : (a b : Bool) → a ≡ false → b ≡ false → (a || b) ≡ false
 neither a b x y = rw x y

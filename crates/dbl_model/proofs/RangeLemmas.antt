@@ -1,16 +1,21 @@
 -- Typed commits and infos of a history in range are in range.
 use Rattle.std.proofs.Common.{◌≡◌, ◌≤◌, ◌<◌, ◌^◌, ℕ, ℤ, pos, negsuc, suc, Bool, true, false, cond, Option, Some, None, List, [], ◌∷◌, length, map, refl, sym, subst, arith}
-use Rattle.std.specs.Prelude.{FitsSigned, IfSome, IsSomeAnd, option_map, unwrap_or, find}
+use Rattle.std.specs.Prelude.{FitsSigned, IfSome, IsSomeAnd, option_map, unwrap_or, if◌then◌else◌, find}
 use Rattle.std.specs.List.{AllByRecursion, filter_map, cons_option}
 use Rattle.std.specs.Str.{IsUtf8}
 use Rattle.std.specs.Int.{w64}
-use Rattle.std.proofs.lemmas.Bool.{ltb-true}
+use Rattle.std.proofs.lemmas.Bool.{eqb-false}
+use lib.Signed.{mag}
 use Rattle.dbl_value.specs.declared.column_type.PgType.{PgType}
 use Rattle.dbl_value.specs.declared.column_type.PgType.TheVariants as type
 use Rattle.dbl_value.specs.declared.value.Val.{Val}
 use Rattle.dbl_value.specs.declared.value.Val.TheVariants as val
-use Rattle.dbl_value.specs.Values.{value_of, is_within, SpellsValue}
-use Rattle.dbl_value.proofs.Decimals.{int4-IsRead}
+use Rattle.dbl_value.specs.Values.{value_of, is_uuid, SpellsValue, IsOf}
+use Rattle.dbl_value.specs.Stamps.{is_instant}
+use Rattle.dbl_value.proofs.KindLemmas.{kind_of, spelled_kind}
+use Rattle.dbl_value.proofs.CalendarSteps.{days_fit}
+use Rattle.dbl_value.proofs.RangeLemmas.{date_in_years}
+use Rattle.dbl_value.proofs.JsonTexts.{instant_mag, IsOf-IsInRange}
 use Rattle.dbl_model.specs.declared.table.Column.{Column}
 use Rattle.dbl_model.specs.declared.table.RawRow.{RawRow}
 use Rattle.dbl_model.specs.declared.table.TableInfo.{TableInfo}
@@ -26,20 +31,42 @@ use Rattle.dbl_model.proofs.RowKeys.{some_and}
 
 -- ---- cells
 
-int4_fits : (z : ℤ) → is_within (2 ^ 31) z ≡ true → FitsSigned w64 z
-int4_fits (pos n) h = let low : n < 2 ^ 31 = ltb-true n (2 ^ 31) h in record { sfits = omega arith }
-int4_fits (negsuc n) h = let low : n < 2 ^ 31 = ltb-true n (2 ^ 31) h in record { sfits = omega arith }
+number_fits : (z : ℤ) → mag z < 2 ^ 63 → FitsSigned w64 z
+number_fits (pos n) h = record { sfits = omega (arith, h) }
+number_fits (negsuc n) h = record { sfits = omega (arith, h) }
+
+instant_fits : (z : ℤ) → is_instant z ≡ true → FitsSigned w64 z
+instant_fits z h = number_fits z (instant_mag z h)
+
+-- a text that spells a text spells itself
+text_same : (ty : PgType) (text t : List ℕ) → SpellsValue ty text (val.Text t) → text ≡ t
+text_same type.Text text t e = cc
+text_same type.Varchar text t e = cc
+text_same type.Bpchar text t e = cc
+text_same type.Json text t e = cc
+text_same type.Jsonb text t e = cc
+text_same type.Numeric text t e = cc
+text_same (type.Other oid) text t e = cc
+text_same type.Uuid text t e = step (is_uuid text) e
+  where
+    step : (b : Bool) → (if b then Some (val.Text text) else None) ≡ Some (val.Text t) → text ≡ t
+    step true f = cc
+    step false f = cc
+text_same ty text t e = absurd (eqb-false 3 (kind_of ty) refl (spelled_kind ty text (val.Text t) e))
+
+spelled_is : (ty : PgType) (text : List ℕ) (v : Val) → IsUtf8 text → SpellsValue ty text v → IsOf ty v
+spelled_is ty text v utf8 e = record { text = text; utf8 = utf8; spells = e }
 
 pub spelled_in_range : (ty : PgType) (text : List ℕ) (v : Val) → IsUtf8 text → SpellsValue ty text v → IsValueInRange v
 spelled_in_range ty text val.Null utf8 e = tt
-spelled_in_range type.Int4 text (val.Int z) utf8 e = int4_fits z (int4-IsRead text z e).within
-spelled_in_range type.Text text (val.Int z) utf8 e = cc
-spelled_in_range type.Int4 text (val.Text t) utf8 e = none _ e
-  where
-    none : (o : Option ℤ) → option_map val.Int o ≡ Some (val.Text t) → IsUtf8 t
-    none None f = cc
-    none (Some z) f = cc
-spelled_in_range type.Text text (val.Text t) utf8 e = let same : text ≡ t = cc in subst IsUtf8 same utf8
+spelled_in_range ty text (val.Bool truth) utf8 e = tt
+spelled_in_range ty text (val.Int z) utf8 e = number_fits z (IsOf-IsInRange ty (val.Int z) (spelled_is ty text (val.Int z) utf8 e))
+spelled_in_range ty text (val.Text t) utf8 e = subst IsUtf8 (text_same ty text t e) utf8
+spelled_in_range ty text (val.Bytes bytes) utf8 e = IsOf-IsInRange ty (val.Bytes bytes) (spelled_is ty text (val.Bytes bytes) utf8 e)
+spelled_in_range ty text (val.Date z) utf8 e = days_fit z (date_in_years ty z (spelled_is ty text (val.Date z) utf8 e))
+spelled_in_range ty text (val.Time z) utf8 e = number_fits z (IsOf-IsInRange ty (val.Time z) (spelled_is ty text (val.Time z) utf8 e))
+spelled_in_range ty text (val.Stamp z) utf8 e = number_fits z (IsOf-IsInRange ty (val.Stamp z) (spelled_is ty text (val.Stamp z) utf8 e))
+spelled_in_range ty text (val.StampTz z) utf8 e = instant_fits z (IsOf-IsInRange ty (val.StampTz z) (spelled_is ty text (val.StampTz z) utf8 e))
 
 cell_in_range : (ty : PgType) (text : Option (List ℕ)) → IfSome text IsUtf8 → IsValueInRange (typed_cell ty text)
 cell_in_range ty None h = tt

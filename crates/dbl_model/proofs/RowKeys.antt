@@ -9,6 +9,7 @@ use Rattle.dbl_value.specs.declared.column_type.PgType.TheVariants as type
 use Rattle.dbl_value.specs.declared.value.Val.{Val}
 use Rattle.dbl_value.specs.declared.value.Val.TheVariants as val
 use Rattle.dbl_value.specs.Values.{IsOf}
+use Rattle.dbl_value.proofs.KindLemmas.{null_spelled}
 use Rattle.dbl_model.specs.declared.row.Key.{Key}
 use Rattle.dbl_model.specs.declared.row.Row.{Row}
 use Rattle.dbl_model.specs.declared.change.Cell.{Cell}
@@ -43,12 +44,7 @@ is_some_value (Some x) h = (x, refl)
 -- ---- cells of an update and the row under them
 
 not_null : (ty : PgType) → IsOf ty val.Null → ⊥
-not_null type.Int4 is = let e = is.spells in null_int _ e
-  where
-    null_int : (o : Option _) → option_map val.Int o ≡ Some val.Null → ⊥
-    null_int None e = cc
-    null_int (Some z) e = cc
-not_null type.Text is = let e = is.spells in cc
+not_null ty is = null_spelled ty is.text is.spells
 
 overlaid_cell : (cells : List Cell) (row : List Val) (place : ℕ) → place < length row → cell_or_null (map given_or_null cells) place ≢ val.Null → cell_or_null (overlay cells row) place ≡ cell_or_null (map given_or_null cells) place
 overlaid_cell [] row place lt given = absurd (given refl)

@@ -1,10 +1,9 @@
 -- What the definitions come to.
-use Rattle.std.specs.Prelude.{◌≡◌, ◌≤◌, ◌↔◌, ℕ, IsTrue, All, IsSome, Option, Some, None, List, [], ◌∷◌, ◌++◌, length, map, take}
+use Rattle.std.specs.Prelude.{◌≡◌, ◌≤◌, ◌↔◌, ℕ, IsTrue, Option, Some, None, List, [], ◌∷◌, ◌++◌, length, map, take}
 use Rattle.std.specs.List.{AllByRecursion}
 use Rattle.std.specs.Bool.{Decides}
 use Rattle.std.specs.Cmp.{IsTotalOrder}
 use Rattle.dbl_value.specs.declared.value.Val.{Val}
-use Rattle.dbl_value.specs.Values.{type_of}
 use Rattle.dbl_model.specs.declared.row.Key.{Key}
 use Rattle.dbl_model.specs.declared.table.RawTable.{RawTable}
 use Rattle.dbl_model.specs.declared.table.TableInfo.{TableInfo}
@@ -31,9 +30,9 @@ KeysAreOrdered = IsTotalOrder key_cmp × ((a b : Key) → Decides (same_key a b)
 abbrev pub EntriesHaveOneInfo : Type 0
 EntriesHaveOneInfo = (raw : RawTable) (a b : TableInfo) → IsInfoOf raw a → IsInfoOf raw b → a ≡ b
 
--- where the columns' types are all known, an entry has no fault exactly where it has an info
+-- an entry has no fault exactly where it has an info
 abbrev pub CapturableEntriesHaveAnInfo : Type 0
-CapturableEntriesHaveAnInfo = (raw : RawTable) → All (λ column. IsSome (type_of column.oid)) raw.columns → (table_fault raw ≡ None) ↔ ((info : TableInfo) × IsInfoOf raw info)
+CapturableEntriesHaveAnInfo = (raw : RawTable) → (table_fault raw ≡ None) ↔ ((info : TableInfo) × IsInfoOf raw info)
 
 -- tables of one topic have one name
 abbrev pub TopicsNameTables : Type 0

@@ -16,3 +16,8 @@ pub mod EventJson
 pub mod EventLaws
 pub mod PlainRows
 pub mod PlainEvents
+pub mod Past
+pub mod Tuples
+pub mod Stated
+pub mod Blocks
+pub mod StatedFits

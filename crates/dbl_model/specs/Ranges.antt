@@ -4,7 +4,8 @@
 use Rattle.std.specs.Prelude.{ℕ, ℤ, ◌<◌, ◌^◌, FitsSigned, Option, IfSome, List, length}
 use Rattle.std.specs.List.{AllByRecursion}
 use Rattle.std.specs.Str.{IsUtf8}
-use Rattle.std.specs.Int.{w64}
+use Rattle.std.specs.Int.{w32, w64}
+use Rattle.hex.specs.Hex.{IsBytes}
 use Rattle.dbl_value.specs.declared.value.Val.{Val}
 use Rattle.dbl_value.specs.declared.value.Val.TheVariants as val
 use Rattle.dbl_model.specs.declared.table.TableName.{TableName}
@@ -81,8 +82,14 @@ pub record HasRanges (history : History) : Type 0 where
 
 abbrev pub IsValueInRange : Val → Type 0
 IsValueInRange val.Null = Unit {0}
+IsValueInRange (val.Bool truth) = Unit {0}
 IsValueInRange (val.Int z) = FitsSigned w64 z
 IsValueInRange (val.Text text) = IsUtf8 text
+IsValueInRange (val.Bytes bytes) = IsBytes bytes
+IsValueInRange (val.Date day) = FitsSigned w32 day
+IsValueInRange (val.Time micros) = FitsSigned w64 micros
+IsValueInRange (val.Stamp moment) = FitsSigned w64 moment
+IsValueInRange (val.StampTz instant) = FitsSigned w64 instant
 
 abbrev pub AreValuesInRange : List Val → Type 0
 AreValuesInRange values = AllByRecursion IsValueInRange values

@@ -1,9 +1,10 @@
 -- Tables that can be captured.
-use Rattle.std.specs.Prelude.{ℕ, ◌==◌, ◌&&◌, ◌||◌, nat_eq, nat_lt, nat_le, not, Bool, true, option_map, unwrap_or, List, [], ◌∷◌, ◌++◌, length, map, slice_get, codes, bytes_eq}
+use Rattle.std.specs.Prelude.{ℕ, ◌==◌, ◌&&◌, ◌||◌, nat_eq, nat_lt, nat_le, not, Bool, true, false, option_map, unwrap_or, List, [], ◌∷◌, ◌++◌, length, map, slice_get, codes, bytes_eq}
 use Rattle.std.specs.List.{list_any, list_all}
 use Rattle.std.specs.Char.{is_ascii_digit, is_ascii_lowercase, is_ascii_uppercase}
 use Rattle.dbl_value.specs.declared.column_type.PgType.{PgType}
 use Rattle.dbl_value.specs.declared.column_type.PgType.TheVariants as type
+use Rattle.dbl_value.specs.Types.{is_column_type}
 use Rattle.dbl_model.specs.declared.table.TableName.{TableName}
 use Rattle.dbl_model.specs.declared.table.Column.{Column}
 
@@ -45,13 +46,26 @@ type_at columns place = unwrap_or (option_map (λ column. column.ty) (slice_get 
 
 -- the types that a key column may have
 abbrev pub is_key_type : PgType → Bool
+is_key_type type.Int2 = true
 is_key_type type.Int4 = true
+is_key_type type.Int8 = true
+is_key_type type.Uuid = true
 is_key_type type.Text = true
+is_key_type type.Varchar = true
+is_key_type ty = false
+
+-- whether the column at a place has a type that no key column may have
+abbrev pub is_unfit : List Column → ℕ → Bool
+is_unfit columns place = not (is_key_type (type_at columns place))
 
 -- a key has some columns of the table, none twice, each of a key type
 abbrev pub is_key : List Column → List ℕ → Bool
 is_key columns key = nat_lt 0 (length key) && list_all (λ place. nat_lt place (length columns)) key && are_distinct nat_eq key && list_all (λ place. is_key_type (type_at columns place)) key
 
--- a table that can be captured: a good name, columns of distinct names, a key
+-- each column has a type that a column can have
+abbrev pub are_typed : List Column → Bool
+are_typed columns = list_all (λ column. is_column_type column.ty) columns
+
+-- a table that can be captured: a good name, columns of distinct names and of types that columns have, a key
 abbrev pub is_table : TableName → List Column → List ℕ → Bool
-is_table name columns key = is_good_name name && are_distinct bytes_eq (column_names columns) && is_key columns key
+is_table name columns key = is_good_name name && are_distinct bytes_eq (column_names columns) && are_typed columns && is_key columns key

@@ -13,9 +13,15 @@ pub enum ModelError {
     /// The first column whose name an earlier one has.
     #[error("duplicate column {table}.{column}")]
     DuplicateColumn { table: TableName, column: Text },
+    /// The first column of float4 or float8.
+    #[error("float column {table}.{column}")]
+    FloatColumn { table: TableName, column: Text },
     /// The key is empty, names a column that isn't there, or names one twice.
     #[error("no key {table}")]
     NoKey { table: TableName },
+    /// The first column of the key whose type isn't int2, int4, int8, uuid, text or varchar.
+    #[error("key type {table}.{column}")]
+    KeyType { table: TableName, column: Text },
     #[error("out of memory")]
     Memory,
 }

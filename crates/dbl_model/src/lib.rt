@@ -12,8 +12,11 @@ mod plain_json;
 mod plain_records;
 mod plain_rows;
 mod row;
+mod state_laws;
 mod table;
 mod time;
+mod told;
+mod txn_error;
 
 pub use change::{Body, Cell, Change, Commit};
 pub use error::ModelError;
@@ -29,8 +32,14 @@ pub use plain_image::image_text;
 pub use plain_records::plain_envelopes;
 pub use plain_rows::row_at;
 pub use row::{Key, Row, compare};
+pub use state_laws::{
+    accepted_are_blocks, blocks_state_one_list, faultless_are_blocks, later_tables_change_nothing,
+    rests_are_one, rests_are_open, stated_changes_fit,
+};
 pub use table::{Column, RawColumn, RawRow, RawTable, TableInfo, TableName};
 pub use time::milliseconds;
+pub use told::{Relation, RowChange, Target};
+pub use txn_error::TxnError;
 
 #[cfg(test)]
 mod tests;

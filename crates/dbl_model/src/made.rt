@@ -1,15 +1,17 @@
-ghost use Rattle.std.specs.Prelude.{◌≡◌, ◌⊎◌, ℕ, All, IsSome, IfOk, IfErr, OnOk, MatchResult, None, Some, List, [], map, option_map, true, false};
+ghost use Rattle.std.specs.Prelude.{◌≡◌, ◌⊎◌, ℕ, IfOk, IfErr, OnOk, MatchResult, None, Some, List, [], map, option_map, true, false};
+ghost use Rattle.std.specs.List.{find};
 ghost use Rattle.std.specs.Ordering.{nat_cmp};
 ghost use Rattle.std.specs.Cmp.Lexicographic.{slice_cmp};
 ghost use Rattle.std.specs.BTreeMap.{IsEmpty, get_by};
-ghost use Rattle.dbl_value.specs.Values.{type_of};
-ghost use Rattle.dbl_model.specs.declared.error.ModelError.TheVariants.{DuplicateColumn};
-ghost use Rattle.dbl_model.specs.Infos.{raw_column, IsInfoOf};
-ghost use Rattle.dbl_model.specs.Made.{raw_names, place_of, first_repeated, has_key, table_fault};
+ghost use Rattle.dbl_model.specs.declared.error.ModelError.TheVariants.{FloatColumn};
+ghost use Rattle.dbl_model.specs.Tables.{type_at, is_key_type, are_typed, is_unfit};
+ghost use Rattle.dbl_model.specs.Infos.{raw_column, name_at, IsInfoOf};
+ghost use Rattle.dbl_model.specs.Made.{raw_names, place_of, first_repeated, first_float, has_key, column_fault, key_type_fault, table_fault};
 
 use crate::ModelError;
-use crate::table::{Column, RawColumn, RawTable, TableInfo};
-use dbl_base::Seq;
+use crate::table::{Column, RawColumn, RawTable, TableInfo, TableName};
+use dbl_base::{Seq, Text};
+use dbl_value::PgType;
 use std::alloc::{AllocError, Global};
 use std::collections::BTreeMap;
 
@@ -22,7 +24,7 @@ fn enter_columns<'a>(
     requires { IsEmpty places.old }
     ensures places { OnOk result ((q : List ℕ) → get_by (λ k. slice_cmp nat_cmp q k.now) places.new ≡ place_of (raw_names raw.now.columns) q) }
     ensures distinct { OnOk result (first_repeated [] (raw_names raw.now.columns) ≡ None) }
-    ensures err { IfErr result (λ e. (e ≡ ModelError.Memory) ⊎ (option_map (DuplicateColumn raw.now.name) (first_repeated [] (raw_names raw.now.columns)) ≡ Some e)) }
+    ensures err { IfErr result (λ e. (e ≡ ModelError.Memory) ⊎ (column_fault raw.now ≡ Some e)) }
 {
     for (i, column) in raw.columns.items().iter().enumerate() {
         let name = column.name.as_str();
@@ -68,23 +70,102 @@ fn key_places<'a>(
     Ok(key)
 }
 
-fn typed_columns(alloc: Global, columns: &Seq<RawColumn>) -> Result<Seq<Column>, AllocError>
-    requires { All (λ column. IsSome (type_of column.oid)) columns.now }
-    ensures { IfOk result (λ typed. map raw_column typed ≡ columns.now) }
+/// The columns with their types. A float's is refused.
+fn typed_columns(
+    alloc: Global,
+    table: &TableName,
+    columns: &[RawColumn],
+) -> Result<Vec<Column>, ModelError>
+    ensures columns { IfOk result (λ typed. map raw_column typed.items ≡ columns.now) }
+    ensures typed { IfOk result (λ typed. are_typed typed.items ≡ true) }
+    ensures none { OnOk result (first_float columns.now ≡ None) }
+    ensures err { IfErr result (λ e. (e ≡ ModelError.Memory) ⊎ (option_map (FloatColumn table.now) (first_float columns.now) ≡ Some e)) }
 {
     let mut typed = Vec::new(alloc);
-    for column in columns.items() {
+    for column in columns {
+        let Ok(ty) = dbl_value::of(column.oid) else {
+            return Err(ModelError::FloatColumn {
+                table: table.copy(alloc)?,
+                column: column.name.copy(alloc)?,
+            });
+        };
         let name = column.name.copy(alloc)?;
-        let ty = dbl_value::of(column.oid).unwrap();
         typed.push(Column { name, ty })?;
     }
-    Ok(Seq::make(typed))
+    Ok(typed)
+}
+
+fn may_be_key(ty: PgType) -> bool
+    ensures { result ≡ is_key_type ty }
+{
+    match ty {
+        PgType::Int2
+        | PgType::Int4
+        | PgType::Int8
+        | PgType::Uuid
+        | PgType::Text
+        | PgType::Varchar => true,
+        _ => false,
+    }
+}
+
+fn has_key_type(columns: &[Column], place: u32) -> bool
+    ensures { result ≡ is_key_type (type_at columns.now place) }
+{
+    match columns.get(place as usize) {
+        Some(column) => may_be_key(column.ty),
+        None => true,
+    }
+}
+
+/// The first of some places whose column's type no key column may have.
+fn first_unfit(columns: &[Column], key: &[u32]) -> Option<u32>
+    ensures { result ≡ find (is_unfit columns.now) key.now }
+{
+    for place in key {
+        if !has_key_type(columns, *place) {
+            return Some(*place);
+        }
+    }
+    None
+}
+
+pub(crate) fn name_at(alloc: Global, columns: &[Column], place: u32) -> Result<Text, AllocError>
+    ensures { IfOk result (λ name. name ≡ name_at columns.now place) }
+{
+    match columns.get(place as usize) {
+        Some(column) => column.name.copy(alloc),
+        None => Text::of(alloc, ""),
+    }
+}
+
+/// Refuses the first column of a key whose type no key column may have.
+fn check_key(
+    alloc: Global,
+    raw: &RawTable,
+    columns: &[Column],
+    key: &[u32],
+) -> Result<(), ModelError>
+    requires columns { map raw_column columns.now ≡ raw.now.columns }
+    requires typed { are_typed columns.now ≡ true }
+    requires places { map (place_of (raw_names raw.now.columns)) raw.now.key ≡ map Some key.now }
+    ensures fit { OnOk result (find (is_unfit columns.now) key.now ≡ None) }
+    ensures none { OnOk result (key_type_fault raw.now ≡ None) }
+    ensures err { IfErr result (λ e. (e ≡ ModelError.Memory) ⊎ (key_type_fault raw.now ≡ Some e)) }
+{
+    match first_unfit(columns, key) {
+        Some(place) => Err(ModelError::KeyType {
+            table: raw.name.copy(alloc)?,
+            column: name_at(alloc, columns, place)?,
+        }),
+        None => Ok(()),
+    }
 }
 
 impl TableInfo {
-    /// What is captured of a table of the catalogue. A table of more than 2^32 columns counts as want of memory.
+    /// What is captured of a table of the catalogue, or the first fault of its entry. A table of more than 2^32 columns counts
+    /// as want of memory.
     pub fn make(alloc: Global, raw: &RawTable) -> Result<TableInfo, ModelError>
-        requires { All (λ column. IsSome (type_of column.oid)) raw.now.columns }
         ensures ok { IfOk result (λ info. IsInfoOf raw.now info) }
         ensures fault { MatchResult result (λ _. table_fault raw.now ≡ None) (λ e. (e ≡ ModelError.Memory) ⊎ (table_fault raw.now ≡ Some e)) }
     {
@@ -95,9 +176,13 @@ impl TableInfo {
         }
         let mut places = BTreeMap::new(alloc);
         enter_columns(alloc, raw, &mut places)?;
-        let key = Seq::make(key_places(alloc, raw, places)?);
-        let columns = typed_columns(alloc, &raw.columns)?;
-        let name = raw.name.copy(alloc)?;
-        Ok(TableInfo { name, columns, key })
+        let columns = typed_columns(alloc, &raw.name, raw.columns.items().as_slice())?;
+        let key = key_places(alloc, raw, places)?;
+        check_key(alloc, raw, columns.as_slice(), key.as_slice())?;
+        Ok(TableInfo {
+            name: raw.name.copy(alloc)?,
+            columns: Seq::make(columns),
+            key: Seq::make(key),
+        })
     }
 }

@@ -4,27 +4,17 @@ ghost use Rattle.std.specs.Prelude.{◌≡◌, map, false, codes, IfOk};
 ghost use Rattle.serde_json.specs.Data.{object};
 ghost use Rattle.serde_json.specs.View.{view};
 ghost use Rattle.serde_json.specs.Written.{compact_text, has_float};
-ghost use Rattle.dbl_value.specs.Values.{json_data};
 ghost use Rattle.dbl_model.specs.Tables.{column_names};
-ghost use Rattle.dbl_model.specs.Infos.{name_at, key_names};
+ghost use Rattle.dbl_model.specs.Infos.{key_names};
 ghost use Rattle.dbl_model.specs.Image.{members_of, key_data, key_text};
 ghost use Rattle.dbl_model.specs.EventJson.{sent, row_data, old_data, source_data, event_data};
 
+use crate::made::name_at;
 use crate::{Cell, Commit, Identity, Key, Row, TableInfo, milliseconds};
 use dbl_base::{Seq, Text};
-use dbl_value::Val;
+use dbl_value::{Val, json_tree};
 use serde_json::{Map, Value, json};
 use std::alloc::{AllocError, Global};
-
-fn cell_value(alloc: Global, cell: &Val) -> Result<Value, AllocError>
-    ensures { IfOk result (λ v. view v ≡ json_data cell.now) }
-{
-    match cell {
-        Val::Null => Ok(Value::Null),
-        Val::Int(number) => Ok(Value::from(*number)),
-        Val::Text(text) => Value::try_from_str(alloc, text.as_str()),
-    }
-}
 
 /// The object of these cells under these names.
 fn object_of(alloc: Global, names: &Vec<Text>, cells: &Vec<Val>) -> Result<Value, AllocError>
@@ -38,7 +28,7 @@ fn object_of(alloc: Global, names: &Vec<Text>, cells: &Vec<Val>) -> Result<Value
             &mut members,
             alloc,
             names[i].as_str(),
-            cell_value(alloc, &cells[i])?,
+            json_tree(alloc, &cells[i])?,
         )?;
     }
     Ok(Value::Object(members))
@@ -54,21 +44,12 @@ fn names_of_columns(alloc: Global, info: &TableInfo) -> Result<Vec<Text>, AllocE
     Ok(names)
 }
 
-fn name_at(alloc: Global, info: &TableInfo, place: u32) -> Result<Text, AllocError>
-    ensures { IfOk result (λ name. name ≡ name_at info.now.columns place) }
-{
-    match info.columns.items().get(place as usize) {
-        Some(column) => column.name.copy(alloc),
-        None => Text::of(alloc, ""),
-    }
-}
-
 fn names_of_key(alloc: Global, info: &TableInfo) -> Result<Vec<Text>, AllocError>
     ensures { IfOk result (λ names. names.items ≡ key_names info.now) }
 {
     let mut names = Vec::new(alloc);
     for place in info.key.items() {
-        names.push(name_at(alloc, info, *place)?)?;
+        names.push(name_at(alloc, info.columns.items().as_slice(), *place)?)?;
     }
     Ok(names)
 }

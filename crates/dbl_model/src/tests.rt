@@ -1,10 +1,7 @@
-ghost use Rattle.std.specs.Prelude.{IsSome, IfOk};
-ghost use Rattle.dbl_value.specs.Values.{type_of};
-
 use crate::*;
 use dbl_base::{Lsn, Seq, Text};
 use dbl_record::{Record, RecordError, line};
-use dbl_value::{PgType, Val};
+use dbl_value::{PgType, Val, read_owned};
 use std::alloc::{AllocError, Global};
 use std::cmp::Ordering;
 use std::process::Abort;
@@ -52,20 +49,22 @@ fn key_of(alloc: Global, words: &str) -> Result<Key, AllocError> {
     })
 }
 
-fn raw_column(alloc: Global, column: &str) -> Result<RawColumn, AllocError>
-    ensures { IfOk result (λ c. IsSome (type_of c.oid)) }
-{
+/// A column by its name and its type's OID behind a `:`; without one `id` and `n` are int4, and others text.
+fn raw_column(alloc: Global, column: &str) -> Result<RawColumn, AllocError> {
+    let mut parts = column.split(':');
+    let name = parts.next().unwrap_or("");
+    let oid = match parts.next() {
+        Some(oid) => oid.parse::<u32>().unwrap_or(0),
+        None if name == "id" || name == "n" => 23,
+        None => 25,
+    };
     Ok(RawColumn {
-        name: Text::of(alloc, column)?,
-        oid: if column == "id" || column == "n" {
-            23
-        } else {
-            25
-        },
+        name: Text::of(alloc, name)?,
+        oid,
     })
 }
 
-/// A table of the columns of these names, whose key is the columns of those. `id` and `n` are numbers.
+/// A table of these columns, whose key is the columns of those names.
 fn table(
     alloc: Global,
     table_name: TableName,
@@ -100,6 +99,13 @@ fn captures_tables(rt: HostRuntime) -> Result<(), Fail> {
     assert_eq!(rt; info.columns.items()[1].ty, PgType::Text);
     assert_eq!(rt; info.key.items().as_slice(), [1, 0].as_slice());
     assert_eq!(rt; info.name.to_string(alloc)?.as_str(), "public.users");
+    let keys = name(alloc, "public", "keys")?;
+    let columns = "a:21 b:23 c:20 d:2950 e:25 f:1043 g:16 h:600";
+    let info = table(alloc, keys, columns, "f e d c b a")?;
+    assert_eq!(rt; info.key.items().as_slice(), [5, 4, 3, 2, 1, 0].as_slice());
+    assert_eq!(rt; info.columns.items().len(), 8);
+    assert_eq!(rt; info.columns.items()[6].ty, PgType::Bool);
+    assert_eq!(rt; info.columns.items()[7].ty, PgType::Other(600));
     Ok(())
 }
 
@@ -110,7 +116,15 @@ fn fault(alloc: Global, kind: u8, table: TableName) -> Result<ModelError, AllocE
             table,
             column: Text::of(alloc, "id")?,
         }),
-        _ => Ok(ModelError::NoKey { table }),
+        2 => Ok(ModelError::FloatColumn {
+            table,
+            column: Text::of(alloc, "f")?,
+        }),
+        3 => Ok(ModelError::NoKey { table }),
+        _ => Ok(ModelError::KeyType {
+            table,
+            column: Text::of(alloc, "k")?,
+        }),
     }
 }
 
@@ -132,10 +146,16 @@ fn refuses_tables(rt: HostRuntime) -> Result<(), Fail> {
             ("a.b", "id name", "id", 0),
             ("dblog-progress", "id name", "id", 0),
             ("dblog_watermark", "id id", "", 0),
-            ("users", "id name id", "", 1),
-            ("users", "id name", "", 2),
-            ("users", "id name", "key", 2),
-            ("users", "id name", "id id", 2),
+            ("users", "f:700 id name id", "", 1),
+            ("users", "id f:701 g:700", "", 2),
+            ("users", "id name", "", 3),
+            ("users", "id name", "key", 3),
+            ("users", "k:16", "k k", 3),
+            ("users", "id k:16", "id k", 4),
+            ("users", "j:17 k:1042", "k j", 4),
+            ("users", "k:1082", "k", 4),
+            ("users", "k:1700", "k", 4),
+            ("users", "k:600", "k", 4),
         ],
     )
 }
@@ -147,9 +167,18 @@ fn is_below(alloc: Global, lower: &str, upper: &str) -> Result<bool, AllocError>
 #[test]
 fn compares_and_copies(rt: HostRuntime) -> Result<(), Fail> {
     let alloc = rt.alloc();
+    assert!(rt; is_below(alloc, "-9223372036854775808", "-2")?);
     assert!(rt; is_below(alloc, "-2", "1")?);
     assert!(rt; is_below(alloc, "9", "10")?);
     assert!(rt; is_below(alloc, "B", "a")?);
+    assert!(rt; is_below(alloc, "1 B", "1 a")?);
+    assert!(rt;
+        is_below(
+            alloc,
+            "0f000000-0000-0000-0000-000000000000",
+            "f0000000-0000-0000-0000-000000000000"
+        )?
+    );
     assert_eq!(rt; demo(alloc)?.copy(alloc)?.db.as_str(), "shop");
     Ok(())
 }
@@ -398,5 +427,43 @@ fn some_commits_have_no_record(rt: HostRuntime) -> Result<(), Fail> {
     };
     let records = plain_envelopes(alloc, &demo(alloc)?, &tables(alloc)?, &mark, 5)?;
     assert!(rt; records.is_empty());
+    Ok(())
+}
+
+/// A row with values of many types, at one microsecond before 2000.
+const KINDS: &str =
+    r#"{"headers":{"dblog.last":true,"dblog.ordinal":0,"dblog.position":256},"key":{"id":-9223372036854775808},"topic":"demo.public.kinds","value":{"after":{"b":true,"c":"AQL/","d":19782,"e":86400000000,"f":946684799999999,"g":"2024-02-29T10:00:00.000000Z","h":"{\"a\": 1}","i":"abcdef01-2345-6789-abcd-ef0123456789","id":-9223372036854775808},"before":null,"op":"c","source":{"connector":"postgresql","db":"shop","lsn":256,"name":"demo","schema":"public","snapshot":"false","table":"kinds","ts_ms":946684799999,"txId":7,"version":"1.0","xmin":null},"transaction":null,"ts_ms":5}}
+"#;
+
+/// The row that these texts spell in a table's columns.
+fn read_row(alloc: Global, info: &TableInfo, texts: &str) -> Result<Row, Fail> {
+    let mut cells = Vec::new(alloc);
+    for (column, text) in info.columns.items().iter().zip(texts.split('|')) {
+        cells.push(read_owned(alloc, column.ty, Text::of(alloc, text)?)?)?;
+    }
+    Ok(Row {
+        cells: Seq::make(cells),
+    })
+}
+
+#[test]
+fn values_have_their_json(rt: HostRuntime) -> Result<(), Fail> {
+    let alloc = rt.alloc();
+    let columns = "id:20 b:16 c:17 d:1082 e:1083 f:1114 g:1184 h:3802 i:2950";
+    let info = table(alloc, name(alloc, "public", "kinds")?, columns, "id")?;
+    let row = read_row(
+        alloc,
+        &info,
+        "-9223372036854775808|t|\\x0102ff|2024-02-29|24:00:00|1999-12-31 23:59:59.999999|2024-02-29 12:00:00+02|{\"a\": 1}|abcdef01-2345-6789-abcd-ef0123456789",
+    )?;
+    let insert = Change::Insert { table: 0, row };
+    let commit = Commit {
+        time: -1,
+        body: Body::Changes(Seq::make(vec![in alloc; insert]?)),
+        ..commit(alloc, 256, &[])?
+    };
+    let infos = vec![in alloc; info]?;
+    let records = plain_envelopes(alloc, &demo(alloc)?, &infos, &commit, 5)?;
+    assert_eq!(rt; lines(alloc, &records)?.as_str(), KINDS);
     Ok(())
 }

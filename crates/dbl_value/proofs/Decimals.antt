@@ -1,20 +1,20 @@
 -- Plain decimals, and the texts of integers.
-use Rattle.std.proofs.Common.{◌≡◌, ℕ, ◌<◌, ◌^◌, pos, negsuc, ℤ, List, [], ◌∷◌, length, get_or, Bool, true, false, refl, sym, ap, ◌∙◌, arith, subst, codes, ◌&&◌, None, Some, lit<, rules, inl, inr, zero, suc, neg_ℤ, option_map, if◌then◌else◌}
+use Rattle.std.proofs.Common.{◌≡◌, ℕ, ◌<◌, ◌≤◌, ◌^◌, Option, pos, negsuc, ℤ, List, [], ◌∷◌, length, get_or, Bool, true, false, refl, sym, ap, ◌∙◌, arith, subst, codes, ◌&&◌, None, Some, lit<, rules, inl, inr, zero, suc, neg_ℤ, option_map, if◌then◌else◌}
+use Rattle.std.specs.Prelude.{◌↔◌}
 use Rattle.std.specs.List.{list_all}
 use Rattle.std.specs.Char.{is_ascii_digit}
 use Rattle.std.specs.Fmt.{decimal, signed_decimal}
-use Rattle.std.specs.Int.{w32}
+use mir.Syntax.{Width}
+use mir.Val.{hbits}
 use Rattle.std.specs.Int.RustNames.{FitsSigned}
 use Rattle.std.specs.Str.Parse.{IsNumeral, digits_value, starts_with_minus, without_leading_sign, without_leading_plus, signed_digits_value}
 use Rattle.std.proofs.lemmas.Bool.{or_cases, or_right, and_parts, and_from, ltb-true, lt-ltb, eqb-true, ne_eqb, cases_Bool}
 use Rattle.std.proofs.lemmas.Slice.Eq.{bytes_eq-Decides}
 use Rattle.std.proofs.lemmas.Fmt.{decimal-digits_value, decimal_digit, decimal_is_IsNumeral, first_decimal}
 use Rattle.std.proofs.lemmas.Str.Parse.{IsNumeralModel, numerals_by_value, without_leading_plus_none}
-use Rattle.dbl_value.specs.declared.column_type.PgType.TheVariants as type
-use Rattle.dbl_value.specs.declared.value.Val.{Val}
 use Rattle.dbl_value.specs.declared.value.Val.TheVariants as val
-use Rattle.dbl_value.specs.Values.{digits_of, is_plain, is_within, integer_of, SpellsValue}
-use Rattle.dbl_value.specs.Laws.{DecimalsSpellInt4, TextsReadBack}
+use Rattle.dbl_value.specs.Decimals.{digits_of, is_plain, is_within, integer_of}
+use Rattle.dbl_value.specs.Laws.{DecimalsSpellIntegers}
 
 -- a test of digits, and their value
 own : IsNumeralModel (λ ds. list_all is_ascii_digit ds ≡ true) (digits_value 10)
@@ -61,15 +61,15 @@ is_plain-IsPlain text h =
 numeral : (text : List ℕ) → IsPlain text → IsNumeral 10 (without_leading_sign text)
 numeral text p = rw p.unsigned (p.some, own.to (digits_of text) p.digits)
 
-within_fits : (z : ℤ) → is_within (2 ^ 31) z ≡ true → FitsSigned w32 z
-within_fits (pos n) h = record { sfits = ltb-true n (2 ^ 31) h }
-within_fits (negsuc n) h = record { sfits = ltb-true n (2 ^ 31) h }
+within_fits_by : (bits : ℕ) (w : Width) → hbits w ≡ bits → (z : ℤ) → is_within (2 ^ bits) z ≡ true → FitsSigned w z
+within_fits_by bits w e (pos n) h = record { sfits = rw e (ltb-true n (2 ^ bits) h) }
+within_fits_by bits w e (negsuc n) h = record { sfits = rw e (ltb-true n (2 ^ bits) h) }
 
 -- a plain decimal that doesn't parse is out of range
-pub out_of_range : (text : List ℕ) → is_plain text ≡ true → ¬ (IsNumeral 10 (without_leading_sign text) × FitsSigned w32 (signed_digits_value 10 text)) → None ≡ integer_of (2 ^ 31) text
-out_of_range text plain refused =
-    elim (cases_Bool (is_within (2 ^ 31) (signed_digits_value 10 text))) [
-      | inl within ↦ absurd (refused (numeral text (is_plain-IsPlain text plain), within_fits (signed_digits_value 10 text) within))
+pub out_of_range : (bits : ℕ) (w : Width) → hbits w ≡ bits → (text : List ℕ) → is_plain text ≡ true → ¬ (IsNumeral 10 (without_leading_sign text) × FitsSigned w (signed_digits_value 10 text)) → None ≡ integer_of (2 ^ bits) text
+out_of_range bits w e text plain refused =
+    elim (cases_Bool (is_within (2 ^ bits) (signed_digits_value 10 text))) [
+      | inl within ↦ absurd (refused (numeral text (is_plain-IsPlain text plain), within_fits_by bits w e (signed_digits_value 10 text) within))
       | inr outside ↦ rw (plain, outside) refl
     ]
 
@@ -86,9 +86,9 @@ minus_text : (m : ℕ) (ds : List ℕ) → 0 < m → decimal m ≡ ds → signed
 minus_text zero ds above e = absurd (omega arith)
 minus_text (suc k) ds above e = ap (λ t. 45 ∷ t) e
 
-within_minus : (m : ℕ) → is_within (2 ^ 31) (neg_ℤ (pos m)) ≡ true → m < 2 ^ 64
-within_minus zero h = lit< tt
-within_minus (suc k) h = let below : k < 2 ^ 31 = ltb-true k (2 ^ 31) h in omega arith
+within_minus : (limit m : ℕ) → limit ≤ 2 ^ 63 → is_within limit (neg_ℤ (pos m)) ≡ true → m < 2 ^ 64
+within_minus limit zero top h = lit< tt
+within_minus limit (suc k) top h = let below : k < limit = ltb-true k limit h in omega arith
 
 behind_minus : (text : List ℕ) → starts_with_minus text ≡ true → 45 ∷ digits_of text ≡ text
 behind_minus [] h = cc
@@ -97,29 +97,29 @@ behind_minus (x ∷ xs) h = let minus : x ≡ 45 = eqb-true x 45 h in rw minus r
 number_behind_minus : (text : List ℕ) → IsPlain text → starts_with_minus text ≡ true → signed_digits_value 10 text ≡ neg_ℤ (pos (digits_value 10 (digits_of text)))
 number_behind_minus text p minus = rw minus refl
 
-text_behind_minus : (text : List ℕ) → IsPlain text → starts_with_minus text ≡ true → is_within (2 ^ 31) (signed_digits_value 10 text) ≡ true → signed_decimal (signed_digits_value 10 text) ≡ text
-text_behind_minus text p minus within =
+text_behind_minus : (limit : ℕ) (text : List ℕ) → limit ≤ 2 ^ 63 → IsPlain text → starts_with_minus text ≡ true → is_within limit (signed_digits_value 10 text) ≡ true → signed_decimal (signed_digits_value 10 text) ≡ text
+text_behind_minus limit text top p minus within =
     let number = number_behind_minus text p minus in
-    let small = within_minus (digits_value 10 (digits_of text)) (rw number at within) in
+    let small = within_minus limit (digits_value 10 (digits_of text)) top (rw number at within) in
     let digits = text_of_digits text p small in
     ap signed_decimal number ∙ minus_text (digits_value 10 (digits_of text)) (digits_of text) (above_zero _ _ digits (p.negative minus)) digits ∙ behind_minus text minus
 
-text_without_minus : (text : List ℕ) → IsPlain text → starts_with_minus text ≡ false → is_within (2 ^ 31) (signed_digits_value 10 text) ≡ true → signed_decimal (signed_digits_value 10 text) ≡ text
-text_without_minus text p none within =
+text_without_minus : (limit : ℕ) (text : List ℕ) → limit ≤ 2 ^ 63 → IsPlain text → starts_with_minus text ≡ false → is_within limit (signed_digits_value 10 text) ≡ true → signed_decimal (signed_digits_value 10 text) ≡ text
+text_without_minus limit text top p none within =
     let same : digits_of text ≡ text = rw none refl in
     let number : signed_digits_value 10 text ≡ pos (digits_value 10 text) = rw none (ap (λ ds. pos (digits_value 10 ds)) (sym without_plus ∙ p.unsigned ∙ same)) in
-    let small : digits_value 10 text < 2 ^ 31 = ltb-true (digits_value 10 text) (2 ^ 31) (rw number at within) in
+    let small : digits_value 10 text < limit = ltb-true (digits_value 10 text) limit (rw number at within) in
     ap signed_decimal number ∙ sym (ap (λ ds. decimal (digits_value 10 ds)) same) ∙ text_of_digits text p (rw same (omega arith)) ∙ same
   where
     without_plus : without_leading_sign text ≡ without_leading_plus text
     without_plus = rw none refl
 
-pub text_of_plain : (text : List ℕ) → is_plain text ≡ true → is_within (2 ^ 31) (signed_digits_value 10 text) ≡ true → signed_decimal (signed_digits_value 10 text) ≡ text
-text_of_plain text plain within =
+pub text_of_plain : (limit : ℕ) (text : List ℕ) → limit ≤ 2 ^ 63 → is_plain text ≡ true → is_within limit (signed_digits_value 10 text) ≡ true → signed_decimal (signed_digits_value 10 text) ≡ text
+text_of_plain limit text top plain within =
     let p = is_plain-IsPlain text plain in
     elim (cases_Bool (starts_with_minus text)) [
-      | inl minus ↦ text_behind_minus text p minus within
-      | inr none ↦ text_without_minus text p none within
+      | inl minus ↦ text_behind_minus limit text top p minus within
+      | inr none ↦ text_without_minus limit text top p none within
     ]
 
 -- ---- the text of a number is plain
@@ -150,51 +150,43 @@ plain_negsuc n small = plain_from (45 ∷ decimal (suc n)) (digits_decimal (suc 
 number_negsuc : (n : ℕ) → n < 2 ^ 63 → signed_digits_value 10 (45 ∷ decimal (suc n)) ≡ negsuc n
 number_negsuc n small = ap (λ m. neg_ℤ (pos m)) (decimal_is_IsNumeral (suc n) (omega arith)).1
 
-pub plain_text : (z : ℤ) → is_within (2 ^ 31) z ≡ true → (is_plain (signed_decimal z) ≡ true) × (signed_digits_value 10 (signed_decimal z) ≡ z)
-plain_text (pos zero) h = rw (decimal_digit 0 (lit< tt)) (refl, refl)
-plain_text (pos (suc n)) h = let small : suc n < 2 ^ 31 = ltb-true (suc n) (2 ^ 31) h in (plain_pos (suc n) (omega arith) (omega arith), number_pos (suc n) (omega arith) (omega arith))
-plain_text (negsuc n) h = let small : n < 2 ^ 31 = ltb-true n (2 ^ 31) h in (plain_negsuc n (omega arith), number_negsuc n (omega arith))
+pub plain_text : (limit : ℕ) (z : ℤ) → limit ≤ 2 ^ 63 → is_within limit z ≡ true → (is_plain (signed_decimal z) ≡ true) × (signed_digits_value 10 (signed_decimal z) ≡ z)
+plain_text limit (pos zero) top h = rw (decimal_digit 0 (lit< tt)) (refl, refl)
+plain_text limit (pos (suc n)) top h = let small : suc n < limit = ltb-true (suc n) limit h in (plain_pos (suc n) (omega arith) (omega arith), number_pos (suc n) (omega arith) (omega arith))
+plain_text limit (negsuc n) top h = let small : n < limit = ltb-true n limit h in (plain_negsuc n (omega arith), number_negsuc n (omega arith))
 
--- ---- what spells an int4
+-- ---- what spells an integer
 
-pub record IsRead (text : List ℕ) (z : ℤ) : Type 0 where
+pub record IsRead (limit : ℕ) (text : List ℕ) (z : ℤ) : Type 0 where
   pub plain : is_plain text ≡ true
-  pub within : is_within (2 ^ 31) z ≡ true
+  pub within : is_within limit z ≡ true
   pub number : signed_digits_value 10 text ≡ z
 
-read_by : (b c : Bool) (y z : ℤ) → option_map val.Int (if b && c then Some y else None) ≡ Some (val.Int z) → (b ≡ true) × (c ≡ true) × (y ≡ z)
+read_by : (b c : Bool) (y z : ℤ) → (if b && c then Some y else None) ≡ Some z → (b ≡ true) × (c ≡ true) × (y ≡ z)
 read_by true true y z e = (refl, refl, cc)
 read_by true false y z e = cc
 read_by false c y z e = cc
 
-pub int4-IsRead : (text : List ℕ) (z : ℤ) → SpellsValue type.Int4 text (val.Int z) → IsRead text z
-int4-IsRead text z e =
-    let parts = read_by (is_plain text) (is_within (2 ^ 31) (signed_digits_value 10 text)) (signed_digits_value 10 text) z e in
+pub integer_of-IsRead : (limit : ℕ) (text : List ℕ) (z : ℤ) → integer_of limit text ≡ Some z → IsRead limit text z
+integer_of-IsRead limit text z e =
+    let parts = read_by (is_plain text) (is_within limit (signed_digits_value 10 text)) (signed_digits_value 10 text) z e in
     record { plain = parts.0; within = rw parts.2 at parts.1; number = parts.2 }
 
-pub int4_text : (text : List ℕ) (z : ℤ) → IsRead text z → text ≡ signed_decimal z
-int4_text text z r = sym (text_of_plain text r.plain (rw r.number r.within)) ∙ ap signed_decimal r.number
+pub integer_text : (limit : ℕ) (text : List ℕ) (z : ℤ) → limit ≤ 2 ^ 63 → IsRead limit text z → text ≡ signed_decimal z
+integer_text limit text z top r = sym (text_of_plain limit text top r.plain (rw r.number r.within)) ∙ ap signed_decimal r.number
 
-pub int4_spelled : (z : ℤ) → is_within (2 ^ 31) z ≡ true → SpellsValue type.Int4 (signed_decimal z) (val.Int z)
-int4_spelled z within = let p = plain_text z within in rw (p.0, p.1, within) refl
+pub integer_spelled : (limit : ℕ) (z : ℤ) → limit ≤ 2 ^ 63 → is_within limit z ≡ true → integer_of limit (signed_decimal z) ≡ Some z
+integer_spelled limit z top within = let p = plain_text limit z top within in rw (p.0, p.1, within) refl
 
-pub decimals_spell_int4 : DecimalsSpellInt4
-decimals_spell_int4 text z = (
-  λ e. let r = int4-IsRead text z e in (int4_text text z r, r.within),
-  λ p. subst (λ t. SpellsValue type.Int4 t (val.Int z)) (sym p.0) (int4_spelled z p.1),
+mapped_int : (o : Option ℤ) (z : ℤ) → option_map val.Int o ≡ Some (val.Int z) → o ≡ Some z
+mapped_int (Some y) z e = ap Some (let same : val.Int y ≡ val.Int z = cc in cc)
+mapped_int None z e = cc
+
+are_decimals : (limit : ℕ) → limit ≤ 2 ^ 63 → (text : List ℕ) (z : ℤ) → (option_map val.Int (integer_of limit text) ≡ Some (val.Int z)) ↔ ((text ≡ signed_decimal z) × (is_within limit z ≡ true))
+are_decimals limit top text z = (
+  λ e. let r = integer_of-IsRead limit text z (mapped_int _ z e) in (integer_text limit text z top r, r.within),
+  λ p. ap (λ t. option_map val.Int (integer_of limit t)) p.0 ∙ ap (option_map val.Int) (integer_spelled limit z top p.1),
 )
 
-int_alone : (b : Bool) (y : ℤ) (v : Val) → option_map val.Int (if b then Some y else None) ≡ Some v → v ≡ val.Int y
-int_alone true y v e = cc
-int_alone false y v e = cc
-
-pub int4-Int : (text : List ℕ) (v : Val) → SpellsValue type.Int4 text v → v ≡ val.Int (signed_digits_value 10 text)
-int4-Int text v e = int_alone (is_plain text && is_within (2 ^ 31) (signed_digits_value 10 text)) (signed_digits_value 10 text) v e
-
-pub texts_read_back : TextsReadBack
-texts_read_back type.Int4 val.Null is = let other = int4-Int is.text val.Null is.spells in cc
-texts_read_back type.Int4 (val.Int z) is = int4_spelled z (int4-IsRead is.text z is.spells).within
-texts_read_back type.Int4 (val.Text t) is = let other = int4-Int is.text (val.Text t) is.spells in cc
-texts_read_back type.Text val.Null is = let e = is.spells in cc
-texts_read_back type.Text (val.Int z) is = let e = is.spells in cc
-texts_read_back type.Text (val.Text t) is = refl
+pub decimals_spell_integers : DecimalsSpellIntegers
+decimals_spell_integers = (are_decimals (2 ^ 15) (omega arith), are_decimals (2 ^ 31) (omega arith), are_decimals (2 ^ 63) (omega arith))

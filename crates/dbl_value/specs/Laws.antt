@@ -1,5 +1,5 @@
 -- What holds of types, values and their texts.
-use Rattle.std.specs.Prelude.{◌≡◌, ◌↔◌, ◌^◌, ℕ, ℤ, List, IsTrue, Some}
+use Rattle.std.specs.Prelude.{◌≡◌, ◌↔◌, ◌^◌, ℕ, ℤ, List, IsTrue, Some, None}
 use Rattle.std.specs.Fmt.{signed_decimal}
 use Rattle.std.specs.Cmp.{IsTotalOrder}
 use Rattle.std.specs.declared.cmp.Ordering.TheVariants.{Equal}
@@ -7,20 +7,29 @@ use Rattle.dbl_value.specs.declared.column_type.PgType.{PgType}
 use Rattle.dbl_value.specs.declared.column_type.PgType.TheVariants as type
 use Rattle.dbl_value.specs.declared.value.Val.{Val}
 use Rattle.dbl_value.specs.declared.value.Val.TheVariants as val
-use Rattle.dbl_value.specs.Values.{oid_of, type_of, is_within, SpellsValue, IsOf, IsCellOf, text_of, json_of}
+use Rattle.dbl_value.specs.Values.{oid_of, type_of, is_column_type, value_of, SpellsValue, IsOf, IsCellOf, text_of, json_of}
+use Rattle.dbl_value.specs.Decimals.{is_within}
+use Rattle.dbl_value.specs.Faults.{is_date_range}
 use Rattle.dbl_value.specs.Order.{val_cmp}
 
--- an OID is that of at most one type, and each type has one
+-- an OID is that of at most one type that a column can have, and each such type has one
 abbrev pub OidsNameTypes : Type 0
-OidsNameTypes = (oid : ℕ) (ty : PgType) → (type_of oid ≡ Some ty) ↔ (oid ≡ oid_of ty)
+OidsNameTypes = (oid : ℕ) (ty : PgType) → (type_of oid ≡ Some ty) ↔ ((oid_of ty ≡ oid) × IsTrue (is_column_type ty))
 
 -- a text spells one value of a type at most
 abbrev pub TextsSpellOneValue : Type 0
 TextsSpellOneValue = (ty : PgType) (text : List ℕ) (v w : Val) → SpellsValue ty text v → SpellsValue ty text w → v ≡ w
 
--- a text spells an int4 exactly where it is the decimal text of an integer of 32 bits
-abbrev pub DecimalsSpellInt4 : Type 0
-DecimalsSpellInt4 = (text : List ℕ) (z : ℤ) → SpellsValue type.Int4 text (val.Int z) ↔ ((text ≡ signed_decimal z) × IsTrue (is_within (2 ^ 31) z))
+-- a text that names a date outside the years 1 to 9999 spells no value
+abbrev pub DateRangesSpellNoValue : Type 0
+DateRangesSpellNoValue = (ty : PgType) (text : List ℕ) → IsTrue (is_date_range ty text) → value_of ty text ≡ None
+
+-- a text spells an integer exactly where it is the decimal text of one in the type's range
+abbrev pub AreDecimals : PgType → ℕ → Type 0
+AreDecimals ty limit = (text : List ℕ) (z : ℤ) → SpellsValue ty text (val.Int z) ↔ ((text ≡ signed_decimal z) × IsTrue (is_within limit z))
+
+abbrev pub DecimalsSpellIntegers : Type 0
+DecimalsSpellIntegers = AreDecimals type.Int2 (2 ^ 15) × AreDecimals type.Int4 (2 ^ 31) × AreDecimals type.Int8 (2 ^ 63)
 
 -- the text of a value spells it
 abbrev pub TextsReadBack : Type 0

@@ -1,50 +1,59 @@
--- Column types and their OIDs, which value a text spells at a type, its text and its JSON.
-use Rattle.std.specs.Prelude.{ℕ, ℤ, pos, negsuc, ◌==◌, ◌&&◌, ◌||◌, ◌^◌, ◌≡◌, ◌⊎◌, nat_lt, Bool, if◌then◌else◌, Option, Some, None, option_map, List, [], slice_index, drop, codes}
-use Rattle.std.specs.List.{list_all}
-use Rattle.std.specs.Char.{is_ascii_digit}
+-- Which value a text spells at a type, a value's text and its JSON.
+use Rattle.std.specs.Prelude.{ℕ, ℤ, pos, ◌^◌, ◌≡◌, ◌⊎◌, Bool, true, false, if◌then◌else◌, Option, Some, None, option_map, List, [], ◌++◌, unsigned_abs, codes}
 use Rattle.std.specs.Fmt.{signed_decimal}
 use Rattle.std.specs.Str.{bytes_eq, IsUtf8}
-use Rattle.std.specs.Str.Parse.{starts_with_minus, signed_digits_value}
-use Rattle.serde_json.specs.Data.{Data, null, number, string}
+use Rattle.base64.specs.Engines.{standard}
+use Rattle.base64.specs.GeneralPurpose.{encode_of}
+use Rattle.serde_json.specs.Data.{Data, null, boolean, number, string}
 use Rattle.serde_json.specs.Find.{of_integer}
 use Rattle.serde_json.specs.Written.{compact_text}
 use Rattle.dbl_value.specs.declared.column_type.PgType.{PgType}
 use Rattle.dbl_value.specs.declared.column_type.PgType.TheVariants as type
 use Rattle.dbl_value.specs.declared.value.Val.{Val}
 use Rattle.dbl_value.specs.declared.value.Val.TheVariants as val
+pub use Rattle.dbl_value.specs.Types.{oid_of, listed, is_column_type}
+unfoldable pub use Rattle.dbl_value.specs.Types.{type_of}
+use Rattle.dbl_value.specs.Decimals.{integer_of}
+use Rattle.dbl_value.specs.Shapes.{has_shape}
+use Rattle.dbl_value.specs.Dates.{day_of, date_text}
+use Rattle.dbl_value.specs.Clocks.{time_of, clock_text}
+use Rattle.dbl_value.specs.Stamps.{stamp_of, instant_of, is_instant, stamp_text, zulu_text}
+use Rattle.dbl_value.specs.ByteTexts.{bytes_of, bytes_text}
 
--- the OIDs that PostgreSQL's catalogue pg_type gives the built-in types
-abbrev pub oid_of : PgType → ℕ
-oid_of type.Int4 = 23
-oid_of type.Text = 25
+-- `t` or `f`
+abbrev pub truth_of : List ℕ → Option Bool
+truth_of text = if bytes_eq text (codes "t") then Some true else (if bytes_eq text (codes "f") then Some false else None)
 
--- the type of an OID
-abbrev pub type_of : ℕ → Option PgType
-type_of oid = if oid == 23 then Some type.Int4 else (if oid == 25 then Some type.Text else None)
+-- 36 characters: hexadecimal digits in lower case, in groups of 8, 4, 4, 4 and 12
+abbrev pub is_uuid : List ℕ → Bool
+is_uuid text = has_shape (codes "xxxxxxxx-xxxx-xxxx-xxxx-xxxxxxxxxxxx") text
 
--- a decimal's digits, behind its minus if it has one
-abbrev pub digits_of : List ℕ → List ℕ
-digits_of text = if starts_with_minus text then drop 1 text else text
+-- an instant in the years 1 to 9999
+abbrev pub instant_if_any : Option ℤ → Option ℤ
+instant_if_any None = None
+instant_if_any (Some instant) = if is_instant instant then Some instant else None
 
--- a plain decimal: `0`, or an optional minus and digits, of which the first isn't 0
-abbrev pub is_plain : List ℕ → Bool
-is_plain text = bytes_eq text (codes "0") || (list_all is_ascii_digit (digits_of text) && nat_lt 48 (slice_index (digits_of text) 0))
-
--- at least -limit, and below limit
-abbrev pub is_within : ℕ → ℤ → Bool
-is_within limit (pos n) = nat_lt n limit
-is_within limit (negsuc n) = nat_lt n limit
-
--- the integer that a plain decimal writes, where it is within the limit
-abbrev pub integer_of : ℕ → List ℕ → Option ℤ
-integer_of limit text = if is_plain text && is_within limit (signed_digits_value 10 text) then Some (signed_digits_value 10 text) else None
-
--- The value that a text spells at a type, if it spells one: an int4 is an integer of 32 bits, and each text is a text.
+-- The value that a text spells at a type, if it spells one. A numeric, a json and a type that isn't listed stand as their texts.
 -- That the text is UTF-8 isn't asked here but by `IsOf`.
--- PostgreSQL's manual, "Numeric Types" and "Character Types".
+-- PostgreSQL's manual, "Data Types", for the texts that a server sends with DateStyle ISO and bytea_output hex.
 abbrev pub value_of : PgType → List ℕ → Option Val
+value_of type.Bool text = option_map val.Bool (truth_of text)
+value_of type.Int2 text = option_map val.Int (integer_of (2 ^ 15) text)
 value_of type.Int4 text = option_map val.Int (integer_of (2 ^ 31) text)
+value_of type.Int8 text = option_map val.Int (integer_of (2 ^ 63) text)
 value_of type.Text text = Some (val.Text text)
+value_of type.Varchar text = Some (val.Text text)
+value_of type.Bpchar text = Some (val.Text text)
+value_of type.Json text = Some (val.Text text)
+value_of type.Jsonb text = Some (val.Text text)
+value_of type.Numeric text = Some (val.Text text)
+value_of type.Uuid text = if is_uuid text then Some (val.Text text) else None
+value_of type.Bytea text = option_map val.Bytes (bytes_of text)
+value_of type.Date text = option_map val.Date (day_of text)
+value_of type.Time text = option_map (λ micros. val.Time (pos micros)) (time_of text)
+value_of type.Timestamp text = option_map val.Stamp (stamp_of text)
+value_of type.Timestamptz text = option_map val.StampTz (instant_if_any (instant_of text))
+value_of (type.Other oid) text = Some (val.Text text)
 
 -- the text spells the value
 abbrev pub SpellsValue : PgType → List ℕ → Val → Type 0
@@ -60,17 +69,31 @@ pub record IsOf (ty : PgType) (v : Val) : Type 0 where
 abbrev pub IsCellOf : PgType → Val → Type 0
 IsCellOf ty v = (v ≡ val.Null) ⊎ IsOf ty v
 
--- the text that PostgreSQL sends for the value; none is sent for Null, which has the empty one here
+-- the text that PostgreSQL sends for a value of a type, a moment with an offset in UTC; none is sent for Null, which has the
+-- empty one here
 abbrev pub text_of : Val → List ℕ
 text_of val.Null = []
+text_of (val.Bool truth) = if truth then codes "t" else codes "f"
 text_of (val.Int z) = signed_decimal z
 text_of (val.Text text) = text
+text_of (val.Bytes bytes) = bytes_text bytes
+text_of (val.Date day) = date_text day
+text_of (val.Time micros) = clock_text (unsigned_abs micros)
+text_of (val.Stamp moment) = stamp_text moment
+text_of (val.StampTz instant) = stamp_text instant ++ codes "+00"
 
--- a value as JSON: the Debezium PostgreSQL connector's "Data type mappings"
+-- A value as JSON: the Debezium PostgreSQL connector's "Data type mappings", where bytes are base64 (RFC 4648, section 4).
+-- No value of a type is an instant outside the years 1 to 9999; such a one stands as its number.
 abbrev pub json_data : Val → Data
 json_data val.Null = null
+json_data (val.Bool truth) = boolean truth
 json_data (val.Int z) = number (of_integer z)
 json_data (val.Text text) = string text
+json_data (val.Bytes bytes) = string (encode_of standard bytes)
+json_data (val.Date day) = number (of_integer day)
+json_data (val.Time micros) = number (of_integer micros)
+json_data (val.Stamp moment) = number (of_integer moment)
+json_data (val.StampTz instant) = if is_instant instant then string (zulu_text instant) else number (of_integer instant)
 
 -- the value's JSON text
 abbrev pub json_of : Val → List ℕ

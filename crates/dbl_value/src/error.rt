@@ -1,12 +1,18 @@
 use std::alloc::{AllocError, AllocFailed};
 use thiserror::Error;
 
-/// Why a value isn't read, printed or written.
+/// Why an OID has no type, or a value isn't read, printed or written.
 #[derive(Debug, Drop, PartialEq, Eq, Error)]
 pub enum ValueError {
+    /// float4 and float8: their texts don't read back in JSON as they were.
+    #[error("floats aren't captured")]
+    FloatType,
     /// The text spells no value of the type.
-    #[error("the text spells no value of its type")]
+    #[error("bad text")]
     BadText,
+    /// The text names a date that isn't in the years 1 to 9999.
+    #[error("date range")]
+    DateRange,
     #[error("out of memory")]
     Memory,
 }

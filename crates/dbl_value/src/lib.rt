@@ -1,23 +1,33 @@
 //! Column types and their values: read from the texts that PostgreSQL sends, printed, and written as JSON.
 #![tactic(auto)]
 
+mod clocks;
 mod column_type;
+mod dates;
 mod encoding;
 mod error;
+mod faults;
+mod integers;
 mod laws;
 mod printing;
 mod reading;
+mod shapes;
+mod stamps;
+mod tree;
 mod value;
 
 pub use column_type::{PgType, of, oid};
 pub use encoding::{json, write_json};
 pub use error::ValueError;
 pub use laws::{
-    decimals_spell_int4, json_tells_cells, oids_name_types, texts_read_back, texts_spell_one_value,
-    values_are_ordered,
+    byte_texts_are_hex, date_ranges_spell_no_value, date_texts_are_days, days_are_dates,
+    decimals_spell_integers, instant_texts_are_instants, json_tells_cells, oids_name_types,
+    stamp_texts_are_moments, texts_read_back, texts_spell_one_value, time_texts_are_clocks,
+    uuid_texts_are_groups, values_are_ordered,
 };
 pub use printing::print;
 pub use reading::{read, read_owned};
+pub use tree::json_tree;
 pub use value::Val;
 
 #[cfg(test)]

@@ -1,87 +1,202 @@
-ghost use Rattle.std.specs.Prelude.{◌≡◌, ◌≢◌, ◌^◌, nat_lt, slice_index, IfOk};
-ghost use Rattle.std.specs.List.{list_all};
-ghost use Rattle.std.specs.Char.{is_ascii_digit};
-ghost use Rattle.dbl_value.specs.Values.{value_of, integer_of, is_plain, digits_of, SpellsValue};
+ghost use Rattle.std.specs.Prelude.{◌≡◌, ◌≢◌, ◌⊎◌, Bool, true, Some, None, IfOk, IfErr, nat_eq};
+ghost use Rattle.std.specs.List.{list_all, starts_with};
+ghost use Rattle.dbl_value.specs.Shapes.{is_lower_hex};
+ghost use Rattle.dbl_value.specs.ByteTexts.{bytes_of};
+ghost use Rattle.dbl_value.specs.Values.{value_of, truth_of, is_uuid, SpellsValue};
+ghost use Rattle.dbl_value.specs.Faults.{value_fault};
+ghost use Rattle.dbl_value.specs.Kinds.{is_fixed};
 
+use crate::clocks::time;
 use crate::column_type::PgType;
+use crate::dates::day;
 use crate::error::ValueError;
+use crate::faults::fault;
+use crate::integers::{int2, int4, int8};
+use crate::shapes::{behind, is_lower_hex_digit, is_shaped};
+use crate::stamps::{instant, is_in_years, stamp};
 use crate::value::Val;
-use dbl_base::Text;
-use std::alloc::Global;
+use dbl_base::{Seq, Text};
+use hex::FromHexError;
+use std::alloc::{AllocError, Global};
 
-fn are_digits(bytes: &[u8]) -> bool
-    ensures { result ≡ list_all is_ascii_digit bytes.now }
+fn truth_value(text: &str) -> Option<Val>
+    ensures { result ≡ value_of PgType.Bool text.now }
 {
-    bytes.iter().all(|byte| byte.is_ascii_digit())
-}
-
-fn without_minus(bytes: &[u8]) -> &[u8]
-    ensures { result.now ≡ digits_of bytes.now }
-{
-    if !bytes.is_empty() && bytes[0] == b'-' {
-        &bytes[1..]
-    } else {
-        bytes
+    match text {
+        "t" => Some(Val::Bool(true)),
+        "f" => Some(Val::Bool(false)),
+        _ => None,
     }
 }
 
-fn begins_above_zero(bytes: &[u8]) -> bool
-    ensures { result ≡ nat_lt 48 (slice_index bytes.now 0) }
+fn int2_value(text: &str) -> Option<Val>
+    ensures { result ≡ value_of PgType.Int2 text.now }
 {
-    !bytes.is_empty() && bytes[0] > b'0'
-}
-
-/// Whether a text is `0`, or an optional minus and digits, of which the first isn't 0.
-fn is_plain_decimal(text: &str) -> bool
-    ensures { result ≡ is_plain text.now }
-{
-    let digits = without_minus(text.as_bytes());
-    text == "0" || (are_digits(digits) && begins_above_zero(digits))
-}
-
-fn int4(text: &str) -> Option<i32>
-    ensures { result ≡ integer_of (2 ^ 31) text.now }
-{
-    if !is_plain_decimal(text) {
-        return None;
-    }
-    match text.parse::<i32>() {
-        Ok(number) => Some(number),
-        Err(_) => None,
+    match int2(text) {
+        Some(number) => Some(Val::Int(number as i64)),
+        None => None,
     }
 }
 
-fn int4_value(text: &str) -> Result<Val, ValueError>
-    ensures value { IfOk result (SpellsValue PgType.Int4 text.now) }
-    ensures bad { result ≡ Err ValueError.BadText → value_of PgType.Int4 text.now ≡ None }
-    ensures memory { result ≢ Err ValueError.Memory }
+fn int4_value(text: &str) -> Option<Val>
+    ensures { result ≡ value_of PgType.Int4 text.now }
 {
     match int4(text) {
-        Some(number) => Ok(Val::Int(number as i64)),
-        None => Err(ValueError::BadText),
+        Some(number) => Some(Val::Int(number as i64)),
+        None => None,
     }
 }
 
-/// The value that a text spells. Only a text is copied; an int4 takes no memory.
+fn int8_value(text: &str) -> Option<Val>
+    ensures { result ≡ value_of PgType.Int8 text.now }
+{
+    match int8(text) {
+        Some(number) => Some(Val::Int(number)),
+        None => None,
+    }
+}
+
+fn date_value(text: &str) -> Option<Val>
+    ensures { result ≡ value_of PgType.Date text.now }
+{
+    match day(text.as_bytes()) {
+        Some(day) => Some(Val::Date(day)),
+        None => None,
+    }
+}
+
+fn time_value(text: &str) -> Option<Val>
+    ensures { result ≡ value_of PgType.Time text.now }
+{
+    match time(text.as_bytes()) {
+        Some(micros) => Some(Val::Time(micros as i64)),
+        None => None,
+    }
+}
+
+fn stamp_value(text: &str) -> Option<Val>
+    ensures { result ≡ value_of PgType.Timestamp text.now }
+{
+    match stamp(text.as_bytes()) {
+        Some(moment) => Some(Val::Stamp(moment)),
+        None => None,
+    }
+}
+
+fn instant_value(text: &str) -> Option<Val>
+    ensures { result ≡ value_of PgType.Timestamptz text.now }
+{
+    match instant(text.as_bytes()) {
+        Some(instant) if is_in_years(&instant) => Some(Val::StampTz(instant)),
+        _ => None,
+    }
+}
+
+fn is_uuid_text(text: &str) -> bool
+    ensures { result ≡ is_uuid text.now }
+{
+    is_shaped(b"xxxxxxxx-xxxx-xxxx-xxxx-xxxxxxxxxxxx", text.as_bytes())
+}
+
+fn are_lower_hex_digits(digits: &[u8]) -> bool
+    ensures { result ≡ list_all is_lower_hex digits.now }
+{
+    digits.iter().all(|byte| is_lower_hex_digit(*byte))
+}
+
+/// The bytes of a text in PostgreSQL's hex format, in lower case.
+#[tactic(auto, unfolding(crate::specs::ByteTexts::bytes_of))]
+fn bytes_value(alloc: Global, text: &str) -> Result<Option<Val>, AllocError>
+    ensures { IfOk result (λ o. o ≡ value_of PgType.Bytea text.now) }
+{
+    let text = text.as_bytes();
+    if !text.starts_with(b"\\x") {
+        return Ok(None);
+    }
+    let digits = behind(text, 2);
+    if !are_lower_hex_digits(digits) {
+        return Ok(None);
+    }
+    match hex::decode(alloc, digits) {
+        Ok(bytes) => Ok(Some(Val::Bytes(Seq::make(bytes)))),
+        Err(FromHexError::OutOfMemory) => Err(AllocError),
+        Err(_) => Ok(None),
+    }
+}
+
+/// The value of a text at a type whose values take no memory.
+fn fixed_value(ty: PgType, text: &str) -> Option<Val>
+    requires { is_fixed ty ≡ true }
+    ensures { result ≡ value_of ty text.now }
+{
+    match ty {
+        PgType::Bool => truth_value(text),
+        PgType::Int2 => int2_value(text),
+        PgType::Int4 => int4_value(text),
+        PgType::Int8 => int8_value(text),
+        PgType::Date => date_value(text),
+        PgType::Time => time_value(text),
+        PgType::Timestamp => stamp_value(text),
+        PgType::Timestamptz => instant_value(text),
+        _ => unreachable!(),
+    }
+}
+
+fn has_no_memory(ty: PgType) -> bool
+    ensures { result ≡ is_fixed ty }
+{
+    match ty {
+        PgType::Bool
+        | PgType::Int2
+        | PgType::Int4
+        | PgType::Int8
+        | PgType::Date
+        | PgType::Time
+        | PgType::Timestamp
+        | PgType::Timestamptz => true,
+        _ => false,
+    }
+}
+
+/// The value that a text spells, if it spells one.
+fn spelled(alloc: Global, ty: PgType, text: &Text) -> Result<Option<Val>, AllocError>
+    ensures value { IfOk result (λ o. o ≡ value_of ty text.now) }
+    ensures fixed { is_fixed ty ≡ true → result ≡ Ok (value_of ty text.now) }
+{
+    if has_no_memory(ty) {
+        return Ok(fixed_value(ty, text.as_str()));
+    }
+    match ty {
+        PgType::Bytea => bytes_value(alloc, text.as_str()),
+        PgType::Uuid if !is_uuid_text(text.as_str()) => Ok(None),
+        _ => Ok(Some(Val::Text(text.copy(alloc)?))),
+    }
+}
+
+/// The value that a text spells. Texts, uuids and byte strings take memory for what the value keeps; other values take none.
 pub fn read(alloc: Global, ty: PgType, text: &Text) -> Result<Val, ValueError>
     ensures value { IfOk result (SpellsValue ty text.now) }
-    ensures bad { result ≡ Err ValueError.BadText → value_of ty text.now ≡ None }
-    ensures int4 { ty ≡ PgType.Int4 → result ≢ Err ValueError.Memory }
+    ensures fault { IfErr result (λ e. (e ≡ ValueError.Memory) ⊎ (value_fault ty text.now ≡ Some e)) }
+    ensures fixed { is_fixed ty ≡ true → result ≢ Err ValueError.Memory }
 {
-    match ty {
-        PgType::Int4 => int4_value(text.as_str()),
-        PgType::Text => Ok(Val::Text(text.copy(alloc)?)),
+    match spelled(alloc, ty, text) {
+        Ok(Some(val)) => Ok(val),
+        Ok(None) => Err(fault(ty, text.as_str())),
+        Err(_) => Err(ValueError::Memory),
     }
 }
 
-/// The same of a text that is given up: it moves into the value. Takes no memory.
-pub fn read_owned(ty: PgType, text: Text) -> Result<Val, ValueError>
+/// The same of a text that is given up: where the value is a text it moves into it, so only byte strings take memory.
+pub fn read_owned(alloc: Global, ty: PgType, text: Text) -> Result<Val, ValueError>
     ensures value { IfOk result (SpellsValue ty text) }
-    ensures bad { result ≡ Err ValueError.BadText → value_of ty text ≡ None }
-    ensures memory { result ≢ Err ValueError.Memory }
+    ensures fault { IfErr result (λ e. (e ≡ ValueError.Memory) ⊎ (value_fault ty text ≡ Some e)) }
+    ensures memory { ty ≢ PgType.Bytea → result ≢ Err ValueError.Memory }
 {
-    match ty {
-        PgType::Int4 => int4_value(text.as_str()),
-        PgType::Text => Ok(Val::Text(text)),
+    if has_no_memory(ty) || ty == PgType::Bytea {
+        return read(alloc, ty, &text);
     }
+    if ty == PgType::Uuid && !is_uuid_text(text.as_str()) {
+        return Err(ValueError::BadText);
+    }
+    Ok(Val::Text(text))
 }

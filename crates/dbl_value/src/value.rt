@@ -1,15 +1,25 @@
 ghost use Rattle.std.specs.Prelude.{◌≡◌, IfOk};
 
-use dbl_base::Text;
+use dbl_base::{Bytes, Seq, Text};
 use std::alloc::{AllocError, Global};
 
-/// The value of a cell. Null comes before integers, which are ordered by value, and these before texts, which are ordered
+/// The value of a cell. Values are ordered by their kinds, in this order, and within a kind by value, texts and byte strings
 /// by their bytes.
 #[derive(Debug, Drop, PartialEq, Eq, PartialOrd, Ord)]
 pub enum Val {
     Null,
+    Bool(bool),
     Int(i64),
     Text(Text),
+    Bytes(Bytes),
+    /// Days since 1970-01-01.
+    Date(i32),
+    /// Microseconds since midnight; the end of the day is 86,400,000,000.
+    Time(i64),
+    /// Microseconds since 1970-01-01 00:00:00, by a clock without a time zone.
+    Stamp(i64),
+    /// Microseconds since 1970-01-01 00:00:00 UTC.
+    StampTz(i64),
 }
 
 impl Val {
@@ -17,10 +27,18 @@ impl Val {
     pub fn copy(&self, alloc: Global) -> Result<Val, AllocError>
         ensures { IfOk result (λ v. v ≡ self.now) }
     {
-        match self {
-            Val::Null => Ok(Val::Null),
-            Val::Int(number) => Ok(Val::Int(*number)),
-            Val::Text(text) => Ok(Val::Text(text.copy(alloc)?)),
-        }
+        Ok(match self {
+            Val::Null => Val::Null,
+            Val::Bool(truth) => Val::Bool(*truth),
+            Val::Int(number) => Val::Int(*number),
+            Val::Text(text) => Val::Text(text.copy(alloc)?),
+            Val::Bytes(bytes) => {
+                Val::Bytes(Seq::make(Vec::from_slice(alloc, bytes.items().as_slice())?))
+            }
+            Val::Date(day) => Val::Date(*day),
+            Val::Time(micros) => Val::Time(*micros),
+            Val::Stamp(moment) => Val::Stamp(*moment),
+            Val::StampTz(instant) => Val::StampTz(*instant),
+        })
     }
 }

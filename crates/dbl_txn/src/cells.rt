@@ -1,0 +1,135 @@
+//! How one cell of a row is read.
+
+ghost use Rattle.std.specs.Prelude.{◌≡◌, ◌≢◌, ◌⊎◌};
+ghost use Rattle.std.specs.Option.{option_copied};
+ghost use Rattle.dbl_model.specs.Tuples.{spelled_value, null_cell, given_cell, is_fixed, filled_cell, new_cell};
+ghost use Rattle.dbl_txn.specs.Answers.{Gives};
+
+use dbl_base::Text;
+use dbl_model::{Cell, Column, TableName, TxnError};
+use dbl_pgmsg::TupleCell;
+use dbl_value::{PgType, Val, ValueError, oid, read_owned};
+use std::alloc::Global;
+
+// What is answered of a text that spells no value of its column's type.
+fn refused(
+    alloc: Global,
+    table: &TableName,
+    column: &Column,
+    error: ValueError,
+) -> Result<Val, TxnError>
+    ensures { (result ≡ Err TxnError.Memory) ⊎ ((error ≢ ValueError.Memory) × (result ≡ Err (TxnError.Value table.now column.now.name error))) }
+{
+    match error {
+        ValueError::Memory => Err(TxnError::Memory),
+        error => Err(TxnError::Value {
+            table: table.copy(alloc)?,
+            column: column.name.copy(alloc)?,
+            error,
+        }),
+    }
+}
+
+#[tactic(auto, unfolding(dbl_model::specs::Tuples::spelled_value))]
+fn spelled(alloc: Global, table: &TableName, column: &Column, text: Text) -> Result<Val, TxnError>
+    ensures { Gives result (spelled_value table.now column.now text) }
+{
+    match read_owned(alloc, column.ty, text) {
+        Ok(value) => Ok(value),
+        Err(error) => refused(alloc, table, column, error),
+    }
+}
+
+fn null(alloc: Global, table: &TableName, in_key: bool) -> Result<Val, TxnError>
+    ensures { Gives result (null_cell table.now in_key) }
+{
+    if in_key {
+        Err(TxnError::NullKey {
+            table: table.copy(alloc)?,
+        })
+    } else {
+        Ok(Val::Null)
+    }
+}
+
+/// A cell of an Insert or of an old row.
+#[tactic(auto, unfolding(dbl_model::specs::Tuples::given_cell))]
+pub fn given(
+    alloc: Global,
+    table: &TableName,
+    in_key: bool,
+    column: &Column,
+    cell: TupleCell,
+) -> Result<Val, TxnError>
+    ensures { Gives result (given_cell table.now in_key column.now cell) }
+{
+    match cell {
+        TupleCell::Null => null(alloc, table, in_key),
+        TupleCell::Unchanged => Err(TxnError::UnchangedCell {
+            table: table.copy(alloc)?,
+            column: column.name.copy(alloc)?,
+        }),
+        TupleCell::Text(text) => spelled(alloc, table, column, text),
+    }
+}
+
+// Types of a fixed size are never stored out of line.
+fn is_fixed(ty: PgType) -> bool
+    ensures { result ≡ is_fixed ty }
+{
+    const FIXED: [u32; 9] = [16, 20, 21, 23, 1082, 1083, 1114, 1184, 2950];
+    let oid = oid(ty);
+    FIXED.iter().any(|fixed| oid == *fixed)
+}
+
+fn filled(
+    alloc: Global,
+    table: &TableName,
+    in_key: bool,
+    old: Option<&Val>,
+    column: &Column,
+) -> Result<Cell, TxnError>
+    ensures { Gives result (filled_cell table.now in_key (option_copied old.entry) column.now) }
+{
+    match old {
+        Some(value) => Ok(Cell::Given(value.copy(alloc)?)),
+        None => {
+            if in_key {
+                Err(TxnError::UnchangedCell {
+                    table: table.copy(alloc)?,
+                    column: column.name.copy(alloc)?,
+                })
+            } else {
+                Ok(Cell::Unchanged)
+            }
+        }
+    }
+}
+
+/// A cell of an Update's new row, where the old row fills in `old`.
+#[tactic(auto, unfolding(dbl_model::specs::Tuples::new_cell))]
+pub fn renewed(
+    alloc: Global,
+    table: &TableName,
+    in_key: bool,
+    old: Option<&Val>,
+    column: &Column,
+    cell: TupleCell,
+) -> Result<Cell, TxnError>
+    ensures { Gives result (new_cell table.now in_key (option_copied old.entry) column.now cell) }
+{
+    match cell {
+        TupleCell::Null => Ok(Cell::Given(null(alloc, table, in_key)?)),
+        TupleCell::Text(text) => Ok(Cell::Given(spelled(alloc, table, column, text)?)),
+        TupleCell::Unchanged => {
+            if is_fixed(column.ty) {
+                Err(TxnError::UnchangedCell {
+                    table: table.copy(alloc)?,
+                    column: column.name.copy(alloc)?,
+                })
+            } else {
+                filled(alloc, table, in_key, old, column)
+            }
+        }
+    }
+}

@@ -1,0 +1,17 @@
+//! Transactions put together from the messages of a log: its commits, with their changes of captured tables.
+#![tactic(auto)]
+
+mod assembler;
+mod cells;
+mod changes;
+mod keys;
+mod rows;
+mod tables;
+mod whole;
+
+pub use assembler::Assembler;
+pub use dbl_model::TxnError;
+pub use whole::take_all;
+
+#[cfg(test)]
+mod tests;

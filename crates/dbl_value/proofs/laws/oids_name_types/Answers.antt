@@ -1,0 +1,5 @@
+use Rattle.dbl_value.proofs.TypeLemmas.{oids_name_types}
+use Rattle.dbl_value.proofs.laws.oids_name_types.Goals as goal
+
+pub returns : goal.returns
+returns c = oids_name_types

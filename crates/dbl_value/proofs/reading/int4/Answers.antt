@@ -1,6 +1,0 @@
-use Rattle.std.proofs.Common.{sym, ◌∙◌}
-use Rattle.dbl_value.proofs.Decimals.{out_of_range}
-use Rattle.dbl_value.proofs.reading.int4.Goals as goal
-
-pub returns-in-Err : goal.returns-in-Err
-returns-in-Err c = out_of_range c.args.text.now (sym c.is_plain_decimal.ensures ∙ c.if-not-is_plain_decimal.false) c.in-Err.ensures.value.0

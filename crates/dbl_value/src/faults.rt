@@ -1,0 +1,70 @@
+ghost use Rattle.std.specs.Prelude.{◌≡◌, Some, None, not};
+ghost use Rattle.std.specs.List.{position};
+ghost use Rattle.std.specs.Char.{is_ascii_digit};
+ghost use Rattle.dbl_value.specs.Values.{value_of};
+ghost use Rattle.dbl_value.specs.Faults.{has_long_year, is_beyond, is_moved_out, is_date_range, value_fault};
+
+use crate::column_type::PgType;
+use crate::error::ValueError;
+use crate::shapes::byte_at;
+use crate::stamps::{instant, is_in_years};
+
+/// The place of the first byte that is no digit.
+fn place_behind_digits(text: &[u8]) -> Option<usize>
+    ensures { result ≡ position (λ c. not (is_ascii_digit c)) text.now }
+{
+    text.iter().position(|byte| !byte.is_ascii_digit())
+}
+
+/// Whether a text begins with five or more digits and a `-`.
+fn begins_with_long_year(text: &[u8]) -> bool
+    ensures { result ≡ has_long_year text.now }
+{
+    match place_behind_digits(text) {
+        Some(digits) if digits >= 5 => byte_at(text, digits) == b'-',
+        _ => false,
+    }
+}
+
+/// Whether a text is one that PostgreSQL writes for a date outside the years 1 to 9999.
+fn is_beyond_years(text: &[u8]) -> bool
+    ensures { result ≡ is_beyond text.now }
+{
+    text == b"infinity".as_slice()
+        || text == b"-infinity".as_slice()
+        || text.ends_with(b" BC")
+        || begins_with_long_year(text)
+        || text.starts_with(b"0000-")
+}
+
+/// Whether the instant of a text lies outside the years 1 to 9999 in UTC.
+fn is_out_in_utc(text: &[u8]) -> bool
+    ensures { result ≡ is_moved_out text.now }
+{
+    match instant(text) {
+        Some(instant) => !is_in_years(&instant),
+        None => false,
+    }
+}
+
+fn is_out_of_range(ty: PgType, text: &[u8]) -> bool
+    ensures { result ≡ is_date_range ty text.now }
+{
+    match ty {
+        PgType::Date | PgType::Timestamp => is_beyond_years(text),
+        PgType::Timestamptz => is_beyond_years(text) || is_out_in_utc(text),
+        _ => false,
+    }
+}
+
+/// The fault of a text that spells no value of the type.
+pub fn fault(ty: PgType, text: &str) -> ValueError
+    requires { value_of ty text.now ≡ None }
+    ensures { value_fault ty text.now ≡ Some result }
+{
+    if is_out_of_range(ty, text.as_bytes()) {
+        ValueError::DateRange
+    } else {
+        ValueError::BadText
+    }
+}

@@ -1,0 +1,70 @@
+ghost use Rattle.std.specs.Prelude.{◌≡◌, ◌^◌, nat_lt, slice_index};
+ghost use Rattle.std.specs.List.{list_all};
+ghost use Rattle.std.specs.Char.{is_ascii_digit};
+ghost use Rattle.dbl_value.specs.Decimals.{integer_of, is_plain, digits_of};
+
+pub fn are_digits(bytes: &[u8]) -> bool
+    ensures { result ≡ list_all is_ascii_digit bytes.now }
+{
+    bytes.iter().all(|byte| byte.is_ascii_digit())
+}
+
+fn without_minus(bytes: &[u8]) -> &[u8]
+    ensures { result.now ≡ digits_of bytes.now }
+{
+    if !bytes.is_empty() && bytes[0] == b'-' {
+        &bytes[1..]
+    } else {
+        bytes
+    }
+}
+
+fn begins_above_zero(bytes: &[u8]) -> bool
+    ensures { result ≡ nat_lt 48 (slice_index bytes.now 0) }
+{
+    !bytes.is_empty() && bytes[0] > b'0'
+}
+
+/// Whether a text is `0`, or an optional minus and digits, of which the first isn't 0.
+fn is_plain_decimal(text: &str) -> bool
+    ensures { result ≡ is_plain text.now }
+{
+    let digits = without_minus(text.as_bytes());
+    text == "0" || (are_digits(digits) && begins_above_zero(digits))
+}
+
+pub fn int2(text: &str) -> Option<i16>
+    ensures { result ≡ integer_of (2 ^ 15) text.now }
+{
+    if !is_plain_decimal(text) {
+        return None;
+    }
+    match text.parse::<i16>() {
+        Ok(number) => Some(number),
+        Err(_) => None,
+    }
+}
+
+pub fn int4(text: &str) -> Option<i32>
+    ensures { result ≡ integer_of (2 ^ 31) text.now }
+{
+    if !is_plain_decimal(text) {
+        return None;
+    }
+    match text.parse::<i32>() {
+        Ok(number) => Some(number),
+        Err(_) => None,
+    }
+}
+
+pub fn int8(text: &str) -> Option<i64>
+    ensures { result ≡ integer_of (2 ^ 63) text.now }
+{
+    if !is_plain_decimal(text) {
+        return None;
+    }
+    match text.parse::<i64>() {
+        Ok(number) => Some(number),
+        Err(_) => None,
+    }
+}

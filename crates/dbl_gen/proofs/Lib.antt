@@ -1,0 +1,5 @@
+pub mod TextLemmas
+pub mod Changes
+pub mod Plain
+pub mod Steps
+pub mod Accepted

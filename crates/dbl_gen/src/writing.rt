@@ -1,0 +1,189 @@
+ghost use Rattle.std.specs.Prelude.{◌≡◌, ◌≤◌, ◌<◌, ◌++◌, ◌+◌, ◌%◌, ◌∷◌, [], None, length, IfOk, OnOk};
+ghost use Rattle.dbl_script.specs.Words.{lines_of};
+ghost use Rattle.dbl_script.specs.Scripts.{first_bad};
+ghost use Rattle.std.specs.String.{string_bytes};
+ghost use Rattle.dbl_gen.specs.Workload.{text_of, row_line, row_lines, insert_line, balance_line, delete_line, note_line, tick_line, change, begin_line, commit_line, lines_before, group_lines, groups_from, last_lines, workload};
+
+use crate::draws::Draws;
+use dbl_base::Text;
+use std::alloc::{AllocError, Global};
+use std::fmt::Write;
+
+const TABLES: &str =
+    "table public.accounts default toast 64 id:int8:key owner:text balance:int8 note:text
+table public.empty default toast 64 id:int4:key name:text
+";
+
+#[tactic(auto, unfolding(crate::specs::Workload::row_line))]
+fn write_row(text: &mut String, key: u32) -> Result<(), AllocError>
+    ensures { OnOk result (string_bytes text.new ≡ string_bytes text.old ++ text_of (row_line key ∷ [])) }
+{
+    writeln!(
+        text,
+        "row public.accounts id={key} owner=u{key} balance=100 note=nnnnnnnnnnnnnnnnnnnnnnnnnnnnnnnnnnnnnnnnnnnnnnnnnnnnnnnnnnnnnnnn"
+    )
+}
+
+fn write_insert(text: &mut String, group: u32, key: u64) -> Result<(), AllocError>
+    ensures { OnOk result (string_bytes text.new ≡ string_bytes text.old ++ text_of (insert_line group key ∷ [])) }
+{
+    let session = group % 3;
+    writeln!(
+        text,
+        "s{session} insert public.accounts id={key} owner=u{key} balance=0 note=new"
+    )
+}
+
+fn write_balance(text: &mut String, group: u32, key: u64, balance: u64) -> Result<(), AllocError>
+    ensures { OnOk result (string_bytes text.new ≡ string_bytes text.old ++ text_of (balance_line group key balance ∷ [])) }
+{
+    let session = group % 3;
+    writeln!(
+        text,
+        "s{session} update public.accounts id={key} set balance={balance}"
+    )
+}
+
+fn write_delete(text: &mut String, group: u32, key: u64) -> Result<(), AllocError>
+    ensures { OnOk result (string_bytes text.new ≡ string_bytes text.old ++ text_of (delete_line group key ∷ [])) }
+{
+    let session = group % 3;
+    writeln!(text, "s{session} delete public.accounts id={key}")
+}
+
+fn write_note(text: &mut String, group: u32, key: u64) -> Result<(), AllocError>
+    ensures { OnOk result (string_bytes text.new ≡ string_bytes text.old ++ text_of (note_line group key ∷ [])) }
+{
+    let session = group % 3;
+    writeln!(
+        text,
+        "s{session} update public.accounts id={key} set note=g{group}"
+    )
+}
+
+fn write_change(
+    text: &mut String,
+    draws: &mut Draws,
+    rows: u32,
+    group: u32,
+) -> Result<(), AllocError>
+    requires { rows ≤ 400_000 }
+    ensures line { OnOk result (string_bytes text.new ≡ string_bytes text.old ++ text_of ((change rows group draws.old.state).0 ∷ [])) }
+    ensures state { OnOk result (draws.new.state ≡ (change rows group draws.old.state).1) }
+{
+    let key = 1 + draws.draw() % (u64::from(rows) + 100);
+    let kind = draws.draw() % 4;
+    if kind == 0 {
+        write_insert(text, group, key)?;
+        return Ok(());
+    }
+    if kind == 1 {
+        let balance = draws.draw() % 1000;
+        write_balance(text, group, key, balance)?;
+        return Ok(());
+    }
+    if kind == 2 {
+        write_delete(text, group, key)?;
+        return Ok(());
+    }
+    write_note(text, group, key)?;
+    Ok(())
+}
+
+fn write_commit(text: &mut String, group: u32) -> Result<(), AllocError>
+    ensures { OnOk result (string_bytes text.new ≡ string_bytes text.old ++ text_of (commit_line group ∷ [])) }
+{
+    let session = group % 3;
+    writeln!(text, "s{session} commit")
+}
+
+// The transaction of the group before commits, where there is one.
+fn write_commit_before(text: &mut String, group: u32) -> Result<(), AllocError>
+    ensures { OnOk result (string_bytes text.new ≡ string_bytes text.old ++ text_of (lines_before group)) }
+{
+    if group <= 1 {
+        return Ok(());
+    }
+    write_commit(text, group - 1)
+}
+
+fn write_begin(text: &mut String, group: u32) -> Result<(), AllocError>
+    ensures { OnOk result (string_bytes text.new ≡ string_bytes text.old ++ text_of (begin_line group ∷ [])) }
+{
+    let session = group % 3;
+    writeln!(text, "s{session} begin")
+}
+
+fn write_tick(text: &mut String) -> Result<(), AllocError>
+    ensures { OnOk result (string_bytes text.new ≡ string_bytes text.old ++ text_of (tick_line ∷ [])) }
+{
+    text.push_str("tick\n")
+}
+
+fn write_group(
+    text: &mut String,
+    draws: &mut Draws,
+    rows: u32,
+    group: u32,
+) -> Result<(), AllocError>
+    requires { rows ≤ 400_000 }
+    ensures lines { OnOk result (string_bytes text.new ≡ string_bytes text.old ++ text_of (group_lines rows group draws.old.state).0) }
+    ensures state { OnOk result (draws.new.state ≡ (group_lines rows group draws.old.state).1) }
+{
+    write_begin(text, group)?;
+    write_change(text, draws, rows, group)?;
+    write_change(text, draws, rows, group)?;
+    write_change(text, draws, rows, group)?;
+    write_commit_before(text, group)?;
+    write_tick(text)?;
+    Ok(())
+}
+
+fn write_rows(text: &mut String, rows: u32) -> Result<(), AllocError>
+    requires { rows ≤ 400_000 }
+    ensures { OnOk result (string_bytes text.new ≡ string_bytes text.old ++ text_of (row_lines 1 rows)) }
+{
+    'rows: for row in 0..rows {
+        write_row(text, row + 1)?;
+    }
+    Ok(())
+}
+
+fn write_groups(text: &mut String, number: u64, rows: u32, groups: u32) -> Result<(), AllocError>
+    requires rows { rows ≤ 400_000 }
+    requires groups { groups ≤ 90_000 }
+    ensures { OnOk result (string_bytes text.new ≡ string_bytes text.old ++ text_of (groups_from rows 1 groups number)) }
+{
+    let mut draws = Draws { state: number };
+    'groups: for group in 0..groups {
+        write_group(text, &mut draws, rows, group + 1)?;
+    }
+    Ok(())
+}
+
+fn write_last(text: &mut String, groups: u32) -> Result<(), AllocError>
+    ensures { OnOk result (string_bytes text.new ≡ string_bytes text.old ++ text_of (last_lines groups)) }
+{
+    if groups == 0 {
+        return Ok(());
+    }
+    write_commit(text, groups)
+}
+
+/// The workload of a number, as a text of the workload language: two tables, `rows` accounts, and `groups` groups of
+/// steps, by three sessions in turn. All that is drawn follows from the number.
+pub fn script(alloc: Global, number: u64, rows: u32, groups: u32) -> Result<Text, AllocError>
+    requires rows { rows ≤ 400_000 }
+    requires groups { groups ≤ 90_000 }
+    ensures text { IfOk result (λ text. text ≡ workload number rows groups) }
+
+    // So `dbl_script::parse` reads it, unless memory runs out.
+    ensures good { IfOk result (λ text. first_bad (lines_of text) ≡ None) }
+    ensures few { IfOk result (λ text. length (lines_of text) ≤ 1_000_000) }
+{
+    let mut text = String::from_str(alloc, TABLES)?;
+    write_rows(&mut text, rows)?;
+    write_groups(&mut text, number, rows, groups)?;
+    write_last(&mut text, groups)?;
+    Ok(Text::make(text))
+}

@@ -47,6 +47,7 @@ impl<D: Disk> Journal<D> {
         ensures made { D.seen disk ≡ Some [] → IfOk result (λ journal. Lists D.seen D.may_leave journal []) }
         ensures live { IfOk result (λ journal. IsTrue journal.live) }
         ensures count { IfOk result (λ journal. count_of journal ≡ 0) }
+        ensures small { (bytes : List ℕ) → D.seen disk ≡ Some [] → MatchResult result (λ journal. D.seen journal.disk ≡ Some bytes → length bytes ≤ size []) (λ refused. D.seen refused.disk ≡ Some bytes → length bytes ≤ size []) }
         ensures refused { IfErr result (λ refused. refused.error ≡ JournalError.Failed) }
         ensures failed { IfErr result (λ refused. Rose (D.faults disk) (D.faults refused.disk)) }
         ensures left { IfErr result (λ refused. Follows (Torn 0 9) (D.may_leave disk) (D.may_leave refused.disk)) }

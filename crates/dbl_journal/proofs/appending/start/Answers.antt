@@ -5,7 +5,7 @@ use Rattle.std.proofs.lemmas.Result.{on_ok_weaker}
 use Rattle.dbl_disk.specs.Disks.{Torn, written}
 use Rattle.dbl_journal.specs.Form.{IsEntry, IsJournal, front, magic}
 use Rattle.dbl_journal.proofs.Appends.{front-nil, length-magic}
-use Rattle.dbl_journal.proofs.Images.{on_ok, reaches}
+use Rattle.dbl_journal.proofs.Images.{longest_done, longest_torn, on_ok, reaches}
 use Rattle.dbl_journal.proofs.appending.start.Goals as goal
 
 nine : (bytes : List ℕ) → bytes ≡ front [] ++ 0 ∷ [] → length bytes ≡ 9
@@ -38,3 +38,15 @@ returns-clause-reaches g c new told =
     let long = nine c.args.bytes.now c.requires in
     let enough = reaches _ _ 0 c.args.bytes.now new c.write_at.ensures.silent c.in_ok-write_at.ensures.written (sym c.sync.ensures.seen ∙ told) in
     on_ok c.sync.result (omega (arith, long, enough))
+
+pub returns-in_err-write_at-clause-longest : goal.returns-in_err-write_at-clause-longest
+returns-in_err-write_at-clause-longest g c new was told =
+    let long = nine c.args.bytes.now c.requires in
+    let most = longest_torn _ _ 0 (length c.args.bytes.now) [] new was c.in_err-write_at.ensures.torn told in
+    omega (arith, long, most)
+
+pub returns-clause-longest : goal.returns-clause-longest
+returns-clause-longest g c new was told =
+    let long = nine c.args.bytes.now c.requires in
+    let most = longest_done _ _ 0 c.args.bytes.now [] new was c.in_ok-write_at.ensures.written (sym c.sync.ensures.seen ∙ told) in
+    omega (arith, long, most)

@@ -1,4 +1,4 @@
-use Rattle.std.proofs.Common.{◌++◌, ◌∷◌, [], List, ℕ, ap, length, sym, refl, ◌∙◌}
+use Rattle.std.proofs.Common.{◌++◌, ◌∷◌, [], List, ℕ, ap, arith, length, sym, refl, ◌∙◌}
 use Rattle.dbl_journal.specs.Form.{magic}
 use Rattle.dbl_journal.proofs.Appends.{front-nil, length-magic}
 use Rattle.dbl_journal.proofs.journal.Journal.make.Goals as goal
@@ -11,3 +11,9 @@ pub returns-in-Ok-clause-made : goal.returns-in-Ok-clause-made
 returns-in-Ok-clause-made g c told =
     let made = c.in-Ok.ensures.stored told in
     record { live = refl; bytes = made.0; told = made.1; only = made.2; spelled = made.3; gate = sym (ap length front-nil ∙ length-magic); places = c.new.ensures.items }
+
+pub returns-in-Ok-clause-small : goal.returns-in-Ok-clause-small
+returns-in-Ok-clause-small g c bytes empty told = omega (arith, c.in-Ok.ensures.longest bytes empty told, ap length front-nil, length-magic)
+
+pub returns-in-Err-clause-small : goal.returns-in-Err-clause-small
+returns-in-Err-clause-small g c bytes empty told = omega (arith, c.start.ensures.longest bytes empty told, ap length front-nil, length-magic)

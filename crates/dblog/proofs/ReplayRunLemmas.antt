@@ -15,7 +15,7 @@ use Rattle.dblog.specs.Lines.{lines_of, messages_in, first_bad}
 use Rattle.dblog.specs.Log.{LogWrites, end_status, end_lines}
 use Rattle.dblog.specs.LogFaults.{transaction_status}
 use Rattle.dblog.specs.Printing.{Puts, LinesFail}
-use Rattle.dblog.specs.LogPrinting.{IsLogPut, PutsLog, IsLogPrinted, LogFails, PrintsLog, RunsLog}
+use Rattle.dblog.specs.LogPrinting.{IsLogPut, PutsLog, IsLogPrinted, LogFails, PrintsLog, EndsLog, RunsLog}
 use Rattle.dblog.specs.Run.{Answer, fault, log_answer, lines_text, replay_words, Replays, too_long, bad_line, replayed, Means, replay, Wrote, WroteFront, whole, out_of_memory, Writes, Ends, IsOutside, Runs, Says, HaltsReplaying, RunsReplaying, IsReplayAnswer, IsReplayStatus}
 use Rattle.dblog.proofs.ApplyRunLemmas.{memory_outside, memory_written, says_is, outside_of}
 use Rattle.dblog.proofs.LogLemmas.{log_one}
@@ -60,6 +60,15 @@ cuts_log now bs gathered later put before between after none is text front lines
     let same = log_one now [] bs is.lines lines put.fault end is.writes writes in
     let cut : WroteFront before after (lines_text (is.lines ++ end_lines put.fault)) = put_prints (is.lines ++ end_lines put.fault) gathered later before between after (Err print_error.OutputFailed) none (puts_text is.lines (end_lines put.fault) gathered put.filled.items later before between is.puts text) tt (refl, front) in
     subst (WroteFront before after) (ap₂ (λ (l : List (List ℕ)) (e : Option LogFault). lines_text (l ++ end_lines e)) same.lines same.end) cut
+
+pub ended_log : (now : ℤ) (bs : List (List ℕ)) (gathered : List ℕ) (put : LogPut) (result : Result ℕ PrintError) (before between after : Option (List ℕ)) → gathered ≡ [] → IsLogPut now bs gathered put before between
+    → EndsLog put result between after → PrintsLog now bs result before after
+ended_log now bs gathered put (Ok status) before between after none is ends =
+    prints_log now bs gathered (put.filled.items ++ lines_text (end_lines put.fault)) put status before between after none is refl ends.0 ends.1
+ended_log now bs gathered put (Err print_error.OutputFailed) before between after none is ends =
+    cuts_log now bs gathered (put.filled.items ++ lines_text (end_lines put.fault)) put before between after none is refl ends
+ended_log now bs gathered put (Err print_error.Memory) before between after none is same = λ lines end writes.
+    subst (λ (a : Option (List ℕ)). LogFails lines end print_error.Memory before a) (sym same) (starves_log now bs gathered put before between none is lines end writes)
 
 -- ---- how a run over messages ends
 

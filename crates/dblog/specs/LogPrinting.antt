@@ -36,6 +36,16 @@ abbrev pub PrintsLog : ℤ → List (List ℕ) → Result ℕ PrintError → Opt
 PrintsLog now bs (Ok status) before after = IsLogPrinted now bs status before after
 PrintsLog now bs (Err error) before after = (lines : List (List ℕ)) (end : Option LogFault) → LogWrites now [] bs lines end → LogFails lines end error before after
 
+-- the line of the fault was put behind what was gathered, and all of that was written, or a front of it where the output
+-- failed, and nothing where memory was wanting
+abbrev pub EndFails : LogPut → PrintError → Option (List ℕ) → Option (List ℕ) → Type 0
+EndFails put OutputFailed before after = WroteFront before after (put.filled.items ++ lines_text (end_lines put.fault))
+EndFails put Memory before after = after ≡ before
+
+abbrev pub EndsLog : LogPut → Result ℕ PrintError → Option (List ℕ) → Option (List ℕ) → Type 0
+EndsLog put (Ok status) before after = (status ≡ end_status put.fault) × Wrote before after (put.filled.items ++ lines_text (end_lines put.fault))
+EndsLog put (Err error) before after = EndFails put error before after
+
 -- a run of these messages ended so
 pub record RunsLog (now : ℤ) (bs : List (List ℕ)) (status : ℕ) (before after : Option (List ℕ)) : Type 0 where
   pub ended : (lines : List (List ℕ)) (end : Option LogFault) → LogWrites now [] bs lines end → Ends (log_answer lines end) status before after

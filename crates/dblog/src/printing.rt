@@ -8,7 +8,7 @@ ghost use Rattle.dbl_envelope.specs.Inserts.{IsInsert};
 ghost use Rattle.dblog.specs.Log.{end_fault, end_status, end_lines};
 ghost use Rattle.dblog.specs.Run.{Wrote, WroteFront, lines_text};
 ghost use Rattle.dblog.specs.Printing.{PutsLine, PutsLines};
-ghost use Rattle.dblog.specs.LogPrinting.{PutsLog, PrintsLog};
+ghost use Rattle.dblog.specs.LogPrinting.{PutsLog, PrintsLog, EndsLog};
 
 use crate::log_fault::LogFault;
 use crate::replay::Replayer;
@@ -266,6 +266,22 @@ fn put_end(alloc: Global, fault: &Option<LogFault>, filled: &mut Vec<u8>) -> Res
     }
 }
 
+// Puts the line of a log's fault, if there is one, writes what isn't written yet, and answers the status.
+fn finish_log<O: Output>(alloc: Global, put: &mut LogPut, output: &mut O) -> Result<u8, PrintError>
+    ensures ends { EndsLog put.old result (O.written output.old) (O.written output.new) }
+    ensures failed { result ≡ Err PrintError.OutputFailed → Rose (O.faults output.old) (O.faults output.new) }
+    ensures later { O.faults output.old ≤ O.faults output.new }
+{
+    let status = match put_end(alloc, &put.fault, &mut put.filled) {
+        Ok(status) => status,
+        Err(error) => return Err(error),
+    };
+    match flush_rest(output, &mut put.filled) {
+        Ok(()) => Ok(status),
+        Err(error) => Err(error),
+    }
+}
+
 /// Writes the lines of the records of each commit that the messages state, up to the first fault, and that fault's line, and
 /// answers the status.
 pub fn print_log<O: Output>(
@@ -279,16 +295,11 @@ pub fn print_log<O: Output>(
     ensures later { O.faults output.old ≤ O.faults output.new }
 {
     let buffer = Vec::with_capacity(alloc, BUFFER_LENGTH)?;
-    let LogPut { mut filled, fault } = match put_log(alloc, messages, now_ms, output, buffer) {
-        Ok(put) => put,
-        Err(error) => return Err(error),
-    };
-    let status = match put_end(alloc, &fault, &mut filled) {
-        Ok(status) => status,
-        Err(error) => return Err(error),
-    };
-    match flush_rest(output, &mut filled) {
-        Ok(()) => Ok(status),
+    match put_log(alloc, messages, now_ms, output, buffer) {
+        Ok(put) => {
+            let mut put = put;
+            finish_log(alloc, &mut put, output)
+        }
         Err(error) => Err(error),
     }
 }

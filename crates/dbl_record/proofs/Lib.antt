@@ -3,3 +3,9 @@ pub mod Lines
 pub mod Pieces
 pub mod PlaceLemmas
 pub mod ReadingLemmas
+pub mod Many
+pub mod FieldLaws
+pub mod FieldWalks
+pub mod GroupLaws
+pub mod Sizes
+pub mod CutLaws

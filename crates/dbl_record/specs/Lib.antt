@@ -5,3 +5,8 @@ pub mod Acts
 pub mod Consumers
 pub mod Reading
 pub mod Places
+pub mod Fields
+pub mod Groups
+pub mod GroupFaults
+pub mod GroupReading
+pub mod Cuts

@@ -4,7 +4,8 @@ use thiserror::Error;
 /// Why a record isn't read or written. Writing answers `Memory` alone.
 #[derive(Clone, Copy, Debug, Drop, PartialEq, Eq, Error)]
 pub enum RecordError {
-    /// The text isn't a JSON object with a string `topic`. The place is 0.
+    /// Of a line: it isn't a JSON object with a string `topic`; the place is 0. Of bytes: they aren't the bytes form of a
+    /// group; the place is the first at which they differ from every such form, or their length where they end too soon.
     #[error("bad record at {at}")]
     BadRecord { at: u64 },
     #[error("out of memory")]

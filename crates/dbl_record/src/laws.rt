@@ -1,6 +1,12 @@
+ghost use Rattle.std.specs.Prelude.{◌≡◌, ◌⊎◌, ◌<◌, ◌^◌, ℕ, List};
+ghost use Rattle.std.specs.List.{AllByRecursion};
 ghost use Rattle.dbl_record.specs.Whole.{ReadsBack, TextsTellData};
 ghost use Rattle.dbl_record.specs.Laws.{LinesReadBack};
 ghost use Rattle.dbl_record.specs.Places.{TopsAreOne, TopsStand};
+ghost use Rattle.dbl_record.specs.Cuts.{CutsAreHandfuls, CutsJoin};
+ghost use Rattle.dbl_record.specs.GroupFaults.{IsBadAt};
+ghost use Rattle.dbl_record.specs.Groups.{IsGroup};
+ghost use Rattle.dbl_record.specs.declared.record.Record.{Record};
 ghost use Rattle.dbl_record.specs.Reading.{LinesReadOnce, LinesTellRecords, RecordsTellData};
 
 /// Data is read back from its compact text.
@@ -41,4 +47,24 @@ pub fn tops_are_one()
 /// Records have a greatest place, unless there are none.
 pub fn tops_stand()
     ensures { TopsStand }
+{}
+
+/// Bytes are the form of one group at most, and a group has one form at most.
+pub fn groups_are_read_once()
+    ensures one_group { (bytes : List ℕ) (first second : List Record) → IsGroup bytes first → IsGroup bytes second → first ≡ second }
+    ensures one_form { (first second : List ℕ) (group : List Record) → IsGroup first group → IsGroup second group → first ≡ second }
+{}
+
+/// Bytes are the form of a group or differ from every such form, never both, and they have one first place at which they
+/// differ.
+pub fn groups_or_faults()
+    ensures one_of { (bytes : List ℕ) → AllByRecursion (λ b. b < 2 ^ 8) bytes → ((group : List Record) × IsGroup bytes group) ⊎ ((at : ℕ) × IsBadAt bytes at) }
+    ensures not_both { (bytes : List ℕ) (group : List Record) (at : ℕ) → IsGroup bytes group → ¬ IsBadAt bytes at }
+    ensures one_place { (bytes : List ℕ) (first second : ℕ) → IsBadAt bytes first → IsBadAt bytes second → first ≡ second }
+{}
+
+/// The groups of records, joined, give the records, and a sink takes each of them.
+pub fn cuts_join()
+    ensures joined { CutsJoin }
+    ensures handfuls { CutsAreHandfuls }
 {}

@@ -3,6 +3,8 @@
 
 mod acts;
 mod error;
+pub mod fields;
+mod groups;
 mod laws;
 mod parsed;
 mod reading;
@@ -11,9 +13,11 @@ mod writing;
 
 pub use acts::{Act, ConsumeError, GivenCell, HeldCell, Operation};
 pub use error::RecordError;
+pub use groups::{append_group, group_length, read_group, write_group};
 pub use laws::{
-    compact_texts_read_back, lines_read_back, lines_read_once, lines_tell_records,
-    records_tell_data, texts_tell_data, tops_are_one, tops_stand,
+    compact_texts_read_back, cuts_join, groups_are_read_once, groups_or_faults, lines_read_back,
+    lines_read_once, lines_tell_records, records_tell_data, texts_tell_data, tops_are_one,
+    tops_stand,
 };
 pub use parsed::ParsedLine;
 pub use reading::{Line, parse_line, read_line};

@@ -2,6 +2,7 @@ pub mod EventLemmas
 pub mod Lists
 pub mod Making
 pub mod KeyLemmas
+pub mod DerivedOrder
 pub mod RowLemmas
 pub mod InfoLemmas
 pub mod MomentLemmas
@@ -18,3 +19,4 @@ pub mod Splitting
 pub mod Learning
 pub mod CellFits
 pub mod ChangeFits
+pub mod PartLemmas

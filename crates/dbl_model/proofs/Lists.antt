@@ -2,6 +2,7 @@
 use Rattle.std.proofs.Common.{◌≡◌, ◌∙◌, ◌+◌, ◌<◌, ℕ, zero, suc, Bool, true, false, cond, not, ◌&&◌, ◌||◌, ◌⊎◌, inl, inr, Option, Some, None, List, [], ◌∷◌, ◌++◌, length, refl, sym, ap, arith}
 use Rattle.std.specs.Prelude.{is_some, slice_get}
 use Rattle.std.specs.List.{list_any, list_all, position_from}
+use Rattle.std.specs.Bool.{Decides}
 use Rattle.std.specs.Str.{bytes_eq}
 use Rattle.std.proofs.lemmas.Slice.Eq.{bytes_eq-Decides}
 use Rattle.dbl_model.specs.Tables.{are_distinct}
@@ -71,27 +72,51 @@ pub all_not : {X : Type 0} (p : X → Bool) (xs : List X) (x : X) (ys : List X) 
 all_not p [] x ys h = ap (λ (b : Bool). b && list_all p ys) h
 all_not p (y ∷ xs) x ys h = ap (λ (b : Bool). p y && b) (all_not p xs x ys h) ∙ and_false (p y)
 
--- ---- distinct texts
+-- ---- distinct items
+
+module _ {X : Type 0} {same : X → X → Bool} (decides : (x y : X) → Decides (same x y) (x ≡ y)) where
+  pub same_flip : (x y : X) → same x y ≡ false → same y x ≡ false
+  same_flip x y h = elim (bool_case (same y x)) [
+    | inl there ↦ (let t : same x y ≡ true = (decides x y).1 (sym ((decides y x).0 there)) in cc)
+    | inr other ↦ other
+  ]
+
+  pub apart-push : (xs : List X) (x : X) → are_distinct same xs ≡ true → list_any (same x) xs ≡ false → are_distinct same (xs ++ x ∷ []) ≡ true
+  apart-push [] x h new = refl
+  apart-push (y ∷ xs) x h new =
+      let apart = or_false (same x y) (list_any (same x) xs) new in
+      let first : list_any (same y) (xs ++ x ∷ []) ≡ list_any (same y) xs = any-push (same y) xs x ∙ (ap (λ (b : Bool). list_any (same y) xs || b) (same_flip x y apart.0) ∙ or_none (list_any (same y) xs)) in
+      and_both _ _
+      (ap not first ∙ and_left _ _ h)
+      (apart-push xs x (and_right (not (list_any (same y) xs)) _ h) apart.1)
+
+  pub apart_not : (xs : List X) (x : X) (ys : List X) → list_any (same x) xs ≡ true → are_distinct same (xs ++ x ∷ ys) ≡ false
+  apart_not [] x ys h = cc
+  apart_not (y ∷ xs) x ys h = elim (bool_case (same x y)) [
+    | inl here ↦ (
+        let there : list_any (same y) (xs ++ x ∷ ys) ≡ true = any_here (same y) xs x ys ((decides y x).1 (sym ((decides x y).0 here))) in
+        ap (λ (b : Bool). not b && are_distinct same (xs ++ x ∷ ys)) there)
+    | inr other ↦ (
+        let later : list_any (same x) xs ≡ true = sym (ap (λ (b : Bool). b || list_any (same x) xs) other) ∙ h in
+        ap (λ (b : Bool). not (list_any (same y) (xs ++ x ∷ ys)) && b) (apart_not xs x ys later) ∙ and_false (not (list_any (same y) (xs ++ x ∷ ys))))
+  ]
+
+  -- one more item
+  pub entered_one : (xs : List X) (x : X) (before after : X → Bool) → ((q : X) → before q ≡ list_any (same q) xs) → ((q : X) → after q ≡ cond (same x q) true (before q)) → (q : X) → after q ≡ list_any (same q) (xs ++ x ∷ [])
+  entered_one xs x before after was is q = elim (bool_case (same x q)) [
+    | inl here ↦ (
+        let there : same q x ≡ true = (decides q x).1 (sym ((decides x q).0 here)) in
+        is q ∙ (ap (λ (b : Bool). cond b true (before q)) here ∙ sym (any_here (same q) xs x [] there)))
+    | inr other ↦ (
+        is q ∙ (ap (λ (b : Bool). cond b true (before q)) other ∙ (was q
+        ∙ sym (any-push (same q) xs x ∙ (ap (λ (b : Bool). list_any (same q) xs || b) (same_flip x q other) ∙ or_none (list_any (same q) xs))))))
+  ]
 
 pub distinct-push : (xs : List (List ℕ)) (x : List ℕ) → are_distinct bytes_eq xs ≡ true → list_any (bytes_eq x) xs ≡ false → are_distinct bytes_eq (xs ++ x ∷ []) ≡ true
-distinct-push [] x h new = refl
-distinct-push (y ∷ xs) x h new =
-    let apart = or_false (bytes_eq x y) (list_any (bytes_eq x) xs) new in
-    let first : list_any (bytes_eq y) (xs ++ x ∷ []) ≡ list_any (bytes_eq y) xs = any-push (bytes_eq y) xs x ∙ (ap (λ (b : Bool). list_any (bytes_eq y) xs || b) (text_flip x y apart.0) ∙ or_none (list_any (bytes_eq y) xs)) in
-    and_both _ _
-    (ap not first ∙ and_left _ _ h)
-    (distinct-push xs x (and_right (not (list_any (bytes_eq y) xs)) _ h) apart.1)
+distinct-push = apart-push bytes_eq-Decides
 
 pub distinct_not : (xs : List (List ℕ)) (x : List ℕ) (ys : List (List ℕ)) → list_any (bytes_eq x) xs ≡ true → are_distinct bytes_eq (xs ++ x ∷ ys) ≡ false
-distinct_not [] x ys h = cc
-distinct_not (y ∷ xs) x ys h = elim (bool_case (bytes_eq x y)) [
-  | inl same ↦ (
-      let there : list_any (bytes_eq y) (xs ++ x ∷ ys) ≡ true = any_here (bytes_eq y) xs x ys ((bytes_eq-Decides y x).1 (sym (same_text x y same))) in
-      ap (λ (b : Bool). not b && are_distinct bytes_eq (xs ++ x ∷ ys)) there)
-  | inr other ↦ (
-      let later : list_any (bytes_eq x) xs ≡ true = sym (ap (λ (b : Bool). b || list_any (bytes_eq x) xs) other) ∙ h in
-      ap (λ (b : Bool). not (list_any (bytes_eq y) (xs ++ x ∷ ys)) && b) (distinct_not xs x ys later) ∙ and_false (not (list_any (bytes_eq y) (xs ++ x ∷ ys))))
-]
+distinct_not = apart_not bytes_eq-Decides
 
 -- ---- places
 

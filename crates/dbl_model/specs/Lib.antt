@@ -7,12 +7,15 @@ pub mod History
 pub mod Ranges
 pub mod Typed
 pub mod Fit
+pub mod Cursors
 pub mod FitsInfos
 pub mod Image
 pub mod Made
 pub mod Laws
 pub mod Events
 pub mod EventJson
+pub mod Clashes
+pub mod Snapshots
 pub mod EventLaws
 pub mod PlainRows
 pub mod PlainEvents

@@ -1,3 +1,6 @@
+ghost use Rattle.std.specs.Prelude.{◌≡◌};
+ghost use Rattle.dbl_model.specs.Rows.{table_of};
+
 use crate::{Key, Row};
 use dbl_base::{Lsn, Seq, Text};
 use dbl_value::Val;
@@ -34,6 +37,29 @@ pub enum Change {
     Clear {
         table: u32,
     },
+}
+
+impl Change {
+    /// The place of its table among the captured ones. Takes no memory.
+    pub fn table(&self) -> u32
+        ensures { result ≡ table_of self.now }
+    {
+        match self {
+            Change::Insert { table, row: _ } => *table,
+            Change::Update {
+                table,
+                key: _,
+                old: _,
+                cells: _,
+            } => *table,
+            Change::Delete {
+                table,
+                key: _,
+                old: _,
+            } => *table,
+            Change::Clear { table } => *table,
+        }
+    }
 }
 
 /// What a commit did.

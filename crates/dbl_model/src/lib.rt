@@ -2,11 +2,14 @@
 #![tactic(auto)]
 
 mod change;
+mod closed;
+mod cursor;
 mod error;
 mod event_laws;
 mod identity;
 mod laws;
 mod made;
+mod parts;
 mod plain_image;
 mod plain_json;
 mod plain_records;
@@ -19,6 +22,8 @@ mod told;
 mod txn_error;
 
 pub use change::{Body, Cell, Change, Commit};
+pub use closed::{Closed, KeyedRows};
+pub use cursor::Cursor;
 pub use error::ModelError;
 pub use event_laws::{commits_are_numbered, small_inserts_are, times_are_rounded_down};
 pub use identity::Identity;
@@ -36,7 +41,7 @@ pub use state_laws::{
     accepted_are_blocks, blocks_state_one_list, faultless_are_blocks, later_tables_change_nothing,
     rests_are_one, rests_are_open, stated_changes_fit,
 };
-pub use table::{Column, RawColumn, RawRow, RawTable, TableInfo, TableName};
+pub use table::{Column, RawColumn, RawRow, RawTable, TableInfo, TableKey, TableName};
 pub use time::milliseconds;
 pub use told::{Relation, RowChange, Target};
 pub use txn_error::TxnError;

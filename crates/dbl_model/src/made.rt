@@ -119,7 +119,7 @@ fn has_key_type(columns: &[Column], place: u32) -> bool
 }
 
 /// The first of some places whose column's type no key column may have.
-fn first_unfit(columns: &[Column], key: &[u32]) -> Option<u32>
+pub(crate) fn first_unfit(columns: &[Column], key: &[u32]) -> Option<u32>
     ensures { result ≡ find (is_unfit columns.now) key.now }
 {
     for place in key {

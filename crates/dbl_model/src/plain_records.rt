@@ -5,7 +5,6 @@ ghost use Rattle.serde_json.specs.View.{view};
 ghost use Rattle.serde_json.specs.Written.{compact_text, has_float};
 ghost use Rattle.dbl_model.specs.Infos.{topic_of};
 ghost use Rattle.dbl_model.specs.Image.{key_text};
-ghost use Rattle.dbl_model.specs.Rows.{table_of};
 ghost use Rattle.dbl_model.specs.declared.change.Change.TheVariants.{Insert, Update, Delete, Clear};
 ghost use Rattle.dbl_model.specs.Events.{Content, notices};
 ghost use Rattle.dbl_model.specs.EventJson.{envelopes};
@@ -244,26 +243,6 @@ fn tell_change(
     }
 }
 
-fn table_of(change: &Change) -> u32
-    ensures { result ≡ table_of change.now }
-{
-    match change {
-        Change::Insert { table, row: _ } => *table,
-        Change::Update {
-            table,
-            key: _,
-            old: _,
-            cells: _,
-        } => *table,
-        Change::Delete {
-            table,
-            key: _,
-            old: _,
-        } => *table,
-        Change::Clear { table } => *table,
-    }
-}
-
 /// Adds what a change tells, which is nothing where no table is captured at its place.
 fn tell_if_captured(
     out: &mut Vec<Texts>,
@@ -276,7 +255,7 @@ fn tell_if_captured(
 ) -> Result<(), AllocError>
     ensures { OnOk result (out.new.items ≡ out.old.items ++ map (notice_texts identity.now commit.now now_ms.now) (notices infos.now.items change.now)) }
 {
-    match infos.get(table_of(change) as usize) {
+    match infos.get(change.table() as usize) {
         Some(info) => {
             let frame = Frame {
                 identity,

@@ -15,7 +15,7 @@ pub struct TableName {
 }
 
 /// 1 to 63 letters, digits, `_` and `-`.
-fn has_name_bytes(text: &str) -> bool
+pub(crate) fn has_name_bytes(text: &str) -> bool
     ensures { result ≡ is_name text.now }
 {
     !text.is_empty() && text.len() <= 63 && are_name_letters(text)
@@ -92,6 +92,13 @@ pub struct RawTable {
     pub name: TableName,
     pub columns: Seq<RawColumn>,
     pub key: Seq<Text>,
+}
+
+/// A table's key as a user gives it: the names of its columns, in key order.
+#[derive(Debug, Drop)]
+pub struct TableKey {
+    pub table: TableName,
+    pub columns: Seq<Text>,
 }
 
 /// A row as the source gives it: a text or null for each column.

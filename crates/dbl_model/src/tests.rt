@@ -179,7 +179,9 @@ fn compares_and_copies(rt: HostRuntime) -> Result<(), Fail> {
             "f0000000-0000-0000-0000-000000000000"
         )?
     );
-    assert_eq!(rt; demo(alloc)?.copy(alloc)?.db.as_str(), "shop");
+    let copied = demo(alloc)?.copy(alloc)?;
+    assert_eq!(rt; copied.db.as_str(), "shop");
+    assert!(rt; copied.is_good());
     Ok(())
 }
 

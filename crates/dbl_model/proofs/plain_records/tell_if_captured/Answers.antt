@@ -7,5 +7,5 @@ use Rattle.dbl_model.proofs.plain_records.tell_if_captured.Goals as goal
 
 pub returns-in-None : goal.returns-in-None
 returns-in-None c =
-    let past : length c.args.infos.now.items ≤ table_of c.args.change.now = omega (arith, c.in-None.ensures.lookup.3, c.table_of.ensures, ap length c.deref.ensures.value) in
+    let past : length c.args.infos.now.items ≤ table_of c.args.change.now = omega (arith, c.in-None.ensures.lookup.3, c.table.ensures, ap length c.deref.ensures.value) in
     tells_nothing (notice_texts c.args.identity.now c.args.commit.now c.args.now_ms.now) c.args.out.now.items (notices c.args.infos.now.items c.args.change.now) (notices-past c.args.infos.now.items c.args.change.now past)

@@ -1,23 +1,6 @@
-use Rattle.std.proofs.Common.{◌≡◌, ◌∙◌, refl}
-use Rattle.std.specs.Cmp.Lexicographic.{slice_cmp}
-use Rattle.dbl_value.specs.declared.value.Val.{Val}
-use Rattle.dbl_value.specs.declared.value.Val.TheVariants as val
-use Rattle.dbl_value.specs.contracts.value.ValOrd.TheImpl.{cmp-value}
-use Rattle.dbl_value.specs.Order.{val_cmp}
+use Rattle.std.proofs.Common.{◌∙◌}
+use Rattle.dbl_model.proofs.DerivedOrder.{derived_order}
 use Rattle.dbl_model.proofs.row.compare.Goals as goal
 
--- the order that is derived for values is that of values
-derived : (v w : Val) → cmp-value.it v w ≡ val_cmp v w
-derived val.Null val.Null = refl
-derived (val.Bool a) (val.Bool b) = refl
-derived (val.Int y) (val.Int z) = refl
-derived (val.Text s) (val.Text t) = refl
-derived (val.Bytes s) (val.Bytes t) = refl
-derived (val.Date y) (val.Date z) = refl
-derived (val.Time y) (val.Time z) = refl
-derived (val.Stamp y) (val.Stamp z) = refl
-derived (val.StampTz y) (val.StampTz z) = refl
-derived v w = refl
-
 pub returns : goal.returns
-returns c = c.cmp.ensures ∙ (λ i. slice_cmp (λ v w. derived v w i) c.args.a.now.cells c.args.b.now.cells)
+returns c = c.cmp.ensures ∙ derived_order c.args.a.now c.args.b.now

@@ -14,15 +14,15 @@ use Rattle.dbl_model.specs.declared.identity.Identity.{Identity}
 use Rattle.dbl_model.specs.declared.table.Column.{Column}
 use Rattle.dbl_model.specs.declared.table.TableInfo.{TableInfo}
 use Rattle.dbl_model.specs.Tables.{column_names}
-use Rattle.dbl_model.specs.Infos.{name_at, key_names, width}
+use Rattle.dbl_model.specs.Infos.{name_at, key_names, width, topic_of}
 use Rattle.dbl_model.specs.Keys.{cell_or_null, key_of}
 use Rattle.dbl_model.specs.Image.{members_of}
 use Rattle.dbl_model.proofs.InfoLemmas.{places_within}
-use Rattle.dbl_envelope.specs.Layouts.{Named, sorted, column_names_from, column_names_at, places_of, layout_of, members_at}
+use Rattle.dbl_envelope.specs.Layouts.{Named, sorted, column_names_from, column_names_at, key_names_from, places_of, layout_of, members_at}
 use Rattle.dbl_base.specs.Texts.{text_cmp}
 use Rattle.dbl_envelope.specs.declared.layout.Place.{Place}
 
-drop_here : {A : Type 0} (xs : List A) (j : ℕ) (x : A) → slice_get xs j ≡ Some x → drop j xs ≡ x ∷ drop (suc j) xs
+pub drop_here : {A : Type 0} (xs : List A) (j : ℕ) (x : A) → slice_get xs j ≡ Some x → drop j xs ≡ x ∷ drop (suc j) xs
 drop_here [] j x h = cc
 drop_here (y ∷ ys) zero x h = cc
 drop_here (y ∷ ys) (suc j) x h = drop_here ys j x h
@@ -36,6 +36,18 @@ key_step cs key (suc j) k c h is at =
     let name : name_at cs k ≡ c.name = ap (λ o. unwrap_or (option_map (λ (column : Column). column.name) o) []) at in
     ap (λ n. insert_entry text_cmp (sorted (column_names_at cs (drop (suc j) key))) n k) (sym name)
     ∙ sym (ap (λ i. sorted (column_names_at cs (drop i key))) before ∙ ap (λ ks. sorted (column_names_at cs ks)) here)
+
+pub key_cells_step : (cs : List Column) (key : List ℕ) (i k : ℕ) (c : Column) → 0 < i → slice_get key (i - 1) ≡ Some k → slice_get cs k ≡ Some c
+    → insert_entry text_cmp (sorted (key_names_from cs i (drop i key))) c.name (i - 1) ≡ sorted (key_names_from cs (i - 1) (drop (i - 1) key))
+key_cells_step cs key zero k c h is at = absurd (omega arith)
+key_cells_step cs key (suc j) k c h is at =
+    let before : suc j - 1 ≡ j = omega arith in
+    let next : j + 1 ≡ suc j = omega arith in
+    let here : drop j key ≡ k ∷ drop (suc j) key = drop_here key j k (ap (slice_get key) (sym before) ∙ is) in
+    let name : name_at cs k ≡ c.name = ap (λ o. unwrap_or (option_map (λ (column : Column). column.name) o) []) at in
+    ap₂ (λ n i. insert_entry text_cmp (sorted (key_names_from cs (suc j) (drop (suc j) key))) n i) (sym name) before
+    ∙ ap (λ m. insert_entry text_cmp (sorted (key_names_from cs m (drop (suc j) key))) (name_at cs k) j) (sym next)
+    ∙ sym (ap (λ i. sorted (key_names_from cs i (drop i key))) before ∙ ap (λ ks. sorted (key_names_from cs j ks)) here)
 
 -- ---- what is written by places is what is put under names
 
@@ -130,15 +142,42 @@ at_fits n cs (k ∷ ks) h =
     let parts = and_parts (nat_lt k n) (list_all (λ place. nat_lt place n) ks) h in
     (ltb-true k n parts.0, at_fits n cs ks parts.1)
 
-pub columns_fit : (identity : Identity) (info : TableInfo) (cells : List Val) → length cells ≡ width info → All (λ p. p.index < length cells) (layout_of identity info).columns
+pub columns_fit : (identity : Identity) (info : TableInfo) (n : ℕ) → n ≡ width info → All (λ p. p.index < n) (layout_of identity info).columns
 unfolding layout_of
-columns_fit identity info cells wide =
-    all_from (length cells) (places_of (sorted (column_names_from 0 info.columns))) (sorted_fits (length cells) (column_names_from 0 info.columns) (from_fits (length cells) 0 info.columns (omega arith)))
+columns_fit identity info n wide =
+    all_from n (places_of (sorted (column_names_from 0 info.columns))) (sorted_fits n (column_names_from 0 info.columns) (from_fits n 0 info.columns (omega arith)))
 
-pub key_fits : (identity : Identity) (info : TableInfo) (cells : List Val) → length cells ≡ width info → All (λ p. p.index < length cells) (layout_of identity info).key
+pub key_fits : (identity : Identity) (info : TableInfo) (n : ℕ) → n ≡ width info → All (λ p. p.index < n) (layout_of identity info).key
 unfolding layout_of
-key_fits identity info cells wide =
-    all_from (length cells) (places_of (sorted (column_names_at info.columns info.key))) (sorted_fits (length cells) (column_names_at info.columns info.key) (at_fits (length cells) info.columns info.key (ap (λ n. list_all (λ place. nat_lt place n) info.key) wide ∙ places_within info)))
+key_fits identity info n wide =
+    all_from n (places_of (sorted (column_names_at info.columns info.key))) (sorted_fits n (column_names_at info.columns info.key) (at_fits n info.columns info.key (ap (λ n. list_all (λ place. nat_lt place n) info.key) wide ∙ places_within info)))
+
+-- ---- the places in a key
+
+key_names-map : (cs : List Column) (i : ℕ) (key : List ℕ) → map (λ e. e.0) (key_names_from cs i key) ≡ map (name_at cs) key
+key_names-map cs i [] = refl
+key_names-map cs i (k ∷ ks) = ap (λ ns. name_at cs k ∷ ns) (key_names-map cs (i + 1) ks)
+
+key_cells_from : (cells : List Val) (i : ℕ) (cs : List Column) (key : List ℕ) → i + length key ≡ length cells → map (λ e. cell_or_null cells e.1) (key_names_from cs i key) ≡ drop i cells
+key_cells_from cells i cs [] e = sym (drop_end cells i (omega arith))
+key_cells_from cells i cs (k ∷ ks) e =
+    let rest : map (λ e. cell_or_null cells e.1) (key_names_from cs (i + 1) ks) ≡ drop (i + 1) cells = key_cells_from cells (i + 1) cs ks (omega arith) in
+    ap₂ (λ v vs. v ∷ vs) (unwrap_or-slice_get cells i val.Null) rest ∙ sym (drop_more cells i val.Null (omega arith))
+
+pub key_cells_members : (identity : Identity) (info : TableInfo) (cells : List Val) → length cells ≡ length info.key
+    → members_at cells (layout_of identity info).key_cells ≡ members_of (key_names info) cells
+unfolding layout_of
+key_cells_members identity info cells long =
+    sorted_members cells (key_names_from info.columns 0 info.key) ∙ ap₂ members_of (key_names-map info.columns 0 info.key) (key_cells_from cells 0 info.columns info.key (omega arith))
+
+key_from_fits : (n i : ℕ) (cs : List Column) (key : List ℕ) → i + length key ≤ n → AllByRecursion (λ e. e.1 < n) (key_names_from cs i key)
+key_from_fits n i cs [] h = tt
+key_from_fits n i cs (k ∷ ks) h = (omega arith, key_from_fits n (i + 1) cs ks (omega arith))
+
+pub key_cells_fit : (identity : Identity) (info : TableInfo) (n : ℕ) → n ≡ length info.key → All (λ p. p.index < n) (layout_of identity info).key_cells
+unfolding layout_of
+key_cells_fit identity info n long =
+    all_from n (places_of (sorted (key_names_from info.columns 0 info.key))) (sorted_fits n (key_names_from info.columns 0 info.key) (key_from_fits n 0 info.columns info.key (omega arith)))
 
 below_at : (n : ℕ) (key : List ℕ) → list_all (λ place. nat_lt place n) key ≡ true → (i k : ℕ) → slice_get key i ≡ Some k → k < n
 below_at n [] h i k is = cc
@@ -150,3 +189,7 @@ below_at n (x ∷ xs) h (suc i) k is = below_at n xs (and_parts (nat_lt x n) (li
 -- a key column's place is one of a column
 pub key_place : (info : TableInfo) (i k : ℕ) → slice_get info.key i ≡ Some k → k < length info.columns
 key_place info = below_at (length info.columns) info.key (places_within info)
+
+pub topic_is : (identity : Identity) (info : TableInfo) → (layout_of identity info).topic ≡ topic_of identity info
+unfolding layout_of
+topic_is identity info = refl

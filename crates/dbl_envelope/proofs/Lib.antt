@@ -1,4 +1,12 @@
 pub mod LayoutLemmas
 pub mod TokenLemmas
-pub mod InsertLemmas
+pub mod SideLemmas
+pub mod ValueLemmas
+pub mod KeySteps
 pub mod CommitLemmas
+pub mod ClashLemmas
+pub mod SuitLemmas
+pub mod SuitTests
+pub mod SnapshotLemmas
+pub mod TailLemmas
+pub mod TellLemmas

@@ -30,6 +30,11 @@ column_names_from i (c ∷ cs) = (c.name, i) ∷ column_names_from (i + 1) cs
 abbrev pub column_names_at : List Column → List ℕ → Named
 column_names_at columns places = map (λ i. (name_at columns i, i)) places
 
+-- the names of key columns, with their places in the key from place i on
+abbrev pub key_names_from : List Column → ℕ → List ℕ → Named
+key_names_from columns i [] = []
+key_names_from columns i (k ∷ ks) = (name_at columns k, i) ∷ key_names_from columns (i + 1) ks
+
 abbrev pub places_of : Named → List Place
 places_of es = map (λ e. record { name = e.0; index = e.1 }) es
 
@@ -39,6 +44,7 @@ layout_of identity info = record {
   topic = topic_of identity info;
   columns = places_of (sorted (column_names_from 0 info.columns));
   key = places_of (sorted (column_names_at info.columns info.key));
+  key_cells = places_of (sorted (key_names_from info.columns 0 info.key));
 }
 
 -- the cells at some places, as an object's members

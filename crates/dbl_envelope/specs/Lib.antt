@@ -1,4 +1,6 @@
 pub mod Layouts
 pub mod Tokens
-pub mod Inserts
+pub mod Frames
+pub mod Suits
 pub mod Writers
+pub mod Clashing

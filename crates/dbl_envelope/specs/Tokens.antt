@@ -1,11 +1,13 @@
 -- For private clauses: the tokens of parts of an event's value.
-use Rattle.std.specs.Prelude.{List, [], ◌∷◌, ◌++◌, codes, decimal}
+use Rattle.std.specs.Prelude.{ℤ, List, ℕ, [], ◌∷◌, ◌++◌, codes, decimal}
 use Rattle.std.specs.Fmt.{signed_decimal}
 use Rattle.json.specs.Token.{Token, begin_object, end_object, key, string, number, null}
+use Rattle.json.specs.Tree.{json_tokens}
+use Rattle.serde_json.specs.Written.{outline}
 use Rattle.dbl_model.specs.declared.identity.Identity.{Identity}
 use Rattle.dbl_model.specs.declared.table.TableName.{TableName}
 use Rattle.dbl_model.specs.declared.change.Commit.{Commit}
-use Rattle.dbl_model.specs.EventJson.{milliseconds_of}
+use Rattle.dbl_model.specs.EventJson.{milliseconds_of, source_data}
 
 -- a source's members up to `schema`
 abbrev pub first_tokens : Identity → TableName → Commit → List Token
@@ -15,14 +17,25 @@ first_tokens identity table commit =
     ∷ key (codes "schema") ∷ string table.schema ∷ []
 
 -- and from `snapshot` on
-abbrev pub last_tokens : TableName → Commit → List Token
-last_tokens table commit =
-    key (codes "snapshot") ∷ string (codes "false") ∷ key (codes "table") ∷ string table.name
+abbrev pub last_tokens : TableName → Commit → List ℕ → List Token
+last_tokens table commit snapshot =
+    key (codes "snapshot") ∷ string snapshot ∷ key (codes "table") ∷ string table.name
     ∷ key (codes "ts_ms") ∷ number (signed_decimal (milliseconds_of commit.time))
     ∷ key (codes "txId") ∷ number (decimal commit.xid) ∷ key (codes "version") ∷ string (codes "1.0")
     ∷ key (codes "xmin") ∷ null ∷ end_object ∷ []
 
--- an insert's value up to `source`, where these are the tokens of `after`
-abbrev pub head_tokens : List Token → List Token
-head_tokens after =
-    begin_object ∷ key (codes "after") ∷ (after ++ key (codes "before") ∷ null ∷ key (codes "op") ∷ string (codes "c") ∷ key (codes "source") ∷ [])
+-- an event's value up to `op`, where these are the tokens of `after` and `before`
+abbrev pub head_tokens : List Token → List Token → List ℕ → List Token
+head_tokens after before op =
+    begin_object ∷ key (codes "after") ∷ (after ++ key (codes "before") ∷ (before ++ key (codes "op") ∷ string op ∷ []))
+
+-- and from `source` on
+abbrev pub tail_tokens : Identity → TableName → Commit → List ℕ → ℤ → List Token
+tail_tokens identity table commit snapshot now =
+    key (codes "source") ∷ (json_tokens (outline (source_data identity table commit snapshot))
+    ++ key (codes "transaction") ∷ null ∷ key (codes "ts_ms") ∷ number (signed_decimal now) ∷ end_object ∷ [])
+
+-- a progress record's value, where these are the tokens of `done` and `last`
+abbrev pub progress_tokens : Token → List Token → List ℕ → List Token
+progress_tokens done last table =
+    begin_object ∷ key (codes "done") ∷ done ∷ key (codes "last") ∷ (last ++ key (codes "table") ∷ string table ∷ end_object ∷ [])

@@ -1,9 +1,14 @@
+use dbl_base::Text;
+use dbl_model::TableName;
 use std::alloc::{AllocError, AllocFailed};
 use thiserror::Error;
 
-/// Why no records are made of a commit.
+/// Why no records are made.
 #[derive(Debug, Drop, PartialEq, Eq, Error)]
 pub enum EnvelopeError {
+    /// A cell that the records would print in `before` or `after` has the placeholder of unsent cells as its JSON string.
+    #[error("placeholder in {table}.{column}")]
+    PlaceholderClash { table: TableName, column: Text },
     #[error("out of memory")]
     Memory,
 }

@@ -1,5 +1,5 @@
 ghost use Rattle.std.specs.Prelude.{◌≡◌, IfOk};
-ghost use Rattle.dbl_envelope.specs.Layouts.{sorted, column_names_from, column_names_at, places_of, layout_of};
+ghost use Rattle.dbl_envelope.specs.Layouts.{sorted, column_names_from, column_names_at, key_names_from, places_of, layout_of};
 
 use dbl_base::{Seq, Text};
 use dbl_model::{Column, Identity, TableInfo};
@@ -19,7 +19,10 @@ pub(crate) struct Place {
 pub(crate) struct Layout {
     pub(crate) topic: Text,
     pub(crate) columns: Seq<Place>,
+    /// The key columns' places in a row.
     pub(crate) key: Seq<Place>,
+    /// Their places in a key.
+    pub(crate) key_cells: Seq<Place>,
 }
 
 /// The entries of a map from names to places, in its order.
@@ -57,6 +60,19 @@ fn key_in_order(alloc: Global, info: &TableInfo) -> Result<Seq<Place>, AllocErro
     places(alloc, order)
 }
 
+fn key_cells_in_order(alloc: Global, info: &TableInfo) -> Result<Seq<Place>, AllocError>
+    ensures { IfOk result (λ places. places ≡ places_of (sorted (key_names_from info.now.columns 0 info.now.key))) }
+{
+    let columns = info.columns.items();
+    let key = info.key.items();
+    let mut order = BTreeMap::new(alloc);
+    for at in (0..key.len()).rev() {
+        let index = key[at] as usize;
+        order.insert(columns[index].name.copy(alloc)?, at)?;
+    }
+    places(alloc, order)
+}
+
 impl Layout {
     /// Takes n log n steps for n columns.
     pub(crate) fn make(
@@ -72,10 +88,12 @@ impl Layout {
         )?);
         let columns = columns_in_order(alloc, &info.columns)?;
         let key = key_in_order(alloc, info)?;
+        let key_cells = key_cells_in_order(alloc, info)?;
         Ok(Layout {
             topic,
             columns,
             key,
+            key_cells,
         })
     }
 }

@@ -1,17 +1,24 @@
-ghost use Rattle.std.specs.Prelude.{◌≡◌, ◌≤◌, ◌<◌, ◌+◌, ◌++◌, ◌∷◌, ℕ, [], length, map, All, Ok, IfOk, IfErr, OnErr};
-ghost use Rattle.dbl_model.specs.Rows.{changes_of};
-ghost use Rattle.dbl_model.specs.Events.{notices};
-ghost use Rattle.dbl_model.specs.EventJson.{print, envelopes};
-ghost use Rattle.dbl_envelope.specs.Inserts.{stamped, IsInsert};
-ghost use Rattle.dbl_envelope.specs.Writers.{records_from};
+ghost use Rattle.std.specs.Prelude.{◌≡◌, ◌≤◌, ◌<◌, ◌+◌, ◌*◌, ◌^◌, ◌++◌, ℕ, [], None, Some, length, replicate, slice_get, All, IfOk, IfErr, OnOk, OnErr, codes};
+ghost use Rattle.dbl_model.specs.Rows.{changes_of, table_of};
+ghost use Rattle.dbl_model.specs.EventJson.{envelopes};
+ghost use Rattle.dbl_envelope.specs.Suits.{Suits, SuitsTable};
+ghost use Rattle.dbl_envelope.specs.Frames.{Framed};
+ghost use Rattle.dbl_model.specs.Clashes.{clash_of};
+ghost use Rattle.dbl_envelope.specs.Clashing.{IsClash};
+ghost use Rattle.dbl_envelope.specs.Writers.{records_from, change_records, tail_at, AreTails};
 
+use crate::changes::changes;
+use crate::clash::check;
 use crate::error::EnvelopeError;
-use crate::insert::insert_record;
+use crate::frame::Frame;
+use crate::source::tail_text;
 use crate::stamp::Stamp;
+use crate::tell::tell;
 use crate::writer::EventWriter;
-use dbl_model::{Body, Change, Commit};
+use dbl_base::Text;
+use dbl_model::{Change, Commit};
 use dbl_record::Record;
-use std::alloc::Global;
+use std::alloc::{AllocError, Global};
 use std::marker::Model;
 
 /// So many changes' records are made at a time. They are few, so that the memory of the last ones serves the next.
@@ -23,6 +30,8 @@ pub struct RecordsLeft<'a> {
     writer: &'a EventWriter,
     commit: &'a Commit,
     now_ms: i64,
+    // of each table whose tail was wanted: its text
+    tails: Vec<Option<Text>>,
     // how many changes' records are made
     change: usize,
     // how many records are made
@@ -30,57 +39,127 @@ pub struct RecordsLeft<'a> {
 }
 
 impl<'a> Model for RecordsLeft<'a> {
-    ghost use Rattle.std.specs.Prelude.{◌≤◌, List, All, length};
+    ghost use Rattle.std.specs.Prelude.{◌≡◌, ◌≤◌, ◌*◌, List, All, length};
     ghost use Rattle.dbl_record.specs.declared.record.Record.{Record as SpecRecord};
 
     ghost Value = { List SpecRecord };
 
     ghost use Rattle.dbl_model.specs.Rows.{changes_of};
-    ghost use Rattle.dbl_envelope.specs.Inserts.{IsInsert};
-    ghost use Rattle.dbl_envelope.specs.Writers.{records_from};
+    ghost use Rattle.dbl_envelope.specs.Suits.{Suits};
+    ghost use Rattle.dbl_envelope.specs.Writers.{records_from, AreTails};
 
     ghost view = { λ l. records_from l.writer.now l.commit.now l.now_ms l.change l.ordinal };
 
-    ghost invariant = { λ l. (All (IsInsert l.writer.now.infos) (changes_of l.commit.now)) × ((l.change ≤ length (changes_of l.commit.now)) × (l.ordinal ≤ l.change)) };
+    ghost invariant = { λ l. (All (Suits l.writer.now.infos) (changes_of l.commit.now))
+        × ((l.change ≤ length (changes_of l.commit.now)) × ((l.ordinal ≤ 3 * l.change)
+        × ((length l.tails.items ≡ length l.writer.now.infos) × AreTails l.writer.now l.commit.now l.now_ms l.tails.items))) };
 }
 
-fn change_record(
+/// Makes the tail of a table where there is none.
+fn make_tail(
     alloc: Global,
     writer: &EventWriter,
     commit: &Commit,
-    change: &Change,
-    stamp: &Stamp,
-) -> Result<Record, EnvelopeError>
-    requires insert { IsInsert writer.now.infos change.now }
-    ensures ok { IfOk result (λ r. map (λ n. print writer.now.identity commit.now stamp.now.now_ms (stamped commit.now stamp.now n))
-        (notices writer.now.infos change.now) ≡ r ∷ []) }
-    ensures err { IfErr result (λ e. e ≡ EnvelopeError.Memory) }
+    now_ms: &i64,
+    tails: &mut Vec<Option<Text>>,
+    table: usize,
+) -> Result<(), AllocError>
+    requires captured { table < length writer.now.infos }
+    requires long { length tails.old.items ≡ length writer.now.infos }
+    requires tails { AreTails writer.now commit.now now_ms.now tails.old.items }
+    ensures made { OnOk result (slice_get tails.new.items table ≡ Some (Some (tail_at writer.now commit.now now_ms.now table))) }
+    ensures long { length tails.new.items ≡ length writer.now.infos }
+    ensures tails { AreTails writer.now commit.now now_ms.now tails.new.items }
 {
-    match change {
-        Change::Insert { table, row } => {
-            let place = *table as usize;
-            insert_record(
-                alloc,
-                &writer.identity,
-                &writer.infos[place],
-                &writer.layouts[place],
-                commit,
-                row,
-                stamp,
-            )
-        }
-        Change::Update { .. } => unreachable!(),
-        Change::Delete { .. } => unreachable!(),
-        Change::Clear { .. } => unreachable!(),
+    if tails[table].is_some() {
+        return Ok(());
+    }
+    let info = writer.info_at(table);
+    let tail = tail_text(
+        alloc,
+        writer.identity(),
+        &info.name,
+        commit,
+        "false",
+        now_ms,
+    )?;
+    tails[table] = Some(tail);
+    Ok(())
+}
+
+/// What the records of a change's table have in common, whose tail is made.
+fn frame_of<'a>(
+    writer: &'a EventWriter,
+    commit: &'a Commit,
+    now_ms: &'a i64,
+    tail: &'a Text,
+    change: &Change,
+) -> Frame<'a>
+    requires suits { Suits writer.now.infos change.now }
+    requires tail { tail.now ≡ tail_at writer.now commit.now now_ms.now (table_of change.now) }
+    ensures identity { result.identity.now ≡ writer.now.identity }
+    ensures info { slice_get writer.now.infos (table_of change.now) ≡ Some result.info.now }
+    ensures commit { result.commit.now ≡ commit.now }
+    ensures now { result.now_ms.now ≡ now_ms.now }
+    ensures snapshot { result.snapshot.now ≡ codes "false" }
+    ensures framed { Framed result }
+    ensures suits { SuitsTable result.info.now change.now }
+{
+    Frame {
+        identity: writer.identity(),
+        info: writer.info_of(change),
+        layout: writer.layout_at(change.table() as usize),
+        commit,
+        now_ms,
+        snapshot: "false",
+        tail,
     }
 }
 
-fn changes(commit: &Commit) -> &[Change]
-    ensures { result.now ≡ changes_of commit.now }
+/// Adds the records of a change, whose table's tail is made.
+fn tell_change(
+    out: &mut Vec<Record>,
+    alloc: Global,
+    writer: &EventWriter,
+    commit: &Commit,
+    now_ms: &i64,
+    tail: &Text,
+    stamp: &Stamp,
+    change: &Change,
+) -> Result<(), AllocError>
+    requires suits { Suits writer.now.infos change.now }
+    requires room { stamp.now.ordinal + 2 < 2 ^ 64 }
+    requires tail { tail.now ≡ tail_at writer.now commit.now now_ms.now (table_of change.now) }
+    ensures { OnOk result (out.new.items ≡ out.old.items ++ change_records writer.now commit.now now_ms.now stamp.now change.now) }
 {
-    match &commit.body {
-        Body::Changes(changes) => changes.items().as_slice(),
-        Body::Mark(_) => &[],
+    let frame = frame_of(writer, commit, now_ms, tail, change);
+    tell(out, alloc, &frame, stamp, change)
+}
+
+/// Adds the records of a change.
+fn add_change(
+    out: &mut Vec<Record>,
+    alloc: Global,
+    writer: &EventWriter,
+    commit: &Commit,
+    now_ms: &i64,
+    tails: &mut Vec<Option<Text>>,
+    stamp: &Stamp,
+    change: &Change,
+) -> Result<(), AllocError>
+    requires suits { Suits writer.now.infos change.now }
+    requires room { stamp.now.ordinal + 2 < 2 ^ 64 }
+    requires long { length tails.old.items ≡ length writer.now.infos }
+    requires tails { AreTails writer.now commit.now now_ms.now tails.old.items }
+    ensures told { OnOk result (out.new.items ≡ out.old.items ++ change_records writer.now commit.now now_ms.now stamp.now change.now) }
+    ensures long { length tails.new.items ≡ length writer.now.infos }
+    ensures tails { AreTails writer.now commit.now now_ms.now tails.new.items }
+{
+    let table = change.table() as usize;
+    make_tail(alloc, writer, commit, now_ms, tails, table)?;
+    match &tails[table] {
+        Some(tail) => tell_change(out, alloc, writer, commit, now_ms, tail, stamp, change),
+        None => unreachable!(),
     }
 }
 
@@ -90,30 +169,41 @@ fn some_records(
     writer: &EventWriter,
     commit: &Commit,
     now_ms: &i64,
+    tails: &mut Vec<Option<Text>>,
     from: usize,
     upto: usize,
     ordinal: u64,
-) -> Result<Vec<Record>, EnvelopeError>
-    requires inserts { All (IsInsert writer.now.infos) (changes_of commit.now) }
+) -> Result<Vec<Record>, AllocError>
+    requires suits { All (Suits writer.now.infos) (changes_of commit.now) }
     requires place { from ≤ upto }
     requires within { upto ≤ length (changes_of commit.now) }
-    requires ordinal { ordinal ≤ from }
+    requires ordinal { ordinal ≤ 3 * from }
+    requires long { length tails.old.items ≡ length writer.now.infos }
+    requires tails { AreTails writer.now commit.now now_ms.now tails.old.items }
     ensures ok { IfOk result (λ made. made.items ++ records_from writer.now commit.now now_ms.now upto (ordinal + length made.items)
         ≡ records_from writer.now commit.now now_ms.now from ordinal) }
-    ensures count { IfOk result (λ made. from + length made.items ≡ upto) }
-    ensures err { IfErr result (λ e. e ≡ EnvelopeError.Memory) }
+    ensures most { IfOk result (λ made. ordinal + length made.items ≤ 3 * upto) }
+    ensures some { IfOk result (λ made. upto ≤ from + length made.items) }
+    ensures long { length tails.new.items ≡ length writer.now.infos }
+    ensures tails { AreTails writer.now commit.now now_ms.now tails.new.items }
 {
     let changes = changes(commit);
     let mut made = Vec::with_capacity(alloc, upto - from)?;
-    let mut stamp = Stamp {
-        ordinal,
-        last: false,
-        now_ms: *now_ms,
-    };
     for change in from..upto {
-        stamp.last = change + 1 == changes.len();
-        made.push(change_record(alloc, writer, commit, &changes[change], &stamp)?)?;
-        stamp.ordinal += 1;
+        let stamp = Stamp {
+            ordinal: ordinal + made.len() as u64,
+            last: change + 1 == changes.len(),
+        };
+        add_change(
+            &mut made,
+            alloc,
+            writer,
+            commit,
+            now_ms,
+            tails,
+            &stamp,
+            &changes[change],
+        )?;
     }
     Ok(made)
 }
@@ -132,14 +222,24 @@ fn next_place(change: usize, count: usize) -> usize
     }
 }
 
+// As many tails as there are tables, none of them made.
+fn no_tails(alloc: Global, count: usize) -> Result<Vec<Option<Text>>, AllocError>
+    ensures { IfOk result (λ tails. tails.items ≡ replicate count None) }
+{
+    let mut tails = Vec::with_capacity(alloc, count)?;
+    for _table in 0..count {
+        tails.push(None)?;
+    }
+    Ok(tails)
+}
+
 impl<'a> RecordsLeft<'a> {
     /// Makes the next records, those of up to 6 changes. There are none only where none is left. After an error the same
     /// records are left.
-    pub fn next(&mut self, alloc: Global) -> Result<Vec<Record>, EnvelopeError>
+    pub fn next(&mut self, alloc: Global) -> Result<Vec<Record>, AllocError>
         ensures ok { IfOk result (λ made. self.old ≡ made.items ++ self.new) }
         ensures end { IfOk result (λ made. made.items ≡ [] → self.old ≡ []) }
         ensures kept { OnErr result (self.new ≡ self.old) }
-        ensures err { IfErr result (λ e. e ≡ EnvelopeError.Memory) }
     {
         let upto = next_place(self.change, changes(self.commit).len());
         let made = some_records(
@@ -147,6 +247,7 @@ impl<'a> RecordsLeft<'a> {
             self.writer,
             self.commit,
             &self.now_ms,
+            &mut self.tails,
             self.change,
             upto,
             self.ordinal,
@@ -158,33 +259,43 @@ impl<'a> RecordsLeft<'a> {
 }
 
 impl EventWriter {
-    /// The records of a commit that inserts rows, to be made some at a time. `now_ms` is in milliseconds since 1970-01-01
-    /// UTC. Takes no memory.
-    pub fn records_left<'a>(&'a self, commit: &'a Commit, now_ms: i64) -> RecordsLeft<'a>
-        requires inserts { All (IsInsert self.now.infos) (changes_of commit.now) }
-        ensures { result ≡ envelopes self.now.identity self.now.infos commit.now now_ms }
+    /// The records of a commit, to be made some at a time. `now_ms` is in milliseconds since 1970-01-01 UTC. It looks at
+    /// all cells first, and refuses the commit where one that would be printed is the placeholder.
+    pub fn records_left<'a>(
+        &'a self,
+        alloc: Global,
+        commit: &'a Commit,
+        now_ms: i64,
+    ) -> Result<RecordsLeft<'a>, EnvelopeError>
+        requires suits { All (Suits self.now.infos) (changes_of commit.now) }
+        ensures ok { IfOk result (λ left. left ≡ envelopes self.now.identity self.now.infos commit.now now_ms) }
+        ensures no_clash { OnOk result (clash_of self.now.identity self.now.infos commit.now ≡ None) }
+        ensures err { IfErr result (IsClash (clash_of self.now.identity self.now.infos commit.now)) }
     {
-        RecordsLeft {
+        check(alloc, self, commit)?;
+        Ok(RecordsLeft {
             writer: self,
             commit,
             now_ms,
+            tails: no_tails(alloc, self.count())?,
             change: 0,
             ordinal: 0,
-        }
+        })
     }
 
-    /// The records of a commit that inserts rows. `now_ms` is in milliseconds since 1970-01-01 UTC.
+    /// The records of a commit, made at `now_ms`, in milliseconds since 1970-01-01 UTC.
     pub fn records(
         &self,
         alloc: Global,
         commit: &Commit,
         now_ms: i64,
     ) -> Result<Vec<Record>, EnvelopeError>
-        requires inserts { All (IsInsert self.now.infos) (changes_of commit.now) }
+        requires suits { All (Suits self.now.infos) (changes_of commit.now) }
         ensures ok { IfOk result (λ made. made.items ≡ envelopes self.now.identity self.now.infos commit.now now_ms) }
-        ensures err { IfErr result (λ e. e ≡ EnvelopeError.Memory) }
+        ensures no_clash { OnOk result (clash_of self.now.identity self.now.infos commit.now ≡ None) }
+        ensures err { IfErr result (IsClash (clash_of self.now.identity self.now.infos commit.now)) }
     {
-        let mut left = self.records_left(commit, now_ms);
+        let mut left = self.records_left(alloc, commit, now_ms)?;
         let mut made = Vec::new(alloc);
         'left: loop {
             let mut more = left.next(alloc)?;

@@ -1,17 +1,29 @@
 //! Change events as records: the fast writer of what `dbl_model` defines.
 #![tactic(auto)]
 
+mod changes;
+mod clash;
 mod error;
-mod insert;
+mod event;
+mod frame;
+mod keys;
+mod laws;
 mod layout;
 mod left;
+mod progress;
+mod side;
+mod snapshot;
 mod source;
 mod stamp;
+mod suits;
+mod tell;
 #[cfg(test)]
 mod tests;
 mod tokens;
+mod value;
 mod writer;
 
 pub use error::EnvelopeError;
+pub use laws::fitting_suits;
 pub use left::RecordsLeft;
 pub use writer::EventWriter;

@@ -1,18 +1,20 @@
-ghost use Rattle.std.specs.Prelude.{◌≡◌, ◌++◌, ◌∷◌, [], map, IfOk, IfErr, OnOk, OnErr};
+ghost use Rattle.std.specs.Prelude.{◌≡◌, ◌<◌, ◌++◌, ◌∷◌, [], Some, length, map, option_map, slice_get, IfOk, IfErr, OnOk, OnErr};
+ghost use Rattle.dbl_model.specs.Rows.{table_of};
+ghost use Rattle.dbl_envelope.specs.Suits.{Suits, SuitsTable};
 ghost use Rattle.dbl_envelope.specs.Layouts.{layout_of};
 
 use crate::error::EnvelopeError;
 use crate::layout::Layout;
-use dbl_model::{Identity, TableInfo};
+use dbl_model::{Change, Identity, TableInfo};
 use std::alloc::{AllocError, Global};
 use std::marker::Model;
 
 /// Makes the records of one connector's commits. It is made once, as it sorts the columns of each captured table.
 #[derive(Debug, Drop)]
 pub struct EventWriter {
-    pub(crate) identity: Identity,
-    pub(crate) infos: Vec<TableInfo>,
-    pub(crate) layouts: Vec<Layout>,
+    identity: Identity,
+    infos: Vec<TableInfo>,
+    layouts: Vec<Layout>,
 }
 
 impl Model for EventWriter {
@@ -59,6 +61,43 @@ impl EventWriter {
             infos,
             layouts,
         })
+    }
+
+    pub(crate) fn identity(&self) -> &Identity
+        ensures { result.now ≡ self.now.identity }
+    {
+        &self.identity
+    }
+
+    /// The number of captured tables.
+    pub(crate) fn count(&self) -> usize
+        ensures { result ≡ length self.now.infos }
+    {
+        self.infos.len()
+    }
+
+    pub(crate) fn info_at(&self, table: usize) -> &TableInfo
+        requires captured { table < length self.now.infos }
+        ensures { slice_get self.now.infos table ≡ Some result.now }
+    {
+        &self.infos[table]
+    }
+
+    /// The table of a change.
+    pub(crate) fn info_of(&self, change: &Change) -> &TableInfo
+        requires suits { Suits self.now.infos change.now }
+        ensures info { slice_get self.now.infos (table_of change.now) ≡ Some result.now }
+        ensures suits { SuitsTable result.now change.now }
+    {
+        self.info_at(change.table() as usize)
+    }
+
+    /// The layout of a table's records.
+    pub(crate) fn layout_at(&self, table: usize) -> &Layout
+        requires captured { table < length self.now.infos }
+        ensures { option_map (layout_of self.now.identity) (slice_get self.now.infos table) ≡ Some result.now }
+    {
+        &self.layouts[table]
     }
 
     /// One more captured table, behind the others. Takes n log n steps for its n columns.

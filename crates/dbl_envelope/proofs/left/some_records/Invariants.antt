@@ -1,10 +1,12 @@
-use Rattle.std.proofs.Common.{◌≡◌, ◌+◌, ◌++◌, length}
-use Rattle.dbl_envelope.specs.Writers.{records_from}
+use Rattle.std.proofs.Common.{◌≡◌, ◌+◌, ◌*◌, ◌≤◌, ◌++◌, length}
+use Rattle.dbl_envelope.specs.Writers.{records_from, AreTails}
 use Rattle.dbl_envelope.proofs.left.some_records.Given as goal
 
 abbrev pub invariant-loop-change : goal.invariant-loop-change
-invariant-loop-change l =
-    (l.stamp.now_ms ≡ l.now_ms)
-    × ((l.stamp.ordinal ≡ l.ordinal + length l.made.items)
-    × ((l.from + length l.made.items ≡ l.change)
-    × (l.made.items ++ records_from l.writer l.commit l.now_ms l.change l.stamp.ordinal ≡ records_from l.writer l.commit l.now_ms l.from l.ordinal)))
+invariant-loop-change l = record {
+  made : l.made.items ++ records_from l.writer l.commit l.now_ms l.change (l.ordinal + length l.made.items) ≡ records_from l.writer l.commit l.now_ms l.from l.ordinal;
+  most : l.ordinal + length l.made.items ≤ 3 * l.change;
+  some : l.change ≤ l.from + length l.made.items;
+  long : length l.tails.items ≡ length l.writer.infos;
+  tails : AreTails l.writer l.commit l.now_ms l.tails.items;
+}

@@ -1,0 +1,209 @@
+//! Cells that every consumer would take for unsent ones.
+
+ghost use Rattle.std.specs.Prelude.{◌≡◌, ◌≢◌, None, IfOk, IfErr, OnOk, All, map};
+ghost use Rattle.std.specs.Option.{option_or};
+ghost use Rattle.dbl_value.specs.Values.{json_data};
+ghost use Rattle.dbl_model.specs.declared.change.Cell.TheVariants.{Given};
+ghost use Rattle.dbl_model.specs.Tables.{column_names};
+ghost use Rattle.dbl_model.specs.Rows.{changes_of};
+ghost use Rattle.dbl_envelope.specs.Suits.{Suits};
+ghost use Rattle.dbl_model.specs.Clashes.{is_string, is_clash, clash_among, clash_at, old_cells, clash_of};
+ghost use Rattle.dbl_envelope.specs.Clashing.{IsClash, change_clash, notices_clash};
+
+use crate::changes::changes;
+use crate::error::EnvelopeError;
+use crate::writer::EventWriter;
+use dbl_base::{Seq, Text};
+use dbl_model::{Cell, Change, Column, Commit, Row, TableInfo};
+use dbl_value::{Val, json_tree};
+use serde_json::Value;
+use std::alloc::{AllocError, Global};
+
+/// Whether the value's JSON is this string.
+fn is_written_as(alloc: Global, placeholder: &Text, value: &Val) -> Result<bool, AllocError>
+    ensures { IfOk result (λ same. same ≡ is_string placeholder.now (json_data value.now)) }
+{
+    match json_tree(alloc, value)? {
+        Value::String(text) => Ok(text.as_str() == placeholder.as_str()),
+        _ => Ok(false),
+    }
+}
+
+fn is_clash(alloc: Global, placeholder: &Text, value: &Val) -> Result<bool, AllocError>
+    ensures { IfOk result (λ clash. clash ≡ is_clash placeholder.now (Given value.now)) }
+{
+    match value {
+        Val::Null => Ok(false),
+        Val::Bool(_) => Ok(false),
+        Val::Int(_) => Ok(false),
+        Val::Text(text) => Ok(text.as_str() == placeholder.as_str()),
+        Val::Bytes(_) => is_written_as(alloc, placeholder, value),
+        Val::Date(_) => Ok(false),
+        Val::Time(_) => Ok(false),
+        Val::Stamp(_) => Ok(false),
+        Val::StampTz(_) => is_written_as(alloc, placeholder, value),
+    }
+}
+
+fn is_sent_clash(alloc: Global, placeholder: &Text, cell: &Cell) -> Result<bool, AllocError>
+    ensures { IfOk result (λ clash. clash ≡ is_clash placeholder.now cell.now) }
+{
+    match cell {
+        Cell::Given(value) => is_clash(alloc, placeholder, value),
+        Cell::Unchanged => Ok(false),
+    }
+}
+
+/// The first column of a row whose cell is a clash.
+pub(crate) fn row_clash(
+    alloc: Global,
+    placeholder: &Text,
+    columns: &Seq<Column>,
+    cells: &Seq<Val>,
+) -> Result<Option<Text>, AllocError>
+    ensures { IfOk result (λ name. name ≡ clash_among placeholder.now (column_names columns.now) (map Given cells.now)) }
+{
+    let columns = columns.items();
+    let cells = cells.items();
+    let count = columns.len().min(cells.len());
+    for i in 0..count {
+        let clash = is_clash(alloc, placeholder, &cells[i])?;
+        if clash {
+            let name = columns[i].name.copy(alloc)?;
+            return Ok(Some(name));
+        }
+    }
+    Ok(None)
+}
+
+fn sent_clash(
+    alloc: Global,
+    placeholder: &Text,
+    columns: &Seq<Column>,
+    cells: &Seq<Cell>,
+) -> Result<Option<Text>, AllocError>
+    ensures { IfOk result (λ name. name ≡ clash_among placeholder.now (column_names columns.now) cells.now) }
+{
+    let columns = columns.items();
+    let cells = cells.items();
+    let count = columns.len().min(cells.len());
+    for i in 0..count {
+        let clash = is_sent_clash(alloc, placeholder, &cells[i])?;
+        if clash {
+            let name = columns[i].name.copy(alloc)?;
+            return Ok(Some(name));
+        }
+    }
+    Ok(None)
+}
+
+fn old_clash(
+    alloc: Global,
+    placeholder: &Text,
+    columns: &Seq<Column>,
+    old: &Option<Row>,
+) -> Result<Option<Text>, AllocError>
+    ensures { IfOk result (λ name. name ≡ clash_among placeholder.now (column_names columns.now) (old_cells old.now)) }
+{
+    match old {
+        Some(row) => row_clash(alloc, placeholder, columns, &row.cells),
+        None => Ok(None),
+    }
+}
+
+fn update_clash(
+    alloc: Global,
+    placeholder: &Text,
+    columns: &Seq<Column>,
+    old: &Option<Row>,
+    cells: &Seq<Cell>,
+) -> Result<Option<Text>, AllocError>
+    ensures { IfOk result (λ name. name ≡ option_or
+        (clash_among placeholder.now (column_names columns.now) (old_cells old.now))
+        (clash_among placeholder.now (column_names columns.now) cells.now)) }
+{
+    match old_clash(alloc, placeholder, columns, old)? {
+        Some(name) => Ok(Some(name)),
+        None => sent_clash(alloc, placeholder, columns, cells),
+    }
+}
+
+fn change_clash(
+    alloc: Global,
+    placeholder: &Text,
+    info: &TableInfo,
+    change: &Change,
+) -> Result<Option<Text>, AllocError>
+    ensures { IfOk result (λ name. name ≡ change_clash placeholder.now info.now change.now) }
+{
+    let columns = &info.columns;
+    match change {
+        Change::Insert { table: _, row } => row_clash(alloc, placeholder, columns, &row.cells),
+        Change::Update {
+            table: _,
+            key: _,
+            old,
+            cells,
+        } => update_clash(alloc, placeholder, columns, old, cells),
+        Change::Delete {
+            table: _,
+            key: _,
+            old,
+        } => row_clash(alloc, placeholder, columns, &old.cells),
+        Change::Clear { table: _ } => Ok(None),
+    }
+}
+
+fn clash_error(alloc: Global, info: &TableInfo, column: Text) -> EnvelopeError
+    ensures { result ≢ EnvelopeError.Memory → result ≡ EnvelopeError.PlaceholderClash info.now.name column }
+{
+    match info.name.copy(alloc) {
+        Ok(table) => EnvelopeError::PlaceholderClash { table, column },
+        Err(_) => EnvelopeError::Memory,
+    }
+}
+
+/// The refusal of a clash in this column, if any.
+pub(crate) fn refuse(
+    alloc: Global,
+    info: &TableInfo,
+    found: Option<Text>,
+) -> Result<(), EnvelopeError>
+    ensures ok { OnOk result (found ≡ None) }
+    ensures err { IfErr result (IsClash (clash_at info.now found)) }
+{
+    match found {
+        Some(column) => Err(clash_error(alloc, info, column)),
+        None => Ok(()),
+    }
+}
+
+/// Whether the change's records have no clash; else the first one.
+fn check_change(alloc: Global, writer: &EventWriter, change: &Change) -> Result<(), EnvelopeError>
+    requires suits { Suits writer.now.infos change.now }
+    ensures ok { OnOk result (notices_clash writer.now.identity.placeholder writer.now.infos change.now ≡ None) }
+    ensures err { IfErr result (IsClash (notices_clash writer.now.identity.placeholder writer.now.infos change.now)) }
+{
+    let info = writer.info_of(change);
+    let found = change_clash(alloc, &writer.identity().placeholder, info, change)?;
+    refuse(alloc, info, found)
+}
+
+/// Whether the commit's records have no clash; else the first one.
+pub(crate) fn check(
+    alloc: Global,
+    writer: &EventWriter,
+    commit: &Commit,
+) -> Result<(), EnvelopeError>
+    requires suits { All (Suits writer.now.infos) (changes_of commit.now) }
+    ensures ok { OnOk result (clash_of writer.now.identity writer.now.infos commit.now ≡ None) }
+    ensures err { IfErr result (IsClash (clash_of writer.now.identity writer.now.infos commit.now)) }
+{
+    for change in changes(commit) {
+        match check_change(alloc, writer, change) {
+            Ok(()) => {}
+            Err(error) => return Err(error),
+        }
+    }
+    Ok(())
+}

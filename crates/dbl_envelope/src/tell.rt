@@ -1,0 +1,155 @@
+//! The records of each kind of change.
+
+ghost use Rattle.std.specs.Prelude.{◌≡◌, ◌<◌, ◌≤◌, ◌+◌, ◌^◌, IfSome, IsSome, OnOk, length};
+ghost use Rattle.dbl_model.specs.declared.change.Change.TheVariants.{Insert, Update, Delete, Clear};
+ghost use Rattle.dbl_model.specs.Infos.{width};
+ghost use Rattle.dbl_model.specs.Rows.{all_given};
+ghost use Rattle.dbl_envelope.specs.Suits.{SuitsUpdate, SuitsDelete, SuitsTable};
+ghost use Rattle.dbl_envelope.specs.Frames.{Framed, Tells, TellsMove};
+
+use crate::event::{created, deleted, moved_from, moved_to, tombstone, truncated, updated};
+use crate::frame::Frame;
+use crate::keys::is_key_of;
+use crate::side::Side;
+use crate::stamp::Stamp;
+use dbl_base::Seq;
+use dbl_model::{Cell, Change, Key, Row};
+use dbl_record::Record;
+use std::alloc::{AllocError, Global};
+
+fn tell_insert(
+    out: &mut Vec<Record>,
+    alloc: Global,
+    frame: &Frame<'_>,
+    stamp: &Stamp,
+    row: &Row,
+) -> Result<(), AllocError>
+    requires framed { Framed frame.now }
+    requires wide { length row.now.cells ≡ width frame.now.info.now }
+    ensures { OnOk result (Tells frame.now stamp.now (Insert 0 row.now) out.old.items out.new.items) }
+{
+    out.push(created(alloc, frame, stamp, row)?)?;
+    Ok(())
+}
+
+/// The delete, its tombstone and the create of a row that moves.
+fn tell_move(
+    out: &mut Vec<Record>,
+    alloc: Global,
+    frame: &Frame<'_>,
+    stamp: &Stamp,
+    key: &Key,
+    old: &Option<Row>,
+    cells: &Seq<Cell>,
+) -> Result<(), AllocError>
+    requires framed { Framed frame.now }
+    requires room { stamp.now.ordinal + 2 < 2 ^ 64 }
+    requires suits { SuitsUpdate frame.now.info.now key.now old.now cells.now }
+    requires given { IsSome (all_given cells.now) }
+    ensures { OnOk result (TellsMove frame.now stamp.now key.now old.now cells.now out.old.items out.new.items) }
+{
+    let first = Stamp {
+        ordinal: stamp.ordinal,
+        last: false,
+    };
+    let second = Stamp {
+        ordinal: stamp.ordinal + 1,
+        last: false,
+    };
+    let third = Stamp {
+        ordinal: stamp.ordinal + 2,
+        last: stamp.last,
+    };
+    out.push(moved_from(alloc, frame, &first, key, old, cells)?)?;
+    out.push(tombstone(alloc, frame, &second, key)?)?;
+    out.push(moved_to(alloc, frame, &third, key, cells)?)?;
+    Ok(())
+}
+
+fn tell_update(
+    out: &mut Vec<Record>,
+    alloc: Global,
+    frame: &Frame<'_>,
+    stamp: &Stamp,
+    key: &Key,
+    old: &Option<Row>,
+    cells: &Seq<Cell>,
+) -> Result<(), AllocError>
+    requires framed { Framed frame.now }
+    requires room { stamp.now.ordinal + 2 < 2 ^ 64 }
+    requires suits { SuitsUpdate frame.now.info.now key.now old.now cells.now }
+    ensures { OnOk result (Tells frame.now stamp.now (Update 0 key.now old.now cells.now) out.old.items out.new.items) }
+{
+    if is_key_of(frame.info, key, cells) {
+        out.push(updated(alloc, frame, stamp, key, old, cells)?)?;
+        Ok(())
+    } else {
+        tell_move(out, alloc, frame, stamp, key, old, cells)
+    }
+}
+
+fn tell_delete(
+    out: &mut Vec<Record>,
+    alloc: Global,
+    frame: &Frame<'_>,
+    stamp: &Stamp,
+    key: &Key,
+    old: &Row,
+) -> Result<(), AllocError>
+    requires framed { Framed frame.now }
+    requires room { stamp.now.ordinal + 2 < 2 ^ 64 }
+    requires suits { SuitsDelete frame.now.info.now key.now old.now }
+    ensures { OnOk result (Tells frame.now stamp.now (Delete 0 key.now old.now) out.old.items out.new.items) }
+{
+    let first = Stamp {
+        ordinal: stamp.ordinal,
+        last: false,
+    };
+    let behind = Stamp {
+        ordinal: stamp.ordinal + 1,
+        last: stamp.last,
+    };
+    out.push(deleted(alloc, frame, &first, key, &Side::Row(&old.cells))?)?;
+    out.push(tombstone(alloc, frame, &behind, key)?)?;
+    Ok(())
+}
+
+fn tell_clear(
+    out: &mut Vec<Record>,
+    alloc: Global,
+    frame: &Frame<'_>,
+    stamp: &Stamp,
+) -> Result<(), AllocError>
+    requires framed { Framed frame.now }
+    ensures { OnOk result (Tells frame.now stamp.now (Clear 0) out.old.items out.new.items) }
+{
+    out.push(truncated(alloc, frame, stamp)?)?;
+    Ok(())
+}
+
+/// Adds the records of a change of the frame's table, the first of them with the stamp's ordinal. The stamp says whether
+/// the last of them is the last of its commit.
+pub(crate) fn tell(
+    out: &mut Vec<Record>,
+    alloc: Global,
+    frame: &Frame<'_>,
+    stamp: &Stamp,
+    change: &Change,
+) -> Result<(), AllocError>
+    requires framed { Framed frame.now }
+    requires room { stamp.now.ordinal + 2 < 2 ^ 64 }
+    requires suits { SuitsTable frame.now.info.now change.now }
+    ensures { OnOk result (Tells frame.now stamp.now change.now out.old.items out.new.items) }
+{
+    match change {
+        Change::Insert { table: _, row } => tell_insert(out, alloc, frame, stamp, row),
+        Change::Update {
+            table: _,
+            key,
+            old,
+            cells,
+        } => tell_update(out, alloc, frame, stamp, key, old, cells),
+        Change::Delete { table: _, key, old } => tell_delete(out, alloc, frame, stamp, key, old),
+        Change::Clear { table: _ } => tell_clear(out, alloc, frame, stamp),
+    }
+}

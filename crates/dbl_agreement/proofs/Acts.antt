@@ -8,7 +8,7 @@ use Rattle.dbl_record.specs.declared.acts.Act.TheVariants.{Nothing, Set, Remove,
 use Rattle.dbl_record.specs.declared.reading.Line.{Line}
 use Rattle.dbl_record.specs.Line.{text_or_null}
 use Rattle.dbl_record.specs.Whole.{IsWhole}
-use Rattle.dbl_record.specs.Acts.{json_in, reading_of, act, act_of, act_of_data, unwrapped, is_progress, cells_of}
+use Rattle.dbl_record.specs.Acts.{json_in, act, act_of, act_of_data, unwrapped, is_progress, cells_of}
 use Rattle.dbl_record.proofs.Back.{read-compact_text}
 use Rattle.dbl_model.specs.declared.identity.Identity.{Identity}
 use Rattle.dbl_model.specs.declared.row.Key.{Key}
@@ -53,7 +53,7 @@ module _ (identity : Identity) (commit : Commit) (now : ℤ) (range : IsCommitIn
   event_act k before after op kp bp ap =
       let value = event_data source now before op after in
       read_act identity.placeholder (topic_of identity info) k value (not_progress identity info) kp.whole (let low = kp.shallow in omega (arith, low))
-      (event_whole identity info.name commit now before after op range moment bp.whole ap.whole) (omega (arith, event_shallow identity info.name commit now before after op bp.shallow ap.shallow))
+      (event_whole (codes "false") identity info.name commit now before after op range moment bp.whole ap.whole) (omega (arith, event_shallow (codes "false") identity info.name commit now before after op bp.shallow ap.shallow))
 
   key_part : (key : Key) → AllFit key.cells → IsPart (key_data info key)
   key_part key h = let row = key_row info key h in record { whole = row.whole; shallow = row_shallow (members_of (key_names info) key.cells) row }

@@ -1,6 +1,7 @@
 mod Wholes
 mod Notices
 mod Lines
+mod SnapshotLines
 mod Topics
 mod Acts
 mod Held

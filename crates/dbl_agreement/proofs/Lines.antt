@@ -39,11 +39,11 @@ use Rattle.dbl_agreement.proofs.Notices.{KeyFits, CellFits, ContentFits, NoticeF
 pub key_row : (info : TableInfo) (key : Key) → AllFit key.cells → IsRow (members_of (key_names info) key.cells)
 key_row info key h = row_of_values (key_names info) key.cells h
 
-abbrev key_or_null : TableInfo → Option Key → Data
+abbrev pub key_or_null : TableInfo → Option Key → Data
 key_or_null info None = null
 key_or_null info (Some key) = key_data info key
 
-key_is : (info : TableInfo) (key : Option Key) → KeyFits key → IsTextOf 126 (text_or_null (option_map (key_text info) key)) (key_or_null info key)
+pub key_is : (info : TableInfo) (key : Option Key) → KeyFits key → IsTextOf 126 (text_or_null (option_map (key_text info) key)) (key_or_null info key)
 key_is info None h = record { compact = refl; whole = tt; shallow = omega arith }
 key_is info (Some key) h = let row = key_row info key h in record { compact = refl; whole = row.whole; shallow = omega (arith, row_shallow (members_of (key_names info) key.cells) row) }
 
@@ -69,6 +69,9 @@ pub old_part : (info : TableInfo) (old : Option Row) → IfSome old (λ row. All
 old_part info None h = record { whole = tt; shallow = omega arith }
 old_part info (Some row) h = row_part info row.cells h
 
+pub key_part : (info : TableInfo) (key : Key) → AllFit key.cells → IsPart (key_data info key)
+key_part info key h = let row = key_row info key h in record { whole = row.whole; shallow = row_shallow (members_of (key_names info) key.cells) row }
+
 pub null_part : IsPart null
 null_part = record { whole = tt; shallow = omega arith }
 
@@ -83,8 +86,8 @@ module _ (identity : Identity) (commit : Commit) (now : ℤ) (range : IsCommitIn
       → IsTextOf 126 (compact_text (event_data (source_of info) now before op after)) (event_data (source_of info) now before op after)
   event_is info before after op b a = record {
     compact = refl;
-    whole = event_whole identity info.name commit now before after op range moment b.whole a.whole;
-    shallow = event_shallow identity info.name commit now before after op b.shallow a.shallow;
+    whole = event_whole (codes "false") identity info.name commit now before after op range moment b.whole a.whole;
+    shallow = event_shallow (codes "false") identity info.name commit now before after op b.shallow a.shallow;
   }
 
   value_is : (info : TableInfo) (content : Content) → ContentFits content

@@ -18,11 +18,14 @@ use Rattle.dbl_record.specs.declared.acts.ConsumeError.{ConsumeError}
 use Rattle.dbl_record.specs.Whole.{IsInteger, IsWhole, ItemsAreWhole, IsBelow, MembersAreWhole}
 use Rattle.dbl_record.specs.Acts.{cell_error, or_later, first_error, unwrapped}
 use Rattle.dbl_model.specs.declared.identity.Identity.{Identity}
+use Rattle.dbl_model.specs.declared.row.Key.{Key}
 use Rattle.dbl_model.specs.declared.table.TableName.{TableName}
+use Rattle.dbl_model.specs.declared.table.TableInfo.{TableInfo}
 use Rattle.dbl_model.specs.declared.change.Commit.{Commit}
 use Rattle.dbl_model.specs.Ranges.{IsValueInRange, AreValuesInRange, IsCommitInRange, IsMomentInRange}
 use Rattle.dbl_model.specs.Image.{members_of}
 use Rattle.dbl_model.specs.EventJson.{milliseconds_of, source_data, event_data}
+use Rattle.dbl_model.specs.Snapshots.{last_data, progress_key, progress_data}
 use Rattle.dbl_model.proofs.ImageLemmas.{put_whole}
 
 -- members that are whole, none of them an array, an object or a float
@@ -193,29 +196,45 @@ milliseconds_fit (negsuc n) h = step (ltb 946684800000000 (suc n))
     step true = let fits = h.sfits in omega (arith, div-le_self (suc n - suc 946684800000000) 1000, fits)
     step false = omega (arith, div-le_self (946684800000000 - suc n) 1000)
 
-source_whole : (identity : Identity) (table : TableName) (commit : Commit) → IsCommitInRange commit → IsWhole (source_data identity table commit (codes "false"))
+source_whole : (snapshot : List ℕ) (identity : Identity) (table : TableName) (commit : Commit) → IsCommitInRange commit → IsWhole (source_data identity table commit snapshot)
 unfolding source_data
-source_whole identity table commit h =
+source_whole snapshot identity table commit h =
     let low : commit.xid < 2 ^ 64 = let fits = h.xid in omega arith in
-    let each : EachWhole (members_in (source_data identity table commit (codes "false"))) = (tt, (tt, (h.lsn, (tt, (tt, (tt, (tt, (milliseconds_fit commit.time h.time, (low, (tt, (tt, tt))))))))))) in
-    whole_members (members_in (source_data identity table commit (codes "false"))) refl each
+    let each : EachWhole (members_in (source_data identity table commit snapshot)) = (tt, (tt, (h.lsn, (tt, (tt, (tt, (tt, (milliseconds_fit commit.time h.time, (low, (tt, (tt, tt))))))))))) in
+    whole_members (members_in (source_data identity table commit snapshot)) refl each
 
-source_shallow : (identity : Identity) (table : TableName) (commit : Commit) → depth (source_data identity table commit (codes "false")) ≡ 1
+source_shallow : (snapshot : List ℕ) (identity : Identity) (table : TableName) (commit : Commit) → depth (source_data identity table commit snapshot) ≡ 1
 unfolding source_data
-source_shallow identity table commit = refl
+source_shallow snapshot identity table commit = refl
 
-pub event_whole : (identity : Identity) (table : TableName) (commit : Commit) (now : ℤ) (before after : Data) (op : List ℕ) → IsCommitInRange commit → IsMomentInRange now → IsWhole before → IsWhole after
-    → IsWhole (event_data (source_data identity table commit (codes "false")) now before op after)
+pub event_whole : (snapshot : List ℕ) (identity : Identity) (table : TableName) (commit : Commit) (now : ℤ) (before after : Data) (op : List ℕ) → IsCommitInRange commit → IsMomentInRange now → IsWhole before → IsWhole after
+    → IsWhole (event_data (source_data identity table commit snapshot) now before op after)
 unfolding event_data
-event_whole identity table commit now before after op h moment b a =
-    let source = source_data identity table commit (codes "false") in
-    let each : EachWhole (members_in (event_data source now before op after)) = (a, (b, (tt, (source_whole identity table commit h, (tt, (integer_whole now moment, tt)))))) in
+event_whole snapshot identity table commit now before after op h moment b a =
+    let source = source_data identity table commit snapshot in
+    let each : EachWhole (members_in (event_data source now before op after)) = (a, (b, (tt, (source_whole snapshot identity table commit h, (tt, (integer_whole now moment, tt)))))) in
     whole_members (members_in (event_data source now before op after)) refl each
 
-pub event_shallow : (identity : Identity) (table : TableName) (commit : Commit) (now : ℤ) (before after : Data) (op : List ℕ) → depth before ≤ 1 → depth after ≤ 1
-    → depth (event_data (source_data identity table commit (codes "false")) now before op after) ≤ 126
+pub event_shallow : (snapshot : List ℕ) (identity : Identity) (table : TableName) (commit : Commit) (now : ℤ) (before after : Data) (op : List ℕ) → depth before ≤ 1 → depth after ≤ 1
+    → depth (event_data (source_data identity table commit snapshot) now before op after) ≤ 126
 unfolding event_data
-event_shallow identity table commit now before after op b a = rw (source_shallow identity table commit) (omega arith)
+event_shallow snapshot identity table commit now before after op b a = rw (source_shallow snapshot identity table commit) (omega arith)
+
+-- ---- how far a snapshot has come
+
+pub progress_whole : (info : TableInfo) (through : Option Key) (done : Bool) → IsWhole (last_data info through) → IsWhole (progress_data info through done)
+unfolding progress_data
+progress_whole info through done last = let each : EachWhole (members_in (progress_data info through done)) = (tt, (last, (tt, tt))) in whole_members (members_in (progress_data info through done)) refl each
+
+pub progress_shallow : (info : TableInfo) (through : Option Key) (done : Bool) → depth (last_data info through) ≤ 1 → depth (progress_data info through done) ≤ 126
+unfolding progress_data
+progress_shallow info through done last = omega arith
+
+pub progress_key_whole : (info : TableInfo) → IsWhole (progress_key info)
+progress_key_whole info = (tt, tt, tt)
+
+pub progress_key_shallow : (info : TableInfo) → depth (progress_key info) ≤ 126
+progress_key_shallow info = omega arith
 
 -- ---- flat rows
 

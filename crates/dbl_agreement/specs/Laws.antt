@@ -1,5 +1,5 @@
 -- What the records of a source's changes come to: their lines are read back, and a consumer of them holds the source's rows.
-use Rattle.std.specs.Prelude.{◌≡◌, ◌≢◌, ℕ, ℤ, Option, Some, None, option_map, List, length, map, flat_map}
+use Rattle.std.specs.Prelude.{◌≡◌, ◌≢◌, ℕ, ℤ, ◌<◌, ◌^◌, Option, Some, None, IfSome, option_map, List, length, map, flat_map}
 use Rattle.std.specs.List.{AllByRecursion}
 use Rattle.serde_json.specs.Data.{string}
 use Rattle.dbl_value.specs.declared.value.Val.{Val}
@@ -18,13 +18,15 @@ use Rattle.dbl_model.specs.declared.change.Cell.TheVariants.{Given, Unchanged}
 use Rattle.dbl_model.specs.declared.change.Change.{Change}
 use Rattle.dbl_model.specs.declared.change.Change.TheVariants.{Insert, Update, Delete, Clear}
 use Rattle.dbl_model.specs.declared.change.Commit.{Commit}
+use Rattle.dbl_model.specs.declared.closed.Closed.{Closed}
 use Rattle.dbl_model.specs.Rows.{Rows, rows, all_changes}
 use Rattle.dbl_model.specs.History.{History}
 use Rattle.dbl_model.specs.Typed.{typed}
-use Rattle.dbl_model.specs.Ranges.{IsCommitInRange, IsMomentInRange}
+use Rattle.dbl_model.specs.Ranges.{AreValuesInRange, IsCommitInRange, IsMomentInRange}
 use Rattle.dbl_model.specs.Fit.{AreInfosOf, IsFitHistory}
 use Rattle.dbl_model.specs.Image.{Names, IsImage}
 use Rattle.dbl_model.specs.EventJson.{envelopes}
+use Rattle.dbl_model.specs.Snapshots.{snapshot}
 
 -- the line of the record is read as its topic, key and value, and as nothing else
 pub record IsReadBack (item : Record) : Type 0 where
@@ -34,6 +36,17 @@ pub record IsReadBack (item : Record) : Type 0 where
 -- the records of a commit are read back from their lines
 abbrev pub LinesAreRead : Type 0
 LinesAreRead = (identity : Identity) (infos : List TableInfo) (commit : Commit) (now : ℤ) → IsCommitInRange commit → IsMomentInRange now → AllByRecursion IsReadBack (envelopes identity infos commit now)
+
+-- The values of a window's rows and keys are in range, and so is the number of its rows, which is that of a map.
+pub record IsWindowInRange (closed : Closed) : Type 0 where
+  pub rows : AllByRecursion (λ e. AreValuesInRange e.0.cells × AreValuesInRange e.1.cells) closed.rows
+  pub few : length closed.rows < 2 ^ 63
+  pub through : IfSome closed.through (λ key. AreValuesInRange key.cells)
+
+-- so are those of a closed window of a snapshot
+abbrev pub SnapshotLinesAreRead : Type 0
+SnapshotLinesAreRead = (identity : Identity) (infos : List TableInfo) (closed : Closed) (commit : Commit) (now : ℤ) → IsWindowInRange closed → IsCommitInRange commit → IsMomentInRange now
+    → AllByRecursion IsReadBack (snapshot identity infos closed commit now)
 
 -- the value isn't printed as the placeholder, which would tell a consumer that it wasn't sent
 abbrev pub IsNotPlaceholder : List ℕ → Val → Type 0

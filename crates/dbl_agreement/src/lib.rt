@@ -3,4 +3,7 @@
 
 mod laws;
 
-pub use laws::{consumers_hold_images, consumers_hold_no_other_rows, images_stand, lines_are_read};
+pub use laws::{
+    consumers_hold_images, consumers_hold_no_other_rows, images_stand, lines_are_read,
+    snapshot_lines_are_read,
+};

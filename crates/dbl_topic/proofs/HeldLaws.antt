@@ -1,0 +1,56 @@
+-- What a topic log on a disk holds, and what a stop leaves of it.
+use Rattle.std.proofs.Common.{◌≡◌, ◌⊎◌, ℕ, ◌≤◌, List, [], ◌∷◌, ◌++◌, length, Option, refl, sym, ap, subst, ◌∙◌, arith, inl, inr}
+use Rattle.std.proofs.lemmas.List.{take_all}
+use Rattle.dbl_record.specs.declared.record.Record.{Record}
+use Rattle.dbl_journal.specs.Stored.{LeavesEntries, OnDisk, count_of}
+use Rattle.dbl_journal.proofs.Appends.{length-places}
+use Rattle.dbl_journal.specs.declared.error.JournalError.{JournalError}
+use Rattle.dbl_journal.specs.declared.error.JournalError.TheVariants as journal
+use Rattle.dbl_topic.specs.declared.error.SinkError.TheVariants as sink
+use Rattle.dbl_topic.specs.Faults.{sink_fault}
+use Rattle.dbl_topic.specs.Held.{HoldsGroups, LeavesGroups, MayLeaveGroups}
+use Rattle.dbl_topic.specs.SinkLaws.{log_of, one_log}
+use Rattle.dbl_topic.specs.Logs.{AreLogEntries, IsLog, IsLogEntry}
+use Rattle.dbl_topic.specs.Sinks.{IsLeftByPut, IsLeftByWhole}
+use Rattle.dbl_topic.proofs.LogLaws.{entries-push, length-entries}
+
+module _ {D : Type 0} (seen : D → Option (List ℕ)) (may_leave : D → List ℕ → Type 0) where
+  pub one_held : (log : OnDisk D) (first second : List (List Record)) → HoldsGroups seen may_leave log first → HoldsGroups seen may_leave log second → first ≡ second
+  one_held log first second a b =
+      let told = sym a.lists.told ∙ b.lists.told in
+      let same : a.lists.bytes ≡ b.lists.bytes = cc in
+      one_log b.lists.bytes first second (subst (λ (i : List ℕ). IsLog i first) same (log_of seen may_leave log first a)) (log_of seen may_leave log second b)
+
+  pub counted_held : (log : OnDisk D) (groups : List (List Record)) → HoldsGroups seen may_leave log groups → count_of log ≡ length groups
+  counted_held log groups held = ap length held.lists.places ∙ length-places held.entries 8 ∙ length-entries held.entries groups held.are
+
+  -- what a journal leaves while the entry of a group is appended
+  pub leaves_put : (disk : D) (entries : List (List ℕ)) (groups : List (List Record)) (entry : List ℕ) (group : List Record) → AreLogEntries entries groups → IsLogEntry entry group
+      → LeavesEntries may_leave disk (λ left. (left ≡ entries) ⊎ (left ≡ entries ++ entry ∷ [])) → LeavesGroups may_leave disk (IsLeftByWhole groups group)
+  leaves_put disk entries groups entry group are is leaves image may =
+      let here = leaves image may in
+      elim here.2 [
+        | inl e ↦ (groups, record { entries = here.0; journal = here.1; are = subst (λ (es : List (List ℕ)). AreLogEntries es groups) (sym e) are }, inl refl)
+        | inr e ↦ (groups ++ group ∷ [], record { entries = here.0; journal = here.1; are = subst (λ (es : List (List ℕ)). AreLogEntries es (groups ++ group ∷ [])) (sym e) (entries-push entries groups entry group are is) }, inr refl)
+      ]
+
+-- all of a group is some first records of it
+pub part_of_whole : (groups : List (List Record)) (group : List Record) (left : List (List Record)) → 1 ≤ length group → IsLeftByWhole groups group left → IsLeftByPut groups group left
+part_of_whole groups group left some (inl e) = inl e
+part_of_whole groups group left some (inr e) = inr (length group, some, omega arith, e ∙ ap (λ (g : List Record). groups ++ g ∷ []) (sym (take_all (length group) group (omega arith))))
+
+module _ {D : Type 0} (may_leave : D → List ℕ → Type 0) (disk : D) (groups : List (List Record)) (group : List Record) where
+  pub left_by_put : (left : List (List Record)) → 1 ≤ length group → LeavesGroups may_leave disk (IsLeftByWhole groups group) → MayLeaveGroups may_leave disk left → IsLeftByPut groups group left
+  left_by_put left some leaves may =
+      let here = leaves may.0 may.1 in
+      part_of_whole groups group left some (subst (λ (x : List (List Record)). IsLeftByWhole groups group x) (one_log may.0 here.0 left here.1 may.2) here.2)
+
+  pub leaves_any : LeavesGroups may_leave disk (IsLeftByWhole groups group) → LeavesGroups may_leave disk (λ left. Unit {0})
+  leaves_any leaves image may = let here = leaves image may in (here.0, here.1, tt)
+
+-- a sink's fault that a group is too long is the journal's
+pub too_long_of : (fault : JournalError) (len : ℕ) → sink_fault fault ≡ sink.TooLong len → fault ≡ journal.EntryTooLong len
+too_long_of journal.Failed len e = absurd cc
+too_long_of (journal.NotAJournal at) len e = absurd cc
+too_long_of (journal.EntryTooLong l) len e = cc
+too_long_of journal.Memory len e = absurd cc

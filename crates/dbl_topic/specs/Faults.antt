@@ -1,0 +1,21 @@
+-- Faults of sinks and of topic logs.
+use Rattle.dbl_journal.specs.declared.error.JournalError.{JournalError}
+use Rattle.dbl_journal.specs.declared.error.JournalError.TheVariants as journal
+use Rattle.dbl_topic.specs.declared.error.SinkError.{SinkError}
+use Rattle.dbl_topic.specs.declared.error.SinkError.TheVariants as sink
+use Rattle.dbl_topic.specs.declared.error.TopicError.{TopicError}
+use Rattle.dbl_topic.specs.declared.error.TopicError.TheVariants.{Journal, Memory}
+
+-- a fault of the journal, as one of the log: want of memory stays what it is
+abbrev pub topic_fault : JournalError → TopicError
+topic_fault journal.Memory = Memory
+topic_fault journal.Failed = Journal journal.Failed
+topic_fault (journal.NotAJournal at) = Journal (journal.NotAJournal at)
+topic_fault (journal.EntryTooLong len) = Journal (journal.EntryTooLong len)
+
+-- a fault of a journal to which a group is appended, as one of a sink; that it is no journal never comes there
+abbrev pub sink_fault : JournalError → SinkError
+sink_fault journal.Failed = sink.Failed
+sink_fault (journal.NotAJournal at) = sink.Failed
+sink_fault (journal.EntryTooLong len) = sink.TooLong len
+sink_fault journal.Memory = sink.Memory

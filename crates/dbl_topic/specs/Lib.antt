@@ -1,0 +1,6 @@
+pub mod Logs
+pub mod Sinks
+pub mod Memory
+pub mod Held
+pub mod Faults
+pub mod SinkLaws

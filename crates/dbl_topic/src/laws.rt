@@ -1,0 +1,30 @@
+//! Laws of topic logs. The functions do nothing: their contracts are the laws.
+
+ghost use Rattle.std.specs.Prelude.{◌≡◌, ◌⊎◌, ◌++◌, ◌∷◌, [], ℕ, List, length};
+ghost use Rattle.dbl_journal.specs.Form.{IsFaultAt};
+ghost use Rattle.dbl_journal.specs.Stored.{OnDisk, count_of};
+ghost use Rattle.dbl_record.specs.declared.record.Record.{Record};
+ghost use Rattle.dbl_topic.specs.Held.{HoldsGroups};
+ghost use Rattle.dbl_topic.specs.Logs.{HasBadEntry, HoldRecords, IsLog};
+
+use dbl_disk::Disk;
+
+/// Bytes are a topic log of one list of groups at most, and hold one list of records at most.
+pub fn logs_are_read_once()
+    ensures groups { (bytes : List ℕ) (first second : List (List Record)) → IsLog bytes first → IsLog bytes second → first ≡ second }
+    ensures records { (bytes : List ℕ) (first second : List Record) → HoldRecords bytes first → HoldRecords bytes second → first ≡ second }
+{}
+
+/// Bytes never are a topic log and have a bad entry, or are no journal. They have one first bad entry at most.
+pub fn logs_or_faults()
+    ensures not_bad { (bytes : List ℕ) (groups : List (List Record)) (index : ℕ) → IsLog bytes groups → ¬ HasBadEntry bytes index }
+    ensures not_faulty { (bytes : List ℕ) (groups : List (List Record)) (at : ℕ) → IsLog bytes groups → ¬ IsFaultAt bytes at }
+    ensures one_cause { (bytes : List ℕ) (index at : ℕ) → HasBadEntry bytes index → ¬ IsFaultAt bytes at }
+    ensures one_entry { (bytes : List ℕ) (first second : ℕ) → HasBadEntry bytes first → HasBadEntry bytes second → first ≡ second }
+{}
+
+/// A topic log holds one list of groups at most, of which it has the count.
+pub fn held_groups_are_one<D: Disk>()
+    ensures one { (log : OnDisk D) (first second : List (List Record)) → HoldsGroups D.seen D.may_leave log first → HoldsGroups D.seen D.may_leave log second → first ≡ second }
+    ensures counted { (log : OnDisk D) (groups : List (List Record)) → HoldsGroups D.seen D.may_leave log groups → count_of log ≡ length groups }
+{}

@@ -1,0 +1,248 @@
+ghost use Rattle.std.specs.Prelude.{◌≡◌, ◌≢◌, ◌⊎◌, ◌↔◌, ℕ, ◌+◌, ◌^◌, ◌<◌, ◌≤◌, ◌++◌, List, [], ◌∷◌, length, take, false, Some, IsTrue, IfOk, IfErr, OnOk, OnErr, MatchResult, slice_get};
+ghost use Rattle.dbl_base.specs.Streams.{Rose};
+ghost use Rattle.dbl_disk.specs.Disks.{Follows, Torn};
+ghost use Rattle.dbl_journal.specs.Form.{IsFaultAt, IsJournal};
+ghost use Rattle.dbl_journal.specs.Stored.{Lists, count_of};
+ghost use Rattle.dbl_record.specs.declared.record.Record.{Record};
+ghost use Rattle.dbl_record.specs.Cuts.{IsHandful};
+ghost use Rattle.dbl_record.specs.Groups.{group_form};
+ghost use Rattle.dbl_topic.specs.Held.{HoldsGroups, LeavesGroups, MayLeaveGroups};
+ghost use Rattle.dbl_topic.specs.Logs.{AreLogEntries, HasBadEntry, IsLog, IsLogEntry};
+ghost use Rattle.dbl_topic.specs.Sinks.{IsLeftByPut, IsLeftByWhole, told_length};
+
+use crate::{GROUP_LIMIT, Sink, SinkError, TopicError};
+use dbl_disk::{Disk, Refused};
+use dbl_journal::{Journal, JournalError};
+use dbl_record::{Record, RecordError, group_length, read_group, write_group};
+use std::alloc::Global;
+use std::marker::Model;
+
+/// A topic log has at most so many records in an entry.
+const MOST_RECORDS: usize = 1000;
+
+/// A log of records on a disk: a journal with an entry for each group. A stop while a group is put leaves all of the group or
+/// nothing of it.
+#[derive(Drop)]
+pub struct TopicLog<D: Disk> {
+    alloc: Global,
+    journal: Journal<D>,
+}
+
+impl<D: Disk> Model for TopicLog<D> {
+    ghost use Rattle.dbl_journal.specs.Stored.{OnDisk};
+
+    ghost Value = { OnDisk D };
+
+    ghost view = { λ l. l.journal };
+}
+
+// The group of an entry with this number.
+fn group_of(alloc: Global, entry: &[u8], number: u64) -> Result<Vec<Record>, TopicError>
+    ensures read { IfOk result (λ group. IsLogEntry entry.now group.items) }
+    ensures errors { IfErr result (λ error. (error ≡ TopicError.Memory) ⊎ (error ≡ TopicError.BadEntry number)) }
+    ensures bad { (index : ℕ) → result ≡ Err (TopicError.BadEntry index) → (group : List Record) → ¬ IsLogEntry entry.now group }
+{
+    match read_group(alloc, entry) {
+        Ok(group) => if !group.is_empty() && group.len() <= MOST_RECORDS {
+            Ok(group)
+        } else {
+            Err(TopicError::BadEntry { index: number })
+        },
+        Err(RecordError::Memory) => Err(TopicError::Memory),
+        Err(RecordError::BadRecord { .. }) => Err(TopicError::BadEntry { index: number }),
+    }
+}
+
+// Reads an entry of the journal as a group.
+fn read_entry<D: Disk>(
+    alloc: Global,
+    journal: &mut Journal<D>,
+    number: u64,
+) -> Result<Vec<Record>, TopicError>
+    requires live { IsTrue journal.old.live }
+    requires within { number < count_of journal.old }
+    ensures read { (entries : List (List ℕ)) → Lists D.seen D.may_leave journal.old entries → IfOk result (λ group. (entry : List ℕ) × (slice_get entries number ≡ Some entry) × IsLogEntry entry group.items) }
+    ensures bad { (entries : List (List ℕ)) (index : ℕ) → Lists D.seen D.may_leave journal.old entries → result ≡ Err (TopicError.BadEntry index) →
+        (index ≡ number) × (entry : List ℕ) × (slice_get entries number ≡ Some entry) × ((group : List Record) → ¬ IsLogEntry entry group) }
+    ensures few { IfOk result (λ group. (1 ≤ length group.items) × (length group.items ≤ 1000)) }
+    ensures errors { IfErr result (λ error. (error ≡ TopicError.Memory) ⊎ ((error ≡ TopicError.BadEntry number) ⊎ (error ≡ TopicError.Journal JournalError.Failed))) }
+    ensures lists { (entries : List (List ℕ)) → Lists D.seen D.may_leave journal.old entries → Lists D.seen D.may_leave journal.new entries }
+    ensures same { journal.new ≡ record journal.old { disk = journal.new.disk } }
+    ensures seen { D.seen journal.new.disk ≡ D.seen journal.old.disk }
+    ensures images { (image : List ℕ) → D.may_leave journal.new.disk image ↔ D.may_leave journal.old.disk image }
+    ensures failed { result ≡ Err (TopicError.Journal JournalError.Failed) → Rose (D.faults journal.old.disk) (D.faults journal.new.disk) }
+    ensures later { D.faults journal.old.disk ≤ D.faults journal.new.disk }
+{
+    let entry = journal.entry(alloc, number)?;
+    group_of(alloc, entry.items(), number)
+}
+
+// Reads each entry once.
+fn check_entries<D: Disk>(alloc: Global, journal: &mut Journal<D>) -> Result<(), TopicError>
+    requires { IsTrue journal.old.live }
+    ensures good { (entries : List (List ℕ)) → Lists D.seen D.may_leave journal.old entries → OnOk result ((groups : List (List Record)) × AreLogEntries entries groups) }
+    ensures bad { (entries : List (List ℕ)) (index : ℕ) → Lists D.seen D.may_leave journal.old entries → result ≡ Err (TopicError.BadEntry index) →
+        (before : List (List Record)) × (entry : List ℕ) × AreLogEntries (take index entries) before × (slice_get entries index ≡ Some entry) × ((group : List Record) → ¬ IsLogEntry entry group) }
+    ensures journal { (fault : JournalError) → result ≡ Err (TopicError.Journal fault) → fault ≡ JournalError.Failed }
+    ensures lists { (entries : List (List ℕ)) → Lists D.seen D.may_leave journal.old entries → Lists D.seen D.may_leave journal.new entries }
+    ensures live { journal.new.live ≡ journal.old.live }
+    ensures seen { D.seen journal.new.disk ≡ D.seen journal.old.disk }
+    ensures images { (image : List ℕ) → D.may_leave journal.new.disk image → D.may_leave journal.old.disk image }
+    ensures failed { result ≡ Err (TopicError.Journal JournalError.Failed) → Rose (D.faults journal.old.disk) (D.faults journal.new.disk) }
+    ensures later { D.faults journal.old.disk ≤ D.faults journal.new.disk }
+{
+    'entries: for number in 0..journal.count() {
+        let _group = read_entry(alloc, journal, number)?;
+    }
+    Ok(())
+}
+
+impl<D: Disk> TopicLog<D> {
+    /// An empty topic log on an empty disk: a write and a sync. The allocator is for later calls, and no memory is taken now.
+    pub fn make(alloc: Global, disk: D) -> Result<TopicLog<D>, Refused<D, TopicError>>
+        requires { (bytes : List ℕ) → D.seen disk ≡ Some bytes → bytes ≡ [] }
+        ensures made { D.seen disk ≡ Some [] → IfOk result (λ log. HoldsGroups D.seen D.may_leave log []) }
+        ensures live { IfOk result (λ log. IsTrue log.live) }
+        ensures count { IfOk result (λ log. count_of log ≡ 0) }
+        ensures refused { IfErr result (λ refused. refused.error ≡ TopicError.Journal JournalError.Failed) }
+        ensures failed { IfErr result (λ refused. Rose (D.faults disk) (D.faults refused.disk)) }
+        ensures left { IfErr result (λ refused. Follows (Torn 0 9) (D.may_leave disk) (D.may_leave refused.disk)) }
+        ensures later { MatchResult result (λ log. D.faults disk ≤ D.faults log.disk) (λ refused. D.faults disk ≤ D.faults refused.disk) }
+    {
+        match Journal::make(alloc, disk) {
+            Ok(journal) => Ok(TopicLog { alloc, journal }),
+            Err(Refused { disk, error }) => Err(Refused {
+                disk,
+                error: TopicError::from(error),
+            }),
+        }
+    }
+
+    /// The topic log on the disk, as a stop may have left it: the journal is opened, and each entry is read once.
+    pub fn open(alloc: Global, disk: D) -> Result<TopicLog<D>, Refused<D, TopicError>>
+        ensures opened { (bytes : List ℕ) → D.seen disk ≡ Some bytes → IfOk result (λ log. (groups : List (List Record)) × IsLog bytes groups × HoldsGroups D.seen D.may_leave log groups) }
+        ensures bad { (bytes : List ℕ) → D.seen disk ≡ Some bytes → IfErr result (λ refused. (index : ℕ) → refused.error ≡ TopicError.BadEntry index → HasBadEntry bytes index) }
+        ensures refused { (bytes : List ℕ) → D.seen disk ≡ Some bytes → IfErr result (λ refused. (at : ℕ) → refused.error ≡ TopicError.Journal (JournalError.NotAJournal at) → IsFaultAt bytes at) }
+        ensures live { IfOk result (λ log. IsTrue log.live) }
+        ensures journal { IfErr result (λ refused. (fault : JournalError) → refused.error ≡ TopicError.Journal fault → (fault ≡ JournalError.Failed) ⊎ ((at : ℕ) × (fault ≡ JournalError.NotAJournal at))) }
+        ensures failed { IfErr result (λ refused. refused.error ≡ TopicError.Journal JournalError.Failed → Rose (D.faults disk) (D.faults refused.disk)) }
+        ensures seen { MatchResult result (λ log. D.seen log.disk ≡ D.seen disk) (λ refused. D.seen refused.disk ≡ D.seen disk) }
+        ensures images { (image : List ℕ) → MatchResult result (λ log. D.may_leave log.disk image → D.may_leave disk image) (λ refused. D.may_leave refused.disk image → D.may_leave disk image) }
+        ensures later { MatchResult result (λ log. D.faults disk ≤ D.faults log.disk) (λ refused. D.faults disk ≤ D.faults refused.disk) }
+    {
+        match Journal::open(alloc, disk) {
+            Ok(journal) => checked(alloc, journal),
+            Err(Refused { disk, error }) => Err(Refused {
+                disk,
+                error: TopicError::from(error),
+            }),
+        }
+    }
+
+    /// The group with this number, counted from 0. Its entry alone is read. The log stays live.
+    pub fn group(&mut self, number: u64) -> Result<Vec<Record>, TopicError>
+        requires live { IsTrue self.old.live }
+        requires within { number < count_of self.old }
+        ensures found { (groups : List (List Record)) → HoldsGroups D.seen D.may_leave self.old groups → IfOk result (λ group. slice_get groups number ≡ Some group.items) }
+        ensures few { IfOk result (λ group. (1 ≤ length group.items) × (length group.items ≤ 1000)) }
+        ensures good { (groups : List (List Record)) (index : ℕ) → HoldsGroups D.seen D.may_leave self.old groups → result ≢ Err (TopicError.BadEntry index) }
+        ensures errors { IfErr result (λ error. (error ≡ TopicError.Memory) ⊎ ((error ≡ TopicError.BadEntry number) ⊎ (error ≡ TopicError.Journal JournalError.Failed))) }
+        ensures holds { (groups : List (List Record)) → HoldsGroups D.seen D.may_leave self.old groups → HoldsGroups D.seen D.may_leave self.new groups }
+        ensures same { self.new ≡ record self.old { disk = self.new.disk } }
+        ensures seen { D.seen self.new.disk ≡ D.seen self.old.disk }
+        ensures images { (image : List ℕ) → D.may_leave self.new.disk image ↔ D.may_leave self.old.disk image }
+        ensures failed { result ≡ Err (TopicError.Journal JournalError.Failed) → Rose (D.faults self.old.disk) (D.faults self.new.disk) }
+        ensures later { D.faults self.old.disk ≤ D.faults self.new.disk }
+    {
+        read_entry(self.alloc, &mut self.journal, number)
+    }
+
+    /// The number of groups. Takes no memory.
+    pub fn groups(&self) -> u64
+        requires { IsTrue self.now.live }
+        ensures { result ≡ count_of self.now }
+    {
+        self.journal.count()
+    }
+
+    /// The disk, as it stands. Takes no memory and makes no call of the disk.
+    pub fn into_disk(self) -> D
+        ensures { result ≡ self.disk }
+    {
+        let TopicLog { alloc: _, journal } = self;
+        journal.into_disk()
+    }
+}
+
+// The topic log over a journal whose entries are groups.
+fn checked<D: Disk>(
+    alloc: Global,
+    mut journal: Journal<D>,
+) -> Result<TopicLog<D>, Refused<D, TopicError>>
+    requires { IsTrue journal.live }
+    ensures good { (entries : List (List ℕ)) → Lists D.seen D.may_leave journal entries → IfOk result (λ log. (groups : List (List Record)) × AreLogEntries entries groups × HoldsGroups D.seen D.may_leave log groups) }
+    ensures bad { (entries : List (List ℕ)) → Lists D.seen D.may_leave journal entries → IfErr result (λ refused. (index : ℕ) → refused.error ≡ TopicError.BadEntry index →
+        (before : List (List Record)) × (entry : List ℕ) × AreLogEntries (take index entries) before × (slice_get entries index ≡ Some entry) × ((group : List Record) → ¬ IsLogEntry entry group)) }
+    ensures journal { IfErr result (λ refused. (fault : JournalError) → refused.error ≡ TopicError.Journal fault → fault ≡ JournalError.Failed) }
+    ensures live { IfOk result (λ log. IsTrue log.live) }
+    ensures seen { MatchResult result (λ log. D.seen log.disk ≡ D.seen journal.disk) (λ refused. D.seen refused.disk ≡ D.seen journal.disk) }
+    ensures images { (image : List ℕ) → MatchResult result (λ log. D.may_leave log.disk image → D.may_leave journal.disk image) (λ refused. D.may_leave refused.disk image → D.may_leave journal.disk image) }
+    ensures failed { IfErr result (λ refused. refused.error ≡ TopicError.Journal JournalError.Failed → Rose (D.faults journal.disk) (D.faults refused.disk)) }
+    ensures later { MatchResult result (λ log. D.faults journal.disk ≤ D.faults log.disk) (λ refused. D.faults journal.disk ≤ D.faults refused.disk) }
+{
+    match check_entries(alloc, &mut journal) {
+        Ok(()) => Ok(TopicLog { alloc, journal }),
+        Err(error) => Err(Refused {
+            disk: journal.into_disk(),
+            error,
+        }),
+    }
+}
+
+impl<D: Disk> Sink for TopicLog<D> {
+    ghost use Rattle.dbl_topic.specs.Held.{HoldsGroups, LeavesGroups, MayLeaveGroups};
+    ghost use Rattle.dbl_topic.specs.SinkLaws.{leaves_held, may_leave_held, only_held};
+
+    ghost holds = { λ log groups. HoldsGroups D.seen D.may_leave log groups };
+
+    ghost may_leave = { λ log groups. MayLeaveGroups D.may_leave log.disk groups };
+
+    ghost leaves_groups = { λ log. LeavesGroups D.may_leave log.disk (λ groups. Unit {0}) };
+
+    ghost is_live = { λ log. log.live };
+
+    ghost faults = { λ log. D.faults log.disk };
+
+    ghost only = { λ log groups left held may. only_held D.seen D.may_leave log groups left held may };
+
+    ghost may = { λ log groups held. may_leave_held D.seen D.may_leave D.seen_is_image log groups held };
+
+    ghost whole = { λ log groups held. leaves_held D.seen D.may_leave log groups held };
+
+    fn put(&mut self, group: &Vec<Record>) -> Result<(), SinkError>
+        requires live { IsTrue self.old.live }
+        requires handful { IsHandful group.now.items }
+        ensures added { (groups : List (List Record)) → HoldsGroups D.seen D.may_leave self.old groups → OnOk result (HoldsGroups D.seen D.may_leave self.new (groups ++ group.now.items ∷ [])) }
+        ensures kept { (groups : List (List Record)) → HoldsGroups D.seen D.may_leave self.old groups → OnErr result (result ≢ Err SinkError.Failed → HoldsGroups D.seen D.may_leave self.new groups) }
+        ensures left { (groups left : List (List Record)) → HoldsGroups D.seen D.may_leave self.old groups → MayLeaveGroups D.may_leave self.new.disk left → IsLeftByPut groups group.now.items left }
+        ensures whole { (groups : List (List Record)) → HoldsGroups D.seen D.may_leave self.old groups → LeavesGroups D.may_leave self.new.disk (λ left. Unit {0}) }
+        ensures live { result ≢ Err SinkError.Failed → IsTrue self.new.live }
+        ensures dead { result ≡ Err SinkError.Failed → self.new.live ≡ false }
+        ensures too_long { (len : ℕ) → (result ≡ Err (SinkError.TooLong len)) ↔ ((2 ^ 28 < length (group_form group.now.items)) × (len ≡ told_length group.now.items)) }
+        ensures failed { result ≡ Err SinkError.Failed → Rose (D.faults self.old.disk) (D.faults self.new.disk) }
+        ensures later { D.faults self.old.disk ≤ D.faults self.new.disk }
+
+        // A put is all or nothing.
+        ensures one_of { (groups : List (List Record)) → HoldsGroups D.seen D.may_leave self.old groups → LeavesGroups D.may_leave self.new.disk (IsLeftByWhole groups group.now.items) }
+        ensures count { OnOk result (count_of self.new ≡ count_of self.old + 1) }
+        ensures unchanged { OnErr result (result ≢ Err SinkError.Failed → self.new ≡ self.old) }
+    {
+        let len = group_length(group);
+        if len > GROUP_LIMIT {
+            return Err(SinkError::TooLong { len });
+        }
+        let entry = write_group(self.alloc, group)?;
+        self.journal.append(self.alloc, entry.items())?;
+        Ok(())
+    }
+}

@@ -1,0 +1,140 @@
+ghost use Rattle.std.specs.Prelude.{◌≡◌, ◌≢◌, ◌↔◌, ℕ, ◌+◌, ◌^◌, ◌<◌, ◌≤◌, ◌++◌, List, [], ◌∷◌, length, Bool, true, false, IsTrue, IfOk, OnOk, OnErr, Contains};
+ghost use Rattle.dbl_base.specs.Streams.{Rose, raised};
+ghost use Rattle.dbl_base.specs.Memory.{new_plan};
+ghost use Rattle.dbl_record.specs.declared.record.Record.{Record};
+ghost use Rattle.dbl_record.specs.Cuts.{IsHandful, joined};
+ghost use Rattle.dbl_record.specs.Groups.{group_form};
+ghost use Rattle.dbl_topic.specs.Sinks.{IsLeftByPut, told_length};
+
+use crate::{GROUP_LIMIT, Sink, SinkError};
+use dbl_base::FaultPlan;
+use dbl_record::{Record, group_length};
+use std::alloc::{AllocError, Global};
+use std::marker::Model;
+
+/// A sink that keeps its records in memory.
+#[derive(Debug, Drop)]
+pub struct MemSink {
+    alloc: Global,
+    records: Vec<Record>,
+    sizes: Vec<usize>,
+    plan: FaultPlan,
+    live: bool,
+}
+
+impl Model for MemSink {
+    ghost use Rattle.std.specs.Prelude.{◌≡◌, length, sum};
+    ghost use Rattle.dbl_topic.specs.Memory.{Gathered, grouped};
+
+    ghost Value = { Gathered };
+
+    ghost view = { λ s. record { groups = grouped s.sizes.items s.records.items; plan = s.plan; live = s.live } };
+
+    ghost invariant = { λ s. sum s.sizes.items ≡ length s.records.items };
+}
+
+impl MemSink {
+    /// An empty sink, whose listed puts, counted from 1, are to fail. Takes no memory; later calls use the allocator.
+    pub fn make(alloc: Global, fails: Vec<u64>) -> MemSink
+        ensures { result ≡ record { groups = []; plan = new_plan fails.items; live = true } }
+    {
+        MemSink {
+            alloc,
+            records: Vec::new(alloc),
+            sizes: Vec::new(alloc),
+            plan: FaultPlan::make(fails),
+            live: true,
+        }
+    }
+
+    /// The records of all groups. Takes no memory.
+    pub fn records(&self) -> &Vec<Record>
+        ensures { result.now.items ≡ joined self.now.groups }
+    {
+        &self.records
+    }
+}
+
+// Equal records.
+fn copies(alloc: Global, group: &[Record]) -> Result<Vec<Record>, AllocError>
+    ensures { IfOk result (λ copies. copies.items ≡ group.now) }
+{
+    let mut copies = Vec::with_capacity(alloc, group.len())?;
+    'copying: for item in group {
+        copies.push(item.copy(alloc)?)?;
+    }
+    Ok(copies)
+}
+
+// Appends the records, and how many they are.
+fn gather(
+    records: &mut Vec<Record>,
+    sizes: &mut Vec<usize>,
+    mut group: Vec<Record>,
+) -> Result<(), AllocError>
+    ensures records { OnOk result (records.new.items ≡ records.old.items ++ group.items) }
+    ensures sizes { OnOk result (sizes.new.items ≡ sizes.old.items ++ length group.items ∷ []) }
+    ensures records_stay { OnErr result (records.new.items ≡ records.old.items) }
+    ensures sizes_stay { OnErr result (sizes.new.items ≡ sizes.old.items) }
+{
+    sizes.push(group.len())?;
+    if records.append(&mut group).is_err() {
+        sizes.pop();
+        return Err(AllocError);
+    }
+    Ok(())
+}
+
+impl Sink for MemSink {
+    ghost use Rattle.std.specs.Prelude.{IsTrue, ◌≡◌};
+    ghost use Rattle.dbl_topic.specs.SinkLaws.{one_gathered};
+
+    ghost holds = { λ s groups. IsTrue s.live × (s.groups ≡ groups) };
+
+    ghost may_leave = { λ s groups. s.groups ≡ groups };
+
+    ghost leaves_groups = { λ s. Unit {0} };
+
+    ghost is_live = { λ s. s.live };
+
+    ghost faults = { λ s. s.plan.faults };
+
+    ghost only = { one_gathered };
+
+    ghost may = { λ sink groups held. held.1 };
+
+    ghost whole = { λ sink groups held. tt };
+
+    fn put(&mut self, group: &Vec<Record>) -> Result<(), SinkError>
+        requires live { IsTrue self.old.live }
+        requires handful { IsHandful group.now.items }
+        ensures added { (groups : List (List Record)) → IsTrue self.old.live × (self.old.groups ≡ groups) → OnOk result (IsTrue self.new.live × (self.new.groups ≡ groups ++ group.now.items ∷ [])) }
+        ensures kept { (groups : List (List Record)) → IsTrue self.old.live × (self.old.groups ≡ groups) → OnErr result (result ≢ Err SinkError.Failed → IsTrue self.new.live × (self.new.groups ≡ groups)) }
+        ensures left { (groups left : List (List Record)) → IsTrue self.old.live × (self.old.groups ≡ groups) → self.new.groups ≡ left → IsLeftByPut groups group.now.items left }
+        ensures whole { (groups : List (List Record)) → IsTrue self.old.live × (self.old.groups ≡ groups) → Unit {0} }
+        ensures live { result ≢ Err SinkError.Failed → IsTrue self.new.live }
+        ensures dead { result ≡ Err SinkError.Failed → self.new.live ≡ false }
+        ensures too_long { (len : ℕ) → (result ≡ Err (SinkError.TooLong len)) ↔ ((2 ^ 28 < length (group_form group.now.items)) × (len ≡ told_length group.now.items)) }
+        ensures failed { result ≡ Err SinkError.Failed → Rose self.old.plan.faults self.new.plan.faults }
+        ensures later { self.old.plan.faults ≤ self.new.plan.faults }
+
+        // A put fails exactly where it is planned to and its group isn't too long, and then changes no records.
+        ensures planned { (result ≡ Err SinkError.Failed) ↔ (Contains self.old.plan.planned (raised self.old.plan.calls) × (length (group_form group.now.items) ≤ 2 ^ 28)) }
+        ensures calls { self.new.plan.calls ≡ raised self.old.plan.calls }
+        ensures plan { self.new.plan.planned ≡ self.old.plan.planned }
+        ensures unchanged { OnErr result (self.new.groups ≡ self.old.groups) }
+    {
+        let planned = self.plan.call();
+        let len = group_length(group);
+        if len > GROUP_LIMIT {
+            return Err(SinkError::TooLong { len });
+        }
+        if planned.is_err() {
+            self.live = false;
+            return Err(SinkError::Failed);
+        }
+        let group = copies(self.alloc, group)?;
+        gather(&mut self.records, &mut self.sizes, group)?;
+        Ok(())
+    }
+}

@@ -1,0 +1,52 @@
+ghost use Rattle.std.specs.Prelude.{◌≡◌, ◌≢◌, ◌↔◌, ℕ, ◌^◌, ◌<◌, ◌≤◌, ◌++◌, List, [], ◌∷◌, length, Bool, false, IsTrue, OnOk, OnErr};
+ghost use Rattle.dbl_base.specs.Streams.{Rose};
+ghost use Rattle.dbl_record.specs.declared.record.Record.{Record};
+ghost use Rattle.dbl_record.specs.Cuts.{IsHandful};
+ghost use Rattle.dbl_record.specs.Groups.{group_form};
+ghost use Rattle.dbl_topic.specs.Sinks.{IsLeftByPut, told_length};
+
+use crate::SinkError;
+use dbl_record::Record;
+
+/// A sink takes groups whose bytes form has at most so many bytes: 2^28.
+pub const GROUP_LIMIT: u64 = 1 << 28;
+
+/// Where records go, group by group.
+pub trait Sink {
+    /// The sink can be used, tells its groups, and they are these; joined they are its records.
+    ghost holds: { Self → List (List Record) → Type 0 };
+
+    /// A stop now may leave these groups.
+    ghost may_leave: { Self → List (List Record) → Type 0 };
+
+    /// Whatever a stop leaves now is a list of groups.
+    ghost leaves_groups: { Self → Type 0 };
+
+    /// Whether the sink can be used.
+    ghost is_live: { Self → Bool };
+
+    /// How often the sink has failed. A count that stands at 2^64 - 1 stays there.
+    ghost faults: { Self → ℕ };
+
+    /// Appends the group. After `Failed` some first records of it may have been appended, as a group of their own, and the
+    /// sink isn't live. After the other errors nothing was appended, and the sink stays live.
+    fn put(&mut self, group: &Vec<Record>) -> Result<(), SinkError>
+        requires live { IsTrue (is_live self.old) }
+        requires handful { IsHandful group.now.items }
+        ensures added { (groups : List (List Record)) → holds self.old groups → OnOk result (holds self.new (groups ++ group.now.items ∷ [])) }
+        ensures kept { (groups : List (List Record)) → holds self.old groups → OnErr result (result ≢ Err SinkError.Failed → holds self.new groups) }
+        ensures left { (groups left : List (List Record)) → holds self.old groups → may_leave self.new left → IsLeftByPut groups group.now.items left }
+        ensures whole { (groups : List (List Record)) → holds self.old groups → leaves_groups self.new }
+        ensures live { result ≢ Err SinkError.Failed → IsTrue (is_live self.new) }
+        ensures dead { result ≡ Err SinkError.Failed → is_live self.new ≡ false }
+        ensures too_long { (len : ℕ) → (result ≡ Err (SinkError.TooLong len)) ↔ ((2 ^ 28 < length (group_form group.now.items)) × (len ≡ told_length group.now.items)) }
+        ensures failed { result ≡ Err SinkError.Failed → Rose (faults self.old) (faults self.new) }
+        ensures later { faults self.old ≤ faults self.new };
+
+    /// A sink that tells its groups may leave them, and no others.
+    ghost only: { (sink : Self) (groups left : List (List Record)) → holds sink groups → may_leave sink left → left ≡ groups };
+
+    ghost may: { (sink : Self) (groups : List (List Record)) → holds sink groups → may_leave sink groups };
+
+    ghost whole: { (sink : Self) (groups : List (List Record)) → holds sink groups → leaves_groups sink };
+}

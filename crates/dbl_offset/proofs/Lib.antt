@@ -1,0 +1,7 @@
+pub mod FieldLaws
+pub mod Many
+pub mod CellLaws
+pub mod TableLaws
+pub mod OffsetLaws
+pub mod Sizes
+pub mod StoreLaws

@@ -1,0 +1,139 @@
+-- Stores: what their bytes are read as, and what a stop leaves of them.
+use Rattle.std.proofs.Common.{◌≡◌, ◌⊎◌, ◌∙◌, ℕ, ◌+◌, ◌<◌, ◌≤◌, Option, Some, None, Result, Err, List, [], ◌∷◌, ◌++◌, length, take, refl, sym, ap, subst, arith, inl, inr}
+use Rattle.std.specs.Prelude.{slice_get}
+use Rattle.std.specs.List.{All}
+use Rattle.std.proofs.lemmas.List.{length-take, get_or-take, take_more, take_all}
+use Rattle.std.proofs.lemmas.List.Elements.{All-get_or, All-push}
+use Rattle.std.proofs.lemmas.Bool.{cases_lt}
+use Rattle.std.proofs.lemmas.Option.{slice_get_within, get_or_from_slice_get}
+use Rattle.dbl_journal.specs.Form.{IsJournal, IsFaultAt}
+use Rattle.dbl_journal.specs.Stored.{LeavesEntries}
+use Rattle.dbl_journal.proofs.Reading.{one_journal, journal_or_fault}
+use Rattle.dbl_journal.specs.declared.error.JournalError.{JournalError}
+use Rattle.dbl_journal.specs.declared.error.JournalError.TheVariants as journal_error
+use Rattle.dbl_offset.specs.declared.offset.Offset.{Offset}
+use Rattle.dbl_offset.specs.declared.error.OffsetError.{OffsetError}
+use Rattle.dbl_offset.specs.declared.error.OffsetError.TheVariants as error
+use Rattle.dbl_offset.specs.Offsets.{Spells, IsEntry}
+use Rattle.dbl_offset.specs.Stores.{IsLastOf, IsStore, HasBadOffset, LeavesOffset, as_offset_error}
+use Rattle.dbl_offset.proofs.OffsetLaws.{one_offset}
+
+-- ---- last entries
+
+snoc_nil : {X : Type 0} (xs : List X) (x : X) → xs ++ x ∷ [] ≡ [] → ⊥
+snoc_nil [] x h = cc
+snoc_nil (y ∷ xs) x h = cc
+
+snoc_last : {X : Type 0} (xs ys : List X) (x y : X) → xs ++ x ∷ [] ≡ ys ++ y ∷ [] → x ≡ y
+snoc_last [] [] x y h = cc
+snoc_last [] (b ∷ ys) x y h = let rest : [] ≡ ys ++ y ∷ [] = cc in absurd (snoc_nil ys y (sym rest))
+snoc_last (a ∷ xs) [] x y h = let rest : xs ++ x ∷ [] ≡ [] = cc in absurd (snoc_nil xs x rest)
+snoc_last (a ∷ xs) (b ∷ ys) x y h = let rest : xs ++ x ∷ [] ≡ ys ++ y ∷ [] = cc in snoc_last xs ys x y rest
+
+pub last_one : (entries : List (List ℕ)) (a b : Option Offset) → IsLastOf entries a → IsLastOf entries b → a ≡ b
+last_one entries None None of_a of_b = refl
+last_one entries None (Some o) of_a of_b = absurd (snoc_nil of_b.before of_b.entry (sym of_b.last ∙ of_a))
+last_one entries (Some o) None of_a of_b = absurd (snoc_nil of_a.before of_a.entry (sym of_a.last ∙ of_b))
+last_one entries (Some o) (Some p) of_a of_b =
+    let same : of_a.entry ≡ of_b.entry = snoc_last of_a.before of_b.before of_a.entry of_b.entry (sym of_a.last ∙ of_b.last) in
+    ap Some (one_offset of_b.entry o p (subst (λ (e : List ℕ). Spells e o) same of_a.spelled) of_b.spelled)
+
+pub one_store : (bytes : List ℕ) (a b : Option Offset) → IsStore bytes a → IsStore bytes b → a ≡ b
+one_store bytes a b of_a of_b =
+    let same : of_a.entries ≡ of_b.entries = one_journal bytes of_a.entries of_b.entries of_a.journal of_b.journal in
+    last_one of_b.entries a b (subst (λ (l : List (List ℕ)). IsLastOf l a) same of_a.last) of_b.last
+
+-- ---- faults
+
+at_place : (entries : List (List ℕ)) (i : ℕ) (entry : List ℕ) → slice_get entries i ≡ Some entry → All IsEntry entries → IsEntry entry
+at_place entries i entry there all = subst IsEntry (get_or_from_slice_get entries i entry [] there) (All-get_or IsEntry entries i [] (slice_get_within entries i entry there) all)
+
+before_place : (entries : List (List ℕ)) (i n : ℕ) (entry : List ℕ) → slice_get entries i ≡ Some entry → i < n → All IsEntry (take n entries) → IsEntry entry
+before_place entries i n entry there lt all =
+    let inside = slice_get_within entries i entry there in
+    subst IsEntry (get_or-take n entries i [] lt ∙ get_or_from_slice_get entries i entry [] there) (All-get_or IsEntry (take n entries) i [] (omega (arith, inside, length-take n entries)) all)
+
+pub no_bad_offset : (bytes : List ℕ) (offset : Option Offset) (index : ℕ) → IsStore bytes offset → HasBadOffset bytes index → ⊥
+no_bad_offset bytes offset index store bad =
+    let same : store.entries ≡ bad.entries = one_journal bytes store.entries bad.entries store.journal bad.journal in
+    bad.bad (at_place bad.entries index bad.entry bad.there (subst (λ (l : List (List ℕ)). All IsEntry l) same store.each))
+
+pub no_fault : (bytes : List ℕ) (offset : Option Offset) (at : ℕ) → IsStore bytes offset → IsFaultAt bytes at → ⊥
+no_fault bytes offset at store fault = journal_or_fault bytes store.entries at store.journal fault
+
+pub not_both : (bytes : List ℕ) (at index : ℕ) → IsFaultAt bytes at → HasBadOffset bytes index → ⊥
+not_both bytes at index fault bad = journal_or_fault bytes bad.entries at bad.journal fault
+
+not_before : (bytes : List ℕ) (m n : ℕ) → HasBadOffset bytes m → HasBadOffset bytes n → m < n → ⊥
+not_before bytes m n first second lt =
+    let same : second.entries ≡ first.entries = one_journal bytes second.entries first.entries second.journal first.journal in
+    first.bad (before_place first.entries m n first.entry first.there lt (subst (λ (l : List (List ℕ)). All IsEntry (take n l)) same second.before))
+
+pub one_bad_offset : (bytes : List ℕ) (m n : ℕ) → HasBadOffset bytes m → HasBadOffset bytes n → m ≡ n
+one_bad_offset bytes m n first second =
+    elim (cases_lt m n) [
+      | inl lt ↦ absurd (not_before bytes m n first second lt)
+      | inr le ↦ elim (cases_lt n m) [
+        | inl lt ↦ absurd (not_before bytes n m second first lt)
+        | inr ge ↦ omega arith
+      ]
+    ]
+
+-- ---- what is left while an offset is stored
+
+pub leaves : {D : Type 0} (may_leave : D → List ℕ → Type 0) (disk : D) (entries : List (List ℕ)) (entry : List ℕ) (old : Option Offset) (offset : Offset) → All IsEntry entries → IsLastOf entries old → Spells entry offset
+    → LeavesEntries may_leave disk (λ left. (left ≡ entries) ⊎ (left ≡ entries ++ entry ∷ [])) → LeavesOffset may_leave disk (λ left. (left ≡ old) ⊎ (left ≡ Some offset))
+leaves may_leave disk entries entry old offset each last spells left image may =
+    let found = left image may in
+    elim found.2 [
+      | inl same ↦ (old, record { entries = entries; journal = subst (λ (l : List (List ℕ)). IsJournal image l) same found.1; each = each; last = last }, inl refl)
+      | inr same ↦ (
+        Some offset,
+        record {
+          entries = entries ++ entry ∷ [];
+          journal = subst (λ (l : List (List ℕ)). IsJournal image l) same found.1;
+          each = All-push IsEntry entries entry each (offset, spells);
+          last = record { before = entries; entry = entry; last = refl; spelled = spells };
+        },
+        inr refl,
+      )
+    ]
+
+-- ---- entries as they are read, one behind the other
+
+module _ (entries : List (List ℕ)) (i : ℕ) (entry : List ℕ) (there : slice_get entries i ≡ Some entry) where
+  one_more : take (i + 1) entries ≡ take i entries ++ entry ∷ []
+  one_more = take_more entries i [] (slice_get_within entries i entry there) ∙ ap (λ (e : List ℕ). take i entries ++ e ∷ []) (get_or_from_slice_get entries i entry [] there)
+
+  pub each_more : All IsEntry (take i entries) → IsEntry entry → All IsEntry (take (i + 1) entries)
+  each_more all is = subst (λ (l : List (List ℕ)). All IsEntry l) (sym one_more) (All-push IsEntry (take i entries) entry all is)
+
+  pub last_more : (offset : Offset) → Spells entry offset → IsLastOf (take (i + 1) entries) (Some offset)
+  last_more offset spells = record { before = take i entries; entry = entry; last = one_more; spelled = spells }
+
+  pub bad_first : (n : ℕ) (e : OffsetError) → All IsEntry (take i entries) → (e ≡ error.Memory) ⊎ ((e ≡ error.BadOffset i) × ¬ IsEntry entry) → e ≡ error.BadOffset n → All IsEntry (take n entries) × ((x : List ℕ) × (slice_get entries n ≡ Some x) × ¬ IsEntry x)
+  bad_first n e all (inl memory) is = let contra : error.Memory ≡ error.BadOffset n = sym memory ∙ is in absurd cc
+  bad_first n e all (inr bad) is =
+      let both : error.BadOffset i ≡ error.BadOffset n = sym bad.0 ∙ is in
+      let same : i ≡ n = cc in
+      (subst (λ (k : ℕ). All IsEntry (take k entries)) same all, (entry, subst (λ (k : ℕ). slice_get entries k ≡ Some entry) same there, bad.1))
+
+pub each_done : (entries : List (List ℕ)) (i : ℕ) → length entries ≤ i → All IsEntry (take i entries) → All IsEntry entries
+each_done entries i le all = subst (λ (l : List (List ℕ)). All IsEntry l) (take_all i entries le) all
+
+pub last_done : (entries : List (List ℕ)) (i : ℕ) (last : Option Offset) → length entries ≤ i → IsLastOf (take i entries) last → IsLastOf entries last
+last_done entries i last le is = subst (λ (l : List (List ℕ)). IsLastOf l last) (take_all i entries le) is
+
+-- ---- errors
+
+pub not_long : (e : JournalError) (f : OffsetError) (len : ℕ) → ((n : ℕ) → e ≡ journal_error.EntryTooLong n → ⊥) → f ≡ as_offset_error e → f ≡ error.TooLong len → ⊥
+not_long journal_error.Failed f len short gives is = let contra : error.Failed ≡ error.TooLong len = sym gives ∙ is in cc
+not_long (journal_error.NotAJournal at) f len short gives is = let contra : error.NotAStore at ≡ error.TooLong len = sym gives ∙ is in cc
+not_long (journal_error.EntryTooLong n) f len short gives is = short n refl
+not_long journal_error.Memory f len short gives is = let contra : error.Memory ≡ error.TooLong len = sym gives ∙ is in cc
+
+abbrev failed : {T E : Type 0} → E → Result T E
+failed e = Err e
+
+pub err_one : {T E : Type 0} (x y : E) → failed {T = T} x ≡ failed y → x ≡ y
+err_one x y h = cc

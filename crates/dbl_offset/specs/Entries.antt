@@ -1,0 +1,113 @@
+-- An offset as the bytes of a journal's entry, format 1. Numbers stand with the highest byte first.
+use Rattle.std.specs.Prelude.{ℕ, ◌<◌, ◌^◌, Bool, cond, Option, Some, None, IfSome, List, [], ◌∷◌, ◌++◌, length, FitsSigned}
+use Rattle.std.specs.List.{AllByRecursion, flat_map, zip}
+use Rattle.std.specs.Int.{w32, w64, to_be_bytes, cast_unsigned}
+use Rattle.std.specs.Str.{IsUtf8}
+use Rattle.dbl_value.specs.declared.value.Val.{Val}
+use Rattle.dbl_value.specs.declared.value.Val.TheVariants as val
+use Rattle.dbl_value.specs.Types.{oid_of}
+use Rattle.dbl_model.specs.declared.table.Column.{Column}
+use Rattle.dbl_model.specs.declared.table.TableInfo.{TableInfo}
+use Rattle.dbl_model.specs.declared.identity.Identity.{Identity}
+use Rattle.dbl_model.specs.declared.row.Key.{Key}
+use Rattle.dbl_model.specs.declared.cursor.Cursor.{Cursor}
+use Rattle.dbl_offset.specs.declared.offset.Offset.{Offset}
+
+-- ---- the form
+
+-- numbers of 32 and of 64 bits
+unfoldable pub number32 : ℕ → List ℕ
+number32 n = to_be_bytes w32 n
+
+unfoldable pub number64 : ℕ → List ℕ
+number64 n = to_be_bytes w64 n
+
+-- a text behind its length
+unfoldable pub text : List ℕ → List ℕ
+text t = number32 (length t) ++ t
+
+-- items behind their number
+unfoldable pub counted : {A : Type 0} → (A → List ℕ) → List A → List ℕ
+counted item items = number32 (length items) ++ flat_map item items
+
+-- no as 0 and yes as 1
+abbrev pub truth : Bool → List ℕ
+truth b = cond b 1 0 ∷ []
+
+unfoldable pub names : Identity → List ℕ
+names identity = text identity.prefix ++ text identity.db ++ text identity.placeholder
+
+-- a column: its name, and its type's OID
+unfoldable pub column : Column → List ℕ
+column c = text c.name ++ number32 (oid_of c.ty)
+
+-- a table: its name, its columns, and the places of its key columns
+unfoldable pub table : TableInfo → List ℕ
+table info = text info.name.schema ++ text info.name.name ++ counted column info.columns ++ counted number32 info.key
+
+-- a cell of a key: a signed number, in two's complement, or a text. Keys have no other cells.
+unfoldable pub cell : Val → List ℕ
+cell (val.Int z) = 1 ∷ number64 (cast_unsigned w64 z)
+cell (val.Text t) = 2 ∷ text t
+cell v = []
+
+-- a key, where there is one. Its number of cells isn't told, since the table's key has it.
+unfoldable pub last_key : Option Key → List ℕ
+last_key None = 0 ∷ []
+last_key (Some key) = 1 ∷ flat_map cell key.cells
+
+unfoldable pub cursor : Cursor → List ℕ
+cursor c = truth c.done ++ last_key c.last
+
+-- a table, and how far its snapshot has come
+abbrev pub entry : TableInfo × Cursor → List ℕ
+entry t = table t.0 ++ cursor t.1
+
+-- the tables with their cursors
+abbrev pub tables_of : Offset → List (TableInfo × Cursor)
+tables_of offset = zip offset.infos offset.cursors
+
+-- the bytes of an offset: the format's number, and the fields
+unfoldable pub spelling : Offset → List ℕ
+spelling offset = 1 ∷ (names offset.identity ++ number64 offset.incarnation ++ number64 offset.start.0 ++ number64 offset.lsn.0 ++ number64 offset.end_lsn.0 ++ counted entry (tables_of offset))
+
+-- ---- what the form holds: texts are UTF-8, and numbers and lengths have as many bits as the form gives them
+
+pub record IsText (t : List ℕ) : Type 0 where
+  pub utf8 : IsUtf8 t
+  pub short : length t < 2 ^ 32
+
+pub record FitsNames (identity : Identity) : Type 0 where
+  pub prefix : IsText identity.prefix
+  pub db : IsText identity.db
+  pub placeholder : IsText identity.placeholder
+
+pub record FitsColumn (c : Column) : Type 0 where
+  pub name : IsText c.name
+  pub oid : oid_of c.ty < 2 ^ 32
+
+pub record FitsTable (info : TableInfo) : Type 0 where
+  pub schema : IsText info.name.schema
+  pub name : IsText info.name.name
+  pub columns : length info.columns < 2 ^ 32
+  pub each : AllByRecursion FitsColumn info.columns
+  pub key : length info.key < 2 ^ 32
+  pub places : AllByRecursion (λ place. place < 2 ^ 32) info.key
+
+abbrev pub FitsCell : Val → Type 0
+FitsCell (val.Int z) = FitsSigned w64 z
+FitsCell (val.Text t) = IsText t
+FitsCell v = Unit {0}
+
+abbrev pub FitsCursor : Cursor → Type 0
+FitsCursor c = IfSome c.last (λ key. AllByRecursion FitsCell key.cells)
+
+abbrev pub FitsEntry : TableInfo × Cursor → Type 0
+FitsEntry t = FitsTable t.0 × FitsCursor t.1
+
+pub record Fits (offset : Offset) : Type 0 where
+  pub names : FitsNames offset.identity
+  pub start : offset.start.0 < 2 ^ 64
+  pub lsn : offset.lsn.0 < 2 ^ 64
+  pub end_lsn : offset.end_lsn.0 < 2 ^ 64
+  pub tables : AllByRecursion FitsEntry (tables_of offset)

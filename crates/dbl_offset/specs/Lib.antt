@@ -1,0 +1,5 @@
+pub mod Entries
+pub mod Offsets
+pub mod Stores
+pub mod Reading
+pub mod Measures

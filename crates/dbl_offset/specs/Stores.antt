@@ -1,0 +1,75 @@
+-- Offset stores: on bytes, on disks, and what a stop leaves of them.
+use Rattle.std.specs.Prelude.{◌≡◌, ℕ, IsTrue, Option, Some, None, List, [], ◌∷◌, ◌++◌, slice_get, take}
+use Rattle.std.specs.List.{All}
+use Rattle.dbl_journal.specs.Form.{IsJournal}
+use Rattle.dbl_journal.specs.Stored.{OnDisk, Lists}
+use Rattle.dbl_journal.specs.declared.error.JournalError.{JournalError}
+use Rattle.dbl_journal.specs.declared.error.JournalError.TheVariants as journal_error
+use Rattle.dbl_offset.specs.declared.offset.Offset.{Offset}
+use Rattle.dbl_offset.specs.declared.error.OffsetError.{OffsetError}
+use Rattle.dbl_offset.specs.declared.error.OffsetError.TheVariants as error
+use Rattle.dbl_offset.specs.Offsets.{Spells, IsEntry}
+
+-- a last entry, and the offset that it spells
+pub record EndsWith (entries : List (List ℕ)) (offset : Offset) : Type 0 where
+  pub before : List (List ℕ)
+  pub entry : List ℕ
+  pub last : entries ≡ before ++ entry ∷ []
+  pub spelled : Spells entry offset
+
+-- the offset of the last entry, and none where there is no entry
+abbrev pub IsLastOf : List (List ℕ) → Option Offset → Type 0
+IsLastOf entries None = entries ≡ []
+IsLastOf entries (Some offset) = EndsWith entries offset
+
+-- the bytes are a store of this offset: a journal each of whose entries spells an offset, the last one this
+pub record IsStore (bytes : List ℕ) (offset : Option Offset) : Type 0 where
+  pub entries : List (List ℕ)
+  pub journal : IsJournal bytes entries
+  pub each : All IsEntry entries
+  pub last : IsLastOf entries offset
+
+-- the bytes are a journal whose entry with this number, counted from 0, is the first that spells no offset
+pub record HasBadOffset (bytes : List ℕ) (index : ℕ) : Type 0 where
+  pub entries : List (List ℕ)
+  pub journal : IsJournal bytes entries
+  pub before : All IsEntry (take index entries)
+  pub entry : List ℕ
+  pub there : slice_get entries index ≡ Some entry
+  pub bad : ¬ IsEntry entry
+
+-- the journal, and the offset of its last entry
+pub record OnJournal (D : Type 0) : Type 0 where
+  pub journal : OnDisk D
+  pub offset : Option Offset
+
+-- whether the store can be used
+abbrev pub IsLive : {D : Type 0} → OnJournal D → Type 0
+IsLive store = IsTrue store.journal.live
+
+abbrev pub disk_of : {D : Type 0} → OnJournal D → D
+disk_of store = store.journal.disk
+
+-- The store holds this offset: it can be used, its disk tells its bytes, which are a store of the offset, and a stop leaves
+-- nothing else.
+pub record Holds {D : Type 0} (seen : D → Option (List ℕ)) (may_leave : D → List ℕ → Type 0) (store : OnJournal D) (offset : Option Offset) : Type 0 where
+  pub entries : List (List ℕ)
+  pub lists : Lists seen may_leave store.journal entries
+  pub each : All IsEntry entries
+  pub last : IsLastOf entries offset
+  pub offset_is : store.offset ≡ offset
+
+-- a stop may leave a store of this offset
+abbrev pub MayLeaveOffset : {D : Type 0} → (D → List ℕ → Type 0) → D → Option Offset → Type 0
+MayLeaveOffset may_leave disk offset = (image : List ℕ) × may_leave disk image × IsStore image offset
+
+-- whatever a stop leaves is a store, of an offset of which this holds
+abbrev pub LeavesOffset : {D : Type 0} → (D → List ℕ → Type 0) → D → (Option Offset → Type 0) → Type 0
+LeavesOffset may_leave disk P = (image : List ℕ) → may_leave disk image → (offset : Option Offset) × IsStore image offset × P offset
+
+-- a journal's error, as the store tells it
+abbrev pub as_offset_error : JournalError → OffsetError
+as_offset_error journal_error.Failed = error.Failed
+as_offset_error (journal_error.NotAJournal at) = error.NotAStore at
+as_offset_error (journal_error.EntryTooLong len) = error.TooLong len
+as_offset_error journal_error.Memory = error.Memory

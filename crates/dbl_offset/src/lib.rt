@@ -1,0 +1,24 @@
+//! The offset of a connector: how far its records have come, kept on a disk so that a stop leaves the old one or the new one.
+#![tactic(auto)]
+
+mod cursors;
+mod decoding;
+mod error;
+mod laws;
+mod measuring;
+mod offset;
+mod reading;
+mod refusal;
+mod store;
+mod tables;
+mod writing;
+
+pub use error::OffsetError;
+pub use laws::{
+    offsets_are_spelled_once, stores_are_read_once, stores_hold_one_offset, stores_or_faults,
+};
+pub use offset::Offset;
+pub use store::OffsetStore;
+
+#[cfg(test)]
+mod tests;

@@ -1,0 +1,183 @@
+ghost use Rattle.std.specs.Prelude.{◌≡◌, ◌≢◌, ◌⊎◌, ◌↔◌, ℕ, ◌^◌, ◌<◌, ◌≤◌, List, [], length, option_map, Option, Some, None, Ok, Err, IfOk, IfErr, IfSome, OnOk, OnErr, MatchResult, IsTrue, take, slice_get};
+ghost use Rattle.std.specs.List.{All};
+ghost use Rattle.dbl_base.specs.Streams.{Rose};
+ghost use Rattle.dbl_disk.specs.Disks.{Follows, Torn};
+ghost use Rattle.dbl_journal.specs.Form.{IsFaultAt};
+ghost use Rattle.dbl_journal.specs.Stored.{Lists};
+ghost use Rattle.dbl_offset.specs.declared.offset.Offset.{Offset};
+ghost use Rattle.dbl_offset.specs.Entries.{spelling};
+ghost use Rattle.dbl_offset.specs.Measures.{capped};
+ghost use Rattle.dbl_offset.specs.Offsets.{IsEntry, IsOffset, Spells};
+ghost use Rattle.dbl_offset.specs.Stores.{HasBadOffset, Holds, IsLastOf, IsLive, IsStore, LeavesOffset, disk_of};
+
+use crate::decoding::decode;
+use crate::measuring::measure;
+use crate::refusal::Refusal;
+use crate::writing::encode;
+use crate::{Offset, OffsetError};
+use dbl_disk::{Disk, Refused};
+use dbl_journal::{ENTRY_LIMIT, Journal};
+use std::alloc::Global;
+use std::marker::Model;
+
+/// The offset of a connector, on a disk. A stop while an offset is stored leaves the old one or the new one.
+///
+/// On the disk stands a journal with an entry for each offset that was stored. The last one counts.
+#[derive(Drop)]
+pub struct OffsetStore<D: Disk> {
+    journal: Journal<D>,
+    offset: Option<Offset>,
+}
+
+impl<D: Disk> Model for OffsetStore<D> {
+    ghost use Rattle.std.specs.Prelude.{IfSome};
+    ghost use Rattle.dbl_offset.specs.Offsets.{IsOffset};
+    ghost use Rattle.dbl_offset.specs.Stores.{OnJournal};
+
+    ghost Value = { OnJournal D };
+
+    ghost view = { λ s. record { journal = s.journal; offset = s.offset } };
+
+    ghost invariant = { λ s. IfSome s.offset IsOffset };
+}
+
+// The offset that an entry spells.
+fn read_entry(alloc: Global, index: u64, bytes: &[u8]) -> Result<Offset, OffsetError>
+    ensures read { IfOk result (λ offset. Spells bytes.now offset) }
+    ensures refused { IfErr result (λ error. (error ≡ OffsetError.Memory) ⊎ ((error ≡ OffsetError.BadOffset index) × ¬ IsEntry bytes.now)) }
+{
+    match decode(alloc, bytes) {
+        Ok(offset) => Ok(offset),
+        Err(Refusal::NoOffset) => Err(OffsetError::BadOffset { index }),
+        Err(Refusal::Memory) => Err(OffsetError::Memory),
+    }
+}
+
+// The offset of the last entry. Each entry is read once.
+fn read_last<D: Disk>(
+    alloc: Global,
+    journal: &mut Journal<D>,
+) -> Result<Option<Offset>, OffsetError>
+    requires { IsTrue journal.old.live }
+    ensures each { (entries : List (List ℕ)) → Lists D.seen D.may_leave journal.old entries → OnOk result (All IsEntry entries) }
+    ensures last { (entries : List (List ℕ)) → Lists D.seen D.may_leave journal.old entries → IfOk result (IsLastOf entries) }
+    ensures lists { (entries : List (List ℕ)) → Lists D.seen D.may_leave journal.old entries → Lists D.seen D.may_leave journal.new entries }
+    ensures bad { (entries : List (List ℕ)) (index : ℕ) → Lists D.seen D.may_leave journal.old entries → result ≡ Err (OffsetError.BadOffset index) →
+        All IsEntry (take index entries) × ((entry : List ℕ) × (slice_get entries index ≡ Some entry) × ¬ IsEntry entry) }
+    ensures asked { IfOk result (λ last. IfSome last IsOffset) }
+    ensures same { journal.new ≡ record journal.old { disk = journal.new.disk } }
+    ensures seen { D.seen journal.new.disk ≡ D.seen journal.old.disk }
+    ensures images { (image : List ℕ) → D.may_leave journal.new.disk image ↔ D.may_leave journal.old.disk image }
+    ensures failed { result ≡ Err OffsetError.Failed → Rose (D.faults journal.old.disk) (D.faults journal.new.disk) }
+    ensures store { (at : ℕ) → result ≢ Err (OffsetError.NotAStore at) }
+    ensures short { (len : ℕ) → result ≢ Err (OffsetError.TooLong len) }
+    ensures later { D.faults journal.old.disk ≤ D.faults journal.new.disk }
+{
+    let mut last = None;
+    for index in 0..journal.count() {
+        let bytes = journal.entry(alloc, index)?;
+        last = Some(read_entry(alloc, index, bytes.items())?);
+    }
+    Ok(last)
+}
+
+impl<D: Disk> OffsetStore<D> {
+    /// A store without an offset, on an empty disk: a write and a sync. No memory is taken.
+    pub fn make(alloc: Global, disk: D) -> Result<OffsetStore<D>, Refused<D, OffsetError>>
+        requires { (bytes : List ℕ) → D.seen disk ≡ Some bytes → bytes ≡ [] }
+        ensures made { D.seen disk ≡ Some [] → IfOk result (λ store. Holds D.seen D.may_leave store None) }
+        ensures live { IfOk result IsLive }
+        ensures empty { IfOk result (λ store. store.offset ≡ None) }
+        ensures refused { IfErr result (λ refused. refused.error ≡ OffsetError.Failed) }
+        ensures failed { IfErr result (λ refused. Rose (D.faults disk) (D.faults refused.disk)) }
+        ensures left { IfErr result (λ refused. Follows (Torn 0 9) (D.may_leave disk) (D.may_leave refused.disk)) }
+        ensures later { MatchResult result (λ store. D.faults disk ≤ D.faults (disk_of store)) (λ refused. D.faults disk ≤ D.faults refused.disk) }
+    {
+        match Journal::make(alloc, disk) {
+            Ok(journal) => Ok(OffsetStore {
+                journal,
+                offset: None,
+            }),
+            Err(Refused { disk, error }) => Err(Refused {
+                disk,
+                error: OffsetError::from(error),
+            }),
+        }
+    }
+
+    /// The store on the disk, as a stop may have left it. It begins with a sync, and reads each entry once.
+    pub fn open(alloc: Global, disk: D) -> Result<OffsetStore<D>, Refused<D, OffsetError>>
+        ensures opened { (bytes : List ℕ) → D.seen disk ≡ Some bytes → IfOk result (λ store. IsStore bytes store.offset) }
+        ensures holds { (bytes : List ℕ) → D.seen disk ≡ Some bytes → IfOk result (λ store. Holds D.seen D.may_leave store store.offset) }
+        ensures not_a_store { (bytes : List ℕ) (at : ℕ) → D.seen disk ≡ Some bytes → IfErr result (λ refused. refused.error ≡ OffsetError.NotAStore at → IsFaultAt bytes at) }
+        ensures bad_offset { (bytes : List ℕ) (index : ℕ) → D.seen disk ≡ Some bytes → IfErr result (λ refused. refused.error ≡ OffsetError.BadOffset index → HasBadOffset bytes index) }
+        ensures short { IfErr result (λ refused. (len : ℕ) → refused.error ≢ OffsetError.TooLong len) }
+        ensures live { IfOk result IsLive }
+        ensures failed { IfErr result (λ refused. refused.error ≡ OffsetError.Failed → Rose (D.faults disk) (D.faults refused.disk)) }
+        ensures seen { MatchResult result (λ store. D.seen (disk_of store) ≡ D.seen disk) (λ refused. D.seen refused.disk ≡ D.seen disk) }
+        ensures images { (image : List ℕ) → MatchResult result (λ store. D.may_leave (disk_of store) image → D.may_leave disk image) (λ refused. D.may_leave refused.disk image → D.may_leave disk image) }
+        ensures later { MatchResult result (λ store. D.faults disk ≤ D.faults (disk_of store)) (λ refused. D.faults disk ≤ D.faults refused.disk) }
+    {
+        let mut journal = match Journal::open(alloc, disk) {
+            Ok(journal) => journal,
+            Err(Refused { disk, error }) => {
+                return Err(Refused {
+                    disk,
+                    error: OffsetError::from(error),
+                });
+            }
+        };
+        match read_last(alloc, &mut journal) {
+            Ok(offset) => Ok(OffsetStore { journal, offset }),
+            Err(error) => Err(Refused {
+                disk: journal.into_disk(),
+                error,
+            }),
+        }
+    }
+
+    /// The offset that was stored last. Takes no memory.
+    pub fn load(&self) -> Option<&Offset>
+        requires { IsLive self.now }
+        ensures offset { option_map (λ offset. offset.now) result ≡ self.now.offset }
+        ensures asked { IfSome result (λ offset. IsOffset offset.now) }
+    {
+        self.offset.as_ref()
+    }
+
+    /// Puts an offset in the place of the last one: a write and a sync behind the last entry, and a write and a sync that make
+    /// it count. Its bytes are there before the first of these calls. After `Failed` the store isn't live; the other errors
+    /// come before them and change nothing.
+    pub fn store(&mut self, alloc: Global, offset: Offset) -> Result<(), OffsetError>
+        requires live { IsLive self.old }
+        requires offset { IsOffset offset }
+        ensures stored { (old : Option Offset) → Holds D.seen D.may_leave self.old old → OnOk result (Holds D.seen D.may_leave self.new (Some offset)) }
+        ensures left { (old : Option Offset) → Holds D.seen D.may_leave self.old old → LeavesOffset D.may_leave (disk_of self.new) (λ left. (left ≡ old) ⊎ (left ≡ Some offset)) }
+        ensures loads { OnOk result (self.new.offset ≡ Some offset) }
+        ensures live { OnOk result (IsLive self.new) }
+        ensures too_long { (len : ℕ) → (result ≡ Err (OffsetError.TooLong len)) ↔ ((2 ^ 28 < length (spelling offset)) × (len ≡ capped (length (spelling offset)))) }
+        ensures failed { result ≡ Err OffsetError.Failed → Rose (D.faults (disk_of self.old)) (D.faults (disk_of self.new)) }
+        ensures dead { result ≡ Err OffsetError.Failed → ¬ IsLive self.new }
+        ensures unchanged { OnErr result (result ≢ Err OffsetError.Failed → self.new ≡ self.old) }
+        ensures a_store { (at : ℕ) → result ≢ Err (OffsetError.NotAStore at) }
+        ensures no_bad_offset { (index : ℕ) → result ≢ Err (OffsetError.BadOffset index) }
+        ensures later { D.faults (disk_of self.old) ≤ D.faults (disk_of self.new) }
+    {
+        let count = measure(&offset);
+        if count > ENTRY_LIMIT as u64 {
+            return Err(OffsetError::TooLong { len: count });
+        }
+        let bytes = encode(alloc, count as usize, &offset)?;
+        self.journal.append(alloc, &bytes)?;
+        self.offset = Some(offset);
+        Ok(())
+    }
+
+    /// The disk, as it stands. Takes no memory and makes no call of the disk.
+    pub fn into_disk(self) -> D
+        ensures { result ≡ disk_of self }
+    {
+        let OffsetStore { journal, offset: _ } = self;
+        journal.into_disk()
+    }
+}

@@ -1,0 +1,14 @@
+pub mod ClapRules
+pub mod ClapSteps
+pub mod ClapWords
+pub mod ClapRuns
+pub mod ClapFaults
+pub mod ClapRows
+pub mod ClapItems
+pub mod ClapReads
+pub mod ClapJoin
+pub mod CheckLemmas
+pub mod ValueLemmas
+pub mod ItemLaws
+pub mod SayLemmas
+pub mod LimitLemmas

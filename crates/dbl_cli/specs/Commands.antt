@@ -1,0 +1,151 @@
+-- Which words spell which command. Source: own.
+use Rattle.std.specs.Prelude.{◌≡◌, ℕ, ◌&&◌, ◌||◌, not, Bool, true, false, Option, is_some, List, [], ◌∷◌, ◌++◌, map, unwrap_or, codes}
+use Rattle.std.specs.List.{list_all}
+use Rattle.std.specs.Str.Parse.{digits_value}
+use Rattle.dbl_model.specs.Tables.{is_name}
+use Rattle.dbl_model.specs.Identities.{default_placeholder}
+use Rattle.dbl_cli.specs.declared.verbs.Verb.{Verb}
+use Rattle.dbl_cli.specs.declared.verbs.Verb.TheVariants as verb
+use Rattle.dbl_cli.specs.declared.commands.Command.{Command}
+use Rattle.dbl_cli.specs.declared.commands.Command.TheVariants as command
+use Rattle.dbl_cli.specs.Items.{Named, Form, Setting, AreItems, value_of, is_given}
+use Rattle.dbl_cli.specs.Values.{is_number, number_or, passes, is_placeholder, table_in, are_tables, key_in, are_keys}
+
+-- ---- the commands' names and forms
+
+abbrev pub name_of : Verb → List ℕ
+name_of verb.Init = codes "init"
+name_of verb.Topics = codes "topics"
+name_of verb.Offsets = codes "offsets"
+name_of verb.Capture = codes "capture"
+name_of verb.Resume = codes "resume"
+name_of verb.Apply = codes "apply"
+name_of verb.Replay = codes "replay"
+name_of verb.Gen = codes "gen"
+
+abbrev pub option : List ℕ → Named
+option name = record { name = name; has_value = true }
+
+abbrev pub flag : List ℕ → Named
+flag name = record { name = name; has_value = false }
+
+abbrev pub naming : List Named
+naming = option (codes "prefix") ∷ option (codes "db") ∷ option (codes "placeholder") ∷ []
+
+abbrev pub pacing : List Named
+pacing = option (codes "chunk") ∷ option (codes "every") ∷ option (codes "messages") ∷ []
+
+abbrev pub names_of : Verb → List Named
+names_of verb.Init = []
+names_of verb.Topics = []
+names_of verb.Offsets = []
+names_of verb.Capture = naming ++ pacing
+names_of verb.Resume = pacing
+names_of verb.Apply = flag (codes "lines") ∷ option (codes "placeholder") ∷ []
+names_of verb.Replay = naming
+names_of verb.Gen = option (codes "rows") ∷ option (codes "groups") ∷ flag (codes "run") ∷ []
+
+-- at least so many words in capitals
+abbrev pub least_of : Verb → ℕ
+least_of verb.Gen = 1
+least_of v = 0
+
+-- at most so many: TABLE and KEY up to 64 times, NUMBER once
+abbrev pub most_of : Verb → ℕ
+most_of verb.Capture = 64
+most_of verb.Replay = 64
+most_of verb.Gen = 1
+most_of v = 0
+
+abbrev pub form_of : Verb → Form
+form_of v = record { names = names_of v; least = least_of v; most = most_of v }
+
+-- ---- what the values have to be
+
+-- `--prefix`, `--db` and `--placeholder`
+abbrev pub names_pass : Option (List ℕ) → Option (List ℕ) → Option (List ℕ) → Bool
+names_pass prefix db placeholder = passes is_name prefix && (passes is_name db && passes is_placeholder placeholder)
+
+-- `--chunk`, `--every` and `--messages`
+abbrev pub pace_passes : Option (List ℕ) → Option (List ℕ) → Option (List ℕ) → Bool
+pace_passes chunk every messages = passes (is_number 1 100000) chunk && (passes (is_number 1 10000) every && passes (is_number 1 999999999) messages)
+
+-- `--lines` and `--placeholder`, which needs `--lines`
+abbrev pub apply_passes : Bool → Option (List ℕ) → Bool
+apply_passes lines placeholder = (lines || not (is_some placeholder)) && passes is_placeholder placeholder
+
+-- NUMBER, `--rows` and `--groups`
+abbrev pub gen_passes : List (List ℕ) → Option (List ℕ) → Option (List ℕ) → Bool
+gen_passes texts rows groups = list_all (is_number 0 999999999) texts && (passes (is_number 0 400000) rows && passes (is_number 0 90000) groups)
+
+-- the texts of the options and the words in capitals
+abbrev pub capture_passes : Option (List ℕ) → Option (List ℕ) → Option (List ℕ) → Option (List ℕ) → Option (List ℕ) → Option (List ℕ) → List (List ℕ) → Bool
+capture_passes prefix db placeholder chunk every messages texts = names_pass prefix db placeholder && (pace_passes chunk every messages && are_tables texts)
+
+abbrev pub replay_passes : Option (List ℕ) → Option (List ℕ) → Option (List ℕ) → List (List ℕ) → Bool
+replay_passes prefix db placeholder texts = names_pass prefix db placeholder && are_keys texts
+
+abbrev pub values_pass : Verb → List Setting → List (List ℕ) → Bool
+values_pass verb.Init settings texts = true
+values_pass verb.Topics settings texts = true
+values_pass verb.Offsets settings texts = true
+values_pass verb.Capture settings texts =
+    capture_passes (value_of (codes "prefix") settings) (value_of (codes "db") settings) (value_of (codes "placeholder") settings)
+    (value_of (codes "chunk") settings) (value_of (codes "every") settings) (value_of (codes "messages") settings) texts
+values_pass verb.Resume settings texts = pace_passes (value_of (codes "chunk") settings) (value_of (codes "every") settings) (value_of (codes "messages") settings)
+values_pass verb.Apply settings texts = apply_passes (is_given (codes "lines") settings) (value_of (codes "placeholder") settings)
+values_pass verb.Replay settings texts = replay_passes (value_of (codes "prefix") settings) (value_of (codes "db") settings) (value_of (codes "placeholder") settings) texts
+values_pass verb.Gen settings texts = gen_passes texts (value_of (codes "rows") settings) (value_of (codes "groups") settings)
+
+-- ---- the command that they ask for
+
+abbrev pub name_or_demo : Option (List ℕ) → List ℕ
+name_or_demo value = unwrap_or value (codes "demo")
+
+abbrev pub placeholder_or_own : Option (List ℕ) → List ℕ
+placeholder_or_own value = unwrap_or value default_placeholder
+
+-- the number that the one word spells
+abbrev pub number_in : List (List ℕ) → ℕ
+number_in [] = 0
+number_in (text ∷ texts) = digits_value 10 text
+
+abbrev pub capture_of : Option (List ℕ) → Option (List ℕ) → Option (List ℕ) → Option (List ℕ) → Option (List ℕ) → Option (List ℕ) → List (List ℕ) → Command
+capture_of prefix db placeholder chunk every messages texts =
+    command.Capture (name_or_demo prefix) (name_or_demo db) (placeholder_or_own placeholder) (number_or 1000 chunk) (number_or 100 every) (number_or 999999999 messages) (map table_in texts)
+
+abbrev pub resume_of : Option (List ℕ) → Option (List ℕ) → Option (List ℕ) → Command
+resume_of chunk every messages = command.Resume (number_or 1000 chunk) (number_or 100 every) (number_or 999999999 messages)
+
+abbrev pub apply_of : Bool → Option (List ℕ) → Command
+apply_of lines placeholder = command.Apply lines (placeholder_or_own placeholder)
+
+abbrev pub replay_of : Option (List ℕ) → Option (List ℕ) → Option (List ℕ) → List (List ℕ) → Command
+replay_of prefix db placeholder texts = command.Replay (name_or_demo prefix) (name_or_demo db) (placeholder_or_own placeholder) (map key_in texts)
+
+abbrev pub gen_of : List (List ℕ) → Option (List ℕ) → Option (List ℕ) → Bool → Command
+gen_of texts rows groups run = command.Gen (number_in texts) (number_or 2500 rows) (number_or 500 groups) run
+
+abbrev pub command_of : Verb → List Setting → List (List ℕ) → Command
+command_of verb.Init settings texts = command.Init
+command_of verb.Topics settings texts = command.Topics
+command_of verb.Offsets settings texts = command.Offsets
+command_of verb.Capture settings texts =
+    capture_of (value_of (codes "prefix") settings) (value_of (codes "db") settings) (value_of (codes "placeholder") settings)
+    (value_of (codes "chunk") settings) (value_of (codes "every") settings) (value_of (codes "messages") settings) texts
+command_of verb.Resume settings texts = resume_of (value_of (codes "chunk") settings) (value_of (codes "every") settings) (value_of (codes "messages") settings)
+command_of verb.Apply settings texts = apply_of (is_given (codes "lines") settings) (value_of (codes "placeholder") settings)
+command_of verb.Replay settings texts = replay_of (value_of (codes "prefix") settings) (value_of (codes "db") settings) (value_of (codes "placeholder") settings) texts
+command_of verb.Gen settings texts = gen_of texts (value_of (codes "rows") settings) (value_of (codes "groups") settings) (is_given (codes "run") settings)
+
+-- The words spell the command: its name, and then a list of items of its form, whose values pass.
+pub record Spells (words : List (List ℕ)) (command : Command) : Type 0 where
+  pub verb : Verb
+  pub rest : List (List ℕ)
+  pub front : List Setting
+  pub texts : List (List ℕ)
+  pub back : List Setting
+  pub parts : words ≡ name_of verb ∷ rest
+  pub items : AreItems (form_of verb) rest front texts back
+  pub pass : values_pass verb (front ++ back) texts ≡ true
+  pub says : command ≡ command_of verb (front ++ back) texts

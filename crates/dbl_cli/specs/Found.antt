@@ -1,0 +1,45 @@
+-- For private clauses: what clap found, and what it was given.
+use Rattle.std.specs.Prelude.{◌≡◌, ◌⊎◌, ℕ, Bool, true, false, Option, Some, option_map, unwrap_or, Result, MatchResult, nat_le, length, List, [], ◌++◌}
+use Rattle.clap.specs.Words.{first_value, found_of, matched_of, one_text, raw_values}
+use Rattle.clap.specs.Values.{bool_text}
+use Rattle.clap.specs.declared.parser.matches.ArgMatches.{ArgMatches}
+use Rattle.dbl_cli.specs.declared.verbs.Verb.{Verb}
+use Rattle.dbl_cli.specs.declared.commands.Command.{Command}
+use Rattle.dbl_cli.specs.declared.error.CliError.{CliError}
+use Rattle.dbl_cli.specs.declared.error.CliError.TheVariants.{Memory}
+use Rattle.dbl_cli.specs.Items.{Setting, AreItems, has_value, value_of, is_given}
+use Rattle.dbl_cli.specs.Commands.{names_of, least_of, most_of, form_of, values_pass, command_of}
+use Rattle.dbl_cli.specs.Parsers.{place}
+
+-- the text of an option
+abbrev pub option_in : ArgMatches → List ℕ → Option (List ℕ)
+option_in found name = first_value (found_of found) name
+
+-- the words in capitals
+abbrev pub places_in : ArgMatches → List (List ℕ)
+places_in found = unwrap_or (option_map raw_values (matched_of (found_of found) place)) []
+
+-- a flag is given, or not
+abbrev pub SaysFlag : ArgMatches → List ℕ → Bool → Type 0
+SaysFlag found name given = one_text (found_of found) name ≡ Some (bool_text given)
+
+-- clap found just these settings and words in capitals
+pub record Finds (verb : Verb) (found : ArgMatches) (settings : List Setting) (texts : List (List ℕ)) : Type 0 where
+  pub options : (name : List ℕ) → has_value (names_of verb) name ≡ Some true → option_in found name ≡ value_of name settings
+  pub flags : (name : List ℕ) → has_value (names_of verb) name ≡ Some false → SaysFlag found name (is_given name settings)
+  pub places : places_in found ≡ texts
+  pub enough : nat_le (least_of verb) (length texts) ≡ true
+  pub few : nat_le (length texts) (most_of verb) ≡ true
+
+-- the words behind a command's name say this
+pub record SaysItems (verb : Verb) (words : List (List ℕ)) (command : Command) : Type 0 where
+  pub front : List Setting
+  pub texts : List (List ℕ)
+  pub back : List Setting
+  pub items : AreItems (form_of verb) words front texts back
+  pub pass : values_pass verb (front ++ back) texts ≡ true
+  pub says : command ≡ command_of verb (front ++ back) texts
+
+-- What the words say is read. If they say nothing, or memory ran out, there is an error.
+abbrev pub ReadsItems : Verb → List (List ℕ) → Result Command CliError → Type 0
+ReadsItems verb words result = MatchResult result (λ command. SaysItems verb words command) (λ e. (e ≡ Memory) ⊎ ((command : Command) → SaysItems verb words command → ⊥))

@@ -1,0 +1,9 @@
+pub mod Items
+pub mod Values
+pub mod Commands
+pub mod Limits
+pub mod Names
+pub mod Checks
+pub mod Parsers
+pub mod Reads
+pub mod Found

@@ -1,0 +1,20 @@
+//! The words of the command line.
+#![tactic(auto)]
+
+mod commands;
+mod error;
+mod items;
+mod laws;
+mod names;
+mod parser;
+mod reading;
+mod spelling;
+#[cfg(test)]
+mod tests;
+mod values;
+mod verbs;
+
+pub use commands::Command;
+pub use error::CliError;
+pub use laws::words_spell_one_command;
+pub use spelling::command;

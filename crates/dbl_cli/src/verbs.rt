@@ -1,0 +1,40 @@
+ghost use Rattle.std.specs.Prelude.{◌≡◌, MatchOption};
+ghost use Rattle.dbl_cli.specs.Commands.{name_of};
+
+/// The commands, by their first word.
+#[derive(Clone, Copy)]
+pub enum Verb {
+    Init,
+    Topics,
+    Offsets,
+    Capture,
+    Resume,
+    Apply,
+    Replay,
+    Gen,
+}
+
+/// The command of this name.
+pub fn verb_of(word: &str) -> Option<Verb>
+    ensures { MatchOption result ((verb : _) → name_of verb ≡ word.now → ⊥) (λ verb. name_of verb ≡ word.now) }
+{
+    if word == "init" {
+        Some(Verb::Init)
+    } else if word == "topics" {
+        Some(Verb::Topics)
+    } else if word == "offsets" {
+        Some(Verb::Offsets)
+    } else if word == "capture" {
+        Some(Verb::Capture)
+    } else if word == "resume" {
+        Some(Verb::Resume)
+    } else if word == "apply" {
+        Some(Verb::Apply)
+    } else if word == "replay" {
+        Some(Verb::Replay)
+    } else if word == "gen" {
+        Some(Verb::Gen)
+    } else {
+        None
+    }
+}

@@ -7,25 +7,24 @@ use Rattle.dblog.specs.declared.apply.FaultAt.{FaultAt}
 use Rattle.dblog.specs.Lines.{lines_of}
 use Rattle.dblog.specs.Apply.{readings_of}
 use Rattle.dblog.specs.Run.{Answer, done, line_fault, Applies, long_input, refused, applied}
-use Rattle.dblog.specs.Log.{default_identity}
 
 -- bytes have one answer
-pub applies_one : (bytes : List ℕ) (a b : Answer) → Applies bytes a → Applies bytes b → a ≡ b
-applies_one bytes a b (long_input long is) (long_input long' is') = is ∙ sym is'
-applies_one bytes a b (long_input long is) (refused at within found is') = absurd (omega arith)
-applies_one bytes a b (long_input long is) (applied rows within none are is') = absurd (omega arith)
-applies_one bytes a b (refused at within found is) (long_input long is') = absurd (omega arith)
-applies_one bytes a b (refused at within found is) (refused other within' found' is') =
+pub applies_one : (placeholder : List ℕ) (bytes : List ℕ) (a b : Answer) → Applies placeholder bytes a → Applies placeholder bytes b → a ≡ b
+applies_one placeholder bytes a b (long_input long is) (long_input long' is') = is ∙ sym is'
+applies_one placeholder bytes a b (long_input long is) (refused at within found is') = absurd (omega arith)
+applies_one placeholder bytes a b (long_input long is) (applied rows within none are is') = absurd (omega arith)
+applies_one placeholder bytes a b (refused at within found is) (long_input long is') = absurd (omega arith)
+applies_one placeholder bytes a b (refused at within found is) (refused other within' found' is') =
     let same : at ≡ other = cc in
     is ∙ ap line_fault same ∙ sym is'
-applies_one bytes a b (refused at within found is) (applied rows within' none are is') = cc
-applies_one bytes a b (applied rows within none are is) (long_input long is') = absurd (omega arith)
-applies_one bytes a b (applied rows within none are is) (refused at within' found is') = cc
-applies_one bytes a b (applied rows within none are is) (applied others within' none' are' is') =
-    is ∙ ap (λ rs. done (map row_line rs)) (rows_are_one (consumer_of default_identity.placeholder (readings_of (lines_of bytes))) rows others are are') ∙ sym is'
+applies_one placeholder bytes a b (refused at within found is) (applied rows within' none are is') = cc
+applies_one placeholder bytes a b (applied rows within none are is) (long_input long is') = absurd (omega arith)
+applies_one placeholder bytes a b (applied rows within none are is) (refused at within' found is') = cc
+applies_one placeholder bytes a b (applied rows within none are is) (applied others within' none' are' is') =
+    is ∙ ap (λ rs. done (map row_line rs)) (rows_are_one (consumer_of placeholder (readings_of (lines_of bytes))) rows others are are') ∙ sym is'
 
 -- the input is read for each answer
-pub applies_reads : (bytes : List ℕ) (answer : Answer) → Applies bytes answer → answer.reads ≡ true
-applies_reads bytes answer (long_input long is) = ap (λ a. a.reads) is
-applies_reads bytes answer (refused at within found is) = ap (λ a. a.reads) is
-applies_reads bytes answer (applied rows within none are is) = ap (λ a. a.reads) is
+pub applies_reads : (placeholder : List ℕ) (bytes : List ℕ) (answer : Answer) → Applies placeholder bytes answer → answer.reads ≡ true
+applies_reads placeholder bytes answer (long_input long is) = ap (λ a. a.reads) is
+applies_reads placeholder bytes answer (refused at within found is) = ap (λ a. a.reads) is
+applies_reads placeholder bytes answer (applied rows within none are is) = ap (λ a. a.reads) is

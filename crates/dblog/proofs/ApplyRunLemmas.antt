@@ -1,6 +1,5 @@
 -- How a run of `apply --lines` ends.
 use Rattle.std.proofs.Common.{◌≡◌, ◌≢◌, ◌⊎◌, inl, inr, ◌∙◌, ℕ, ℤ, ◌≤◌, Option, Some, None, List, [], ◌∷◌, ◌++◌, Bool, true, bytes_eq, Result, Ok, Err, codes, get_or, length, take, map, refl, sym, ap, subst, arith}
-use Rattle.std.proofs.lemmas.Slice.Eq.{bytes_eq-Decides}
 use Rattle.dbl_base.specs.declared.input.TheConstants.{INPUT_LIMIT}
 use Rattle.dbl_record.specs.declared.acts.ConsumeError.{ConsumeError}
 use Rattle.dbl_record.specs.Acts.{Reading}
@@ -18,15 +17,14 @@ use Rattle.dblog.specs.declared.halt.Halt.TheVariants.{Usage, BadLine, InputTooL
 use Rattle.dblog.specs.Faults.{status_of, fault_line, output_failed_status}
 use Rattle.dblog.specs.Lines.{lines_of}
 use Rattle.dblog.specs.Apply.{first_fault, fault_text, readings_of}
-use Rattle.dblog.specs.Run.{Answer, fault, done, line_fault, lines_text, replay_words, apply_words, Applies, long_input, refused, applied, Means, apply, Wrote, WroteFront, whole, out_of_memory, Writes, Ends, IsOutside, Runs, Says, IsApplyStatus, HaltsApplying, RunsApplying, EndsAs, PrintedAs}
-use Rattle.dblog.specs.Log.{default_identity}
+use Rattle.dblog.specs.Run.{Answer, fault, done, line_fault, lines_text, Applies, long_input, refused, applied, Wrote, WroteFront, whole, out_of_memory, Writes, Ends, IsOutside, Says, IsApplyStatus, HaltsApplying, RunsApplying, EndsAs, PrintedAs}
 use Rattle.dblog.proofs.ApplyLaws.{applies_one, applies_reads}
-use Rattle.dblog.proofs.RunLemmas.{says_ends, memory_ends, input_ends, input_is_outside, written_or_outside, memory_is_outside, writes_then, means_applies}
+use Rattle.dblog.proofs.RunLemmas.{says_ends, memory_ends, input_ends, input_is_outside, written_or_outside, memory_is_outside, writes_then}
 
 -- a run with the answer of its bytes
-pub answered : (bytes : List ℕ) (answer : Answer) (status : ℕ) (before after : Option (List ℕ)) → Applies bytes answer → EndsAs answer status before after → RunsApplying bytes status before after
-answered bytes answer status before after applies ends = record {
-  ended = λ other meant. subst (λ a. Ends a status before after) (applies_one bytes answer other applies meant) ends.ended;
+pub answered : (placeholder : List ℕ) (bytes : List ℕ) (answer : Answer) (status : ℕ) (before after : Option (List ℕ)) → Applies placeholder bytes answer → EndsAs answer status before after → RunsApplying placeholder bytes status before after
+answered placeholder bytes answer status before after applies ends = record {
+  ended = λ other meant. subst (λ a. Ends a status before after) (applies_one placeholder bytes answer other applies meant) ends.ended;
   meant = elim ends.told [ inl outside ↦ inl outside | inr is ↦ inr (answer, applies, is) ];
 }
 
@@ -42,8 +40,8 @@ memory_written status before after (inr writes) = writes
 pub starved : (answer : Answer) (status : ℕ) (before after : Option (List ℕ)) → Says Memory status before after → EndsAs answer status before after
 starved answer status before after says = record { ended = memory_ends answer status before after (memory_written status before after says); told = inl (memory_outside status before after says) }
 
-pub memory_applies : (bytes : List ℕ) (status : ℕ) (before after : Option (List ℕ)) → Says Memory status before after → RunsApplying bytes status before after
-memory_applies bytes status before after says = record {
+pub memory_applies : (placeholder : List ℕ) (bytes : List ℕ) (status : ℕ) (before after : Option (List ℕ)) → Says Memory status before after → RunsApplying placeholder bytes status before after
+memory_applies placeholder bytes status before after says = record {
   ended = λ answer meant. (starved answer status before after says).ended;
   meant = inl (memory_outside status before after says);
 }
@@ -52,15 +50,15 @@ too_long_ends : (status : ℕ) (before after : Option (List ℕ)) → Says Input
 too_long_ends status before after (inl writes) = record { ended = says_ends InputTooLong status before after (inl writes); told = elim (written_or_outside _ _ status before after writes) [ inl is ↦ inr (sym is) | inr outside ↦ inl outside ] }
 too_long_ends status before after (inr writes) = record { ended = says_ends InputTooLong status before after (inr writes); told = inl (memory_is_outside status (written_or_outside _ _ status before after writes)) }
 
-pub halt_applies : (bytes : List ℕ) (halt : Halt) (status : ℕ) (before after : Option (List ℕ)) → HaltsApplying bytes halt → Says halt status before after → RunsApplying bytes status before after
-halt_applies bytes Usage status before after halts says = absurd halts
-halt_applies bytes InputFailed status before after halts says = record {
-  ended = λ answer meant. input_ends answer status before after (applies_reads bytes answer meant) says;
+pub halt_applies : (placeholder : List ℕ) (bytes : List ℕ) (halt : Halt) (status : ℕ) (before after : Option (List ℕ)) → HaltsApplying placeholder bytes halt → Says halt status before after → RunsApplying placeholder bytes status before after
+halt_applies placeholder bytes Usage status before after halts says = absurd halts
+halt_applies placeholder bytes InputFailed status before after halts says = record {
+  ended = λ answer meant. input_ends answer status before after (applies_reads placeholder bytes answer meant) says;
   meant = inl (input_is_outside status before after says);
 }
-halt_applies bytes Memory status before after halts says = memory_applies bytes status before after says
-halt_applies bytes (BadLine number) status before after halts says = absurd halts
-halt_applies bytes InputTooLong status before after halts says = answered bytes (fault InputTooLong) status before after halts (too_long_ends status before after says)
+halt_applies placeholder bytes Memory status before after halts says = memory_applies placeholder bytes status before after says
+halt_applies placeholder bytes (BadLine number) status before after halts says = absurd halts
+halt_applies placeholder bytes InputTooLong status before after halts says = answered placeholder bytes (fault InputTooLong) status before after halts (too_long_ends status before after says)
 
 -- the line of a line that isn't applied was to be written
 pub line_ends : (at : FaultAt) (status : ℕ) (before after : Option (List ℕ)) → Writes 13 (lines_text (fault_text at ∷ [])) status before after → EndsAs (line_fault at) status before after
@@ -70,10 +68,10 @@ line_ends at status before after writes = record {
 }
 
 -- a run whose first line that isn't applied was found, unless memory was wanting there
-pub fault_applies : (bytes : List ℕ) (at : FaultAt) (status : ℕ) (before after : Option (List ℕ)) → length bytes ≤ INPUT_LIMIT
-    → (at.fault ≢ line.Memory → first_fault default_identity.placeholder (lines_of bytes) ≡ Some at) → (at.fault ≢ line.Memory → EndsAs (line_fault at) status before after)
-    → (at.fault ≡ line.Memory → Says Memory status before after) → RunsApplying bytes status before after
-fault_applies bytes at status before after within found ends says = go at.fault refl
+pub fault_applies : (placeholder : List ℕ) (bytes : List ℕ) (at : FaultAt) (status : ℕ) (before after : Option (List ℕ)) → length bytes ≤ INPUT_LIMIT
+    → (at.fault ≢ line.Memory → first_fault placeholder (lines_of bytes) ≡ Some at) → (at.fault ≢ line.Memory → EndsAs (line_fault at) status before after)
+    → (at.fault ≡ line.Memory → Says Memory status before after) → RunsApplying placeholder bytes status before after
+fault_applies placeholder bytes at status before after within found ends says = go at.fault refl
   where
     bad_is_none : line.BadRecord ≡ line.Memory → ⊥
     bad_is_none e = cc
@@ -81,18 +79,18 @@ fault_applies bytes at status before after within found ends says = go at.fault 
     refused_is_none : (error : ConsumeError) → line.Refused error ≡ line.Memory → ⊥
     refused_is_none error e = cc
 
-    told : (at.fault ≢ line.Memory) → RunsApplying bytes status before after
-    told other = answered bytes (line_fault at) status before after (refused at within (found other) refl) (ends other)
+    told : (at.fault ≢ line.Memory) → RunsApplying placeholder bytes status before after
+    told other = answered placeholder bytes (line_fault at) status before after (refused at within (found other) refl) (ends other)
 
-    go : (fault : LineFault) → at.fault ≡ fault → RunsApplying bytes status before after
+    go : (fault : LineFault) → at.fault ≡ fault → RunsApplying placeholder bytes status before after
     go line.BadRecord is = told (λ memory. bad_is_none (sym is ∙ memory))
     go (line.Refused error) is = told (λ memory. refused_is_none error (sym is ∙ memory))
-    go line.Memory is = memory_applies bytes status before after (says is)
+    go line.Memory is = memory_applies placeholder bytes status before after (says is)
 
 -- a run whose rows were to be printed
-pub rows_apply : (bytes : List ℕ) (status : ℕ) (before after : Option (List ℕ)) → length bytes ≤ INPUT_LIMIT → first_fault default_identity.placeholder (lines_of bytes) ≡ None
-    → PrintedAs (consumer_of default_identity.placeholder (readings_of (lines_of bytes))) status before after → RunsApplying bytes status before after
-rows_apply bytes status before after within none printed = answered bytes (done (map row_line printed.rows)) status before after (applied printed.rows within none printed.are refl) printed.ends
+pub rows_apply : (placeholder : List ℕ) (bytes : List ℕ) (status : ℕ) (before after : Option (List ℕ)) → length bytes ≤ INPUT_LIMIT → first_fault placeholder (lines_of bytes) ≡ None
+    → PrintedAs (consumer_of placeholder (readings_of (lines_of bytes))) status before after → RunsApplying placeholder bytes status before after
+rows_apply placeholder bytes status before after within none printed = answered placeholder bytes (done (map row_line printed.rows)) status before after (applied printed.rows within none printed.are refl) printed.ends
 
 -- ---- the lines of the rows
 
@@ -144,46 +142,13 @@ says_memory status before after (inl (inr cut)) = inr (inl cut.0)
 says_memory status before after (inr (inl said)) = inr (inr said.0)
 says_memory status before after (inr (inr cut)) = inr (inl cut.0)
 
--- the same with the placeholder that was made
-pub rows_apply_at : (bytes placeholder : List ℕ) (held : Consumer) (status : ℕ) (before after : Option (List ℕ)) → placeholder ≡ default_identity.placeholder → placeholder_of held ≡ placeholder → length bytes ≤ INPUT_LIMIT
+-- the same of the consumer that was made
+pub rows_apply_at : (placeholder bytes : List ℕ) (held : Consumer) (status : ℕ) (before after : Option (List ℕ)) → placeholder_of held ≡ placeholder → length bytes ≤ INPUT_LIMIT
     → first_fault placeholder (lines_of bytes) ≡ None → Took (readings_of (lines_of bytes)) held
-    → ((taken : List Reading) → Took taken held → PrintedAs (consumer_of (placeholder_of held) taken) status before after) → RunsApplying bytes status before after
-rows_apply_at bytes placeholder held status before after is held_is within none took prints =
-    rows_apply bytes status before after within (ap (λ p. first_fault p (lines_of bytes)) (sym is) ∙ none)
-    (subst (λ p. PrintedAs (consumer_of p (readings_of (lines_of bytes))) status before after) (held_is ∙ is) (prints (readings_of (lines_of bytes)) took))
-
-pub fault_applies_at : (bytes placeholder : List ℕ) (at : FaultAt) (status : ℕ) (before after : Option (List ℕ)) → placeholder ≡ default_identity.placeholder → length bytes ≤ INPUT_LIMIT
-    → (at.fault ≢ line.Memory → first_fault placeholder (lines_of bytes) ≡ Some at) → (at.fault ≢ line.Memory → EndsAs (line_fault at) status before after)
-    → (at.fault ≡ line.Memory → Says Memory status before after) → RunsApplying bytes status before after
-fault_applies_at bytes placeholder at status before after is within found ends says =
-    fault_applies bytes at status before after within (λ other. ap (λ p. first_fault p (lines_of bytes)) (sym is) ∙ found other) ends says
-
--- ---- words
-
-pub runs_applying : (words : List (List ℕ)) (now : ℤ) (bytes : List ℕ) (status : ℕ) (before after : Option (List ℕ)) → words ≡ apply_words → RunsApplying bytes status before after → Runs words now bytes status before after
-runs_applying words now bytes status before after same runs = record {
-  ended = λ answer means. runs.ended answer (means_applies words now bytes answer same means);
-  meant = elim runs.meant [ inl outside ↦ inl outside | inr told ↦ inr (told.0, apply same told.1, told.2) ];
-}
-
-pub two_items : (xs : List (List ℕ)) (x y : List ℕ) → length xs ≡ 2 → x ≡ get_or xs 0 x → y ≡ get_or xs 1 y → xs ≡ x ∷ y ∷ []
-two_items [] x y two first second = absurd (omega arith)
-two_items (a ∷ []) x y two first second = absurd (omega arith)
-two_items (a ∷ b ∷ []) x y two first second = λ i. sym first i ∷ sym second i ∷ []
-two_items (a ∷ b ∷ c ∷ cs) x y two first second = absurd (omega arith)
-
--- two texts alone among the words are those of the command, exactly where they equal them
-pub words_are : (words : List (List ℕ)) (command option : List ℕ) → words ≡ command ∷ option ∷ [] → words ≡ apply_words → (command ≡ codes "apply") × (option ≡ codes "--lines")
-words_are words command option are same = let both : command ∷ option ∷ [] ≡ apply_words = sym are ∙ same in (cc, cc)
-
-pub word_pair : (words : List (List ℕ)) (command option : List ℕ) (first second : Bool) → words ≡ command ∷ option ∷ [] → first ≡ bytes_eq command (codes "apply") → first ≡ true → second ≡ bytes_eq option (codes "--lines")
-    → (second ≡ true → words ≡ apply_words) × (words ≡ apply_words → second ≡ true)
-word_pair words command option first second are first_is passes second_is =
-    let commands = bytes_eq-Decides command (codes "apply") in
-    let options = bytes_eq-Decides option (codes "--lines") in (
-      λ both. are ∙ ap (λ c. c ∷ option ∷ []) (commands.0 (sym first_is ∙ passes)) ∙ ap (λ o. codes "apply" ∷ o ∷ []) (options.0 (sym second_is ∙ both)),
-      λ same. second_is ∙ options.1 (words_are words command option are same).1,
-    )
+    → ((taken : List Reading) → Took taken held → PrintedAs (consumer_of (placeholder_of held) taken) status before after) → RunsApplying placeholder bytes status before after
+rows_apply_at placeholder bytes held status before after held_is within none took prints =
+    rows_apply placeholder bytes status before after within none
+    (subst (λ p. PrintedAs (consumer_of p (readings_of (lines_of bytes))) status before after) held_is (prints (readings_of (lines_of bytes)) took))
 
 -- ---- statuses
 

@@ -1,7 +1,7 @@
 -- The lines of a log are those of all commits that its messages state up to the first fault.
 use Rattle.std.proofs.Common.{◌≡◌, ◌≢◌, ◌⊎◌, inl, inr, ◌∙◌, ℕ, zero, suc, ◌<◌, ℤ, ◌+◌, Option, Some, None, IsSome, IsSomeAnd, List, [], ◌∷◌, ◌++◌, map, flat_map, length, slice_get, refl, sym, ap, ap₂, subst, append_assoc, arith}
 use Rattle.std.specs.Prelude.{option_map, unwrap_or}
-use Rattle.std.specs.Option.{option_and_then}
+use Rattle.std.specs.Option.{option_and_then, option_or}
 use Rattle.std.specs.List.{AllByRecursion}
 use Rattle.std.proofs.lemmas.List.{append-nil, map-append}
 use Rattle.dbl_pgmsg.specs.declared.messages.Message.{Message}
@@ -9,6 +9,7 @@ use Rattle.dbl_pgmsg.specs.declared.messages.Message.TheVariants as says
 use Rattle.dbl_pgmsg.specs.Grammar.{FitsFields, Spells}
 use Rattle.dbl_record.specs.declared.record.Record.{Record}
 use Rattle.dbl_record.specs.Line.{line_of}
+use Rattle.dbl_model.specs.declared.identity.Identity.{Identity}
 use Rattle.dbl_model.specs.declared.table.RawTable.{RawTable}
 use Rattle.dbl_model.specs.declared.table.TableInfo.{TableInfo}
 use Rattle.dbl_model.specs.declared.table.TableName.{TableName}
@@ -28,11 +29,11 @@ use Rattle.dbl_model.specs.Blocks.{onto, IsAccepted}
 use Rattle.dbl_model.proofs.ChangeFits.{commits_fit}
 use Rattle.dbl_model.proofs.Learning.{commits_learnt, fault_learnt}
 use Rattle.dblog.specs.declared.log_fault.LogFault.{LogFault}
+use Rattle.dblog.specs.declared.options.ReplayOptions.{ReplayOptions}
 use Rattle.dblog.specs.declared.log_fault.LogFault.TheVariants as log
 use Rattle.dblog.specs.Captures.{table_told, tables_in, AreCaptured}
-use Rattle.dblog.specs.Clashes.{first_fault_of, commit_fault}
 use Rattle.dblog.specs.Laws.{AreSpelled, EndsLog, IsReplayed}
-use Rattle.dblog.specs.Log.{default_identity, lines_in, log_start, IsTaken, LogWrites}
+use Rattle.dblog.specs.Log.{lines_in, log_start, commit_fault, IsTaken, LogWrites}
 use Rattle.dblog.proofs.CaptureLemmas.{infos_one, told_has_none}
 
 -- ---- records of earlier commits stay the same where a table is captured later
@@ -64,24 +65,24 @@ all_notices : (infos : List TableInfo) (info : TableInfo) (changes : List Change
 all_notices infos info [] fit = refl
 all_notices infos info (change ∷ changes) fit = ap₂ (λ (a b : List Notice). a ++ b) (notices_same infos info change fit.0) (all_notices infos info changes fit.1)
 
-all_records : (infos : List TableInfo) (info : TableInfo) (now : ℤ) (commits : List Commit) → FitCommits infos commits
-    → flat_map (λ commit. envelopes default_identity (infos ++ info ∷ []) commit now) commits ≡ flat_map (λ commit. envelopes default_identity infos commit now) commits
-all_records infos info now [] fit = refl
-all_records infos info now (commit ∷ commits) fit =
+all_records : (identity : Identity) (infos : List TableInfo) (info : TableInfo) (now : ℤ) (commits : List Commit) → FitCommits infos commits
+    → flat_map (λ commit. envelopes identity (infos ++ info ∷ []) commit now) commits ≡ flat_map (λ commit. envelopes identity infos commit now) commits
+all_records identity infos info now [] fit = refl
+all_records identity infos info now (commit ∷ commits) fit =
     ap₂ (λ (a b : List Record). a ++ b)
-    (ap (λ (ns : List Notice). map (print default_identity commit now) (numbered commit.lsn.0 0 ns)) (all_notices infos info (changes_of commit) fit.0))
-    (all_records infos info now commits fit.1)
+    (ap (λ (ns : List Notice). map (print identity commit now) (numbered commit.lsn.0 0 ns)) (all_notices infos info (changes_of commit) fit.0))
+    (all_records identity infos info now commits fit.1)
 
-lines_same : (infos : List TableInfo) (info : TableInfo) (now : ℤ) (commits : List Commit) → FitCommits infos commits → lines_in (infos ++ info ∷ []) commits now ≡ lines_in infos commits now
-lines_same infos info now commits fit = ap (map line_of) (all_records infos info now commits fit)
+lines_same : (identity : Identity) (infos : List TableInfo) (info : TableInfo) (now : ℤ) (commits : List Commit) → FitCommits infos commits → lines_in identity (infos ++ info ∷ []) commits now ≡ lines_in identity infos commits now
+lines_same identity infos info now commits fit = ap (map line_of) (all_records identity infos info now commits fit)
 
 flat_more : (f : Commit → List Record) (xs ys : List Commit) → flat_map f (xs ++ ys) ≡ flat_map f xs ++ flat_map f ys
 flat_more f [] ys = refl
 flat_more f (x ∷ xs) ys = ap (λ (l : List Record). f x ++ l) (flat_more f xs ys) ∙ sym (append_assoc (f x) (flat_map f xs) (flat_map f ys))
 
-lines_more : (infos : List TableInfo) (xs ys : List Commit) (now : ℤ) → lines_in infos (xs ++ ys) now ≡ lines_in infos xs now ++ lines_in infos ys now
-lines_more infos xs ys now =
-    let f : Commit → List Record = λ commit. envelopes default_identity infos commit now in
+lines_more : (identity : Identity) (infos : List TableInfo) (xs ys : List Commit) (now : ℤ) → lines_in identity infos (xs ++ ys) now ≡ lines_in identity infos xs now ++ lines_in identity infos ys now
+lines_more identity infos xs ys now =
+    let f : Commit → List Record = λ commit. envelopes identity infos commit now in
     ap (map line_of) (flat_more f xs ys) ∙ map-append line_of (flat_map f xs) (flat_map f ys)
 
 -- ---- messages that were accepted
@@ -104,18 +105,18 @@ accepted_learnt infos info (m ∷ ms) none accepted =
     tail_has_none name (says.Relation given namespace tname identity columns) ns h = h.1
 
 -- messages that were read, with what they state so far
-record IsSoFar (now : ℤ) (ms : List Message) (infos : List TableInfo) (lines : List (List ℕ)) : Type 0 where
-  pub captured : AreCaptured ms infos
+record IsSoFar (options : ReplayOptions) (now : ℤ) (ms : List Message) (infos : List TableInfo) (lines : List (List ℕ)) : Type 0 where
+  pub captured : AreCaptured options.keys ms infos
   pub accepted : IsAccepted infos log_start ms
   pub fields : AllByRecursion FitsFields ms
-  pub commits : lines ≡ lines_in infos (commits_of infos ms) now
+  pub commits : lines ≡ lines_in options.identity infos (commits_of infos ms) now
 
 -- the same where one more table is captured
-so_far_more : (now : ℤ) (ms : List Message) (infos : List TableInfo) (info : TableInfo) (lines : List (List ℕ)) → HasNoRelation info.name ms → IsSoFar now ms infos lines
-    → IsAccepted (infos ++ info ∷ []) log_start ms × (lines ≡ lines_in (infos ++ info ∷ []) (commits_of (infos ++ info ∷ []) ms) now)
-so_far_more now ms infos info lines none so_far = (
+so_far_more : (options : ReplayOptions) (now : ℤ) (ms : List Message) (infos : List TableInfo) (info : TableInfo) (lines : List (List ℕ)) → HasNoRelation info.name ms → IsSoFar options now ms infos lines
+    → IsAccepted (infos ++ info ∷ []) log_start ms × (lines ≡ lines_in options.identity (infos ++ info ∷ []) (commits_of (infos ++ info ∷ []) ms) now)
+so_far_more options now ms infos info lines none so_far = (
   accepted_learnt infos info ms none so_far.accepted,
-  so_far.commits ∙ sym (lines_same infos info now (commits_of infos ms) (commits_fit infos ms so_far.fields)) ∙ ap (λ (cs : List Commit). lines_in (infos ++ info ∷ []) cs now) (sym (commits_learnt infos info ms none)),
+  so_far.commits ∙ sym (lines_same options.identity infos info now (commits_of infos ms) (commits_fit infos ms so_far.fields)) ∙ ap (λ (cs : List Commit). lines_in options.identity (infos ++ info ∷ []) cs now) (sym (commits_learnt infos info ms none)),
 )
 
 -- infos of tables and one more
@@ -141,67 +142,67 @@ one_more_is (x ∷ xs) (y ∷ ys) raw is =
     record { info = rest.info; all_is = ap₂ (λ (a b : List TableInfo). a ++ b) first rest.all_is; is = rest.is }
 
 -- where one more message is read, with the tables captured then
-so_far_then : (now : ℤ) (ms : List Message) (m : Message) (infos more : List TableInfo) (lines : List (List ℕ)) (told : Option RawTable) → table_told (tables_in ms) m ≡ told → AreCaptured (m ∷ ms) more → IsSoFar now ms infos lines
-    → IsAccepted more log_start ms × (lines ≡ lines_in more (commits_of more ms) now)
-so_far_then now ms m infos more lines None is captured so_far =
-    let same = infos_one more infos (captured ∙ ap (λ (o : Option RawTable). tables_in ms ++ list_of o) is ∙ append-nil (tables_in ms) ∙ sym so_far.captured) in
-    subst (λ (i : List TableInfo). IsAccepted i log_start ms × (lines ≡ lines_in i (commits_of i ms) now)) (sym same) (so_far.accepted, so_far.commits)
-so_far_then now ms m infos more lines (Some raw) is captured so_far =
-    let one = one_more_is infos more raw (captured ∙ ap (λ (o : Option RawTable). tables_in ms ++ list_of o) is ∙ ap (λ (t : List RawTable). t ++ raw ∷ []) (sym so_far.captured)) in
-    let none : HasNoRelation one.info.name ms = subst (λ (r : RawTable). HasNoRelation r.name ms) (sym one.is) (told_has_none ms m raw is) in
-    subst (λ (i : List TableInfo). IsAccepted i log_start ms × (lines ≡ lines_in i (commits_of i ms) now)) (sym one.all_is) (so_far_more now ms infos one.info lines none so_far)
+so_far_then : (options : ReplayOptions) (now : ℤ) (ms : List Message) (m : Message) (infos more : List TableInfo) (lines : List (List ℕ)) (told : Option RawTable) → table_told options.keys (tables_in options.keys ms) m ≡ told → AreCaptured options.keys (m ∷ ms) more → IsSoFar options now ms infos lines
+    → IsAccepted more log_start ms × (lines ≡ lines_in options.identity more (commits_of more ms) now)
+so_far_then options now ms m infos more lines None is captured so_far =
+    let same = infos_one more infos (captured ∙ ap (λ (o : Option RawTable). tables_in options.keys ms ++ list_of o) is ∙ append-nil (tables_in options.keys ms) ∙ sym so_far.captured) in
+    subst (λ (i : List TableInfo). IsAccepted i log_start ms × (lines ≡ lines_in options.identity i (commits_of i ms) now)) (sym same) (so_far.accepted, so_far.commits)
+so_far_then options now ms m infos more lines (Some raw) is captured so_far =
+    let one = one_more_is infos more raw (captured ∙ ap (λ (o : Option RawTable). tables_in options.keys ms ++ list_of o) is ∙ ap (λ (t : List RawTable). t ++ raw ∷ []) (sym so_far.captured)) in
+    let none : HasNoRelation one.info.name ms = subst (λ (r : RawTable). HasNoRelation r.name ms) (sym one.is) (told_has_none options.keys ms m raw is) in
+    subst (λ (i : List TableInfo). IsAccepted i log_start ms × (lines ≡ lines_in options.identity i (commits_of i ms) now)) (sym one.all_is) (so_far_more options now ms infos one.info lines none so_far)
 
-no_place_fault : (count : ℕ) (fault : Option TxnError) (other : Option LogFault) → first_fault_of (option_map (log.Transaction count) fault) other ≡ None → fault ≡ None
+no_place_fault : (count : ℕ) (fault : Option TxnError) (other : Option LogFault) → option_or (option_map (log.Transaction count) fault) other ≡ None → fault ≡ None
 no_place_fault count None other is = refl
 no_place_fault count (Some error) other is = cc
 
-so_far_next : (now : ℤ) (ms : List Message) (b : List ℕ) (m : Message) (infos more : List TableInfo) (lines : List (List ℕ)) → IsTaken ms b m more → IsSoFar now ms infos lines
-    → IsSoFar now (m ∷ ms) more (lines ++ lines_in more (list_of (ended more m ms)) now)
-so_far_next now ms b m infos more lines taken so_far =
-    let then = so_far_then now ms m infos more lines (table_told (tables_in ms) m) refl taken.read.captured so_far in
+so_far_next : (options : ReplayOptions) (now : ℤ) (ms : List Message) (b : List ℕ) (m : Message) (infos more : List TableInfo) (lines : List (List ℕ)) → IsTaken options ms b m more → IsSoFar options now ms infos lines
+    → IsSoFar options now (m ∷ ms) more (lines ++ lines_in options.identity more (list_of (ended more m ms)) now)
+so_far_next options now ms b m infos more lines taken so_far =
+    let then = so_far_then options now ms m infos more lines (table_told options.keys (tables_in options.keys ms) m) refl taken.read.captured so_far in
     record {
       captured = taken.read.captured;
-      accepted = (no_place_fault (length ms + 1) (transaction_fault more log_start m ms) (option_and_then (commit_fault default_identity.placeholder more) (ended more m ms)) taken.clean, then.0);
+      accepted = (no_place_fault (length ms + 1) (transaction_fault more log_start m ms) (option_and_then (commit_fault options.identity more) (ended more m ms)) taken.clean, then.0);
       fields = (taken.read.spells.fits.fields, so_far.fields);
-      commits = ap (λ (l : List (List ℕ)). l ++ lines_in more (list_of (ended more m ms)) now) then.1 ∙ sym (lines_more more (commits_of more ms) (list_of (ended more m ms)) now);
+      commits = ap (λ (l : List (List ℕ)). l ++ lines_in options.identity more (list_of (ended more m ms)) now) then.1 ∙ sym (lines_more options.identity more (commits_of more ms) (list_of (ended more m ms)) now);
     }
 
 -- what byte strings behind messages write, with the messages that stand before
-record IsWhole (now : ℤ) (ms : List Message) (bs : List (List ℕ)) (lines : List (List ℕ)) (end : Option LogFault) : Type 0 where
+record IsWhole (options : ReplayOptions) (now : ℤ) (ms : List Message) (bs : List (List ℕ)) (lines : List (List ℕ)) (end : Option LogFault) : Type 0 where
   pub messages : List Message
   pub front : List (List ℕ)
   pub rest : List (List ℕ)
   pub infos : List TableInfo
   pub parts : bs ≡ front ++ rest
   pub spelled : AreSpelled front messages
-  pub so_far : IsSoFar now (onto ms messages) infos lines
-  pub ends : EndsLog (onto ms messages) rest end
+  pub so_far : IsSoFar options now (onto ms messages) infos lines
+  pub ends : EndsLog options (onto ms messages) rest end
 
-whole_from : (now : ℤ) (ms : List Message) (infos : List TableInfo) (before : List (List ℕ)) (bs lines : List (List ℕ)) (end : Option LogFault) → IsSoFar now ms infos before → LogWrites now ms bs lines end
-    → IsWhole now ms bs (before ++ lines) end
-whole_from now ms infos before [] lines end so_far writes = record {
+whole_from : (options : ReplayOptions) (now : ℤ) (ms : List Message) (infos : List TableInfo) (before : List (List ℕ)) (bs lines : List (List ℕ)) (end : Option LogFault) → IsSoFar options now ms infos before → LogWrites options now ms bs lines end
+    → IsWhole options now ms bs (before ++ lines) end
+whole_from options now ms infos before [] lines end so_far writes = record {
   messages = [];
   front = [];
   rest = [];
   infos = infos;
   parts = refl;
   spelled = tt;
-  so_far = subst (IsSoFar now ms infos) (sym (ap (λ (l : List (List ℕ)). before ++ l) writes.0 ∙ append-nil before)) so_far;
+  so_far = subst (IsSoFar options now ms infos) (sym (ap (λ (l : List (List ℕ)). before ++ l) writes.0 ∙ append-nil before)) so_far;
   ends = writes.1;
 }
-whole_from now ms infos before (b ∷ bs) lines end so_far (inl stopped) = record {
+whole_from options now ms infos before (b ∷ bs) lines end so_far (inl stopped) = record {
   messages = [];
   front = [];
   rest = b ∷ bs;
   infos = infos;
   parts = refl;
   spelled = tt;
-  so_far = subst (IsSoFar now ms infos) (sym (ap (λ (l : List (List ℕ)). before ++ l) stopped.none ∙ append-nil before)) so_far;
+  so_far = subst (IsSoFar options now ms infos) (sym (ap (λ (l : List (List ℕ)). before ++ l) stopped.none ∙ append-nil before)) so_far;
   ends = (stopped.fault, stopped.is, stopped.told);
 }
-whole_from now ms infos before (b ∷ bs) lines end so_far (inr (m, more, next, taken, split, writes)) =
-    let printed = lines_in more (list_of (ended more m ms)) now in
-    let later = whole_from now (m ∷ ms) more (before ++ printed) bs next end (so_far_next now ms b m infos more before taken so_far) writes in
+whole_from options now ms infos before (b ∷ bs) lines end so_far (inr (m, more, next, taken, split, writes)) =
+    let printed = lines_in options.identity more (list_of (ended more m ms)) now in
+    let later = whole_from options now (m ∷ ms) more (before ++ printed) bs next end (so_far_next options now ms b m infos more before taken so_far) writes in
     record {
       messages = m ∷ later.messages;
       front = b ∷ later.front;
@@ -209,13 +210,13 @@ whole_from now ms infos before (b ∷ bs) lines end so_far (inr (m, more, next, 
       infos = later.infos;
       parts = ap (λ (l : List (List ℕ)). b ∷ l) later.parts;
       spelled = (taken.read.spells, later.spelled);
-      so_far = subst (IsSoFar now (onto (m ∷ ms) later.messages) later.infos) (append_assoc before printed next ∙ ap (λ (l : List (List ℕ)). before ++ l) (sym split)) later.so_far;
+      so_far = subst (IsSoFar options now (onto (m ∷ ms) later.messages) later.infos) (append_assoc before printed next ∙ ap (λ (l : List (List ℕ)). before ++ l) (sym split)) later.so_far;
       ends = later.ends;
     }
 
-pub commits_written : (now : ℤ) (bs lines : List (List ℕ)) (end : Option LogFault) → LogWrites now [] bs lines end → IsReplayed now bs lines end
-commits_written now bs lines end writes =
-    let whole = whole_from now [] [] [] bs lines end (record { captured = refl; accepted = tt; fields = tt; commits = refl }) writes in
+pub commits_written : (options : ReplayOptions) (now : ℤ) (bs lines : List (List ℕ)) (end : Option LogFault) → LogWrites options now [] bs lines end → IsReplayed options now bs lines end
+commits_written options now bs lines end writes =
+    let whole = whole_from options now [] [] [] bs lines end (record { captured = refl; accepted = tt; fields = tt; commits = refl }) writes in
     record {
       messages = whole.messages;
       front = whole.front;

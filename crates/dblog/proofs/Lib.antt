@@ -2,11 +2,13 @@ pub mod ApplyLaws
 pub mod ApplyLemmas
 pub mod ApplyRunLemmas
 pub mod CaptureLemmas
+pub mod CommandLemmas
 pub mod CommitLaws
+pub mod CommitLemmas
 pub mod FollowLemmas
-pub mod InsertLemmas
 pub mod LineLemmas
 pub mod LogLemmas
 pub mod PrintLemmas
 pub mod ReplayRunLemmas
 pub mod RunLemmas
+pub mod SuitLemmas

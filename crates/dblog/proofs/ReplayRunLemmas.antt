@@ -7,6 +7,7 @@ use Rattle.dblog.specs.declared.halt.Halt.{Halt}
 use Rattle.dblog.specs.declared.halt.Halt.TheVariants.{Usage, BadLine, InputTooLong, InputFailed, Memory}
 use Rattle.dblog.specs.declared.log_fault.LogFault.{LogFault}
 use Rattle.dblog.specs.declared.log_fault.LogFault.TheVariants as log
+use Rattle.dblog.specs.declared.options.ReplayOptions.{ReplayOptions}
 use Rattle.dblog.specs.declared.printing.LogPut.{LogPut}
 use Rattle.dblog.specs.declared.printing.PrintError.{PrintError}
 use Rattle.dblog.specs.declared.printing.PrintError.TheVariants as print_error
@@ -16,11 +17,11 @@ use Rattle.dblog.specs.Log.{LogWrites, end_status, end_lines}
 use Rattle.dblog.specs.LogFaults.{transaction_status}
 use Rattle.dblog.specs.Printing.{Puts, LinesFail}
 use Rattle.dblog.specs.LogPrinting.{IsLogPut, PutsLog, IsLogPrinted, LogFails, PrintsLog, EndsLog, RunsLog}
-use Rattle.dblog.specs.Run.{Answer, fault, log_answer, lines_text, replay_words, Replays, too_long, bad_line, replayed, Means, replay, Wrote, WroteFront, whole, out_of_memory, Writes, Ends, IsOutside, Runs, Says, HaltsReplaying, RunsReplaying, IsReplayAnswer, IsReplayStatus}
+use Rattle.dblog.specs.Run.{Answer, fault, log_answer, lines_text, Replays, too_long, bad_line, replayed, Wrote, WroteFront, whole, out_of_memory, Writes, Ends, IsOutside, Says, HaltsReplaying, RunsReplaying, IsReplayAnswer, IsReplayStatus}
 use Rattle.dblog.proofs.ApplyRunLemmas.{memory_outside, memory_written, says_is, outside_of}
 use Rattle.dblog.proofs.LogLemmas.{log_one}
 use Rattle.dblog.proofs.PrintLemmas.{Prints, PrintFails, front_more, lines_text-append, puts_text, put_prints, put_fails_prints, putting_starves}
-use Rattle.dblog.proofs.RunLemmas.{replays_one, replay_reads, means_replays, says_ends, memory_ends, input_ends, input_is_outside, written_or_outside, memory_is_outside, writes_then}
+use Rattle.dblog.proofs.RunLemmas.{replays_one, replay_reads, says_ends, memory_ends, input_ends, input_is_outside, written_or_outside, memory_is_outside, writes_then}
 
 -- ---- the lines of a log
 
@@ -31,10 +32,10 @@ fails_log lines end gathered print_error.OutputFailed before after none fails =
 fails_log lines end gathered print_error.Memory before after none fails = put_fails_prints lines gathered print_error.Memory before after none fails
 
 -- the line of the fault wasn't put, as memory was wanting
-pub starves_log : (now : ℤ) (bs : List (List ℕ)) (gathered : List ℕ) (put : LogPut) (before after : Option (List ℕ)) → gathered ≡ [] → IsLogPut now bs gathered put before after
-    → (lines : List (List ℕ)) (end : Option LogFault) → LogWrites now [] bs lines end → LogFails lines end print_error.Memory before after
-starves_log now bs gathered put before after none is lines end writes =
-    let same = log_one now [] bs is.lines lines put.fault end is.writes writes in
+pub starves_log : (options : ReplayOptions) (now : ℤ) (bs : List (List ℕ)) (gathered : List ℕ) (put : LogPut) (before after : Option (List ℕ)) → gathered ≡ [] → IsLogPut options now bs gathered put before after
+    → (lines : List (List ℕ)) (end : Option LogFault) → LogWrites options now [] bs lines end → LogFails lines end print_error.Memory before after
+starves_log options now bs gathered put before after none is lines end writes =
+    let same = log_one options now [] bs is.lines lines put.fault end is.writes writes in
     let part : LinesFail is.lines gathered print_error.Memory before after = record { first = is.lines; rest = []; all = append-none is.lines; later = put.filled.items; puts = is.puts } in
     subst (λ (l : List (List ℕ)). LogFails l end print_error.Memory before after) same.lines (put_fails_prints is.lines gathered print_error.Memory before after none part)
   where
@@ -43,9 +44,9 @@ starves_log now bs gathered put before after none is lines end writes =
     append-none (x ∷ xs) = ap (λ (l : List (List ℕ)). x ∷ l) (append-none xs)
 
 -- all lines were put, and the line of the fault, and then written
-pub prints_log : (now : ℤ) (bs : List (List ℕ)) (gathered later : List ℕ) (put : LogPut) (status : ℕ) (before between after : Option (List ℕ)) → gathered ≡ [] → IsLogPut now bs gathered put before between
-    → later ≡ put.filled.items ++ lines_text (end_lines put.fault) → status ≡ end_status put.fault → Wrote between after later → IsLogPrinted now bs status before after
-prints_log now bs gathered later put status before between after none is text told wrote = record {
+pub prints_log : (options : ReplayOptions) (now : ℤ) (bs : List (List ℕ)) (gathered later : List ℕ) (put : LogPut) (status : ℕ) (before between after : Option (List ℕ)) → gathered ≡ [] → IsLogPut options now bs gathered put before between
+    → later ≡ put.filled.items ++ lines_text (end_lines put.fault) → status ≡ end_status put.fault → Wrote between after later → IsLogPrinted options now bs status before after
+prints_log options now bs gathered later put status before between after none is text told wrote = record {
   lines = is.lines;
   end = put.fault;
   writes = is.writes;
@@ -53,44 +54,44 @@ prints_log now bs gathered later put status before between after none is text to
   wrote = put_prints (is.lines ++ end_lines put.fault) gathered later before between after (Ok tt) none (puts_text is.lines (end_lines put.fault) gathered put.filled.items later before between is.puts text) wrote tt;
 }
 
-pub cuts_log : (now : ℤ) (bs : List (List ℕ)) (gathered later : List ℕ) (put : LogPut) (before between after : Option (List ℕ)) → gathered ≡ [] → IsLogPut now bs gathered put before between
+pub cuts_log : (options : ReplayOptions) (now : ℤ) (bs : List (List ℕ)) (gathered later : List ℕ) (put : LogPut) (before between after : Option (List ℕ)) → gathered ≡ [] → IsLogPut options now bs gathered put before between
     → later ≡ put.filled.items ++ lines_text (end_lines put.fault) → WroteFront between after later
-    → (lines : List (List ℕ)) (end : Option LogFault) → LogWrites now [] bs lines end → LogFails lines end print_error.OutputFailed before after
-cuts_log now bs gathered later put before between after none is text front lines end writes =
-    let same = log_one now [] bs is.lines lines put.fault end is.writes writes in
+    → (lines : List (List ℕ)) (end : Option LogFault) → LogWrites options now [] bs lines end → LogFails lines end print_error.OutputFailed before after
+cuts_log options now bs gathered later put before between after none is text front lines end writes =
+    let same = log_one options now [] bs is.lines lines put.fault end is.writes writes in
     let cut : WroteFront before after (lines_text (is.lines ++ end_lines put.fault)) = put_prints (is.lines ++ end_lines put.fault) gathered later before between after (Err print_error.OutputFailed) none (puts_text is.lines (end_lines put.fault) gathered put.filled.items later before between is.puts text) tt (refl, front) in
     subst (WroteFront before after) (ap₂ (λ (l : List (List ℕ)) (e : Option LogFault). lines_text (l ++ end_lines e)) same.lines same.end) cut
 
-pub ended_log : (now : ℤ) (bs : List (List ℕ)) (gathered : List ℕ) (put : LogPut) (result : Result ℕ PrintError) (before between after : Option (List ℕ)) → gathered ≡ [] → IsLogPut now bs gathered put before between
-    → EndsLog put result between after → PrintsLog now bs result before after
-ended_log now bs gathered put (Ok status) before between after none is ends =
-    prints_log now bs gathered (put.filled.items ++ lines_text (end_lines put.fault)) put status before between after none is refl ends.0 ends.1
-ended_log now bs gathered put (Err print_error.OutputFailed) before between after none is ends =
-    cuts_log now bs gathered (put.filled.items ++ lines_text (end_lines put.fault)) put before between after none is refl ends
-ended_log now bs gathered put (Err print_error.Memory) before between after none is same = λ lines end writes.
-    subst (λ (a : Option (List ℕ)). LogFails lines end print_error.Memory before a) (sym same) (starves_log now bs gathered put before between none is lines end writes)
+pub ended_log : (options : ReplayOptions) (now : ℤ) (bs : List (List ℕ)) (gathered : List ℕ) (put : LogPut) (result : Result ℕ PrintError) (before between after : Option (List ℕ)) → gathered ≡ [] → IsLogPut options now bs gathered put before between
+    → EndsLog put result between after → PrintsLog options now bs result before after
+ended_log options now bs gathered put (Ok status) before between after none is ends =
+    prints_log options now bs gathered (put.filled.items ++ lines_text (end_lines put.fault)) put status before between after none is refl ends.0 ends.1
+ended_log options now bs gathered put (Err print_error.OutputFailed) before between after none is ends =
+    cuts_log options now bs gathered (put.filled.items ++ lines_text (end_lines put.fault)) put before between after none is refl ends
+ended_log options now bs gathered put (Err print_error.Memory) before between after none is same = λ lines end writes.
+    subst (λ (a : Option (List ℕ)). LogFails lines end print_error.Memory before a) (sym same) (starves_log options now bs gathered put before between none is lines end writes)
 
 -- ---- how a run over messages ends
 
-pub printed_runs : (now : ℤ) (bs : List (List ℕ)) (status : ℕ) (before after : Option (List ℕ)) → IsLogPrinted now bs status before after → RunsLog now bs status before after
-printed_runs now bs status before after is = record {
+pub printed_runs : (options : ReplayOptions) (now : ℤ) (bs : List (List ℕ)) (status : ℕ) (before after : Option (List ℕ)) → IsLogPrinted options now bs status before after → RunsLog options now bs status before after
+printed_runs options now bs status before after is = record {
   ended = λ lines end writes. (
-      let same = log_one now [] bs is.lines lines is.end end is.writes writes in
+      let same = log_one options now [] bs is.lines lines is.end end is.writes writes in
       subst (λ (a : Answer). Ends a status before after) (ap₂ (λ (l : List (List ℕ)) (e : Option LogFault). log_answer l e) same.lines same.end)
       (record { wanted = end_status is.end; text = lines_text (is.lines ++ end_lines is.end); may = whole refl refl; writes = inl (is.is, is.wrote) }));
   meant = inr (is.lines, is.end, is.writes, sym is.is);
 }
 
-pub cut_runs : (now : ℤ) (bs : List (List ℕ)) (status : ℕ) (before after : Option (List ℕ)) → status ≡ output_failed_status
-    → ((lines : List (List ℕ)) (end : Option LogFault) → LogWrites now [] bs lines end → LogFails lines end print_error.OutputFailed before after) → RunsLog now bs status before after
-cut_runs now bs status before after is fails = record {
+pub cut_runs : (options : ReplayOptions) (now : ℤ) (bs : List (List ℕ)) (status : ℕ) (before after : Option (List ℕ)) → status ≡ output_failed_status
+    → ((lines : List (List ℕ)) (end : Option LogFault) → LogWrites options now [] bs lines end → LogFails lines end print_error.OutputFailed before after) → RunsLog options now bs status before after
+cut_runs options now bs status before after is fails = record {
   ended = λ lines end writes. record { wanted = end_status end; text = lines_text (lines ++ end_lines end); may = whole refl refl; writes = inr (is, fails lines end writes) };
   meant = inl (inr (inl is));
 }
 
-pub starved_runs : (now : ℤ) (bs : List (List ℕ)) (status : ℕ) (before middle after : Option (List ℕ))
-    → ((lines : List (List ℕ)) (end : Option LogFault) → LogWrites now [] bs lines end → LogFails lines end print_error.Memory before middle) → Says Memory status middle after → RunsLog now bs status before after
-starved_runs now bs status before middle after fails says = record {
+pub starved_runs : (options : ReplayOptions) (now : ℤ) (bs : List (List ℕ)) (status : ℕ) (before middle after : Option (List ℕ))
+    → ((lines : List (List ℕ)) (end : Option LogFault) → LogWrites options now [] bs lines end → LogFails lines end print_error.Memory before middle) → Says Memory status middle after → RunsLog options now bs status before after
+starved_runs options now bs status before middle after fails says = record {
   ended = λ lines end writes. (
       let part = fails lines end writes in
       record {
@@ -129,11 +130,10 @@ end_known (Some (log.Table error)) = inl (inr (inr (inl refl)))
 end_known (Some log.TooManyTables) = inl (inr (inr (inl refl)))
 end_known (Some (log.Placeholder name column)) = inl (inr (inr (inl refl)))
 end_known (Some log.Unfinished) = inl (inr (inl refl))
-end_known (Some log.NotBuilt) = inl (inr (inr (inr (inr refl))))
 end_known (Some log.Memory) = inr (inr (inr refl))
 
-pub printed_known : (now : ℤ) (bs : List (List ℕ)) (status : ℕ) (before after : Option (List ℕ)) → IsLogPrinted now bs status before after → IsReplayStatus status
-printed_known now bs status before after is = subst IsReplayStatus (sym is.is) (end_known is.end)
+pub printed_known : (options : ReplayOptions) (now : ℤ) (bs : List (List ℕ)) (status : ℕ) (before after : Option (List ℕ)) → IsLogPrinted options now bs status before after → IsReplayStatus status
+printed_known options now bs status before after is = subst IsReplayStatus (sym is.is) (end_known is.end)
 
 -- a log's status is neither that of a failed output nor that of a failed input
 transaction_other : (error : TxnError) → (transaction_status error ≢ output_failed_status) × (transaction_status error ≢ status_of InputFailed)
@@ -161,42 +161,38 @@ end_other (Some (log.Table error)) = (λ is. cc, λ is. cc)
 end_other (Some log.TooManyTables) = (λ is. cc, λ is. cc)
 end_other (Some (log.Placeholder name column)) = (λ is. cc, λ is. cc)
 end_other (Some log.Unfinished) = (λ is. cc, λ is. cc)
-end_other (Some log.NotBuilt) = (λ is. cc, λ is. cc)
 end_other (Some log.Memory) = (λ is. cc, λ is. cc)
 
-pub printed_no_output : (now : ℤ) (bs : List (List ℕ)) (status : ℕ) (before after : Option (List ℕ)) → IsLogPrinted now bs status before after → status ≢ output_failed_status
-printed_no_output now bs status before after is same = (end_other is.end).0 (sym is.is ∙ same)
+pub printed_no_output : (options : ReplayOptions) (now : ℤ) (bs : List (List ℕ)) (status : ℕ) (before after : Option (List ℕ)) → IsLogPrinted options now bs status before after → status ≢ output_failed_status
+printed_no_output options now bs status before after is same = (end_other is.end).0 (sym is.is ∙ same)
 
-pub printed_no_input : (now : ℤ) (bs : List (List ℕ)) (status : ℕ) (before after : Option (List ℕ)) → IsLogPrinted now bs status before after → status ≢ status_of InputFailed
-printed_no_input now bs status before after is same = (end_other is.end).1 (sym is.is ∙ same)
+pub printed_no_input : (options : ReplayOptions) (now : ℤ) (bs : List (List ℕ)) (status : ℕ) (before after : Option (List ℕ)) → IsLogPrinted options now bs status before after → status ≢ status_of InputFailed
+printed_no_input options now bs status before after is same = (end_other is.end).1 (sym is.is ∙ same)
 
 -- a fault before the messages was said
 pub replay_said : (halt : Halt) (status : ℕ) (before after : Option (List ℕ)) → halt ≢ Usage → Says halt status before after → IsReplayStatus status
 replay_said Usage status before after other says = absurd (other refl)
 replay_said InputFailed status before after other says = elim (says_is InputFailed status before after says) [ inl is ↦ inr (inl is) | inr outside ↦ inr (outside_of status outside) ]
 replay_said Memory status before after other says = elim (says_is Memory status before after says) [ inl is ↦ inr (inr (inr is)) | inr outside ↦ inr (outside_of status outside) ]
-replay_said (BadLine number) status before after other says = elim (says_is (BadLine number) status before after says) [ inl is ↦ inl (inr (inr (inr (inl is)))) | inr outside ↦ inr (outside_of status outside) ]
-replay_said InputTooLong status before after other says = elim (says_is InputTooLong status before after says) [ inl is ↦ inl (inr (inr (inr (inl is)))) | inr outside ↦ inr (outside_of status outside) ]
+replay_said (BadLine number) status before after other says = elim (says_is (BadLine number) status before after says) [ inl is ↦ inl (inr (inr (inr is))) | inr outside ↦ inr (outside_of status outside) ]
+replay_said InputTooLong status before after other says = elim (says_is InputTooLong status before after says) [ inl is ↦ inl (inr (inr (inr is))) | inr outside ↦ inr (outside_of status outside) ]
 
 -- want of memory, or a fault of the input, tells nothing of what it means
 memory_no_answer : (status : ℕ) → (status ≡ output_failed_status) ⊎ (status ≡ status_of Memory) → IsReplayAnswer status → ⊥
 memory_no_answer status (inl is) (inl told) = cc
 memory_no_answer status (inl is) (inr (inl told)) = cc
 memory_no_answer status (inl is) (inr (inr (inl told))) = cc
-memory_no_answer status (inl is) (inr (inr (inr (inl told)))) = cc
-memory_no_answer status (inl is) (inr (inr (inr (inr told)))) = cc
+memory_no_answer status (inl is) (inr (inr (inr told))) = cc
 memory_no_answer status (inr is) (inl told) = cc
 memory_no_answer status (inr is) (inr (inl told)) = cc
 memory_no_answer status (inr is) (inr (inr (inl told))) = cc
-memory_no_answer status (inr is) (inr (inr (inr (inl told)))) = cc
-memory_no_answer status (inr is) (inr (inr (inr (inr told)))) = cc
+memory_no_answer status (inr is) (inr (inr (inr told))) = cc
 
 input_no_answer : (status : ℕ) → status ≡ status_of InputFailed → IsReplayAnswer status → ⊥
 input_no_answer status is (inl told) = cc
 input_no_answer status is (inr (inl told)) = cc
 input_no_answer status is (inr (inr (inl told))) = cc
-input_no_answer status is (inr (inr (inr (inl told)))) = cc
-input_no_answer status is (inr (inr (inr (inr told)))) = cc
+input_no_answer status is (inr (inr (inr told))) = cc
 
 pub outside_no_answer : (halt : Halt) (status : ℕ) (before after : Option (List ℕ)) → (halt ≡ InputFailed) ⊎ (halt ≡ Memory) → Says halt status before after → IsReplayAnswer status → ⊥
 outside_no_answer halt status before after (inl is) says told =
@@ -206,47 +202,41 @@ outside_no_answer halt status before after (inr is) says told =
 
 -- ---- how a run over bytes ends
 
-answered : (now : ℤ) (bytes : List ℕ) (halt : Halt) (status : ℕ) (before after : Option (List ℕ)) → Replays now bytes (fault halt) → Says halt status before after → RunsReplaying now bytes status before after
-answered now bytes halt status before after replays (inl writes) = record {
-  ended = λ answer other. subst (λ a. Ends a status before after) (replays_one now bytes (fault halt) answer replays other) (says_ends halt status before after (inl writes));
+answered : (options : ReplayOptions) (now : ℤ) (bytes : List ℕ) (halt : Halt) (status : ℕ) (before after : Option (List ℕ)) → Replays options now bytes (fault halt) → Says halt status before after → RunsReplaying options now bytes status before after
+answered options now bytes halt status before after replays (inl writes) = record {
+  ended = λ answer other. subst (λ a. Ends a status before after) (replays_one options now bytes (fault halt) answer replays other) (says_ends halt status before after (inl writes));
   meant = elim (written_or_outside _ _ status before after writes) [ inl is ↦ inr (fault halt, replays, sym is) | inr outside ↦ inl outside ];
 }
-answered now bytes halt status before after replays (inr writes) = record {
+answered options now bytes halt status before after replays (inr writes) = record {
   ended = λ answer other. memory_ends answer status before after writes;
   meant = inl (memory_is_outside status (written_or_outside _ _ status before after writes));
 }
 
-pub halt_replays : (now : ℤ) (bytes : List ℕ) (halt : Halt) (status : ℕ) (before after : Option (List ℕ)) → HaltsReplaying now bytes halt → Says halt status before after → RunsReplaying now bytes status before after
-halt_replays now bytes Usage status before after halts says = absurd halts
-halt_replays now bytes InputFailed status before after halts says = record {
-  ended = λ answer replays. input_ends answer status before after (replay_reads now bytes answer replays) says;
+pub halt_replays : (options : ReplayOptions) (now : ℤ) (bytes : List ℕ) (halt : Halt) (status : ℕ) (before after : Option (List ℕ)) → HaltsReplaying options now bytes halt → Says halt status before after → RunsReplaying options now bytes status before after
+halt_replays options now bytes Usage status before after halts says = absurd halts
+halt_replays options now bytes InputFailed status before after halts says = record {
+  ended = λ answer replays. input_ends answer status before after (replay_reads options now bytes answer replays) says;
   meant = inl (input_is_outside status before after says);
 }
-halt_replays now bytes Memory status before after halts says = record {
+halt_replays options now bytes Memory status before after halts says = record {
   ended = λ answer replays. memory_ends answer status before after (memory_written status before after says);
   meant = inl (memory_outside status before after says);
 }
-halt_replays now bytes (BadLine number) status before after halts says = answered now bytes (BadLine number) status before after halts says
-halt_replays now bytes InputTooLong status before after halts says = answered now bytes InputTooLong status before after halts says
+halt_replays options now bytes (BadLine number) status before after halts says = answered options now bytes (BadLine number) status before after halts says
+halt_replays options now bytes InputTooLong status before after halts says = answered options now bytes InputTooLong status before after halts says
 
-pub messages_replay : (now : ℤ) (bytes : List ℕ) (bs : List (List ℕ)) (status : ℕ) (before after : Option (List ℕ)) → length bytes ≤ INPUT_LIMIT → bs ≡ messages_in (lines_of bytes) → first_bad (lines_of bytes) ≡ None
-    → RunsLog now bs status before after → RunsReplaying now bytes status before after
-messages_replay now bytes bs status before after within are good runs = record {
+pub messages_replay : (options : ReplayOptions) (now : ℤ) (bytes : List ℕ) (bs : List (List ℕ)) (status : ℕ) (before after : Option (List ℕ)) → length bytes ≤ INPUT_LIMIT → bs ≡ messages_in (lines_of bytes) → first_bad (lines_of bytes) ≡ None
+    → RunsLog options now bs status before after → RunsReplaying options now bytes status before after
+messages_replay options now bytes bs status before after within are good runs = record {
   ended = ends;
   meant = elim runs.meant [
     | inl outside ↦ inl outside
-    | inr told ↦ inr (log_answer told.0 told.1, replayed told.0 told.1 within good (subst (λ (l : List (List ℕ)). LogWrites now [] l told.0 told.1) are told.2) refl, told.3)
+    | inr told ↦ inr (log_answer told.0 told.1, replayed told.0 told.1 within good (subst (λ (l : List (List ℕ)). LogWrites options now [] l told.0 told.1) are told.2) refl, told.3)
   ];
 }
   where
-    ends : (answer : Answer) → Replays now bytes answer → Ends answer status before after
+    ends : (answer : Answer) → Replays options now bytes answer → Ends answer status before after
     ends answer (too_long long is) = absurd (omega arith)
     ends answer (bad_line n within' bad is) = cc
     ends answer (replayed lines end within' good' writes is) =
-        subst (λ (a : Answer). Ends a status before after) (sym is) (runs.ended lines end (subst (λ (l : List (List ℕ)). LogWrites now [] l lines end) (sym are) writes))
-
-pub runs_replaying : (words : List (List ℕ)) (now : ℤ) (bytes : List ℕ) (status : ℕ) (before after : Option (List ℕ)) → words ≡ replay_words → RunsReplaying now bytes status before after → Runs words now bytes status before after
-runs_replaying words now bytes status before after same runs = record {
-  ended = λ answer means. runs.ended answer (means_replays words now bytes answer same means);
-  meant = elim runs.meant [ inl outside ↦ inl outside | inr told ↦ inr (told.0, replay same told.1, told.2) ];
-}
+        subst (λ (a : Answer). Ends a status before after) (sym is) (runs.ended lines end (subst (λ (l : List (List ℕ)). LogWrites options now [] l lines end) (sym are) writes))

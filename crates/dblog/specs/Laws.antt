@@ -7,9 +7,11 @@ use Rattle.dbl_model.specs.Past.{begin_of}
 use Rattle.dbl_model.specs.Stated.{commits_of}
 use Rattle.dbl_model.specs.Blocks.{onto, IsAccepted}
 use Rattle.dblog.specs.declared.log_fault.LogFault.{LogFault}
+use Rattle.dblog.specs.declared.options.ReplayOptions.{ReplayOptions}
 use Rattle.dblog.specs.Captures.{AreCaptured}
 use Rattle.dblog.specs.Log.{lines_in, log_start, IsLogFault, end_fault, LogWrites}
-use Rattle.dblog.specs.Run.{Answer, Means}
+use Rattle.dblog.specs.Run.{Answer}
+use Rattle.dblog.specs.Means.{Means}
 
 -- words and bytes have at most one answer at a moment
 abbrev pub AnswersAreOne : Type 0
@@ -23,24 +25,24 @@ AreSpelled (b ∷ bs) [] = ⊥
 AreSpelled (b ∷ bs) (m ∷ ms) = Spells b m × AreSpelled bs ms
 
 -- behind these messages nothing is left, or bytes with the fault that ends the log
-abbrev pub EndsLog : List Message → List (List ℕ) → Option LogFault → Type 0
-EndsLog ms [] end = end ≡ end_fault (is_some (begin_of ms))
-EndsLog ms (b ∷ bs) end = (fault : LogFault) × IsLogFault ms b fault × (end ≡ Some fault)
+abbrev pub EndsLog : ReplayOptions → List Message → List (List ℕ) → Option LogFault → Type 0
+EndsLog options ms [] end = end ≡ end_fault (is_some (begin_of ms))
+EndsLog options ms (b ∷ bs) end = (fault : LogFault) × IsLogFault options ms b fault × (end ≡ Some fault)
 
 -- The messages of byte strings up to the first fault: what is captured of their tables, none of them has a fault where it
 -- stands, the lines are those of all commits that they state, and the fault is that of the next bytes, or of the log's end.
-pub record IsReplayed (now : ℤ) (bs : List (List ℕ)) (lines : List (List ℕ)) (end : Option LogFault) : Type 0 where
+pub record IsReplayed (options : ReplayOptions) (now : ℤ) (bs : List (List ℕ)) (lines : List (List ℕ)) (end : Option LogFault) : Type 0 where
   pub messages : List Message
   pub front : List (List ℕ)
   pub rest : List (List ℕ)
   pub infos : List TableInfo
   pub parts : bs ≡ front ++ rest
   pub spelled : AreSpelled front messages
-  pub captured : AreCaptured (onto [] messages) infos
+  pub captured : AreCaptured options.keys (onto [] messages) infos
   pub accepted : IsAccepted infos log_start (onto [] messages)
-  pub commits : lines ≡ lines_in infos (commits_of infos (onto [] messages)) now
-  pub ends : EndsLog (onto [] messages) rest end
+  pub commits : lines ≡ lines_in options.identity infos (commits_of infos (onto [] messages)) now
+  pub ends : EndsLog options (onto [] messages) rest end
 
 -- what is written of a log are the lines of all commits that its messages state up to the first fault
 abbrev pub CommitsAreWritten : Type 0
-CommitsAreWritten = (now : ℤ) (bs : List (List ℕ)) (lines : List (List ℕ)) (end : Option LogFault) → LogWrites now [] bs lines end → IsReplayed now bs lines end
+CommitsAreWritten = (options : ReplayOptions) (now : ℤ) (bs : List (List ℕ)) (lines : List (List ℕ)) (end : Option LogFault) → LogWrites options now [] bs lines end → IsReplayed options now bs lines end

@@ -1,7 +1,5 @@
 pub mod Apply
-pub mod Built
 pub mod Captures
-pub mod Clashes
 pub mod Faults
 pub mod Following
 pub mod Judged
@@ -10,5 +8,6 @@ pub mod Lines
 pub mod Log
 pub mod LogFaults
 pub mod LogPrinting
+pub mod Means
 pub mod Printing
 pub mod Run

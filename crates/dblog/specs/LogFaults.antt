@@ -11,7 +11,7 @@ use Rattle.dbl_model.specs.declared.txn_error.TxnError.TheVariants as txn
 use Rattle.dbl_model.specs.declared.table.TableName.{TableName}
 use Rattle.dbl_model.specs.Tables.{full_name}
 use Rattle.dblog.specs.declared.log_fault.LogFault.{LogFault}
-use Rattle.dblog.specs.declared.log_fault.LogFault.TheVariants.{Message, Transaction, Table, TooManyTables, Placeholder, Unfinished, NotBuilt, Memory}
+use Rattle.dblog.specs.declared.log_fault.LogFault.TheVariants.{Message, Transaction, Table, TooManyTables, Placeholder, Unfinished, Memory}
 
 -- bytes that spell no message
 abbrev pub message_text : MsgError → List ℕ
@@ -91,7 +91,6 @@ log_status (Table error) = 6
 log_status TooManyTables = 6
 log_status (Placeholder name column) = 6
 log_status Unfinished = 5
-log_status NotBuilt = 16
 log_status Memory = 12
 
 -- only the line of a malformed log has the message's number
@@ -108,5 +107,4 @@ log_line (Table error) = codes "dblog: " ++ table_text error
 log_line TooManyTables = codes "dblog: too many tables"
 log_line (Placeholder name column) = codes "dblog: placeholder in " ++ column_text name column
 log_line Unfinished = codes "dblog: log ends inside a transaction"
-log_line NotBuilt = codes "dblog: not built"
 log_line Memory = codes "dblog: out of memory"

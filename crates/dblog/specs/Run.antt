@@ -1,5 +1,5 @@
 -- What a run of the program writes and answers.
-use Rattle.std.specs.Prelude.{◌≡◌, ◌≢◌, ◌⊎◌, ℕ, ℤ, ◌<◌, ◌≤◌, Bool, true, Option, Some, None, List, [], ◌∷◌, ◌++◌, take, length, map, codes, Result, Ok, Err}
+use Rattle.std.specs.Prelude.{◌≡◌, ◌⊎◌, ℕ, ℤ, ◌<◌, ◌≤◌, Bool, true, Option, Some, None, List, [], ◌∷◌, ◌++◌, take, length, map, codes, Result, Ok, Err}
 use Rattle.dbl_base.specs.declared.input.TheConstants.{INPUT_LIMIT}
 use Rattle.dblog.specs.declared.halt.Halt.{Halt}
 use Rattle.dblog.specs.declared.halt.Halt.TheVariants.{Usage, BadLine, InputTooLong, InputFailed, Memory}
@@ -12,7 +12,8 @@ use Rattle.dblog.specs.declared.apply.FaultAt.{FaultAt}
 use Rattle.dblog.specs.Apply.{first_fault, fault_text, readings_of}
 use Rattle.dblog.specs.Lines.{lines_of, messages_in, first_bad}
 use Rattle.dblog.specs.declared.log_fault.LogFault.{LogFault}
-use Rattle.dblog.specs.Log.{default_identity, LogWrites, end_status, end_lines}
+use Rattle.dblog.specs.declared.options.ReplayOptions.{ReplayOptions}
+use Rattle.dblog.specs.Log.{LogWrites, end_status, end_lines}
 
 -- lines as a text, a newline behind each
 abbrev pub lines_text : List (List ℕ) → List ℕ
@@ -33,40 +34,27 @@ done lines = record { status = 0; lines = lines; one_by_one = lines; reads = tru
 abbrev pub fault : Halt → Answer
 fault halt = record { status = status_of halt; lines = fault_line halt ∷ []; one_by_one = []; reads = reads_input halt }
 
--- the words of the commands
-abbrev pub replay_words : List (List ℕ)
-replay_words = codes "replay" ∷ []
-
-abbrev pub apply_words : List (List ℕ)
-apply_words = codes "apply" ∷ codes "--lines" ∷ []
-
 -- the answer of a log that writes these lines and ends with this fault, or none
 abbrev pub log_answer : List (List ℕ) → Option LogFault → Answer
 log_answer lines end = record { status = end_status end; lines = lines ++ end_lines end; one_by_one = lines; reads = true }
 
--- what `replay` answers at a moment for these bytes of input
-pub data Replays (now : ℤ) (bytes : List ℕ) (answer : Answer) : Type 0 where
-  too_long : INPUT_LIMIT < length bytes → answer ≡ fault InputTooLong → Replays now bytes answer
-  bad_line : (number : ℕ) → length bytes ≤ INPUT_LIMIT → first_bad (lines_of bytes) ≡ Some number → answer ≡ fault (BadLine number) → Replays now bytes answer
-  replayed : (lines : List (List ℕ)) (end : Option LogFault) → length bytes ≤ INPUT_LIMIT → first_bad (lines_of bytes) ≡ None → LogWrites now [] (messages_in (lines_of bytes)) lines end → answer ≡ log_answer lines end → Replays now bytes answer
+-- what `replay` answers with these options at a moment for these bytes of input
+pub data Replays (options : ReplayOptions) (now : ℤ) (bytes : List ℕ) (answer : Answer) : Type 0 where
+  too_long : INPUT_LIMIT < length bytes → answer ≡ fault InputTooLong → Replays options now bytes answer
+  bad_line : (number : ℕ) → length bytes ≤ INPUT_LIMIT → first_bad (lines_of bytes) ≡ Some number → answer ≡ fault (BadLine number) → Replays options now bytes answer
+  replayed : (lines : List (List ℕ)) (end : Option LogFault) → length bytes ≤ INPUT_LIMIT → first_bad (lines_of bytes) ≡ None → LogWrites options now [] (messages_in (lines_of bytes)) lines end → answer ≡ log_answer lines end → Replays options now bytes answer
 
 -- the answer of a line that isn't applied
 abbrev pub line_fault : FaultAt → Answer
 line_fault at = record { status = 13; lines = fault_text at ∷ []; one_by_one = []; reads = true }
 
--- what `apply --lines` answers for these bytes of input: the rows that the consumer of its lines holds, or the first line
+-- what `apply --lines` answers by this placeholder for these bytes of input: the rows that the consumer of its lines holds, or the first line
 -- that isn't applied
-pub data Applies (bytes : List ℕ) (answer : Answer) : Type 0 where
-  long_input : INPUT_LIMIT < length bytes → answer ≡ fault InputTooLong → Applies bytes answer
-  refused : (at : FaultAt) → length bytes ≤ INPUT_LIMIT → first_fault default_identity.placeholder (lines_of bytes) ≡ Some at → answer ≡ line_fault at → Applies bytes answer
-  applied : (rows : List HeldRow) → length bytes ≤ INPUT_LIMIT → first_fault default_identity.placeholder (lines_of bytes) ≡ None
-      → AreRowsOf (consumer_of default_identity.placeholder (readings_of (lines_of bytes))) rows → answer ≡ done (map row_line rows) → Applies bytes answer
-
--- what the program answers at a moment for these words and these bytes of input
-pub data Means (words : List (List ℕ)) (now : ℤ) (bytes : List ℕ) (answer : Answer) : Type 0 where
-  usage : words ≢ replay_words → words ≢ apply_words → answer ≡ fault Usage → Means words now bytes answer
-  replay : words ≡ replay_words → Replays now bytes answer → Means words now bytes answer
-  apply : words ≡ apply_words → Applies bytes answer → Means words now bytes answer
+pub data Applies (placeholder bytes : List ℕ) (answer : Answer) : Type 0 where
+  long_input : INPUT_LIMIT < length bytes → answer ≡ fault InputTooLong → Applies placeholder bytes answer
+  refused : (at : FaultAt) → length bytes ≤ INPUT_LIMIT → first_fault placeholder (lines_of bytes) ≡ Some at → answer ≡ line_fault at → Applies placeholder bytes answer
+  applied : (rows : List HeldRow) → length bytes ≤ INPUT_LIMIT → first_fault placeholder (lines_of bytes) ≡ None
+      → AreRowsOf (consumer_of placeholder (readings_of (lines_of bytes))) rows → answer ≡ done (map row_line rows) → Applies placeholder bytes answer
 
 -- the text was appended
 abbrev pub Wrote : Option (List ℕ) → Option (List ℕ) → List ℕ → Type 0
@@ -98,15 +86,9 @@ pub record Ends (answer : Answer) (status : ℕ) (before after : Option (List �
 abbrev pub IsOutside : ℕ → Type 0
 IsOutside status = (status ≡ status_of InputFailed) ⊎ ((status ≡ output_failed_status) ⊎ (status ≡ status_of Memory))
 
--- a run over these words and bytes at a moment ended so: as their answer does, and with no other status than the answer's, but for
--- the statuses of the outside
-pub record Runs (words : List (List ℕ)) (now : ℤ) (bytes : List ℕ) (status : ℕ) (before after : Option (List ℕ)) : Type 0 where
-  pub ended : (answer : Answer) → Means words now bytes answer → Ends answer status before after
-  pub meant : IsOutside status ⊎ ((answer : Answer) × Means words now bytes answer × (answer.status ≡ status))
-
 -- the statuses with which `replay` tells what its input means
 abbrev pub IsReplayAnswer : ℕ → Type 0
-IsReplayAnswer status = (status ≡ 0) ⊎ ((status ≡ 5) ⊎ ((status ≡ 6) ⊎ ((status ≡ 13) ⊎ (status ≡ 16))))
+IsReplayAnswer status = (status ≡ 0) ⊎ ((status ≡ 5) ⊎ ((status ≡ 6) ⊎ (status ≡ 13)))
 
 -- the statuses of the commands, whatever the streams tell
 abbrev pub IsReplayStatus : ℕ → Type 0
@@ -122,30 +104,30 @@ Says halt status before after =
     ⊎ Writes (status_of Memory) (lines_text (fault_line Memory ∷ [])) status before after
 
 -- for private clauses: the fault is what the bytes mean, unless it is one of the outside
-abbrev pub HaltsReplaying : ℤ → List ℕ → Halt → Type 0
-HaltsReplaying now bytes Usage = ⊥
-HaltsReplaying now bytes InputFailed = Unit {0}
-HaltsReplaying now bytes Memory = Unit {0}
-HaltsReplaying now bytes (BadLine number) = Replays now bytes (fault (BadLine number))
-HaltsReplaying now bytes InputTooLong = Replays now bytes (fault InputTooLong)
+abbrev pub HaltsReplaying : ReplayOptions → ℤ → List ℕ → Halt → Type 0
+HaltsReplaying options now bytes Usage = ⊥
+HaltsReplaying options now bytes InputFailed = Unit {0}
+HaltsReplaying options now bytes Memory = Unit {0}
+HaltsReplaying options now bytes (BadLine number) = Replays options now bytes (fault (BadLine number))
+HaltsReplaying options now bytes InputTooLong = Replays options now bytes (fault InputTooLong)
 
 -- for private clauses: a run of `replay` ended so
-pub record RunsReplaying (now : ℤ) (bytes : List ℕ) (status : ℕ) (before after : Option (List ℕ)) : Type 0 where
-  pub ended : (answer : Answer) → Replays now bytes answer → Ends answer status before after
-  pub meant : IsOutside status ⊎ ((answer : Answer) × Replays now bytes answer × (answer.status ≡ status))
+pub record RunsReplaying (options : ReplayOptions) (now : ℤ) (bytes : List ℕ) (status : ℕ) (before after : Option (List ℕ)) : Type 0 where
+  pub ended : (answer : Answer) → Replays options now bytes answer → Ends answer status before after
+  pub meant : IsOutside status ⊎ ((answer : Answer) × Replays options now bytes answer × (answer.status ≡ status))
 
 -- for private clauses: the same of `apply --lines`
-abbrev pub HaltsApplying : List ℕ → Halt → Type 0
-HaltsApplying bytes Usage = ⊥
-HaltsApplying bytes InputFailed = Unit {0}
-HaltsApplying bytes Memory = Unit {0}
-HaltsApplying bytes (BadLine number) = ⊥
-HaltsApplying bytes InputTooLong = Applies bytes (fault InputTooLong)
+abbrev pub HaltsApplying : List ℕ → List ℕ → Halt → Type 0
+HaltsApplying placeholder bytes Usage = ⊥
+HaltsApplying placeholder bytes InputFailed = Unit {0}
+HaltsApplying placeholder bytes Memory = Unit {0}
+HaltsApplying placeholder bytes (BadLine number) = ⊥
+HaltsApplying placeholder bytes InputTooLong = Applies placeholder bytes (fault InputTooLong)
 
 -- for private clauses: a run of `apply --lines` ended so
-pub record RunsApplying (bytes : List ℕ) (status : ℕ) (before after : Option (List ℕ)) : Type 0 where
-  pub ended : (answer : Answer) → Applies bytes answer → Ends answer status before after
-  pub meant : IsOutside status ⊎ ((answer : Answer) × Applies bytes answer × (answer.status ≡ status))
+pub record RunsApplying (placeholder bytes : List ℕ) (status : ℕ) (before after : Option (List ℕ)) : Type 0 where
+  pub ended : (answer : Answer) → Applies placeholder bytes answer → Ends answer status before after
+  pub meant : IsOutside status ⊎ ((answer : Answer) × Applies placeholder bytes answer × (answer.status ≡ status))
 
 -- for private clauses: a run of this answer ended so, with its status or one of the outside
 pub record EndsAs (answer : Answer) (status : ℕ) (before after : Option (List ℕ)) : Type 0 where

@@ -1,19 +1,18 @@
 //! The tables that `replay` captures: each is learnt at its first Relation.
 
 ghost use Rattle.std.specs.Prelude.{◌≡◌, ◌||◌, not, IfOk, option_map};
-ghost use Rattle.std.specs.List.{list_any, list_all};
+ghost use Rattle.std.specs.List.{list_any};
 ghost use Rattle.dbl_model.specs.declared.table.TableName.{TableName};
 ghost use Rattle.dbl_model.specs.Tables.{same_name, is_watermark};
 ghost use Rattle.dbl_model.specs.Infos.{IsInfoOf};
 ghost use Rattle.dbl_model.specs.Made.{table_fault};
 ghost use Rattle.dbl_model.specs.Past.{schema_of};
-ghost use Rattle.dblog.specs.Built.{is_built_column};
-ghost use Rattle.dblog.specs.Captures.{entry_of, capture_fault};
+ghost use Rattle.dblog.specs.Captures.{flagged_names, key_names_of, entry_of, capture_fault};
 ghost use Rattle.dblog.specs.Judged.{Judges};
 
 use crate::log_fault::LogFault;
 use dbl_base::{Seq, Text};
-use dbl_model::{ModelError, RawColumn, RawTable, TableInfo, TableName};
+use dbl_model::{ModelError, RawColumn, RawTable, TableInfo, TableKey, TableName};
 use dbl_pgmsg::RelationColumn;
 use std::alloc::{AllocError, Global};
 
@@ -32,16 +31,16 @@ pub fn schema_of(namespace: &Text) -> &str
     }
 }
 
-fn has_name(info: &TableInfo, schema: &str, name: &str) -> bool
-    ensures { result ≡ same_name info.now.name (record { schema = schema.now; name = name.now }) }
+fn is_named(table: &TableName, schema: &str, name: &str) -> bool
+    ensures { result ≡ same_name table.now (record { schema = schema.now; name = name.now }) }
 {
-    info.name.schema.as_str() == schema && info.name.name.as_str() == name
+    table.schema.as_str() == schema && table.name.as_str() == name
 }
 
 fn is_captured(infos: &Vec<TableInfo>, schema: &str, name: &str) -> bool
     ensures { result ≡ list_any (λ info. same_name info.name (record { schema = schema.now; name = name.now })) infos.now.items }
 {
-    infos.iter().any(|info| has_name(info, schema, name))
+    infos.iter().any(|info| is_named(&info.name, schema, name))
 }
 
 fn is_watermark(schema: &str, name: &str) -> bool
@@ -58,26 +57,65 @@ pub fn is_new(infos: &Vec<TableInfo>, schema: &str, name: &str) -> bool
     !(is_watermark(schema, name) || is_captured(infos, schema, name))
 }
 
-/// The catalogue's entry that a Relation tells.
+// The columns that are marked as those of the table's key.
+fn flagged_names(alloc: Global, columns: &Vec<RelationColumn>) -> Result<Vec<Text>, AllocError>
+    ensures { IfOk result (λ names. names.items ≡ flagged_names columns.now.items) }
+{
+    let mut names = Vec::new(alloc);
+    for column in columns {
+        if column.flags % 2 == 1 {
+            names.push(column.name.copy(alloc)?)?;
+        }
+    }
+    Ok(names)
+}
+
+fn copied(alloc: Global, names: &Vec<Text>) -> Result<Vec<Text>, AllocError>
+    ensures { IfOk result (λ copies. copies.items ≡ names.now.items) }
+{
+    let mut copies = Vec::with_capacity(alloc, names.len())?;
+    for name in names {
+        copies.push(name.copy(alloc)?)?;
+    }
+    Ok(copies)
+}
+
+// The names of a table's key columns, in key order.
+fn key_names_of(
+    alloc: Global,
+    keys: &Vec<TableKey>,
+    schema: &str,
+    name: &str,
+    columns: &Vec<RelationColumn>,
+) -> Result<Vec<Text>, AllocError>
+    ensures { IfOk result (λ names. names.items ≡ key_names_of keys.now.items (record { schema = schema.now; name = name.now }) columns.now.items) }
+{
+    for key in keys {
+        if is_named(&key.table, schema, name) {
+            return copied(alloc, key.columns.items());
+        }
+    }
+    flagged_names(alloc, columns)
+}
+
+/// The catalogue's entry that a Relation tells, by the keys that are given.
 pub fn entry_of(
     alloc: Global,
+    keys: &Vec<TableKey>,
     schema: &str,
     name: &str,
     columns: &Vec<RelationColumn>,
 ) -> Result<RawTable, AllocError>
-    ensures { IfOk result (λ raw. raw ≡ entry_of (record { schema = schema.now; name = name.now }) columns.now.items) }
+    ensures { IfOk result (λ raw. raw ≡ entry_of keys.now.items (record { schema = schema.now; name = name.now }) columns.now.items) }
 {
     let mut raw_columns = Vec::with_capacity(alloc, columns.len())?;
-    let mut key = Vec::new(alloc);
     for column in columns {
         raw_columns.push(RawColumn {
             name: column.name.copy(alloc)?,
             oid: column.oid,
         })?;
-        if column.flags % 2 == 1 {
-            key.push(column.name.copy(alloc)?)?;
-        }
     }
+    let key = key_names_of(alloc, keys, schema, name, columns)?;
     Ok(RawTable {
         name: TableName {
             schema: Text::of(alloc, schema)?,
@@ -86,14 +124,6 @@ pub fn entry_of(
         columns: Seq::make(raw_columns),
         key: Seq::make(key),
     })
-}
-
-fn are_built(columns: &Vec<RawColumn>) -> bool
-    ensures { result ≡ list_all is_built_column columns.now.items }
-{
-    columns
-        .iter()
-        .all(|column| column.oid == 23 || column.oid == 25)
 }
 
 fn made(alloc: Global, raw: &RawTable) -> Result<TableInfo, LogFault>
@@ -112,9 +142,6 @@ pub fn captured(alloc: Global, count: usize, raw: &RawTable) -> Result<TableInfo
     ensures info { IfOk result (IsInfoOf raw.now) }
     ensures fault { Judges (capture_fault count raw.now) result }
 {
-    if !are_built(raw.columns.items()) {
-        return Err(LogFault::NotBuilt);
-    }
     let info = made(alloc, raw)?;
     if count >= TABLE_LIMIT {
         return Err(LogFault::TooManyTables);

@@ -25,8 +25,6 @@ pub enum LogFault {
     Placeholder { table: TableName, column: Text },
     /// The log ends inside a transaction.
     Unfinished,
-    /// A table or a change that this stage of the program doesn't replay.
-    NotBuilt,
     Memory,
 }
 
@@ -160,7 +158,6 @@ impl LogFault {
             LogFault::TooManyTables => 6,
             LogFault::Placeholder { .. } => 6,
             LogFault::Unfinished => 5,
-            LogFault::NotBuilt => 16,
             LogFault::Memory => 12,
         }
     }
@@ -186,7 +183,6 @@ impl LogFault {
                 return format!(in alloc; "dblog: placeholder in {table}.{column}");
             }
             LogFault::Unfinished => "dblog: log ends inside a transaction",
-            LogFault::NotBuilt => "dblog: not built",
             LogFault::Memory => "dblog: out of memory",
         };
         String::from_str(alloc, line)

@@ -3,11 +3,11 @@
 
 mod apply;
 mod capture;
-mod clash;
 mod halt;
 mod laws;
 mod lines;
 mod log_fault;
+mod options;
 mod printing;
 mod program;
 mod replay;

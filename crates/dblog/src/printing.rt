@@ -1,19 +1,25 @@
-ghost use Rattle.std.specs.Prelude.{◌≡◌, ◌≢◌, Some, ◌≤◌, ◌++◌, ◌∷◌, [], map, flat_map, All, IfSome, IfOk, IfErr, OnOk, Err};
+ghost use Rattle.std.specs.Prelude.{◌≡◌, ◌≢◌, Some, ◌≤◌, ◌+◌, ◌++◌, ◌∷◌, List, [], length, map, None, option_and_then, All, IfSome, IfOk, IfErr, OnOk, Err};
 ghost use Rattle.dbl_base.specs.Streams.{Rose};
+ghost use Rattle.dbl_pgmsg.specs.declared.messages.Message.{Message};
 ghost use Rattle.dbl_record.specs.Line.{line_of};
+ghost use Rattle.dbl_model.specs.Clashes.{clash_of};
 ghost use Rattle.dbl_model.specs.Rows.{changes_of};
 ghost use Rattle.dbl_model.specs.EventJson.{envelopes};
 ghost use Rattle.dbl_model.specs.Stated.{list_of};
-ghost use Rattle.dbl_envelope.specs.Inserts.{IsInsert};
-ghost use Rattle.dblog.specs.Log.{end_fault, end_status, end_lines};
+ghost use Rattle.dbl_envelope.specs.Clashing.{IsClash};
+ghost use Rattle.dbl_envelope.specs.Suits.{Suits};
+ghost use Rattle.dblog.specs.declared.options.ReplayOptions.{ReplayOptions};
+ghost use Rattle.dblog.specs.Following.{Follows, IsFollowing};
+ghost use Rattle.dblog.specs.Log.{lines_in, commit_fault, end_fault, end_status, end_lines};
 ghost use Rattle.dblog.specs.Run.{Wrote, WroteFront, lines_text};
 ghost use Rattle.dblog.specs.Printing.{PutsLine, PutsLines};
-ghost use Rattle.dblog.specs.LogPrinting.{PutsLog, PrintsLog, EndsLog};
+ghost use Rattle.dblog.specs.LogPrinting.{PutsCommit, Steps, PutsLog, PrintsLog, EndsLog};
 
 use crate::log_fault::LogFault;
+use crate::options::ReplayOptions;
 use crate::replay::Replayer;
 use dbl_base::{Bytes, Output};
-use dbl_envelope::{EnvelopeError, EventWriter};
+use dbl_envelope::{EnvelopeError, EventWriter, RecordsLeft};
 use dbl_model::Commit;
 use dbl_record::{Record, append_line};
 use std::alloc::{AllocError, AllocFailed, Global};
@@ -127,26 +133,23 @@ fn put_records<O: Output>(
     Ok(filled)
 }
 
-// Puts the lines of a commit's records, some at a time.
-fn put_commit<O: Output>(
+// Puts the lines of the records that are left, some at a time.
+fn put_left<O: Output>(
     alloc: Global,
-    writer: &EventWriter,
-    commit: &Commit,
-    now_ms: &i64,
+    records: RecordsLeft<'_>,
     output: &mut O,
     buffer: Vec<u8>,
 ) -> Result<Vec<u8>, PrintError>
-    requires { All (IsInsert writer.now.infos) (changes_of commit.now) }
-    ensures puts { PutsLines (λ filled. filled.items) (map line_of (envelopes writer.now.identity writer.now.infos commit.now now_ms.now)) buffer.items result (O.written output.old) (O.written output.new) }
+    ensures puts { PutsLines (λ filled. filled.items) (map line_of records.entry) buffer.items result (O.written output.old) (O.written output.new) }
     ensures failed { result ≡ Err PrintError.OutputFailed → Rose (O.faults output.old) (O.faults output.new) }
     ensures later { O.faults output.old ≤ O.faults output.new }
 {
-    let mut left = writer.records_left(commit, *now_ms);
+    let mut left = records;
     let mut filled = buffer;
     'left: loop {
         let made = match left.next(alloc) {
             Ok(made) => made,
-            Err(EnvelopeError::Memory) => return Err(PrintError::Memory),
+            Err(_) => return Err(PrintError::Memory),
         };
         if made.is_empty() {
             return Ok(filled);
@@ -158,31 +161,20 @@ fn put_commit<O: Output>(
     }
 }
 
-// Puts the lines of the records of a commit, if there is one.
-fn put_ended<O: Output>(
-    alloc: Global,
-    writer: &EventWriter,
-    ended: &Option<Commit>,
-    now_ms: &i64,
-    output: &mut O,
-    buffer: Vec<u8>,
-) -> Result<Vec<u8>, PrintError>
-    requires { IfSome ended.now (λ commit. All (IsInsert writer.now.infos) (changes_of commit)) }
-    ensures puts { PutsLines (λ filled. filled.items) (map line_of (flat_map (λ commit. envelopes writer.now.identity writer.now.infos commit now_ms.now) (list_of ended.now))) buffer.items result (O.written output.old) (O.written output.new) }
-    ensures failed { result ≡ Err PrintError.OutputFailed → Rose (O.faults output.old) (O.faults output.new) }
-    ensures later { O.faults output.old ≤ O.faults output.new }
-{
-    match ended {
-        Some(commit) => put_commit(alloc, writer, commit, now_ms, output, buffer),
-        None => Ok(buffer),
-    }
-}
-
 /// The lines of a log that aren't written yet, and its fault.
 #[derive(Drop)]
 struct LogPut {
     filled: Vec<u8>,
     fault: Option<LogFault>,
+}
+
+/// What became of the next message.
+#[derive(Drop)]
+enum Step {
+    /// It has no fault, and the lines of the commit that it ends, if any, were put.
+    Put { filled: Vec<u8> },
+    /// It has a fault, and no line was put.
+    Stopped { put: LogPut },
 }
 
 fn unfinished(inside: bool) -> Option<LogFault>
@@ -211,19 +203,112 @@ fn stopped(filled: Vec<u8>, fault: LogFault) -> Result<LogPut, PrintError>
     }
 }
 
+// The records of a commit, to be made some at a time.
+fn records_of<'a>(
+    alloc: Global,
+    writer: &'a EventWriter,
+    commit: &'a Commit,
+    now_ms: &i64,
+) -> Result<RecordsLeft<'a>, EnvelopeError>
+    requires { All (Suits writer.now.infos) (changes_of commit.now) }
+    ensures ok { IfOk result (λ left. left ≡ envelopes writer.now.identity writer.now.infos commit.now now_ms.now) }
+    ensures no_clash { OnOk result (clash_of writer.now.identity writer.now.infos commit.now ≡ None) }
+    ensures err { IfErr result (IsClash (clash_of writer.now.identity writer.now.infos commit.now)) }
+{
+    writer.records_left(alloc, commit, *now_ms)
+}
+
+// Puts the lines of the records of a commit.
+fn put_commit<O: Output>(
+    alloc: Global,
+    writer: &EventWriter,
+    commit: &Commit,
+    now_ms: &i64,
+    output: &mut O,
+    buffer: Vec<u8>,
+) -> Result<Step, PrintError>
+    requires { All (Suits writer.now.infos) (changes_of commit.now) }
+    ensures puts { PutsCommit (commit_fault writer.now.identity writer.now.infos commit.now) (map line_of (envelopes writer.now.identity writer.now.infos commit.now now_ms.now)) buffer.items result (O.written output.old) (O.written output.new) }
+    ensures failed { result ≡ Err PrintError.OutputFailed → Rose (O.faults output.old) (O.faults output.new) }
+    ensures later { O.faults output.old ≤ O.faults output.new }
+{
+    let records = match records_of(alloc, writer, commit, now_ms) {
+        Ok(records) => records,
+        Err(EnvelopeError::Memory) => return Err(PrintError::Memory),
+        Err(EnvelopeError::PlaceholderClash { table, column }) => {
+            return Ok(Step::Stopped {
+                put: LogPut {
+                    filled: buffer,
+                    fault: Some(LogFault::Placeholder { table, column }),
+                },
+            });
+        }
+    };
+    match put_left(alloc, records, output, buffer) {
+        Ok(filled) => Ok(Step::Put { filled }),
+        Err(error) => Err(error),
+    }
+}
+
+// Puts the lines of the records of a commit, if there is one.
+fn put_ended<O: Output>(
+    alloc: Global,
+    writer: &EventWriter,
+    ended: &Option<Commit>,
+    now_ms: &i64,
+    output: &mut O,
+    buffer: Vec<u8>,
+) -> Result<Step, PrintError>
+    requires { IfSome ended.now (λ commit. All (Suits writer.now.infos) (changes_of commit)) }
+    ensures puts { PutsCommit (option_and_then (commit_fault writer.now.identity writer.now.infos) ended.now) (lines_in writer.now.identity writer.now.infos (list_of ended.now) now_ms.now) buffer.items result (O.written output.old) (O.written output.new) }
+    ensures failed { result ≡ Err PrintError.OutputFailed → Rose (O.faults output.old) (O.faults output.new) }
+    ensures later { O.faults output.old ≤ O.faults output.new }
+{
+    match ended {
+        Some(commit) => put_commit(alloc, writer, commit, now_ms, output, buffer),
+        None => Ok(Step::Put { filled: buffer }),
+    }
+}
+
+// Takes the bytes of the next message, which has this number, and puts the lines of the records of the commit that it ends.
+fn put_message<O: Output>(
+    alloc: Global,
+    replayer: &mut Replayer,
+    number: &u64,
+    bytes: &[u8],
+    now_ms: &i64,
+    output: &mut O,
+    buffer: Vec<u8>,
+) -> Result<Step, PrintError>
+    requires { IsFollowing replayer.old number.now }
+    ensures steps { (options : ReplayOptions) (ms : List Message) → Follows options ms replayer.old → number.now ≡ length ms + 1
+        → Steps options now_ms.now ms bytes.now buffer.items replayer.new result (O.written output.old) (O.written output.new) }
+    ensures failed { result ≡ Err PrintError.OutputFailed → Rose (O.faults output.old) (O.faults output.new) }
+    ensures later { O.faults output.old ≤ O.faults output.new }
+{
+    match replayer.take(alloc, number, bytes) {
+        Ok(ended) => put_ended(alloc, &replayer.writer, &ended, now_ms, output, buffer),
+        Err(fault) => match stopped(buffer, fault) {
+            Ok(put) => Ok(Step::Stopped { put }),
+            Err(error) => Err(error),
+        },
+    }
+}
+
 // Puts the lines of the records of each commit that the messages state, up to the first fault.
 fn put_log<O: Output>(
     alloc: Global,
+    options: ReplayOptions,
     messages: Vec<Bytes>,
     now_ms: &i64,
     output: &mut O,
     buffer: Vec<u8>,
 ) -> Result<LogPut, PrintError>
-    ensures puts { PutsLog now_ms.now messages.items buffer.items result (O.written output.old) (O.written output.new) }
+    ensures puts { PutsLog options now_ms.now messages.items buffer.items result (O.written output.old) (O.written output.new) }
     ensures failed { result ≡ Err PrintError.OutputFailed → Rose (O.faults output.old) (O.faults output.new) }
     ensures later { O.faults output.old ≤ O.faults output.new }
 {
-    let mut replayer = match Replayer::make(alloc) {
+    let mut replayer = match Replayer::make(alloc, options) {
         Ok(replayer) => replayer,
         Err(_) => return Err(PrintError::Memory),
     };
@@ -231,17 +316,12 @@ fn put_log<O: Output>(
     let mut number = 0u64;
     'messages: for bytes in messages {
         number += 1;
-        let ended = match replayer.take(alloc, &number, bytes.items().as_slice()) {
-            Ok(ended) => ended,
-            Err(fault) => match stopped(filled, fault) {
-                Ok(put) => return Ok(put),
-                Err(error) => return Err(error),
-            },
-        };
-        filled = match put_ended(alloc, &replayer.writer, &ended, now_ms, output, filled) {
-            Ok(filled) => filled,
+        let bytes = bytes.items().as_slice();
+        match put_message(alloc, &mut replayer, &number, bytes, now_ms, output, filled) {
+            Ok(Step::Put { filled: next }) => filled = next,
+            Ok(Step::Stopped { put }) => return Ok(put),
             Err(error) => return Err(error),
-        };
+        }
     }
     Ok(LogPut {
         filled,
@@ -286,16 +366,17 @@ fn finish_log<O: Output>(alloc: Global, put: &mut LogPut, output: &mut O) -> Res
 /// answers the status.
 pub fn print_log<O: Output>(
     alloc: Global,
+    options: ReplayOptions,
     messages: Vec<Bytes>,
     now_ms: &i64,
     output: &mut O,
 ) -> Result<u8, PrintError>
-    ensures prints { PrintsLog now_ms.now messages.items result (O.written output.old) (O.written output.new) }
+    ensures prints { PrintsLog options now_ms.now messages.items result (O.written output.old) (O.written output.new) }
     ensures failed { result ≡ Err PrintError.OutputFailed → Rose (O.faults output.old) (O.faults output.new) }
     ensures later { O.faults output.old ≤ O.faults output.new }
 {
     let buffer = Vec::with_capacity(alloc, BUFFER_LENGTH)?;
-    match put_log(alloc, messages, now_ms, output, buffer) {
+    match put_log(alloc, options, messages, now_ms, output, buffer) {
         Ok(put) => {
             let mut put = put;
             finish_log(alloc, &mut put, output)

@@ -6,34 +6,25 @@ ghost use Rattle.dbl_pgmsg.specs.declared.messages.Message.TheVariants as says;
 ghost use Rattle.dbl_pgmsg.specs.Grammar.{Spells};
 ghost use Rattle.dbl_model.specs.declared.table.TableInfo.{TableInfo};
 ghost use Rattle.dbl_model.specs.Past.{begin_of, HasNoRelation};
-ghost use Rattle.dblog.specs.Log.{default_identity};
+ghost use Rattle.dblog.specs.declared.options.ReplayOptions.{ReplayOptions};
 ghost use Rattle.dblog.specs.Following.{IsBehind, Follows, ReadFails, Prepares, Puts, Takes};
 
 use crate::capture::{captured, entry_of, is_new, schema_of};
-use crate::clash::{PLACEHOLDER, check_ended};
 use crate::log_fault::LogFault;
-use dbl_base::{Lsn, Text};
-use dbl_envelope::{EnvelopeError, EventWriter};
-use dbl_model::{Commit, Identity, TableInfo, TxnError};
+use crate::options::ReplayOptions;
+use dbl_base::{Lsn, Seq, Text};
+use dbl_envelope::EventWriter;
+use dbl_model::{Commit, TableInfo, TableKey, TxnError};
 use dbl_pgmsg::{Message, MsgError, RelationColumn, decode};
 use dbl_txn::Assembler;
-use std::alloc::{AllocError, Global};
+use std::alloc::Global;
 
 /// What is known behind the messages that were taken: the captured tables, and the open transaction.
 #[derive(Drop)]
 pub struct Replayer {
     assembler: Assembler,
+    keys: Seq<TableKey>,
     pub writer: EventWriter,
-}
-
-fn default_identity(alloc: Global) -> Result<Identity, AllocError>
-    ensures { IfOk result (λ identity. identity ≡ default_identity) }
-{
-    Ok(Identity {
-        prefix: Text::of(alloc, "demo")?,
-        db: Text::of(alloc, "demo")?,
-        placeholder: Text::of(alloc, PLACEHOLDER)?,
-    })
 }
 
 fn learn_in(writer: &mut EventWriter, alloc: Global, info: TableInfo) -> Result<(), LogFault>
@@ -42,7 +33,7 @@ fn learn_in(writer: &mut EventWriter, alloc: Global, info: TableInfo) -> Result<
 {
     match writer.learn(alloc, info) {
         Ok(()) => Ok(()),
-        Err(EnvelopeError::Memory) => Err(LogFault::Memory),
+        Err(_) => Err(LogFault::Memory),
     }
 }
 
@@ -61,30 +52,33 @@ fn decoded(alloc: Global, number: &u64, bytes: &[u8]) -> Result<Message, LogFaul
 }
 
 impl Replayer {
-    pub fn make(alloc: Global) -> Result<Replayer, LogFault>
-        ensures { IfOk result (Follows []) }
+    /// Before any message.
+    pub fn make(alloc: Global, options: ReplayOptions) -> Result<Replayer, LogFault>
+        ensures follows { IfOk result (Follows options []) }
+        ensures err { IfErr result (λ e. e ≡ LogFault.Memory) }
     {
-        let identity = default_identity(alloc)?;
+        let ReplayOptions { identity, keys } = options;
         let writer = match EventWriter::make(alloc, identity, Vec::new(alloc)) {
             Ok(writer) => writer,
-            Err(EnvelopeError::Memory) => return Err(LogFault::Memory),
+            Err(_) => return Err(LogFault::Memory),
         };
         Ok(Replayer {
             assembler: Assembler::make(alloc, Vec::new(alloc), Lsn(0)),
+            keys,
             writer,
         })
     }
 
     /// Whether a transaction is open. Takes no memory.
     pub fn inside(&self) -> bool
-        ensures { (ms : List Message) → Follows ms self.now → result ≡ is_some (begin_of ms) }
+        ensures { (options : ReplayOptions) (ms : List Message) → Follows options ms self.now → result ≡ is_some (begin_of ms) }
     {
         self.assembler.inside()
     }
 
     // Captures one more table.
     fn add(&mut self, alloc: Global, info: TableInfo) -> Result<(), LogFault>
-        ensures added { (infos : List TableInfo) (ms : List Message) → IsBehind infos ms self.old → HasNoRelation info.name ms → OnOk result (IsBehind (infos ++ info ∷ []) ms self.new) }
+        ensures added { (options : ReplayOptions) (infos : List TableInfo) (ms : List Message) → IsBehind options infos ms self.old → HasNoRelation info.name ms → OnOk result (IsBehind options (infos ++ info ∷ []) ms self.new) }
         ensures err { IfErr result (λ e. e ≡ LogFault.Memory) }
     {
         let copied = info.copy(alloc)?;
@@ -105,7 +99,7 @@ impl Replayer {
         name: &Text,
         columns: &Vec<RelationColumn>,
     ) -> Result<(), LogFault>
-        ensures { (ms : List Message) (oid identity : ℕ) → Follows ms self.old → Prepares ms (says.Relation oid namespace.now name.now identity columns.now.items) self.new result }
+        ensures { (options : ReplayOptions) (ms : List Message) (oid identity : ℕ) → Follows options ms self.old → Prepares options ms (says.Relation oid namespace.now name.now identity columns.now.items) self.new result }
     {
         let schema = schema_of(namespace);
         let name = name.as_str();
@@ -113,14 +107,14 @@ impl Replayer {
         if !is_new(infos, schema, name) {
             return Ok(());
         }
-        let entry = entry_of(alloc, schema, name, columns)?;
+        let entry = entry_of(alloc, self.keys.items(), schema, name, columns)?;
         let info = captured(alloc, infos.len(), &entry)?;
         self.add(alloc, info)?;
         Ok(())
     }
 
     fn prepare(&mut self, alloc: Global, message: &Message) -> Result<(), LogFault>
-        ensures { (ms : List Message) → Follows ms self.old → Prepares ms message.now self.new result }
+        ensures { (options : ReplayOptions) (ms : List Message) → Follows options ms self.old → Prepares options ms message.now self.new result }
     {
         match message {
             Message::Relation {
@@ -141,7 +135,7 @@ impl Replayer {
         number: &u64,
         message: Message,
     ) -> Result<Option<Commit>, LogFault>
-        ensures { (infos : List TableInfo) (ms : List Message) → IsBehind infos ms self.old → number.now ≡ length ms + 1 → Puts infos ms message self.new result }
+        ensures { (options : ReplayOptions) (infos : List TableInfo) (ms : List Message) → IsBehind options infos ms self.old → number.now ≡ length ms + 1 → Puts options infos ms message self.new result }
     {
         match self.assembler.take(alloc, message) {
             Ok(ended) => Ok(ended),
@@ -160,12 +154,10 @@ impl Replayer {
         number: &u64,
         bytes: &[u8],
     ) -> Result<Option<Commit>, LogFault>
-        ensures { (ms : List Message) → Follows ms self.old → number.now ≡ length ms + 1 → Takes ms bytes.now self.new result }
+        ensures { (options : ReplayOptions) (ms : List Message) → Follows options ms self.old → number.now ≡ length ms + 1 → Takes options ms bytes.now self.new result }
     {
         let message = decoded(alloc, number, bytes)?;
         self.prepare(alloc, &message)?;
-        let ended = self.put(alloc, number, message)?;
-        check_ended(alloc, self.assembler.infos(), &ended)?;
-        Ok(ended)
+        self.put(alloc, number, message)
     }
 }

@@ -1,4 +1,4 @@
-use Rattle.dblog.proofs.RunLemmas.{means_one}
+use Rattle.dblog.proofs.CommandLemmas.{means_one}
 use Rattle.dblog.proofs.laws.answers_are_one.Goals as goal
 
 pub returns : goal.returns

@@ -1,23 +1,21 @@
-use Rattle.std.proofs.Common.{◌≡◌, ◌∙◌, ◌++◌, [], map, sym, ap, arith}
-use Rattle.std.proofs.lemmas.List.{map-append}
-use Rattle.dbl_record.specs.Line.{line_of}
-use Rattle.dblog.proofs.PrintLemmas.{putting_more, putting_fails, putting_starves, putting_ends, no_items}
+use Rattle.std.proofs.Common.{refl}
+use Rattle.dblog.specs.declared.log_fault.LogFault.TheVariants as log
+use Rattle.dblog.specs.LogPrinting.{starved, cut}
+use Rattle.dblog.proofs.CommitLemmas.{clash_told, no_clash_is, records_put, records_cut}
 use Rattle.dblog.proofs.printing.put_commit.Goals as goal
 
-pub left-preserved : goal.left-preserved
-left-preserved g c =
-    let split : map line_of c.left.left ≡ map line_of c.in-Ok.made.items ++ map line_of c.next.new.self = ap (map line_of) c.in-Ok.ensures.ok ∙ map-append line_of c.in-Ok.made.items c.next.new.self in
-    (putting_more _ _ _ _ _ _ _ _ _ _ c.left.invariant.0 split c.in-Ok-put_records.ensures.puts, omega arith)
+pub returns-in-Ok-put_left-clause-puts : goal.returns-in-Ok-put_left-clause-puts
+returns-in-Ok-put_left-clause-puts g c = (no_clash_is c.args.writer.now.identity c.args.writer.now.infos c.args.commit.now c.in-Ok.ensures.no_clash, records_put _ _ _ _ _ _ c.in-Ok.ensures.ok c.in-Ok-put_left.ensures.puts)
 
 pub returns-in-Err-clause-puts : goal.returns-in-Err-clause-puts
-returns-in-Err-clause-puts g c =
-    let split : map line_of c.left.left ≡ map line_of c.in-Ok.made.items ++ map line_of c.next.new.self = ap (map line_of) c.in-Ok.ensures.ok ∙ map-append line_of c.in-Ok.made.items c.next.new.self in
-    putting_fails _ _ _ _ _ _ _ _ _ _ c.left.invariant.0 split c.in-Err.ensures.puts
+returns-in-Err-clause-puts g c = cut (no_clash_is c.args.writer.now.identity c.args.writer.now.infos c.args.commit.now c.in-Ok.ensures.no_clash) (records_cut _ _ _ _ _ _ c.in-Ok.ensures.ok c.in-Err.ensures.puts)
 
 pub returns-in-Err-Memory-clause-puts : goal.returns-in-Err-Memory-clause-puts
-returns-in-Err-Memory-clause-puts g c = putting_starves _ _ _ _ _ _ c.left.invariant.0
+returns-in-Err-Memory-clause-puts g c = starved refl refl
 
-pub returns-then-is_empty-clause-puts : goal.returns-then-is_empty-clause-puts
-returns-then-is_empty-clause-puts g c =
-    let none : c.in-Ok.made.items ≡ [] = no_items c.in-Ok.made.items c.in-Ok.made.len (omega (arith, c.in-Ok.made.ok)) (sym c.is_empty.ensures ∙ c.if-is_empty.true) in
-    putting_ends _ _ _ _ _ _ c.left.invariant.0 (ap (map line_of) (c.in-Ok.ensures.end none))
+pub returns-in-Err-PlaceholderClash-clause-puts : goal.returns-in-Err-PlaceholderClash-clause-puts
+returns-in-Err-PlaceholderClash-clause-puts g c =
+    let clash = c.in-Err-PlaceholderClash in
+    let table = clash.table-is in
+    let column = clash.column-is in
+    (log.Placeholder clash.table clash.column, clash_told c.args.writer.now.identity c.args.writer.now.infos c.args.commit.now clash.field-0 clash.table clash.column clash.ensures.err clash.field-0-is, record { told = cc; filled = refl; same = refl })

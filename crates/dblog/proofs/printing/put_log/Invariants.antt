@@ -4,5 +4,5 @@ use Rattle.dblog.proofs.printing.put_log.Given as goal
 
 abbrev pub invariant-messages : goal.invariant-messages
 invariant-messages g l =
-    IsLogging l.now_ms l.fn.messages.items l.bytes-iterator.rest.items l.fn.buffer.items l.filled.items (g.O.Output.written l.fn.output) (g.O.Output.written l.output) l.number l.replayer
+    IsLogging l.fn.options l.now_ms l.fn.messages.items l.bytes-iterator.rest.items l.fn.buffer.items l.filled.items (g.O.Output.written l.fn.output) (g.O.Output.written l.output) l.number l.replayer
     × (g.O.Output.faults l.fn.output ≤ g.O.Output.faults l.output)

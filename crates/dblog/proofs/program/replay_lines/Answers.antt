@@ -5,10 +5,10 @@ use Rattle.dblog.proofs.program.replay_lines.Goals as goal
 
 pub returns-in-Ok-clause-told : goal.returns-in-Ok-clause-told
 returns-in-Ok-clause-told g c = λ bytes told.
-    subst (λ (b : List ℕ). RunsReplaying c.args.now_ms.now b c.replay_text.result (g.O.Output.written c.args.output.now) (g.O.Output.written c.replay_text.new.output)) (c.in-Ok.ensures.all bytes told) c.replay_text.ensures.told
+    subst (λ (b : List ℕ). RunsReplaying c.args.options c.args.now_ms.now b c.replay_text.result (g.O.Output.written c.args.output.now) (g.O.Output.written c.replay_text.new.output)) (c.in-Ok.ensures.all bytes told) c.replay_text.ensures.told
 
 pub returns-in-Err-clause-told : goal.returns-in-Err-clause-told
-returns-in-Err-clause-told g c = λ bytes told. halt_replays c.args.now_ms.now bytes c.in-Err.halt _ _ _ (c.in-Err.ensures.halts bytes c.args.now_ms.now told) c.say.ensures.says
+returns-in-Err-clause-told g c = λ bytes told. halt_replays c.args.options c.args.now_ms.now bytes c.in-Err.halt _ _ _ (c.in-Err.ensures.halts bytes c.args.options c.args.now_ms.now told) c.say.ensures.says
 
 pub returns-in-Err-clause-known : goal.returns-in-Err-clause-known
 returns-in-Err-clause-known g c = replay_said c.in-Err.halt _ _ _ c.in-Err.ensures.command c.say.ensures.says

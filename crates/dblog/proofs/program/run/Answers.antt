@@ -1,64 +1,34 @@
-use Rattle.std.proofs.Common.{ℤ, refl, subst}
+use Rattle.std.proofs.Common.{Err, ℤ, ap, refl, subst}
 use Rattle.std.proofs.Math.Facts.{to_z-of_z}
-use Rattle.dblog.specs.declared.halt.Halt.TheVariants.{Usage}
-use Rattle.dblog.specs.Run.{usage, RunsReplaying}
-use Rattle.dblog.proofs.ApplyRunLemmas.{runs_applying}
-use Rattle.dblog.proofs.ReplayRunLemmas.{runs_replaying}
-use Rattle.dblog.proofs.RunLemmas.{words_apart, said_runs}
+use Rattle.dbl_cli.specs.declared.commands.Command.{Command}
+use Rattle.dblog.specs.Means.{RunsCommand, StandsAlone, IsStatusOf}
+use Rattle.dblog.proofs.CommandLemmas.{spelled_runs, usage_runs, memory_runs, as_spelled, memory_alone}
 use Rattle.dblog.proofs.program.run.Goals as goal
 
-pub returns-then-is_apply-clause-told : goal.returns-then-is_apply-clause-told
-returns-then-is_apply-clause-told g c = λ bytes told. runs_applying _ c.args.now_ms bytes _ _ _ (c.if-is_apply.ensures.0 refl) (c.apply_lines.ensures.told bytes told)
+pub returns-in-Ok-clause-told : goal.returns-in-Ok-clause-told
+returns-in-Ok-clause-told g c = λ bytes told.
+    spelled_runs _ c.args.now_ms bytes _ _ _ c.in-Ok.command c.in-Ok.ensures.spelled
+    (subst (λ (m : ℤ). RunsCommand c.in-Ok.command m bytes c.run_command.result (g.O.Output.written c.args.output.now) (g.O.Output.written c.run_command.new.output)) (to_z-of_z c.ranges.now_ms) (c.run_command.ensures.told bytes told))
 
-pub returns-then-is_apply-clause-usage : goal.returns-then-is_apply-clause-usage
-returns-then-is_apply-clause-usage g c = λ other another. absurd (another (c.if-is_apply.ensures.0 refl))
+pub returns-in-Ok-clause-alone : goal.returns-in-Ok-clause-alone
+returns-in-Ok-clause-alone g c = λ command answer spells alone.
+    c.run_command.ensures.alone answer (as_spelled _ (λ (k : Command). StandsAlone k answer) command c.in-Ok.command spells c.in-Ok.ensures.spelled alone)
 
-pub returns-then-is_apply-clause-unread : goal.returns-then-is_apply-clause-unread
-returns-then-is_apply-clause-unread g c = λ other another. absurd (another (c.if-is_apply.ensures.0 refl))
+pub returns-in-Ok-clause-status : goal.returns-in-Ok-clause-status
+returns-in-Ok-clause-status g c = λ command spells.
+    as_spelled _ (λ (k : Command). IsStatusOf k c.run_command.result) c.in-Ok.command command c.in-Ok.ensures.spelled spells c.run_command.ensures.known
 
-pub returns-then-is_apply-clause-whole : goal.returns-then-is_apply-clause-whole
-returns-then-is_apply-clause-whole g c = λ bytes told same. absurd (words_apart _ same (c.if-is_apply.ensures.0 refl))
+pub returns-in-Err-Usage-clause-told : goal.returns-in-Err-Usage-clause-told
+returns-in-Err-Usage-clause-told g c = λ bytes told. usage_runs _ c.args.now_ms bytes _ _ _ (c.in-Err-Usage.ensures.usage (ap Err c.in-Err-Usage.field-0-is)) c.say.ensures.says
 
-pub returns-then-is_apply-clause-applied_whole : goal.returns-then-is_apply-clause-applied_whole
-returns-then-is_apply-clause-applied_whole g c = λ bytes told same. c.apply_lines.ensures.whole bytes told
+pub returns-in-Err-Usage-clause-alone : goal.returns-in-Err-Usage-clause-alone
+returns-in-Err-Usage-clause-alone g c = λ command answer spells alone. absurd (c.in-Err-Usage.ensures.usage (ap Err c.in-Err-Usage.field-0-is) command spells)
 
-pub returns-then-is_apply-clause-replay_status : goal.returns-then-is_apply-clause-replay_status
-returns-then-is_apply-clause-replay_status g c = λ same. absurd (words_apart _ same (c.if-is_apply.ensures.0 refl))
+pub returns-in-Err-Usage-clause-status : goal.returns-in-Err-Usage-clause-status
+returns-in-Err-Usage-clause-status g c = λ command spells. absurd (c.in-Err-Usage.ensures.usage (ap Err c.in-Err-Usage.field-0-is) command spells)
 
-pub returns-then-is_apply-clause-apply_status : goal.returns-then-is_apply-clause-apply_status
-returns-then-is_apply-clause-apply_status g c = λ same. c.apply_lines.ensures.known
+pub returns-in-Err-Memory-clause-told : goal.returns-in-Err-Memory-clause-told
+returns-in-Err-Memory-clause-told g c = λ bytes told. memory_runs _ c.args.now_ms bytes _ _ _ c.say-in-Err-Memory.ensures.says
 
-pub returns-then-not-is_replay-clause-told : goal.returns-then-not-is_replay-clause-told
-returns-then-not-is_replay-clause-told g c = λ bytes told. said_runs _ c.args.now_ms bytes Usage _ _ _ (usage (λ same. cc (c.if-not-is_replay.ensures.1 same)) (λ same. cc (c.if-is_apply.ensures.1 same)) refl) c.say.ensures.says
-
-pub returns-then-not-is_replay-clause-usage : goal.returns-then-not-is_replay-clause-usage
-returns-then-not-is_replay-clause-usage g c = λ other another. c.say.ensures.says
-
-pub returns-then-not-is_replay-clause-replay_status : goal.returns-then-not-is_replay-clause-replay_status
-returns-then-not-is_replay-clause-replay_status g c = λ same. absurd (cc (c.if-not-is_replay.ensures.1 same))
-
-pub returns-then-not-is_replay-clause-apply_status : goal.returns-then-not-is_replay-clause-apply_status
-returns-then-not-is_replay-clause-apply_status g c = λ same. absurd (cc (c.if-is_apply.ensures.1 same))
-
-pub returns-clause-told : goal.returns-clause-told
-returns-clause-told g c = λ bytes told.
-    runs_replaying _ c.args.now_ms bytes _ _ _ (c.if-not-is_replay.ensures.0 refl)
-    (subst (λ (m : ℤ). RunsReplaying m bytes c.replay_lines.result (g.O.Output.written c.args.output.now) (g.O.Output.written c.replay_lines.new.output)) (to_z-of_z c.ranges.now_ms) (c.replay_lines.ensures.told bytes told))
-
-pub returns-clause-usage : goal.returns-clause-usage
-returns-clause-usage g c = λ other another. absurd (other (c.if-not-is_replay.ensures.0 refl))
-
-pub returns-clause-unread : goal.returns-clause-unread
-returns-clause-unread g c = λ other another. absurd (other (c.if-not-is_replay.ensures.0 refl))
-
-pub returns-clause-whole : goal.returns-clause-whole
-returns-clause-whole g c = λ bytes told same. c.replay_lines.ensures.whole bytes told
-
-pub returns-clause-applied_whole : goal.returns-clause-applied_whole
-returns-clause-applied_whole g c = λ bytes told same. absurd (words_apart _ (c.if-not-is_replay.ensures.0 refl) same)
-
-pub returns-clause-replay_status : goal.returns-clause-replay_status
-returns-clause-replay_status g c = λ same. c.replay_lines.ensures.known
-
-pub returns-clause-apply_status : goal.returns-clause-apply_status
-returns-clause-apply_status g c = λ same. absurd (words_apart _ (c.if-not-is_replay.ensures.0 refl) same)
+pub returns-in-Err-Memory-clause-alone : goal.returns-in-Err-Memory-clause-alone
+returns-in-Err-Memory-clause-alone g c = λ command answer spells alone. memory_alone answer _ _ _ c.say-in-Err-Memory.ensures.says

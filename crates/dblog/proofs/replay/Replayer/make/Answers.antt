@@ -4,12 +4,13 @@ use Rattle.dbl_txn.specs.Stands.{Stands}
 use Rattle.dblog.specs.Log.{log_start}
 use Rattle.dblog.proofs.replay.Replayer.make.Goals as goal
 
-pub returns : goal.returns
-returns c = record {
+pub returns-clause-follows : goal.returns-clause-follows
+returns-clause-follows c = record {
   infos = [];
   behind = record {
     stands = subst (λ (i : List TableInfo). Stands i log_start [] [] c.make-2.result) c.new-2.ensures.items (c.make-2.ensures []);
-    identity = c.in-Ok.ensures.identity ∙ c.in_ok-identity.ensures;
+    identity = c.in-Ok.ensures.identity;
+    keys = refl;
     writes = c.in-Ok.ensures.infos ∙ c.new.ensures.items;
   };
   captured = refl;

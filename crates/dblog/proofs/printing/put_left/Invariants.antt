@@ -1,12 +1,11 @@
 use Rattle.std.proofs.Common.{◌≤◌, map, length}
 use Rattle.dbl_record.specs.Line.{line_of}
-use Rattle.dbl_model.specs.EventJson.{envelopes}
 use Rattle.dblog.proofs.PrintLemmas.{IsPutting}
-use Rattle.dblog.proofs.printing.put_commit.Given as goal
+use Rattle.dblog.proofs.printing.put_left.Given as goal
 
 abbrev pub invariant-left : goal.invariant-left
 invariant-left g l =
-    IsPutting (map line_of (envelopes l.writer.identity l.writer.infos l.commit l.now_ms)) (map line_of l.left) l.fn.buffer.items l.filled.items (g.O.Output.written l.fn.output) (g.O.Output.written l.output)
+    IsPutting (map line_of l.fn.records) (map line_of l.left) l.fn.buffer.items l.filled.items (g.O.Output.written l.fn.output) (g.O.Output.written l.output)
     × (g.O.Output.faults l.fn.output ≤ g.O.Output.faults l.output)
 
 abbrev pub decreases-left : goal.decreases-left

@@ -1,3 +1,6 @@
+mod server;
+mod words;
+
 use crate::program::run;
 use dbl_base::{MemInput, MemOutput, Text};
 use std::alloc::{AllocError, Global};
@@ -236,52 +239,112 @@ fn captures_become_events(rt: HostRuntime) -> Result<(), Fail> {
     )
 }
 
+// An update that leaves the name unsent, and one that moves the key from 1 to 2.
+const NAME_UNSENT: &str = "55 00004000 4e 0002 74 00000001 31 75";
+
+const MOVED: &str =
+    "55 00004000 4b 0002 74 00000001 31 6e 4e 0002 74 00000001 32 74 00000003 416e6e";
+
+const DELETED: &str = "44 00004000 4b 0002 74 00000001 31 6e";
+
+// A Relation as that of the users, of the table `public.items`, and a truncate of both.
+const OTHER_ITEMS: &str =
+    "52 00004001 7075626c696300 6974656d7300 64 0002 01 696400 00000017 ffffffff 00 6e616d6500 00000019 ffffffff";
+
+const BOTH_TRUNCATED: &str = "54 00000002 00 00004000 00004001";
+
+const UNSENT_EVENT: &str =
+    r#"{"headers":{"dblog.last":true,"dblog.ordinal":0,"dblog.position":256},"key":{"id":1},"topic":"demo.public.users","value":{"after":{"id":1,"name":"__debezium_unavailable_value"},"before":null,"op":"u","source":{"connector":"postgresql","db":"demo","lsn":256,"name":"demo","schema":"public","snapshot":"false","table":"users","ts_ms":946684800000,"txId":7,"version":"1.0","xmin":null},"transaction":null,"ts_ms":0}}"#;
+
+const MOVED_EVENTS: &[&str] = &[
+    r#"{"headers":{"__debezium.newkey":{"id":2},"dblog.last":false,"dblog.ordinal":0,"dblog.position":256},"key":{"id":1},"topic":"demo.public.users","value":{"after":null,"before":{"id":1,"name":null},"op":"d","source":{"connector":"postgresql","db":"demo","lsn":256,"name":"demo","schema":"public","snapshot":"false","table":"users","ts_ms":946684800000,"txId":7,"version":"1.0","xmin":null},"transaction":null,"ts_ms":0}}"#,
+    r#"{"headers":{"dblog.last":false,"dblog.ordinal":1,"dblog.position":256},"key":{"id":1},"topic":"demo.public.users","value":null}"#,
+    r#"{"headers":{"__debezium.oldkey":{"id":1},"dblog.last":true,"dblog.ordinal":2,"dblog.position":256},"key":{"id":2},"topic":"demo.public.users","value":{"after":{"id":2,"name":"Ann"},"before":null,"op":"c","source":{"connector":"postgresql","db":"demo","lsn":256,"name":"demo","schema":"public","snapshot":"false","table":"users","ts_ms":946684800000,"txId":7,"version":"1.0","xmin":null},"transaction":null,"ts_ms":0}}"#,
+];
+
+const DELETED_EVENTS: &[&str] = &[
+    r#"{"headers":{"dblog.last":false,"dblog.ordinal":0,"dblog.position":256},"key":{"id":1},"topic":"demo.public.users","value":{"after":null,"before":{"id":1,"name":null},"op":"d","source":{"connector":"postgresql","db":"demo","lsn":256,"name":"demo","schema":"public","snapshot":"false","table":"users","ts_ms":946684800000,"txId":7,"version":"1.0","xmin":null},"transaction":null,"ts_ms":0}}"#,
+    r#"{"headers":{"dblog.last":true,"dblog.ordinal":1,"dblog.position":256},"key":{"id":1},"topic":"demo.public.users","value":null}"#,
+];
+
+const TRUNCATED_EVENTS: &[&str] = &[
+    r#"{"headers":{"dblog.last":false,"dblog.ordinal":0,"dblog.position":256},"key":null,"topic":"demo.public.users","value":{"after":null,"before":null,"op":"t","source":{"connector":"postgresql","db":"demo","lsn":256,"name":"demo","schema":"public","snapshot":"false","table":"users","ts_ms":946684800000,"txId":7,"version":"1.0","xmin":null},"transaction":null,"ts_ms":0}}"#,
+    r#"{"headers":{"dblog.last":true,"dblog.ordinal":1,"dblog.position":256},"key":null,"topic":"demo.public.items","value":{"after":null,"before":null,"op":"t","source":{"connector":"postgresql","db":"demo","lsn":256,"name":"demo","schema":"public","snapshot":"false","table":"items","ts_ms":946684800000,"txId":7,"version":"1.0","xmin":null},"transaction":null,"ts_ms":0}}"#,
+];
+
 #[test]
-fn other_changes_are_not_built(rt: HostRuntime) -> Result<(), Fail> {
-    let not_built: &[&str] = &["dblog: not built"];
+fn every_change_has_its_events(rt: HostRuntime) -> Result<(), Fail> {
     replays(
         &rt,
         rt.alloc(),
         &[
-            (&[BEGIN, USERS, UPDATE, COMMIT], 16, not_built),
+            (&[BEGIN, USERS, NAME_UNSENT, COMMIT], 0, &[UNSENT_EVENT]),
+            (&[BEGIN, USERS, MOVED, COMMIT], 0, MOVED_EVENTS),
+            (&[BEGIN, USERS, DELETED, COMMIT], 0, DELETED_EVENTS),
             (
-                &[BEGIN, USERS, UPDATE],
+                &[BEGIN, USERS, OTHER_ITEMS, BOTH_TRUNCATED, COMMIT],
+                0,
+                TRUNCATED_EVENTS,
+            ),
+            // the events of what was committed stand before a fault
+            (
+                &[BEGIN, USERS, INSERT, COMMIT, LATER_BEGIN, UPDATE],
                 5,
-                &["dblog: log ends inside a transaction"],
-            ),
-            (
-                &[
-                    BEGIN,
-                    USERS,
-                    INSERT,
-                    COMMIT,
-                    LATER_BEGIN,
-                    "44 00004000 4b 0002 74 00000001 31 6e",
-                    LATER_COMMIT,
-                    "5a",
-                ],
-                16,
-                &[EVENT, "dblog: not built"],
-            ),
-            (
-                &[BEGIN, USERS, "54 00000001 00 00004000", COMMIT],
-                16,
-                not_built,
-            ),
-            // a commit mismatch comes first
-            (
-                &[BEGIN, USERS, UPDATE, LATER_COMMIT],
-                5,
-                &["dblog: message 4: commit mismatch 256 512"],
-            ),
-            // a column of type int8, before that the table has no key
-            (
-                &["52 00004000 7075626c696300 757365727300 64 0001 00 696400 00000014 ffffffff"],
-                16,
-                not_built,
+                &[EVENT, "dblog: log ends inside a transaction"],
             ),
         ],
     )
+}
+
+// The commit's time is one microsecond before 2000, and the least that there is.
+const EARLY_BEGIN: &str = "42 0000000000000100 ffffffffffffffff 00000007";
+
+const FIRST_BEGIN: &str = "42 0000000000000100 8000000000000000 00000007";
+
+const EARLY_EVENT: &str =
+    r#"{"headers":{"dblog.last":true,"dblog.ordinal":0,"dblog.position":256},"key":null,"topic":"demo.public.users","value":{"after":null,"before":null,"op":"t","source":{"connector":"postgresql","db":"demo","lsn":256,"name":"demo","schema":"public","snapshot":"false","table":"users","ts_ms":946684799999,"txId":7,"version":"1.0","xmin":null},"transaction":null,"ts_ms":0}}"#;
+
+const FIRST_EVENT: &str =
+    r#"{"headers":{"dblog.last":true,"dblog.ordinal":0,"dblog.position":256},"key":null,"topic":"demo.public.users","value":{"after":null,"before":null,"op":"t","source":{"connector":"postgresql","db":"demo","lsn":256,"name":"demo","schema":"public","snapshot":"false","table":"users","ts_ms":-9222425352054776,"txId":7,"version":"1.0","xmin":null},"transaction":null,"ts_ms":0}}"#;
+
+#[test]
+fn times_before_2000_are_rounded_down(rt: HostRuntime) -> Result<(), Fail> {
+    let truncated = "54 00000001 00 00004000";
+    replays(
+        &rt,
+        rt.alloc(),
+        &[
+            (&[EARLY_BEGIN, USERS, truncated, COMMIT], 0, &[EARLY_EVENT]),
+            (&[FIRST_BEGIN, USERS, truncated, COMMIT], 0, &[FIRST_EVENT]),
+        ],
+    )
+}
+
+// A text between two others, so many times.
+fn put_between(alloc: Global, start: &str, text: &str, end: &str) -> Result<String, AllocError> {
+    let mut whole = String::from_str(alloc, start)?;
+    for _ in 0..server::LONG_COUNT {
+        whole.push_str(text)?;
+    }
+    whole.push_str(end)?;
+    Ok(whole)
+}
+
+#[test]
+fn a_servers_log_gives_its_tables(rt: HostRuntime) -> Result<(), Fail> {
+    let alloc = rt.alloc();
+    let log = put_between(alloc, server::LOG_START, "6c6f6e6720", server::LOG_END)?;
+    let tables = put_between(alloc, server::TABLES_START, "long ", server::TABLES_END)?;
+    let words = words_of(alloc, "replay")?;
+    let mut input = MemInput::make(log.as_bytes().to_vec(alloc)?, Vec::new(alloc));
+    let mut events = MemOutput::make(alloc, Vec::new(alloc));
+    assert_eq!(&rt; run(alloc, &words, 0, &mut input, &mut events), 0);
+    let mut lines = MemInput::make(events.bytes().as_slice().to_vec(alloc)?, Vec::new(alloc));
+    let mut held = MemOutput::make(alloc, Vec::new(alloc));
+    let words = words_of(alloc, WORDS)?;
+    assert_eq!(&rt; run(alloc, &words, 0, &mut lines, &mut held), 0);
+    assert_eq!(&rt; held.bytes().as_slice(), tables.as_bytes());
+    Ok(())
 }
 
 #[test]
@@ -463,6 +526,27 @@ fn content_that_is_not_supported_is_a_fault(rt: HostRuntime) -> Result<(), Fail>
             ),
             (&[BEGIN, KEYLESS], 6, &["dblog: no key public.users"]),
             (
+                &[
+                    "52 00004000 7075626c696300 757365727300 64 0002 01 696400 00000017 ffffffff 00 7600 000002bd ffffffff",
+                ],
+                6,
+                &["dblog: float column public.users.v"],
+            ),
+            (
+                &["52 00004000 7075626c696300 757365727300 64 0001 01 696400 00000010 ffffffff"],
+                6,
+                &["dblog: key type public.users.id"],
+            ),
+            (
+                &[
+                    BEGIN,
+                    "52 00004000 7075626c696300 757365727300 64 0002 01 696400 00000017 ffffffff 00 6400 0000043a ffffffff",
+                    "49 00004000 4e 0002 74 00000001 31 74 00000008 696e66696e697479",
+                ],
+                6,
+                &["dblog: date range public.users.d"],
+            ),
+            (
                 &["52 00004000 7075626c696300 61206200 64 0001 01 696400 00000017 ffffffff"],
                 6,
                 &["dblog: bad name public.a b"],
@@ -515,14 +599,6 @@ fn up_to_64_tables_are_captured(rt: HostRuntime) -> Result<(), Fail> {
     let more = many_tables(alloc, 65)?;
     let fault = "dblog: too many tables\n";
     expect(&rt, alloc, "replay", more.as_str(), 6, fault)
-}
-
-#[test]
-fn words_are_answered(rt: HostRuntime) -> Result<(), Fail> {
-    let alloc = rt.alloc();
-    expect(&rt, alloc, "", "", 2, "dblog: usage\n")?;
-    expect(&rt, alloc, "replay now", "", 2, "dblog: usage\n")?;
-    expect(&rt, alloc, "Replay", "", 2, "dblog: usage\n")
 }
 
 #[test]
@@ -585,7 +661,6 @@ fn many_inserts_become_events(rt: HostRuntime) -> Result<(), Fail> {
 #[test]
 fn failed_streams_end_a_run(rt: HostRuntime) -> Result<(), Fail> {
     let alloc = rt.alloc();
-    expect_with_faults(&rt, alloc, "", "5a", 1, 0, 2, "dblog: usage\n")?;
     expect_with_faults(
         &rt,
         alloc,
@@ -627,7 +702,6 @@ fn applied_lines_give_their_rows(rt: HostRuntime) -> Result<(), Fail> {
     expect(&rt, alloc, WORDS, REFUSED, 13, float)?;
     expect(&rt, alloc, WORDS, CAPTURED_EVENTS, 0, HELD)?;
     expect(&rt, alloc, WORDS, "", 0, "")?;
-    expect(&rt, alloc, "apply", "", 2, "dblog: usage\n")?;
     expect_with_faults(&rt, alloc, WORDS, APPLIED, 0, 1, 11, "")?;
     let failed = "dblog: input failed\n";
     expect_with_faults(&rt, alloc, WORDS, APPLIED, 1, 0, 10, failed)

@@ -1,5 +1,4 @@
--- Reading a group of records from left to right. For private clauses: what groups mean is in Groups, and where bytes differ
--- from them in GroupFaults.
+-- Reading from left to right: first the fields of stored forms, as the readers of fields cite it, and then a group of records.
 use Rattle.std.specs.Prelude.{◌≡◌, ◌⊎◌, ◌-◌, ℕ, zero, suc, ◌==◌, Bool, true, false, List, [], ◌∷◌, length, take, drop, Option, Some, None, Result, Ok, Err, nat_lt, if◌then◌else◌}
 use Rattle.std.specs.Int.{Width, w32, w64, byte_len, from_be_bytes}
 use Rattle.std.specs.Str.{is_utf8}
@@ -52,6 +51,8 @@ optional_at total (b ∷ rest) =
       text ← text_at total rest
       Ok (Some text.0, text.1))
     else Err (BadRecord (total - suc (length rest))))
+
+-- ---- for private clauses: a group of records. What groups mean is in Groups, and where bytes differ from them in GroupFaults.
 
 -- where a record stands: its position, its ordinal, and whether it is the last of its commit
 unfoldable pub place_at : ℕ → List ℕ → Read (ℕ × ℕ × Bool)

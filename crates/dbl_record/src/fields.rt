@@ -1,7 +1,7 @@
 //! Fields of stored forms. Writers append to what was written before. Readers take the number of all bytes and what is left
 //! of them, so that a fault has its place.
 
-ghost use Rattle.std.specs.Prelude.{◌≡◌, ◌-◌, length, OnOk};
+ghost use Rattle.std.specs.Prelude.{◌≡◌, ◌≢◌, ◌-◌, length, Err, OnOk};
 ghost use Rattle.std.specs.Int.{w32, w64};
 ghost use Rattle.dbl_record.specs.Fields.{Extends, IsShort, IsShortOrAbsent, IsStored, IsStoredOrAbsent, number32, number64, optional_form, text_form, truth_form};
 ghost use Rattle.dbl_record.specs.GroupReading.{Gives, number_at, optional_at, text_at, truth_at, utf8_of};
@@ -72,9 +72,11 @@ pub fn place(total: usize, bytes: &[u8]) -> u64
     total.saturating_sub(bytes.len()) as u64
 }
 
+/// Four bytes, the highest first. Takes no memory.
 #[tactic(auto, unfolding(crate::specs::GroupReading::number_at))]
 pub fn read_number32(total: usize, bytes: &[u8]) -> Result<(u32, &[u8]), RecordError>
-    ensures { Gives (λ x. (x.0, x.1.now)) result (number_at w32 total bytes.now) }
+    ensures read { Gives (λ x. (x.0, x.1.now)) result (number_at w32 total bytes.now) }
+    ensures no_memory { result ≢ Err RecordError.Memory }
 {
     if bytes.len() < 4 {
         return Err(RecordError::BadRecord { at: total as u64 });
@@ -84,9 +86,11 @@ pub fn read_number32(total: usize, bytes: &[u8]) -> Result<(u32, &[u8]), RecordE
     Ok((number, rest))
 }
 
+/// Eight bytes, the highest first. Takes no memory.
 #[tactic(auto, unfolding(crate::specs::GroupReading::number_at))]
 pub fn read_number64(total: usize, bytes: &[u8]) -> Result<(u64, &[u8]), RecordError>
-    ensures { Gives (λ x. (x.0, x.1.now)) result (number_at w64 total bytes.now) }
+    ensures read { Gives (λ x. (x.0, x.1.now)) result (number_at w64 total bytes.now) }
+    ensures no_memory { result ≢ Err RecordError.Memory }
 {
     if bytes.len() < 8 {
         return Err(RecordError::BadRecord { at: total as u64 });
@@ -98,9 +102,11 @@ pub fn read_number64(total: usize, bytes: &[u8]) -> Result<(u64, &[u8]), RecordE
     Ok((number, rest))
 }
 
+/// A byte, 1 or 0. Takes no memory.
 #[tactic(auto, unfolding(crate::specs::GroupReading::truth_at))]
 pub fn read_truth(total: usize, bytes: &[u8]) -> Result<(bool, &[u8]), RecordError>
-    ensures { Gives (λ x. (x.0, x.1.now)) result (truth_at total bytes.now) }
+    ensures read { Gives (λ x. (x.0, x.1.now)) result (truth_at total bytes.now) }
+    ensures no_memory { result ≢ Err RecordError.Memory }
 {
     match bytes {
         [] => Err(RecordError::BadRecord { at: total as u64 }),

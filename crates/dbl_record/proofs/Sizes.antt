@@ -66,26 +66,36 @@ saturated greatest a b x y z x_is y_is z_is = omega (arith, x_is, y_is, z_is)
 
 -- ---- a group whose form is short has one
 
-short_or_absent : (o : Option (List ℕ)) → length (optional_form o) ≤ 2 ^ 28 → IsShortOrAbsent o
-short_or_absent None le = tt
-short_or_absent (Some text) le = omega (arith, le, some_size text, text_size text)
+short_or_absent : (o : Option (List ℕ)) → length (optional_form o) < 2 ^ 32 → IsShortOrAbsent o
+short_or_absent None lt = tt
+short_or_absent (Some text) lt = omega (arith, lt, some_size text, text_size text)
 
-narrow_of : (item : Record) → length (record_form item) ≤ 2 ^ 28 → IsNarrow item
-narrow_of item le =
+narrow_of : (item : Record) → length (record_form item) < 2 ^ 32 → IsNarrow item
+narrow_of item lt =
     let size = record_size item in
     record {
-      topic = omega (arith, le, size, text_size item.topic);
-      key = short_or_absent item.key (omega (arith, le, size));
-      value = short_or_absent item.value (omega (arith, le, size));
-      newkey = short_or_absent item.newkey (omega (arith, le, size));
-      oldkey = short_or_absent item.oldkey (omega (arith, le, size));
+      topic = omega (arith, lt, size, text_size item.topic);
+      key = short_or_absent item.key (omega (arith, lt, size));
+      value = short_or_absent item.value (omega (arith, lt, size));
+      newkey = short_or_absent item.newkey (omega (arith, lt, size));
+      oldkey = short_or_absent item.oldkey (omega (arith, lt, size));
     }
 
-narrow_all : (group : List Record) → length (flat_map record_form group) ≤ 2 ^ 28 → AllByRecursion IsNarrow group
-narrow_all [] le = tt
-narrow_all (item ∷ group) le =
+narrow_all : (group : List Record) → length (flat_map record_form group) < 2 ^ 32 → AllByRecursion IsNarrow group
+narrow_all [] lt = tt
+narrow_all (item ∷ group) lt =
     let sum = length-append (record_form item) (flat_map record_form group) in
-    (narrow_of item (omega (arith, le, sum)), narrow_all group (omega (arith, le, sum)))
+    (narrow_of item (omega (arith, lt, sum)), narrow_all group (omega (arith, lt, sum)))
+
+-- each record has some bytes
+fewer : (group : List Record) → length group ≤ length (flat_map record_form group)
+fewer [] = omega arith
+fewer (item ∷ group) = omega (arith, fewer group, record_size item, length-append (record_form item) (flat_map record_form group))
+
+pub short_has_form : (group : List Record) → length (group_form group) < 2 ^ 32 → HasForm group
+short_has_form group lt =
+    let size = group_size group in
+    record { count = omega (arith, lt, size, fewer group); each = narrow_all group (omega (arith, lt, size)) }
 
 pub has_form : (group : List Record) → length (group_form group) ≤ 2 ^ 28 → length group < 2 ^ 32 → HasForm group
-has_form group le lt = record { count = lt; each = narrow_all group (omega (arith, le, group_size group)) }
+has_form group le lt = short_has_form group (omega (arith, le))

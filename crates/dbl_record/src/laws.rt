@@ -1,11 +1,11 @@
-ghost use Rattle.std.specs.Prelude.{◌≡◌, ◌⊎◌, ◌<◌, ◌^◌, ℕ, List};
+ghost use Rattle.std.specs.Prelude.{◌≡◌, ◌⊎◌, ◌<◌, ◌^◌, ℕ, List, length};
 ghost use Rattle.std.specs.List.{AllByRecursion};
 ghost use Rattle.dbl_record.specs.Whole.{ReadsBack, TextsTellData};
 ghost use Rattle.dbl_record.specs.Laws.{LinesReadBack};
 ghost use Rattle.dbl_record.specs.Places.{TopsAreOne, TopsStand};
 ghost use Rattle.dbl_record.specs.Cuts.{CutsAreHandfuls, CutsJoin};
 ghost use Rattle.dbl_record.specs.GroupFaults.{IsBadAt};
-ghost use Rattle.dbl_record.specs.Groups.{IsGroup};
+ghost use Rattle.dbl_record.specs.Groups.{HasForm, IsGroup, group_form};
 ghost use Rattle.dbl_record.specs.declared.record.Record.{Record};
 ghost use Rattle.dbl_record.specs.Reading.{LinesReadOnce, LinesTellRecords, RecordsTellData};
 
@@ -61,6 +61,11 @@ pub fn groups_or_faults()
     ensures one_of { (bytes : List ℕ) → AllByRecursion (λ b. b < 2 ^ 8) bytes → ((group : List Record) × IsGroup bytes group) ⊎ ((at : ℕ) × IsBadAt bytes at) }
     ensures not_both { (bytes : List ℕ) (group : List Record) (at : ℕ) → IsGroup bytes group → ¬ IsBadAt bytes at }
     ensures one_place { (bytes : List ℕ) (first second : ℕ) → IsBadAt bytes first → IsBadAt bytes second → first ≡ second }
+{}
+
+/// A group has a bytes form where that has fewer than 2^32 bytes.
+pub fn short_groups_have_a_form()
+    ensures { (group : List Record) → length (group_form group) < 2 ^ 32 → HasForm group }
 {}
 
 /// The groups of records, joined, give the records, and a sink takes each of them.

@@ -16,8 +16,8 @@ pub use error::RecordError;
 pub use groups::{append_group, group_length, read_group, write_group};
 pub use laws::{
     compact_texts_read_back, cuts_join, groups_are_read_once, groups_or_faults, lines_read_back,
-    lines_read_once, lines_tell_records, records_tell_data, texts_tell_data, tops_are_one,
-    tops_stand,
+    lines_read_once, lines_tell_records, records_tell_data, short_groups_have_a_form,
+    texts_tell_data, tops_are_one, tops_stand,
 };
 pub use parsed::ParsedLine;
 pub use reading::{Line, parse_line, read_line};

@@ -158,6 +158,10 @@ fn expect_group(
     Ok(())
 }
 
+// One record of a topic whose second byte isn't UTF-8: the topic's first byte is the place.
+const BAD_TOPIC: &[u8] =
+    b"\x00\x00\x00\x01\x00\x00\x00\x00\x00\x00\x01\x00\x00\x00\x00\x00\x00\x00\x00\x00\x01\x00\x00\x00\x02t\xff\x00\x00\x00\x00";
+
 #[test]
 fn changed_bytes_have_their_place(rt: HostRuntime) -> Result<(), Fail> {
     let alloc = rt.alloc();
@@ -169,5 +173,6 @@ fn changed_bytes_have_their_place(rt: HostRuntime) -> Result<(), Fail> {
     }
     let mut bytes = ONE_RECORD.to_vec(alloc)?;
     bytes.push(0)?;
-    expect_group(&rt, alloc, &bytes, Some(35))
+    expect_group(&rt, alloc, &bytes, Some(35))?;
+    expect_group(&rt, alloc, BAD_TOPIC, Some(25))
 }

@@ -1,4 +1,4 @@
-ghost use Rattle.std.specs.Prelude.{◌≡◌, ◌≢◌, ◌⊎◌, ◌↔◌, ℕ, ◌+◌, ◌^◌, ◌<◌, ◌≤◌, ◌++◌, List, [], ◌∷◌, length, take, false, Some, IsTrue, IfOk, IfErr, OnOk, OnErr, MatchResult, slice_get};
+ghost use Rattle.std.specs.Prelude.{◌≡◌, ◌≢◌, ◌⊎◌, ◌↔◌, ℕ, ◌+◌, ◌^◌, ◌<◌, ◌≤◌, ◌++◌, List, [], ◌∷◌, length, take, false, Some, IsTrue, IsErr, IfOk, IfErr, OnOk, OnErr, MatchResult, slice_get};
 ghost use Rattle.dbl_base.specs.Streams.{Rose};
 ghost use Rattle.dbl_disk.specs.Disks.{Follows, Torn};
 ghost use Rattle.dbl_journal.specs.Form.{IsFaultAt, IsJournal};
@@ -228,12 +228,14 @@ impl<D: Disk> Sink for TopicLog<D> {
         ensures whole { (groups : List (List Record)) → HoldsGroups D.seen D.may_leave self.old groups → LeavesGroups D.may_leave self.new.disk (λ left. Unit {0}) }
         ensures live { result ≢ Err SinkError.Failed → IsTrue self.new.live }
         ensures dead { result ≡ Err SinkError.Failed → self.new.live ≡ false }
-        ensures too_long { (len : ℕ) → (result ≡ Err (SinkError.TooLong len)) ↔ ((2 ^ 28 < length (group_form group.now.items)) × (len ≡ told_length group.now.items)) }
+        ensures too_long { (len : ℕ) → result ≡ Err (SinkError.TooLong len) → (2 ^ 28 < length (group_form group.now.items)) × (len ≡ told_length group.now.items) }
+        ensures long { 2 ^ 28 < length (group_form group.now.items) → IsErr result }
         ensures failed { result ≡ Err SinkError.Failed → Rose (D.faults self.old.disk) (D.faults self.new.disk) }
         ensures later { D.faults self.old.disk ≤ D.faults self.new.disk }
 
-        // A put is all or nothing.
+        // A put is all or nothing, and a group is too long exactly by its length.
         ensures one_of { (groups : List (List Record)) → HoldsGroups D.seen D.may_leave self.old groups → LeavesGroups D.may_leave self.new.disk (IsLeftByWhole groups group.now.items) }
+        ensures exactly { (len : ℕ) → (result ≡ Err (SinkError.TooLong len)) ↔ ((2 ^ 28 < length (group_form group.now.items)) × (len ≡ told_length group.now.items)) }
         ensures count { OnOk result (count_of self.new ≡ count_of self.old + 1) }
         ensures unchanged { OnErr result (result ≢ Err SinkError.Failed → self.new ≡ self.old) }
     {

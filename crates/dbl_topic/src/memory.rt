@@ -1,4 +1,4 @@
-ghost use Rattle.std.specs.Prelude.{◌≡◌, ◌≢◌, ◌↔◌, ℕ, ◌+◌, ◌^◌, ◌<◌, ◌≤◌, ◌++◌, List, [], ◌∷◌, length, Bool, true, false, IsTrue, IfOk, OnOk, OnErr, Contains};
+ghost use Rattle.std.specs.Prelude.{◌≡◌, ◌≢◌, ◌↔◌, ℕ, ◌+◌, ◌^◌, ◌<◌, ◌≤◌, ◌++◌, List, [], ◌∷◌, length, Bool, true, false, IsTrue, IsErr, IfOk, OnOk, OnErr, Contains};
 ghost use Rattle.dbl_base.specs.Streams.{Rose, raised};
 ghost use Rattle.dbl_base.specs.Memory.{new_plan};
 ghost use Rattle.dbl_record.specs.declared.record.Record.{Record};
@@ -114,24 +114,26 @@ impl Sink for MemSink {
         ensures whole { (groups : List (List Record)) → IsTrue self.old.live × (self.old.groups ≡ groups) → Unit {0} }
         ensures live { result ≢ Err SinkError.Failed → IsTrue self.new.live }
         ensures dead { result ≡ Err SinkError.Failed → self.new.live ≡ false }
-        ensures too_long { (len : ℕ) → (result ≡ Err (SinkError.TooLong len)) ↔ ((2 ^ 28 < length (group_form group.now.items)) × (len ≡ told_length group.now.items)) }
+        ensures too_long { (len : ℕ) → result ≡ Err (SinkError.TooLong len) → (2 ^ 28 < length (group_form group.now.items)) × (len ≡ told_length group.now.items) }
+        ensures long { 2 ^ 28 < length (group_form group.now.items) → IsErr result }
         ensures failed { result ≡ Err SinkError.Failed → Rose self.old.plan.faults self.new.plan.faults }
         ensures later { self.old.plan.faults ≤ self.new.plan.faults }
 
-        // A put fails exactly where it is planned to and its group isn't too long, and then changes no records.
-        ensures planned { (result ≡ Err SinkError.Failed) ↔ (Contains self.old.plan.planned (raised self.old.plan.calls) × (length (group_form group.now.items) ≤ 2 ^ 28)) }
+        // A put fails exactly where it is planned to, whatever its length, and then changes no records. Of the others those
+        // fail whose group is too long.
+        ensures planned { (result ≡ Err SinkError.Failed) ↔ Contains self.old.plan.planned (raised self.old.plan.calls) }
+        ensures exactly { (len : ℕ) → (result ≡ Err (SinkError.TooLong len)) ↔ (¬ Contains self.old.plan.planned (raised self.old.plan.calls) × (2 ^ 28 < length (group_form group.now.items)) × (len ≡ told_length group.now.items)) }
         ensures calls { self.new.plan.calls ≡ raised self.old.plan.calls }
         ensures plan { self.new.plan.planned ≡ self.old.plan.planned }
         ensures unchanged { OnErr result (self.new.groups ≡ self.old.groups) }
     {
-        let planned = self.plan.call();
+        if self.plan.call().is_err() {
+            self.live = false;
+            return Err(SinkError::Failed);
+        }
         let len = group_length(group);
         if len > GROUP_LIMIT {
             return Err(SinkError::TooLong { len });
-        }
-        if planned.is_err() {
-            self.live = false;
-            return Err(SinkError::Failed);
         }
         let group = copies(self.alloc, group)?;
         gather(&mut self.records, &mut self.sizes, group)?;

@@ -1,4 +1,4 @@
-ghost use Rattle.std.specs.Prelude.{◌≡◌, ◌≢◌, ◌↔◌, ℕ, ◌^◌, ◌<◌, ◌≤◌, ◌++◌, List, [], ◌∷◌, length, Bool, false, IsTrue, OnOk, OnErr};
+ghost use Rattle.std.specs.Prelude.{◌≡◌, ◌≢◌, ℕ, ◌^◌, ◌<◌, ◌≤◌, ◌++◌, List, [], ◌∷◌, length, Bool, false, IsTrue, IsErr, OnOk, OnErr};
 ghost use Rattle.dbl_base.specs.Streams.{Rose};
 ghost use Rattle.dbl_record.specs.declared.record.Record.{Record};
 ghost use Rattle.dbl_record.specs.Cuts.{IsHandful};
@@ -29,7 +29,8 @@ pub trait Sink {
     ghost faults: { Self → ℕ };
 
     /// Appends the group. After `Failed` some first records of it may have been appended, as a group of their own, and the
-    /// sink isn't live. After the other errors nothing was appended, and the sink stays live.
+    /// sink isn't live. After the other errors nothing was appended, and the sink stays live. A group that is too long may be
+    /// answered with another error, where that comes first.
     fn put(&mut self, group: &Vec<Record>) -> Result<(), SinkError>
         requires live { IsTrue (is_live self.old) }
         requires handful { IsHandful group.now.items }
@@ -39,7 +40,8 @@ pub trait Sink {
         ensures whole { (groups : List (List Record)) → holds self.old groups → leaves_groups self.new }
         ensures live { result ≢ Err SinkError.Failed → IsTrue (is_live self.new) }
         ensures dead { result ≡ Err SinkError.Failed → is_live self.new ≡ false }
-        ensures too_long { (len : ℕ) → (result ≡ Err (SinkError.TooLong len)) ↔ ((2 ^ 28 < length (group_form group.now.items)) × (len ≡ told_length group.now.items)) }
+        ensures too_long { (len : ℕ) → result ≡ Err (SinkError.TooLong len) → (2 ^ 28 < length (group_form group.now.items)) × (len ≡ told_length group.now.items) }
+        ensures long { 2 ^ 28 < length (group_form group.now.items) → IsErr result }
         ensures failed { result ≡ Err SinkError.Failed → Rose (faults self.old) (faults self.new) }
         ensures later { faults self.old ≤ faults self.new };
 

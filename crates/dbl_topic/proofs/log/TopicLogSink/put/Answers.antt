@@ -80,8 +80,8 @@ failed e = Err e
 failed_is : (d e : SinkError) → failed d ≡ failed e → d ≡ e
 failed_is d e same = cc
 
-pub returns-in_err-append-clause-too_long : goal.returns-in_err-append-clause-too_long
-returns-in_err-append-clause-too_long g c len =
+pub returns-in_err-append-clause-exactly : goal.returns-in_err-append-clause-exactly
+returns-in_err-append-clause-exactly g c len =
     let spelled = ap length (c.deref-2.ensures.value ∙ c.items.ensures ∙ c.in_ok-entry.ensures.written.spelled) in
     let long = ap (λ (group : List Record). length (group_form group)) c.deref.ensures.value in
     let short : length (group_form c.args.group.now.items) ≤ 2 ^ 28 = omega (arith, long, c.group_length-len.ensures, c.if-len-gt-GROUP_LIMIT.false) in (
@@ -92,3 +92,6 @@ returns-in_err-append-clause-too_long g c len =
           absurd (omega (arith, beyond.0, spelled, short)),
       λ beyond. absurd (omega (arith, beyond.0, short)),
     )
+
+pub returns-in_err-append-clause-too_long : goal.returns-in_err-append-clause-too_long
+returns-in_err-append-clause-too_long g c len is = (returns-in_err-append-clause-exactly g c len).0 is

@@ -124,6 +124,8 @@ impl Sink for MemSink {
         ensures planned { (result ≡ Err SinkError.Failed) ↔ Contains self.old.plan.planned (raised self.old.plan.calls) }
         ensures exactly { (len : ℕ) → (result ≡ Err (SinkError.TooLong len)) ↔ (¬ Contains self.old.plan.planned (raised self.old.plan.calls) × (2 ^ 28 < length (group_form group.now.items)) × (len ≡ told_length group.now.items)) }
         ensures calls { self.new.plan.calls ≡ raised self.old.plan.calls }
+        ensures counted { result ≡ Err SinkError.Failed → self.new.plan.faults ≡ raised self.old.plan.faults }
+        ensures uncounted { result ≢ Err SinkError.Failed → self.new.plan.faults ≡ self.old.plan.faults }
         ensures plan { self.new.plan.planned ≡ self.old.plan.planned }
         ensures unchanged { OnErr result (self.new.groups ≡ self.old.groups) }
     {

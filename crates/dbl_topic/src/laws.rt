@@ -1,11 +1,12 @@
 //! Laws of topic logs. The functions do nothing: their contracts are the laws.
 
-ghost use Rattle.std.specs.Prelude.{◌≡◌, ◌⊎◌, ◌++◌, ◌∷◌, [], ℕ, List, length};
+ghost use Rattle.std.specs.Prelude.{◌≡◌, ◌⊎◌, ◌++◌, ◌∷◌, [], ℕ, Some, List, length};
 ghost use Rattle.dbl_journal.specs.Form.{IsFaultAt};
 ghost use Rattle.dbl_journal.specs.Stored.{OnDisk, count_of};
 ghost use Rattle.dbl_record.specs.declared.record.Record.{Record};
-ghost use Rattle.dbl_topic.specs.Held.{HoldsGroups};
+ghost use Rattle.dbl_topic.specs.Held.{HoldsGroups, LeavesGroups, MayLeaveGroups};
 ghost use Rattle.dbl_topic.specs.Logs.{HasBadEntry, HoldRecords, IsLog};
+ghost use Rattle.dbl_topic.specs.Sinks.{IsLeftByWhole};
 
 use dbl_disk::Disk;
 
@@ -23,8 +24,14 @@ pub fn logs_or_faults()
     ensures one_entry { (bytes : List ℕ) (first second : ℕ) → HasBadEntry bytes first → HasBadEntry bytes second → first ≡ second }
 {}
 
-/// A topic log holds one list of groups at most, of which it has the count.
+/// A topic log holds one list of groups at most, of which it has the count, which is what its bytes are a log of, and what a
+/// stop may leave of it, and nothing else. What may be left while a group is put is the list or the one with the group.
 pub fn held_groups_are_one<D: Disk>()
     ensures one { (log : OnDisk D) (first second : List (List Record)) → HoldsGroups D.seen D.may_leave log first → HoldsGroups D.seen D.may_leave log second → first ≡ second }
     ensures counted { (log : OnDisk D) (groups : List (List Record)) → HoldsGroups D.seen D.may_leave log groups → count_of log ≡ length groups }
+    ensures bytes { (log : OnDisk D) (groups : List (List Record)) → HoldsGroups D.seen D.may_leave log groups → (bytes : List ℕ) × (D.seen log.disk ≡ Some bytes) × IsLog bytes groups }
+    ensures left { (log : OnDisk D) (groups left : List (List Record)) → HoldsGroups D.seen D.may_leave log groups → MayLeaveGroups D.may_leave log.disk left → left ≡ groups }
+    ensures held { (log : OnDisk D) (groups : List (List Record)) → HoldsGroups D.seen D.may_leave log groups → MayLeaveGroups D.may_leave log.disk groups }
+    ensures whole { (log : OnDisk D) (groups : List (List Record)) → HoldsGroups D.seen D.may_leave log groups → LeavesGroups D.may_leave log.disk (λ left. left ≡ groups) }
+    ensures one_of { (disk : D) (groups left : List (List Record)) (group : List Record) → LeavesGroups D.may_leave disk (IsLeftByWhole groups group) → MayLeaveGroups D.may_leave disk left → IsLeftByWhole groups group left }
 {}

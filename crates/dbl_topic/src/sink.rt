@@ -19,7 +19,7 @@ pub trait Sink {
     /// A stop now may leave these groups.
     ghost may_leave: { Self → List (List Record) → Type 0 };
 
-    /// Whatever a stop leaves now is a list of groups.
+    /// What the sink says of all that a stop may leave now: of a topic log, that it is one of some groups.
     ghost leaves_groups: { Self → Type 0 };
 
     /// Whether the sink can be used.

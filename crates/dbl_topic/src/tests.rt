@@ -88,8 +88,22 @@ fn stopped(rt: &HostRuntime, calls: u64) -> Result<(MemDisk, bool), Fail> {
     Ok((log.into_disk().into_inner(), done))
 }
 
+// How many groups a stop leaves. The last of them is the one that was put first, or all of the second.
 fn found(rt: &HostRuntime, disk: &MemDisk, choice: Choice) -> Result<u64, Fail> {
-    Ok(count_on(rt, disk.crash(choice)?)?)
+    let mut log = TopicLog::open(rt.alloc(), disk.crash(choice)?)?;
+    let count = log.groups();
+    if count == 0 {
+        return Err(Fail::from("no group"));
+    }
+    let last = log.group(count - 1)?;
+    let whole = match count {
+        1 => group(rt, "a", 1)?,
+        _ => group(rt, "b", 2)?,
+    };
+    if last != whole {
+        return Err(Fail::from("another group"));
+    }
+    Ok(count)
 }
 
 // After a stop with the old bytes, the new ones, and other bytes than 1 and 1 wherever any may be left.

@@ -10,7 +10,7 @@ use Rattle.dbl_disk.specs.Disks.{Torn, written}
 use Rattle.dbl_disk.specs.declared.extent.Extent.{Extent}
 use Rattle.dbl_journal.specs.Form.{IsJournal, IsClosed, IsEntry, body, frame, front, magic}
 use Rattle.dbl_journal.specs.Steps.{IsStaged}
-use Rattle.dbl_journal.specs.Stored.{places_from}
+use Rattle.dbl_journal.specs.Stored.{places_from, size}
 use Rattle.dbl_journal.proofs.Tears.{torn_front, torn_back, torn_long}
 
 -- lengths
@@ -36,6 +36,9 @@ front-push entries entry =
 pub length-front-push : (entries : List (List ℕ)) (entry : List ℕ) → length (front (entries ++ entry ∷ [])) ≡ length (front entries) + 5 + length entry
 length-front-push entries entry = omega (arith, ap length (front-push entries entry), length-append (front entries) (frame entry), length-body entry)
 
+pub size-push : (entries : List (List ℕ)) (entry : List ℕ) (gate long : ℕ) → gate ≡ length (front entries) → long ≡ length entry + 5 → size (entries ++ entry ∷ []) ≡ gate + 1 + long
+size-push entries entry gate long gate_is long_is = omega (arith, length-front-push entries entry)
+
 places_from-push : (entries : List (List ℕ)) (entry : List ℕ) (at : ℕ) → places_from at (entries ++ entry ∷ []) ≡ places_from at entries ++ record { at = at + length (flat_map frame entries) + 5; length = length entry } ∷ []
 places_from-push [] entry at = ap (λ (n : ℕ). record { at = n; length = length entry } ∷ []) (omega arith)
 places_from-push (e ∷ entries) entry at =
@@ -48,6 +51,12 @@ unfolding front
 places-push entries entry gate gate_is =
     let here : 8 + length (flat_map frame entries) ≡ gate = omega (arith, gate_is, length-append magic (flat_map frame entries), length-magic) in
     places_from-push entries entry 8 ∙ ap (λ (n : ℕ). places_from 8 entries ++ record { at = n + 5; length = length entry } ∷ []) here
+
+pub places-add : (places : List Extent) (entries : List (List ℕ)) (entry : List ℕ) (gate long : ℕ) → places ≡ places_from 8 entries → gate ≡ length (front entries) → long ≡ length entry → places ++ record { at = gate + 5; length = long } ∷ [] ≡ places_from 8 (entries ++ entry ∷ [])
+places-add places entries entry gate long places_are gate_is long_is =
+    ap (λ (n : ℕ). places ++ record { at = gate + 5; length = n } ∷ []) long_is
+    ∙ ap (λ (l : List Extent). l ++ record { at = gate + 5; length = length entry } ∷ []) places_are
+    ∙ sym (places-push entries entry gate gate_is)
 
 pub length-places : (entries : List (List ℕ)) (at : ℕ) → length (places_from at entries) ≡ length entries
 length-places [] at = refl

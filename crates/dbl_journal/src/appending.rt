@@ -1,25 +1,47 @@
-ghost use Rattle.std.specs.Prelude.{◌≡◌, ◌⊎◌, ℕ, ◌+◌, ◌^◌, ◌<◌, ◌≤◌, ◌++◌, List, [], ◌∷◌, length, max, Some, IfOk, OnOk, OnErr};
+ghost use Rattle.std.specs.Prelude.{◌≡◌, ◌⊎◌, ℕ, ◌+◌, ◌^◌, ◌<◌, ◌≤◌, ◌++◌, List, [], ◌∷◌, length, drop, max, Some, IfOk, OnOk, OnErr};
+ghost use Rattle.std.specs.Int.{to_be_bytes, w32};
 ghost use Rattle.dbl_base.specs.Streams.{Rose};
 ghost use Rattle.dbl_disk.specs.Disks.{Follows, IsOnly, Torn};
 ghost use Rattle.dbl_journal.specs.Form.{IsEntry, IsJournal, body, front};
 ghost use Rattle.dbl_journal.specs.Steps.{Stages};
 ghost use Rattle.dbl_journal.specs.Stored.{LeavesEntries};
 
+use crate::journal::ENTRY_ROOM;
 use dbl_base::Failed;
 use dbl_disk::Disk;
 use std::alloc::{AllocError, Global};
 
-// The entry behind its length, and the next gate, closed.
-pub(crate) fn spell(alloc: Global, entry: &[u8]) -> Result<Vec<u8>, AllocError>
+// The entry behind room for its length, and with capacity for the next gate.
+pub(crate) fn behind_room(alloc: Global, entry: &[u8]) -> Result<Vec<u8>, AllocError>
     requires { IsEntry entry.now }
-    ensures bytes { IfOk result (λ bytes. bytes.items ≡ body entry.now ++ 0 ∷ []) }
-    ensures long { IfOk result (λ bytes. length bytes.items ≡ length entry.now + 5) }
+    ensures entry { IfOk result (λ bytes. drop 4 bytes.items ≡ entry.now) }
+    ensures room { IfOk result (λ bytes. 4 ≤ length bytes.items) }
 {
-    let mut bytes = Vec::with_capacity(alloc, entry.len() + 5)?;
-    bytes.extend_from_slice(&(entry.len() as u32).to_be_bytes())?;
+    let mut bytes = Vec::with_capacity(alloc, ENTRY_ROOM + entry.len() + 1)?;
+    bytes.extend_from_slice(&[0; ENTRY_ROOM])?;
     bytes.extend_from_slice(entry)?;
-    bytes.push(0)?;
     Ok(bytes)
+}
+
+// Writes the length of an entry into the room before it.
+fn write_length(bytes: &mut [u8], len: u32)
+    requires { 4 ≤ length bytes.old }
+    ensures { bytes.new ≡ to_be_bytes w32 len ++ drop 4 bytes.old }
+{
+    bytes[..ENTRY_ROOM].copy_from_slice(&len.to_be_bytes());
+}
+
+// Writes an entry's length into the room before it, and the next gate, closed, behind it.
+pub(crate) fn spell(bytes: &mut Vec<u8>) -> Result<(), AllocError>
+    requires room { 4 ≤ length bytes.old.items }
+    requires short { IsEntry (drop 4 bytes.old.items) }
+    ensures bytes { OnOk result (bytes.new.items ≡ body (drop 4 bytes.old.items) ++ 0 ∷ []) }
+    ensures long { OnOk result (length bytes.new.items ≡ length (drop 4 bytes.old.items) + 5) }
+{
+    let len = (bytes.len() - ENTRY_ROOM) as u32;
+    bytes.push(0)?;
+    write_length(bytes, len);
+    Ok(())
 }
 
 // Writes the entry behind the closed gate, and makes it stable. Until then, and after a fault, a stop leaves the same list.

@@ -1,11 +1,11 @@
-ghost use Rattle.std.specs.Prelude.{◌≡◌, ◌≢◌, ◌⊎◌, ◌↔◌, ℕ, ◌+◌, ◌^◌, ◌<◌, ◌≤◌, ◌++◌, List, [], ◌∷◌, length, max, false, Some, IsTrue, IfOk, IfErr, OnOk, OnErr, MatchResult, slice_get};
+ghost use Rattle.std.specs.Prelude.{◌≡◌, ◌≢◌, ◌⊎◌, ◌↔◌, ℕ, ◌+◌, ◌^◌, ◌<◌, ◌≤◌, ◌++◌, List, [], ◌∷◌, length, drop, max, false, Some, IsTrue, IfOk, IfErr, OnOk, OnErr, MatchResult, slice_get};
 ghost use Rattle.dbl_base.specs.Streams.{Rose};
 ghost use Rattle.dbl_disk.specs.Disks.{Follows, Torn};
 ghost use Rattle.dbl_journal.specs.Form.{IsFaultAt, IsJournal};
 ghost use Rattle.dbl_journal.specs.Stored.{LeavesEntries, Lists, count_of, size};
 
 use crate::JournalError;
-use crate::appending::{open_gate, spell, stage, start};
+use crate::appending::{behind_room, open_gate, spell, stage, start};
 use crate::scanning::scan;
 use dbl_base::{Bytes, Failed};
 use dbl_disk::{Disk, Extent, Refused};
@@ -14,6 +14,9 @@ use std::marker::Model;
 
 /// An entry holds at most so many bytes: 2^28.
 pub const ENTRY_LIMIT: usize = 1 << 28;
+
+/// In a buffer that is appended an entry stands behind so many bytes, which take its length.
+pub const ENTRY_ROOM: usize = 4;
 
 pub(crate) const MAGIC: [u8; 8] = *b"DBLJRNL1";
 
@@ -110,10 +113,35 @@ impl<D: Disk> Journal<D> {
                 len: entry.len() as u64,
             });
         }
-        let bytes = spell(alloc, entry)?;
+        let bytes = behind_room(alloc, entry)?;
+        self.append_built(bytes)
+    }
+
+    /// Adds the entry that stands in a buffer behind `ENTRY_ROOM` bytes of any value, as `append` adds one, and without a
+    /// copy of it. The buffer grows by a byte, for which it takes memory only where its capacity is used up.
+    pub fn append_built(&mut self, mut bytes: Vec<u8>) -> Result<(), JournalError>
+        requires live { IsTrue self.old.live }
+        requires room { 4 ≤ length bytes.items }
+        ensures added { (entries : List (List ℕ)) → Lists D.seen D.may_leave self.old entries → OnOk result (Lists D.seen D.may_leave self.new (entries ++ drop 4 bytes.items ∷ [])) }
+        ensures left { (entries : List (List ℕ)) → Lists D.seen D.may_leave self.old entries → LeavesEntries D.may_leave self.new.disk (λ left. (left ≡ entries) ⊎ (left ≡ entries ++ drop 4 bytes.items ∷ [])) }
+        ensures grows { (entries : List (List ℕ)) (old new : List ℕ) → Lists D.seen D.may_leave self.old entries → D.seen self.old.disk ≡ Some old → D.seen self.new.disk ≡ Some new → length new ≤ max (length old) (size (entries ++ drop 4 bytes.items ∷ [])) }
+        ensures live { OnOk result (IsTrue self.new.live) }
+        ensures count { OnOk result (count_of self.new ≡ count_of self.old + 1) }
+        ensures too_long { (len : ℕ) → (result ≡ Err (JournalError.EntryTooLong len)) ↔ ((2 ^ 28 < length (drop 4 bytes.items)) × (len ≡ length (drop 4 bytes.items))) }
+        ensures failed { result ≡ Err JournalError.Failed → Rose (D.faults self.old.disk) (D.faults self.new.disk) }
+        ensures dead { result ≡ Err JournalError.Failed → self.new.live ≡ false }
+        ensures journal { (at : ℕ) → result ≢ Err (JournalError.NotAJournal at) }
+        ensures unchanged { OnErr result (result ≢ Err JournalError.Failed → self.new ≡ self.old) }
+        ensures later { D.faults self.old.disk ≤ D.faults self.new.disk }
+    {
+        let len = (bytes.len() - ENTRY_ROOM) as u64;
+        if len > ENTRY_LIMIT as u64 {
+            return Err(JournalError::EntryTooLong { len });
+        }
+        spell(&mut bytes)?;
         self.places.push(Extent {
             at: self.gate + 5,
-            length: entry.len() as u64,
+            length: len,
         })?;
         self.live = false;
         stage(&mut self.disk, self.gate, &bytes)?;

@@ -10,5 +10,5 @@ mod scanning;
 mod tests;
 
 pub use error::JournalError;
-pub use journal::{ENTRY_LIMIT, Journal};
+pub use journal::{ENTRY_LIMIT, ENTRY_ROOM, Journal};
 pub use laws::{journals_are_read_once, journals_or_faults, lists_are_one};

@@ -93,6 +93,21 @@ fn entries_are_read_again(rt: HostRuntime) -> Result<(), Fail> {
 }
 
 #[test]
+fn a_built_entry_is_written_as_a_copied_one(rt: HostRuntime) -> Result<(), Fail> {
+    let mut copied = Journal::make(rt.alloc(), empty_disk(&rt))?;
+    copied.append(rt.alloc(), b"ab")?;
+    let mut built = Journal::make(rt.alloc(), empty_disk(&rt))?;
+    let bytes = Vec::from_array(rt.alloc(), *b"roomab")?;
+    assert_eq!(rt; built.append_built(bytes), Ok(()));
+    let wanted = copied.into_disk();
+    assert_eq!(rt;
+        built.into_disk().bytes().as_slice(),
+        wanted.bytes().as_slice()
+    );
+    Ok(())
+}
+
+#[test]
 fn a_stop_leaves_the_list_or_one_entry_more(rt: HostRuntime) -> Result<(), Fail> {
     for calls in 5..8 {
         assert_eq!(rt; counts(&rt, calls)?, [1, 1, 1, 1]);

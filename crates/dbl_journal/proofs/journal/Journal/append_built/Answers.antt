@@ -1,0 +1,76 @@
+use Rattle.std.proofs.Common.{◌≡◌, ℕ, ◌-◌, ◌∙◌, List, Option, length, drop, refl, sym, ap, subst, arith}
+use Rattle.std.proofs.lemmas.List.{length-drop}
+use Rattle.dbl_journal.specs.Form.{IsEntry}
+use Rattle.dbl_journal.specs.Stored.{Lists, OnDisk}
+use Rattle.dbl_journal.proofs.Appends.{places-add, size-push}
+use Rattle.dbl_journal.proofs.journal.Journal.append_built.Goals as goal
+
+-- a journal with the same parts
+lists_at : {D : Type 0} {seen : D → Option (List ℕ)} {may_leave : D → List ℕ → Type 0} {parts whole : OnDisk D} {entries : List (List ℕ)} → parts ≡ whole → Lists seen may_leave whole entries → Lists seen may_leave parts entries
+lists_at {seen = seen} {may_leave = may_leave} {entries = entries} same lists = subst (λ (j : OnDisk _). Lists seen may_leave j entries) (sym same) lists
+
+pub returns-in_err-open_gate-clause-left : goal.returns-in_err-open_gate-clause-left
+returns-in_err-open_gate-clause-left g c entries lists =
+    let held = lists_at c.self.view_is lists in
+    let entry : List ℕ = drop 4 c.args.bytes.items in
+    let short : IsEntry entry = omega (arith, length-drop 4 c.args.bytes.items) in
+    let staged = c.in_ok-stage.ensures.staged held.bytes entries entry held.told held.only held.spelled held.gate (c.deref.ensures.value ∙ c.in_ok-spell.ensures.bytes) in
+    c.open_gate.ensures.one_of entries entry staged held.gate short
+
+pub returns-clause-left : goal.returns-clause-left
+returns-clause-left g c entries lists =
+    let held = lists_at c.self.view_is lists in
+    let entry : List ℕ = drop 4 c.args.bytes.items in
+    let short : IsEntry entry = omega (arith, length-drop 4 c.args.bytes.items) in
+    let staged = c.in_ok-stage.ensures.staged held.bytes entries entry held.told held.only held.spelled held.gate (c.deref.ensures.value ∙ c.in_ok-spell.ensures.bytes) in
+    c.open_gate.ensures.one_of entries entry staged held.gate short
+
+pub invariant_of-self-2 : goal.invariant_of-self-2
+invariant_of-self-2 g c = record {
+  small = omega (arith, c.in_ok-stage.ensures.room, c.deref.ensures.len, c.len-2.ensures);
+  there = λ live new told.
+      let old = c.in_ok-open_gate.ensures.reaches new told in
+      let reach = c.in_ok-stage.ensures.reaches old.0 old.1 in
+      omega (arith, old.2, reach, c.deref.ensures.len, c.len-2.ensures);
+}
+
+pub returns-clause-added : goal.returns-clause-added
+returns-clause-added g c entries lists =
+    let held = lists_at c.self.view_is lists in
+    let entry : List ℕ = drop 4 c.args.bytes.items in
+    let len : c.len.result - 4 ≡ length entry = omega (arith, length-drop 4 c.args.bytes.items, c.args.bytes.ok, c.len.ensures) in
+    let short : IsEntry entry = omega (arith, length-drop 4 c.args.bytes.items) in
+    let staged = c.in_ok-stage.ensures.staged held.bytes entries entry held.told held.only held.spelled held.gate (c.deref.ensures.value ∙ c.in_ok-spell.ensures.bytes) in
+    let opened = c.in_ok-open_gate.ensures.opened entries entry staged held.gate short in
+    record {
+      live = refl;
+      bytes = opened.0;
+      told = opened.1;
+      only = opened.2;
+      spelled = opened.3;
+      gate = omega (arith, size-push entries entry _ _ held.gate c.in_ok-spell.ensures.long, c.spell.new.bytes.ok, c.len-2.ensures);
+      places = c.in_ok-push.ensures.items ∙ places-add _ entries entry _ _ held.places held.gate len;
+    }
+
+pub returns-in_err-stage-clause-grows : goal.returns-in_err-stage-clause-grows
+returns-in_err-stage-clause-grows g c entries old new lists was told =
+    let held = lists_at c.self.view_is lists in
+    let entry : List ℕ = drop 4 c.args.bytes.items in
+    let began = ap (λ (j : OnDisk _). g.D.Disk.seen j.disk) c.self.view_is ∙ was in
+    omega (arith, c.stage.ensures.longest old new began told, size-push entries entry _ _ held.gate c.in_ok-spell.ensures.long, ap length c.deref.ensures.value)
+
+pub returns-in_err-open_gate-clause-grows : goal.returns-in_err-open_gate-clause-grows
+returns-in_err-open_gate-clause-grows g c entries old new lists was told =
+    let held = lists_at c.self.view_is lists in
+    let entry : List ℕ = drop 4 c.args.bytes.items in
+    let began = ap (λ (j : OnDisk _). g.D.Disk.seen j.disk) c.self.view_is ∙ was in
+    let staged = c.in_ok-stage.ensures.staged held.bytes entries entry held.told held.only held.spelled held.gate (c.deref.ensures.value ∙ c.in_ok-spell.ensures.bytes) in
+    omega (arith, c.stage.ensures.longest old staged.bytes began staged.told, c.open_gate.ensures.longest staged.bytes new staged.told told, size-push entries entry _ _ held.gate c.in_ok-spell.ensures.long, ap length c.deref.ensures.value)
+
+pub returns-clause-grows : goal.returns-clause-grows
+returns-clause-grows g c entries old new lists was told =
+    let held = lists_at c.self.view_is lists in
+    let entry : List ℕ = drop 4 c.args.bytes.items in
+    let began = ap (λ (j : OnDisk _). g.D.Disk.seen j.disk) c.self.view_is ∙ was in
+    let staged = c.in_ok-stage.ensures.staged held.bytes entries entry held.told held.only held.spelled held.gate (c.deref.ensures.value ∙ c.in_ok-spell.ensures.bytes) in
+    omega (arith, c.stage.ensures.longest old staged.bytes began staged.told, c.open_gate.ensures.longest staged.bytes new staged.told told, size-push entries entry _ _ held.gate c.in_ok-spell.ensures.long, ap length c.deref.ensures.value)

@@ -1,14 +1,23 @@
 -- Topic logs are read in one way.
 use Rattle.std.proofs.Common.{◌≡◌, ℕ, zero, suc, ◌+◌, ◌<◌, List, [], ◌∷◌, ◌++◌, length, take, Some, refl, sym, ap, subst, ◌∙◌, arith, inl, inr}
-use Rattle.std.specs.Prelude.{slice_get}
+use Rattle.std.specs.Prelude.{map, slice_get}
 use Rattle.std.proofs.lemmas.Bool.{cases_lt}
 use Rattle.dbl_record.specs.declared.record.Record.{Record}
 use Rattle.dbl_record.specs.Cuts.{joined}
+use Rattle.dbl_record.specs.Groups.{group_form}
 use Rattle.dbl_journal.specs.Form.{IsFaultAt}
+use Rattle.dbl_journal.specs.Stored.{size}
 use Rattle.dbl_journal.proofs.Reading.{one_journal, journal_or_fault}
 use Rattle.dbl_record.proofs.GroupLaws.{one_group}
 use Rattle.dbl_topic.specs.SinkLaws.{one_log}
-use Rattle.dbl_topic.specs.Logs.{IsLogEntry, AreLogEntries, IsLog, HoldRecords, HasBadEntry}
+use Rattle.dbl_topic.specs.Logs.{IsLogEntry, AreLogEntries, IsLog, HoldRecords, HasBadEntry, log_size}
+
+-- the entries are the forms of the groups
+pub forms_of : (entries : List (List ℕ)) (groups : List (List Record)) → AreLogEntries entries groups → entries ≡ map group_form groups
+forms_of [] [] are = refl
+forms_of [] (g ∷ groups) are = absurd are
+forms_of (e ∷ entries) [] are = absurd are
+forms_of (e ∷ entries) (g ∷ groups) are = ap (λ (x : List ℕ). x ∷ entries) are.0.is.spelled ∙ ap (λ (es : List (List ℕ)). group_form g ∷ es) (forms_of entries groups are.1)
 
 pub length-entries : (entries : List (List ℕ)) (groups : List (List Record)) → AreLogEntries entries groups → length entries ≡ length groups
 length-entries [] [] are = refl
@@ -21,6 +30,10 @@ entries-push [] [] entry group are is = (is, tt)
 entries-push [] (g ∷ groups) entry group are is = absurd are
 entries-push (e ∷ entries) [] entry group are is = absurd are
 entries-push (e ∷ entries) (g ∷ groups) entry group are is = (are.0, entries-push entries groups entry group are.1 is)
+
+-- how many bytes are taken where this group is put behind the others
+pub size_of : (entries : List (List ℕ)) (groups : List (List Record)) (entry : List ℕ) (group : List Record) → AreLogEntries entries groups → IsLogEntry entry group → size (entries ++ entry ∷ []) ≡ log_size (groups ++ group ∷ [])
+size_of entries groups entry group are is = ap size (forms_of (entries ++ entry ∷ []) (groups ++ group ∷ []) (entries-push entries groups entry group are is))
 
 -- the entry at a number is that of the group at the number
 pub entry_at : (entries : List (List ℕ)) (groups : List (List Record)) (number : ℕ) (entry : List ℕ) → AreLogEntries entries groups → slice_get entries number ≡ Some entry → (group : List Record) × (slice_get groups number ≡ Some group) × IsLogEntry entry group

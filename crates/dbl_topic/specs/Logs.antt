@@ -1,9 +1,10 @@
 -- Topic logs as bytes: a journal, each entry of which is the bytes form of a group of records. Source: own.
-use Rattle.std.specs.Prelude.{◌≡◌, ◌≤◌, ℕ, List, [], ◌∷◌, length, take, Some, slice_get}
+use Rattle.std.specs.Prelude.{◌≡◌, ◌≤◌, ℕ, List, [], ◌∷◌, length, map, take, Some, slice_get}
 use Rattle.dbl_record.specs.declared.record.Record.{Record}
 use Rattle.dbl_record.specs.Cuts.{joined}
-use Rattle.dbl_record.specs.Groups.{IsGroup}
+use Rattle.dbl_record.specs.Groups.{IsGroup, group_form}
 use Rattle.dbl_journal.specs.Form.{IsJournal}
+use Rattle.dbl_journal.specs.Stored.{size}
 
 -- an entry of a topic log is the bytes form of a group of 1 to 1,000 records
 pub record IsLogEntry (entry : List ℕ) (group : List Record) : Type 0 where
@@ -23,6 +24,10 @@ pub record IsLog (bytes : List ℕ) (groups : List (List Record)) : Type 0 where
   pub entries : List (List ℕ)
   pub journal : IsJournal bytes entries
   pub are : AreLogEntries entries groups
+
+-- how many bytes a topic log of these groups takes: what a journal of their forms does
+abbrev pub log_size : List (List Record) → ℕ
+log_size groups = size (map group_form groups)
 
 -- the bytes of a topics disk hold these records
 abbrev pub HoldRecords : List ℕ → List Record → Type 0

@@ -7,7 +7,7 @@ ghost use Rattle.dbl_record.specs.declared.record.Record.{Record};
 ghost use Rattle.dbl_record.specs.Cuts.{IsHandful};
 ghost use Rattle.dbl_record.specs.Groups.{group_form};
 ghost use Rattle.dbl_topic.specs.Held.{HoldsGroups, LeavesGroups, MayLeaveGroups};
-ghost use Rattle.dbl_topic.specs.Logs.{AreLogEntries, HasBadEntry, IsLog, IsLogEntry};
+ghost use Rattle.dbl_topic.specs.Logs.{AreLogEntries, HasBadEntry, IsLog, IsLogEntry, log_size};
 ghost use Rattle.dbl_topic.specs.Sinks.{IsLeftByPut, IsLeftByWhole, told_length};
 
 use crate::{GROUP_LIMIT, Sink, SinkError, TopicError};
@@ -104,6 +104,7 @@ impl<D: Disk> TopicLog<D> {
         ensures made { D.seen disk ≡ Some [] → IfOk result (λ log. HoldsGroups D.seen D.may_leave log []) }
         ensures live { IfOk result (λ log. IsTrue log.live) }
         ensures count { IfOk result (λ log. count_of log ≡ 0) }
+        ensures small { (bytes : List ℕ) → D.seen disk ≡ Some [] → MatchResult result (λ log. D.seen log.disk ≡ Some bytes → length bytes ≤ log_size []) (λ refused. D.seen refused.disk ≡ Some bytes → length bytes ≤ log_size []) }
         ensures refused { IfErr result (λ refused. refused.error ≡ TopicError.Journal JournalError.Failed) }
         ensures failed { IfErr result (λ refused. Rose (D.faults disk) (D.faults refused.disk)) }
         ensures left { IfErr result (λ refused. Follows (Torn 0 9) (D.may_leave disk) (D.may_leave refused.disk)) }

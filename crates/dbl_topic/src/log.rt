@@ -1,4 +1,4 @@
-ghost use Rattle.std.specs.Prelude.{◌≡◌, ◌≢◌, ◌⊎◌, ◌↔◌, ℕ, ◌+◌, ◌^◌, ◌<◌, ◌≤◌, ◌++◌, List, [], ◌∷◌, length, take, false, Some, IsTrue, IsErr, IfOk, IfErr, OnOk, OnErr, MatchResult, slice_get};
+ghost use Rattle.std.specs.Prelude.{◌≡◌, ◌≢◌, ◌⊎◌, ◌↔◌, ℕ, ◌+◌, ◌^◌, ◌<◌, ◌≤◌, ◌++◌, List, [], ◌∷◌, length, take, drop, false, Some, IsTrue, IsErr, IfOk, IfErr, OnOk, OnErr, MatchResult, slice_get};
 ghost use Rattle.dbl_base.specs.Streams.{Rose};
 ghost use Rattle.dbl_disk.specs.Disks.{Follows, Torn};
 ghost use Rattle.dbl_journal.specs.Form.{IsFaultAt, IsJournal};
@@ -12,8 +12,8 @@ ghost use Rattle.dbl_topic.specs.Sinks.{IsLeftByPut, IsLeftByWhole, told_length}
 
 use crate::{GROUP_LIMIT, Sink, SinkError, TopicError};
 use dbl_disk::{Disk, Refused};
-use dbl_journal::{Journal, JournalError};
-use dbl_record::{Record, RecordError, group_length, read_group, write_group};
+use dbl_journal::{ENTRY_ROOM, Journal, JournalError};
+use dbl_record::{Record, RecordError, append_group, group_length, read_group};
 use std::alloc::Global;
 use std::marker::Model;
 
@@ -51,6 +51,21 @@ fn group_of(alloc: Global, entry: &[u8], number: u64) -> Result<Vec<Record>, Top
         Err(RecordError::Memory) => Err(TopicError::Memory),
         Err(RecordError::BadRecord { .. }) => Err(TopicError::BadEntry { index: number }),
     }
+}
+
+// The entry of a group behind room for its length, in a buffer that the journal needn't grow.
+fn build_entry(alloc: Global, group: &Vec<Record>, len: u64) -> Result<Vec<u8>, SinkError>
+    requires handful { IsHandful group.now.items }
+    requires len { len ≡ length (group_form group.now.items) }
+    requires short { len ≤ 2 ^ 28 }
+    ensures room { IfOk result (λ bytes. 4 ≤ length bytes.items) }
+    ensures entry { IfOk result (λ bytes. IsLogEntry (drop 4 bytes.items) group.now.items) }
+    ensures memory { OnErr result (result ≡ Err SinkError.Memory) }
+{
+    let mut bytes = Vec::with_capacity(alloc, ENTRY_ROOM + len as usize + 1)?;
+    bytes.extend_from_slice(&[0; ENTRY_ROOM])?;
+    append_group(&mut bytes, group)?;
+    Ok(bytes)
 }
 
 // Reads an entry of the journal as a group.
@@ -244,8 +259,8 @@ impl<D: Disk> Sink for TopicLog<D> {
         if len > GROUP_LIMIT {
             return Err(SinkError::TooLong { len });
         }
-        let entry = write_group(self.alloc, group)?;
-        self.journal.append(self.alloc, entry.items())?;
+        let bytes = build_entry(self.alloc, group, len)?;
+        self.journal.append_built(bytes)?;
         Ok(())
     }
 }

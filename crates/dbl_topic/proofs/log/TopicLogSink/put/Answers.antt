@@ -1,14 +1,12 @@
-use Rattle.std.proofs.Common.{◌≡◌, ◌≤◌, ◌^◌, ℕ, List, Result, Err, length, ap, subst, sym, ◌∙◌, inl, arith}
+use Rattle.std.proofs.Common.{◌≡◌, ◌≤◌, ◌^◌, List, Result, Err, length, drop, ap, subst, sym, ◌∙◌, inl, arith}
 use Rattle.std.proofs.lemmas.Result.{err_from_is_err_and}
 use Rattle.dbl_journal.specs.declared.error.JournalError.{JournalError}
 use Rattle.dbl_journal.specs.Stored.{OnDisk}
 use Rattle.dbl_record.specs.declared.record.Record.{Record}
-use Rattle.dbl_record.specs.Groups.{IsGroup, group_form}
-use Rattle.dbl_record.proofs.Sizes.{has_form}
+use Rattle.dbl_record.specs.Groups.{group_form}
 use Rattle.dbl_topic.specs.declared.error.SinkError.{SinkError}
 use Rattle.dbl_topic.specs.declared.error.SinkError.TheVariants.{TooLong}
 use Rattle.dbl_topic.specs.Held.{HoldsGroups, LeavesGroups}
-use Rattle.dbl_topic.specs.Logs.{IsLogEntry}
 use Rattle.dbl_topic.specs.SinkLaws.{only_held}
 use Rattle.dbl_topic.specs.Sinks.{IsLeftByWhole}
 use Rattle.dbl_topic.proofs.HeldLaws.{leaves_any, leaves_put, left_by_put, too_long_of}
@@ -18,61 +16,49 @@ use Rattle.dbl_topic.proofs.log.TopicLogSink.put.Goals as goal
 pub returns-then-len-gt-GROUP_LIMIT-clause-left : goal.returns-then-len-gt-GROUP_LIMIT-clause-left
 returns-then-len-gt-GROUP_LIMIT-clause-left g c groups left held may = inl (only_held g.D.Disk.seen g.D.Disk.may_leave c.args.self.now groups left held may)
 
-pub write_group-requires : goal.write_group-requires
-write_group-requires g c =
-    let long = ap (λ (group : List Record). length (group_form group)) c.deref.ensures.value in
-    has_form c.args.group.now.items (omega (arith, long, c.group_length-len.ensures, c.if-len-gt-GROUP_LIMIT.false)) (omega (arith, c.requires.handful.few))
+pub returns-in_err-bytes-clause-left : goal.returns-in_err-bytes-clause-left
+returns-in_err-bytes-clause-left g c groups left held may = inl (only_held g.D.Disk.seen g.D.Disk.may_leave c.args.self.now groups left held may)
 
-pub returns-in_err-entry-clause-left : goal.returns-in_err-entry-clause-left
-returns-in_err-entry-clause-left g c groups left held may = inl (only_held g.D.Disk.seen g.D.Disk.may_leave c.args.self.now groups left held may)
-
-pub returns-in_err-append-clause-left : goal.returns-in_err-append-clause-left
-returns-in_err-append-clause-left g c groups left holds may =
+pub returns-in_err-append_built-clause-left : goal.returns-in_err-append_built-clause-left
+returns-in_err-append_built-clause-left g c groups left holds may =
     let held = subst (λ (log : OnDisk _). HoldsGroups g.D.Disk.seen g.D.Disk.may_leave log groups) (sym c.self.view_is) holds in
-    let is : IsLogEntry c.deref-2.result.now c.args.group.now.items = record { is = subst (λ (bytes : List ℕ). IsGroup bytes c.args.group.now.items) (sym (c.deref-2.ensures.value ∙ c.items.ensures)) c.in_ok-entry.ensures.written; some = c.requires.handful.some; few = c.requires.handful.few } in
-    let leaves : LeavesGroups g.D.Disk.may_leave c.append.new.self.disk (IsLeftByWhole groups c.args.group.now.items) = leaves_put g.D.Disk.seen g.D.Disk.may_leave c.append.new.self.disk held.entries groups c.deref-2.result.now c.args.group.now.items held.are is (c.in_err-append.ensures.left held.entries held.lists) in
-    left_by_put g.D.Disk.may_leave c.append.new.self.disk groups c.args.group.now.items left c.requires.handful.some leaves may
+    let leaves : LeavesGroups g.D.Disk.may_leave c.append_built.new.self.disk (IsLeftByWhole groups c.args.group.now.items) = leaves_put g.D.Disk.seen g.D.Disk.may_leave c.append_built.new.self.disk held.entries groups (drop 4 c.in_ok-bytes.bytes.items) c.args.group.now.items held.are c.in_ok-bytes.ensures.entry (c.in_err-append_built.ensures.left held.entries held.lists) in
+    left_by_put g.D.Disk.may_leave c.append_built.new.self.disk groups c.args.group.now.items left c.requires.handful.some leaves may
 
-pub returns-in_err-append-clause-whole : goal.returns-in_err-append-clause-whole
-returns-in_err-append-clause-whole g c groups holds =
+pub returns-in_err-append_built-clause-whole : goal.returns-in_err-append_built-clause-whole
+returns-in_err-append_built-clause-whole g c groups holds =
     let held = subst (λ (log : OnDisk _). HoldsGroups g.D.Disk.seen g.D.Disk.may_leave log groups) (sym c.self.view_is) holds in
-    let is : IsLogEntry c.deref-2.result.now c.args.group.now.items = record { is = subst (λ (bytes : List ℕ). IsGroup bytes c.args.group.now.items) (sym (c.deref-2.ensures.value ∙ c.items.ensures)) c.in_ok-entry.ensures.written; some = c.requires.handful.some; few = c.requires.handful.few } in
-    let leaves : LeavesGroups g.D.Disk.may_leave c.append.new.self.disk (IsLeftByWhole groups c.args.group.now.items) = leaves_put g.D.Disk.seen g.D.Disk.may_leave c.append.new.self.disk held.entries groups c.deref-2.result.now c.args.group.now.items held.are is (c.in_err-append.ensures.left held.entries held.lists) in
-    leaves_any g.D.Disk.may_leave c.append.new.self.disk groups c.args.group.now.items leaves
+    let leaves : LeavesGroups g.D.Disk.may_leave c.append_built.new.self.disk (IsLeftByWhole groups c.args.group.now.items) = leaves_put g.D.Disk.seen g.D.Disk.may_leave c.append_built.new.self.disk held.entries groups (drop 4 c.in_ok-bytes.bytes.items) c.args.group.now.items held.are c.in_ok-bytes.ensures.entry (c.in_err-append_built.ensures.left held.entries held.lists) in
+    leaves_any g.D.Disk.may_leave c.append_built.new.self.disk groups c.args.group.now.items leaves
 
-pub returns-in_err-append-clause-one_of : goal.returns-in_err-append-clause-one_of
-returns-in_err-append-clause-one_of g c groups holds =
+pub returns-in_err-append_built-clause-one_of : goal.returns-in_err-append_built-clause-one_of
+returns-in_err-append_built-clause-one_of g c groups holds =
     let held = subst (λ (log : OnDisk _). HoldsGroups g.D.Disk.seen g.D.Disk.may_leave log groups) (sym c.self.view_is) holds in
-    let is : IsLogEntry c.deref-2.result.now c.args.group.now.items = record { is = subst (λ (bytes : List ℕ). IsGroup bytes c.args.group.now.items) (sym (c.deref-2.ensures.value ∙ c.items.ensures)) c.in_ok-entry.ensures.written; some = c.requires.handful.some; few = c.requires.handful.few } in
-    let leaves : LeavesGroups g.D.Disk.may_leave c.append.new.self.disk (IsLeftByWhole groups c.args.group.now.items) = leaves_put g.D.Disk.seen g.D.Disk.may_leave c.append.new.self.disk held.entries groups c.deref-2.result.now c.args.group.now.items held.are is (c.in_err-append.ensures.left held.entries held.lists) in
+    let leaves : LeavesGroups g.D.Disk.may_leave c.append_built.new.self.disk (IsLeftByWhole groups c.args.group.now.items) = leaves_put g.D.Disk.seen g.D.Disk.may_leave c.append_built.new.self.disk held.entries groups (drop 4 c.in_ok-bytes.bytes.items) c.args.group.now.items held.are c.in_ok-bytes.ensures.entry (c.in_err-append_built.ensures.left held.entries held.lists) in
     leaves
 
 pub returns-clause-left : goal.returns-clause-left
 returns-clause-left g c groups left holds may =
     let held = subst (λ (log : OnDisk _). HoldsGroups g.D.Disk.seen g.D.Disk.may_leave log groups) (sym c.self.view_is) holds in
-    let is : IsLogEntry c.deref-2.result.now c.args.group.now.items = record { is = subst (λ (bytes : List ℕ). IsGroup bytes c.args.group.now.items) (sym (c.deref-2.ensures.value ∙ c.items.ensures)) c.in_ok-entry.ensures.written; some = c.requires.handful.some; few = c.requires.handful.few } in
-    let leaves : LeavesGroups g.D.Disk.may_leave c.append.new.self.disk (IsLeftByWhole groups c.args.group.now.items) = leaves_put g.D.Disk.seen g.D.Disk.may_leave c.append.new.self.disk held.entries groups c.deref-2.result.now c.args.group.now.items held.are is (c.in_ok-append.ensures.left held.entries held.lists) in
-    left_by_put g.D.Disk.may_leave c.append.new.self.disk groups c.args.group.now.items left c.requires.handful.some leaves may
+    let leaves : LeavesGroups g.D.Disk.may_leave c.append_built.new.self.disk (IsLeftByWhole groups c.args.group.now.items) = leaves_put g.D.Disk.seen g.D.Disk.may_leave c.append_built.new.self.disk held.entries groups (drop 4 c.in_ok-bytes.bytes.items) c.args.group.now.items held.are c.in_ok-bytes.ensures.entry (c.in_ok-append_built.ensures.left held.entries held.lists) in
+    left_by_put g.D.Disk.may_leave c.append_built.new.self.disk groups c.args.group.now.items left c.requires.handful.some leaves may
 
 pub returns-clause-whole : goal.returns-clause-whole
 returns-clause-whole g c groups holds =
     let held = subst (λ (log : OnDisk _). HoldsGroups g.D.Disk.seen g.D.Disk.may_leave log groups) (sym c.self.view_is) holds in
-    let is : IsLogEntry c.deref-2.result.now c.args.group.now.items = record { is = subst (λ (bytes : List ℕ). IsGroup bytes c.args.group.now.items) (sym (c.deref-2.ensures.value ∙ c.items.ensures)) c.in_ok-entry.ensures.written; some = c.requires.handful.some; few = c.requires.handful.few } in
-    let leaves : LeavesGroups g.D.Disk.may_leave c.append.new.self.disk (IsLeftByWhole groups c.args.group.now.items) = leaves_put g.D.Disk.seen g.D.Disk.may_leave c.append.new.self.disk held.entries groups c.deref-2.result.now c.args.group.now.items held.are is (c.in_ok-append.ensures.left held.entries held.lists) in
-    leaves_any g.D.Disk.may_leave c.append.new.self.disk groups c.args.group.now.items leaves
+    let leaves : LeavesGroups g.D.Disk.may_leave c.append_built.new.self.disk (IsLeftByWhole groups c.args.group.now.items) = leaves_put g.D.Disk.seen g.D.Disk.may_leave c.append_built.new.self.disk held.entries groups (drop 4 c.in_ok-bytes.bytes.items) c.args.group.now.items held.are c.in_ok-bytes.ensures.entry (c.in_ok-append_built.ensures.left held.entries held.lists) in
+    leaves_any g.D.Disk.may_leave c.append_built.new.self.disk groups c.args.group.now.items leaves
 
 pub returns-clause-one_of : goal.returns-clause-one_of
 returns-clause-one_of g c groups holds =
     let held = subst (λ (log : OnDisk _). HoldsGroups g.D.Disk.seen g.D.Disk.may_leave log groups) (sym c.self.view_is) holds in
-    let is : IsLogEntry c.deref-2.result.now c.args.group.now.items = record { is = subst (λ (bytes : List ℕ). IsGroup bytes c.args.group.now.items) (sym (c.deref-2.ensures.value ∙ c.items.ensures)) c.in_ok-entry.ensures.written; some = c.requires.handful.some; few = c.requires.handful.few } in
-    let leaves : LeavesGroups g.D.Disk.may_leave c.append.new.self.disk (IsLeftByWhole groups c.args.group.now.items) = leaves_put g.D.Disk.seen g.D.Disk.may_leave c.append.new.self.disk held.entries groups c.deref-2.result.now c.args.group.now.items held.are is (c.in_ok-append.ensures.left held.entries held.lists) in
+    let leaves : LeavesGroups g.D.Disk.may_leave c.append_built.new.self.disk (IsLeftByWhole groups c.args.group.now.items) = leaves_put g.D.Disk.seen g.D.Disk.may_leave c.append_built.new.self.disk held.entries groups (drop 4 c.in_ok-bytes.bytes.items) c.args.group.now.items held.are c.in_ok-bytes.ensures.entry (c.in_ok-append_built.ensures.left held.entries held.lists) in
     leaves
 
 pub returns-clause-added : goal.returns-clause-added
 returns-clause-added g c groups holds =
     let held = subst (λ (log : OnDisk _). HoldsGroups g.D.Disk.seen g.D.Disk.may_leave log groups) (sym c.self.view_is) holds in
-    let is : IsLogEntry c.deref-2.result.now c.args.group.now.items = record { is = subst (λ (bytes : List ℕ). IsGroup bytes c.args.group.now.items) (sym (c.deref-2.ensures.value ∙ c.items.ensures)) c.in_ok-entry.ensures.written; some = c.requires.handful.some; few = c.requires.handful.few } in
-    record { entries = _; lists = c.in_ok-append.ensures.added held.entries held.lists; are = entries-push held.entries groups c.deref-2.result.now c.args.group.now.items held.are is }
+    record { entries = _; lists = c.in_ok-append_built.ensures.added held.entries held.lists; are = entries-push held.entries groups (drop 4 c.in_ok-bytes.bytes.items) c.args.group.now.items held.are c.in_ok-bytes.ensures.entry }
 
 abbrev failed : SinkError → Result (Unit {0}) SinkError
 failed e = Err e
@@ -80,18 +66,18 @@ failed e = Err e
 failed_is : (d e : SinkError) → failed d ≡ failed e → d ≡ e
 failed_is d e same = cc
 
-pub returns-in_err-append-clause-exactly : goal.returns-in_err-append-clause-exactly
-returns-in_err-append-clause-exactly g c len =
-    let spelled = ap length (c.deref-2.ensures.value ∙ c.items.ensures ∙ c.in_ok-entry.ensures.written.spelled) in
+pub returns-in_err-append_built-clause-exactly : goal.returns-in_err-append_built-clause-exactly
+returns-in_err-append_built-clause-exactly g c len =
+    let spelled = ap length c.in_ok-bytes.ensures.entry.is.spelled in
     let long = ap (λ (group : List Record). length (group_form group)) c.deref.ensures.value in
     let short : length (group_form c.args.group.now.items) ≤ 2 ^ 28 = omega (arith, long, c.group_length-len.ensures, c.if-len-gt-GROUP_LIMIT.false) in (
       λ is.
-          let p = err_from_is_err_and c.from_residual-in_err-append.result c.from_residual-in_err-append.ensures.1 in
-          let fault = too_long_of c.in_err-append.field-0.0 len (sym p.2 ∙ failed_is p.0 (TooLong len) (sym p.1 ∙ is)) in
-          let beyond = (c.in_err-append.ensures.too_long len).0 (ap (λ (e : JournalError). Err e) fault) in
+          let p = err_from_is_err_and c.from_residual-in_err-append_built.result c.from_residual-in_err-append_built.ensures.1 in
+          let fault = too_long_of c.in_err-append_built.field-0.0 len (sym p.2 ∙ failed_is p.0 (TooLong len) (sym p.1 ∙ is)) in
+          let beyond = (c.in_err-append_built.ensures.too_long len).0 (ap (λ (e : JournalError). Err e) fault) in
           absurd (omega (arith, beyond.0, spelled, short)),
       λ beyond. absurd (omega (arith, beyond.0, short)),
     )
 
-pub returns-in_err-append-clause-too_long : goal.returns-in_err-append-clause-too_long
-returns-in_err-append-clause-too_long g c len is = (returns-in_err-append-clause-exactly g c len).0 is
+pub returns-in_err-append_built-clause-too_long : goal.returns-in_err-append_built-clause-too_long
+returns-in_err-append_built-clause-too_long g c len is = (returns-in_err-append_built-clause-exactly g c len).0 is

@@ -10,3 +10,4 @@ pub mod SuitTests
 pub mod SnapshotLemmas
 pub mod TailLemmas
 pub mod TellLemmas
+pub mod WrittenLemmas

@@ -1,29 +1,62 @@
 //! Cells that every consumer would take for unsent ones.
 
-ghost use Rattle.std.specs.Prelude.{◌≡◌, ◌≢◌, None, IfOk, IfErr, OnOk, All, map};
+ghost use Rattle.std.specs.Prelude.{◌≡◌, ◌≢◌, ◌==◌, ◌-◌, length, slice_get, true, false, Some, None, IfOk, IfErr, OnOk, All, map};
 ghost use Rattle.std.specs.Option.{option_or};
-ghost use Rattle.dbl_value.specs.Values.{json_data};
+ghost use Rattle.base64.specs.Rfc4648.{encoded_size};
 ghost use Rattle.dbl_model.specs.declared.change.Cell.TheVariants.{Given};
 ghost use Rattle.dbl_model.specs.Tables.{column_names};
 ghost use Rattle.dbl_model.specs.Rows.{changes_of};
 ghost use Rattle.dbl_envelope.specs.Suits.{Suits};
-ghost use Rattle.dbl_model.specs.Clashes.{is_string, is_clash, clash_among, clash_at, old_cells, clash_of};
+ghost use Rattle.dbl_model.specs.Clashes.{is_clash, clash_among, clash_at, old_cells, clash_of};
 ghost use Rattle.dbl_envelope.specs.Clashing.{IsClash, change_clash, notices_clash};
 
 use crate::changes::changes;
 use crate::error::EnvelopeError;
 use crate::writer::EventWriter;
-use dbl_base::{Seq, Text};
+use base64::encoded_len;
+use base64::engine::general_purpose::STANDARD;
+use dbl_base::{Bytes, Seq, Text};
 use dbl_model::{Cell, Change, Column, Commit, Row, TableInfo};
 use dbl_value::{Val, json_tree};
 use serde_json::Value;
 use std::alloc::{AllocError, Global};
 
-/// Whether the value's JSON is this string.
-fn is_written_as(alloc: Global, placeholder: &Text, value: &Val) -> Result<bool, AllocError>
-    ensures { IfOk result (λ same. same ≡ is_string placeholder.now (json_data value.now)) }
+// Whether the base64 of so many bytes has this length.
+fn has_length(count: usize, length: usize) -> bool
+    ensures { result ≡ (length == encoded_size count true) }
 {
-    match json_tree(alloc, value)? {
+    encoded_len(count, true) == Some(length)
+}
+
+// Whether bytes are written as this text. Those of another length are not written out.
+#[tactic(auto, using(crate::proofs::WrittenLemmas::other_size))]
+fn are_written_as(alloc: Global, placeholder: &Text, bytes: &Bytes) -> Result<bool, AllocError>
+    ensures { IfOk result (λ clash. clash ≡ is_clash placeholder.now (Given (Val.Bytes bytes.now))) }
+{
+    let placeholder = placeholder.as_str();
+    let bytes = bytes.items().as_slice();
+    if !has_length(bytes.len(), placeholder.len()) {
+        return Ok(false);
+    }
+    let text = STANDARD.encode(alloc, bytes)?;
+    Ok(text.as_str() == placeholder)
+}
+
+fn ends_in_z(text: &Text) -> bool
+    ensures { result ≡ false → slice_get text.now (length text.now - 1) ≢ Some 90 }
+{
+    matches!(text.as_str().as_bytes().last(), Some(b'Z'))
+}
+
+// Whether an instant is written as this text. Its text would end in Z.
+#[tactic(auto, using(crate::proofs::WrittenLemmas::other_instant))]
+fn is_written_as(alloc: Global, placeholder: &Text, instant: i64) -> Result<bool, AllocError>
+    ensures { IfOk result (λ clash. clash ≡ is_clash placeholder.now (Given (Val.StampTz instant))) }
+{
+    if !ends_in_z(placeholder) {
+        return Ok(false);
+    }
+    match json_tree(alloc, &Val::StampTz(instant))? {
         Value::String(text) => Ok(text.as_str() == placeholder.as_str()),
         _ => Ok(false),
     }
@@ -37,11 +70,11 @@ fn is_clash(alloc: Global, placeholder: &Text, value: &Val) -> Result<bool, Allo
         Val::Bool(_) => Ok(false),
         Val::Int(_) => Ok(false),
         Val::Text(text) => Ok(text.as_str() == placeholder.as_str()),
-        Val::Bytes(_) => is_written_as(alloc, placeholder, value),
+        Val::Bytes(bytes) => are_written_as(alloc, placeholder, bytes),
         Val::Date(_) => Ok(false),
         Val::Time(_) => Ok(false),
         Val::Stamp(_) => Ok(false),
-        Val::StampTz(_) => is_written_as(alloc, placeholder, value),
+        Val::StampTz(instant) => is_written_as(alloc, placeholder, *instant),
     }
 }
 

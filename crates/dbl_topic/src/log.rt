@@ -1,4 +1,4 @@
-ghost use Rattle.std.specs.Prelude.{◌≡◌, ◌≢◌, ◌⊎◌, ◌↔◌, ℕ, ◌+◌, ◌^◌, ◌<◌, ◌≤◌, ◌++◌, List, [], ◌∷◌, length, take, drop, false, Some, IsTrue, IsErr, IfOk, IfErr, OnOk, OnErr, MatchResult, slice_get};
+ghost use Rattle.std.specs.Prelude.{◌≡◌, ◌≢◌, ◌⊎◌, ◌↔◌, ℕ, ◌+◌, ◌^◌, ◌<◌, ◌≤◌, ◌++◌, List, [], ◌∷◌, length, max, take, drop, false, Some, IsTrue, IsErr, IfOk, IfErr, OnOk, OnErr, MatchResult, slice_get};
 ghost use Rattle.dbl_base.specs.Streams.{Rose};
 ghost use Rattle.dbl_disk.specs.Disks.{Follows, Torn};
 ghost use Rattle.dbl_journal.specs.Form.{IsFaultAt, IsJournal};
@@ -249,8 +249,10 @@ impl<D: Disk> Sink for TopicLog<D> {
         ensures failed { result ≡ Err SinkError.Failed → Rose (D.faults self.old.disk) (D.faults self.new.disk) }
         ensures later { D.faults self.old.disk ≤ D.faults self.new.disk }
 
-        // A put is all or nothing, and a group is too long exactly by its length.
+        // A put is all or nothing, and a group is too long exactly by its length. The disk's bytes become no more than a log
+        // with the group takes, unless they were more before.
         ensures one_of { (groups : List (List Record)) → HoldsGroups D.seen D.may_leave self.old groups → LeavesGroups D.may_leave self.new.disk (IsLeftByWhole groups group.now.items) }
+        ensures grows { (groups : List (List Record)) (old new : List ℕ) → HoldsGroups D.seen D.may_leave self.old groups → D.seen self.old.disk ≡ Some old → D.seen self.new.disk ≡ Some new → length new ≤ max (length old) (log_size (groups ++ group.now.items ∷ [])) }
         ensures exactly { (len : ℕ) → (result ≡ Err (SinkError.TooLong len)) ↔ ((2 ^ 28 < length (group_form group.now.items)) × (len ≡ told_length group.now.items)) }
         ensures count { OnOk result (count_of self.new ≡ count_of self.old + 1) }
         ensures unchanged { OnErr result (result ≢ Err SinkError.Failed → self.new ≡ self.old) }

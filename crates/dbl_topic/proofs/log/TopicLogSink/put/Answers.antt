@@ -1,4 +1,5 @@
-use Rattle.std.proofs.Common.{◌≡◌, ◌≤◌, ◌^◌, List, Result, Err, length, drop, ap, subst, sym, ◌∙◌, inl, arith}
+use Rattle.std.proofs.Common.{◌≡◌, ◌≤◌, ◌^◌, ℕ, List, Result, Err, length, drop, ap, subst, sym, ◌∙◌, inl, arith}
+use Rattle.std.specs.Prelude.{max}
 use Rattle.std.proofs.lemmas.Result.{err_from_is_err_and}
 use Rattle.dbl_journal.specs.declared.error.JournalError.{JournalError}
 use Rattle.dbl_journal.specs.Stored.{OnDisk}
@@ -10,7 +11,7 @@ use Rattle.dbl_topic.specs.Held.{HoldsGroups, LeavesGroups}
 use Rattle.dbl_topic.specs.SinkLaws.{only_held}
 use Rattle.dbl_topic.specs.Sinks.{IsLeftByWhole}
 use Rattle.dbl_topic.proofs.HeldLaws.{leaves_any, leaves_put, left_by_put, too_long_of}
-use Rattle.dbl_topic.proofs.LogLaws.{entries-push}
+use Rattle.dbl_topic.proofs.LogLaws.{entries-push, size_of}
 use Rattle.dbl_topic.proofs.log.TopicLogSink.put.Goals as goal
 
 pub returns-then-len-gt-GROUP_LIMIT-clause-left : goal.returns-then-len-gt-GROUP_LIMIT-clause-left
@@ -59,6 +60,18 @@ pub returns-clause-added : goal.returns-clause-added
 returns-clause-added g c groups holds =
     let held = subst (λ (log : OnDisk _). HoldsGroups g.D.Disk.seen g.D.Disk.may_leave log groups) (sym c.self.view_is) holds in
     record { entries = _; lists = c.in_ok-append_built.ensures.added held.entries held.lists; are = entries-push held.entries groups (drop 4 c.in_ok-bytes.bytes.items) c.args.group.now.items held.are c.in_ok-bytes.ensures.entry }
+
+pub returns-in_err-append_built-clause-grows : goal.returns-in_err-append_built-clause-grows
+returns-in_err-append_built-clause-grows g c groups old new holds told_old told_new =
+    let held = subst (λ (log : OnDisk _). HoldsGroups g.D.Disk.seen g.D.Disk.may_leave log groups) (sym c.self.view_is) holds in
+    let told = ap (λ (log : OnDisk _). g.D.Disk.seen log.disk) c.self.view_is ∙ told_old in
+    subst (λ (n : ℕ). length new ≤ max (length old) n) (size_of held.entries groups (drop 4 c.in_ok-bytes.bytes.items) c.args.group.now.items held.are c.in_ok-bytes.ensures.entry) (c.in_err-append_built.ensures.grows held.entries old new held.lists told told_new)
+
+pub returns-clause-grows : goal.returns-clause-grows
+returns-clause-grows g c groups old new holds told_old told_new =
+    let held = subst (λ (log : OnDisk _). HoldsGroups g.D.Disk.seen g.D.Disk.may_leave log groups) (sym c.self.view_is) holds in
+    let told = ap (λ (log : OnDisk _). g.D.Disk.seen log.disk) c.self.view_is ∙ told_old in
+    subst (λ (n : ℕ). length new ≤ max (length old) n) (size_of held.entries groups (drop 4 c.in_ok-bytes.bytes.items) c.args.group.now.items held.are c.in_ok-bytes.ensures.entry) (c.in_ok-append_built.ensures.grows held.entries old new held.lists told told_new)
 
 abbrev failed : SinkError → Result (Unit {0}) SinkError
 failed e = Err e

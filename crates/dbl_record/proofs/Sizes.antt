@@ -96,6 +96,3 @@ pub short_has_form : (group : List Record) → length (group_form group) < 2 ^ 3
 short_has_form group lt =
     let size = group_size group in
     record { count = omega (arith, lt, size, fewer group); each = narrow_all group (omega (arith, lt, size)) }
-
-pub has_form : (group : List Record) → length (group_form group) ≤ 2 ^ 28 → length group < 2 ^ 32 → HasForm group
-has_form group le lt = short_has_form group (omega (arith, le))

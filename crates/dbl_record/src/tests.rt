@@ -1,6 +1,6 @@
 use super::{
     Record, RecordError, append_line, group_length, line, parse_line, read_group, read_line,
-    write_group,
+    short_groups_have_a_form, write_group,
 };
 use dbl_base::Text;
 use serde_json::Value;
@@ -108,12 +108,12 @@ const TWO_RECORDS: &[u8] =
     b"\x00\x00\x00\x02\x00\x00\x00\x00\x00\x00\x01\x00\x00\x00\x00\x00\x00\x00\x00\x00\x01\x00\x00\x00\x01t\x01\x00\x00\x00\x01k\x01\x00\x00\x00\x02\xc3\xa9\x00\x00\xff\xff\xff\xff\xff\xff\xff\xff\x00\x00\x00\x00\x00\x00\x00\x02\x00\x00\x00\x00\x00\x00\x00\x01\x00\x00\x00\x00\x01\x00\x00\x00\x01o";
 
 #[test]
-#[tactic(auto, using(crate::proofs::Sizes::has_form))]
 fn a_group_has_its_bytes(rt: HostRuntime) -> Result<(), Fail> {
     let alloc = rt.alloc();
     let group = two_records(alloc)?;
     assert_eq!(rt; group.len(), 2);
     assert_eq!(rt; group_length(&group), TWO_RECORDS.len() as u64);
+    short_groups_have_a_form();
     let bytes = write_group(alloc, &group)?;
     assert_eq!(rt; bytes.items().as_slice(), TWO_RECORDS);
     let read = read_group(alloc, TWO_RECORDS)?;

@@ -13,7 +13,9 @@ ghost use Rattle.dbl_topic.specs.Sinks.{IsLeftByPut, IsLeftByWhole, told_length}
 use crate::{GROUP_LIMIT, Sink, SinkError, TopicError};
 use dbl_disk::{Disk, Refused};
 use dbl_journal::{ENTRY_ROOM, Journal, JournalError};
-use dbl_record::{Record, RecordError, append_group, group_length, read_group};
+use dbl_record::{
+    Record, RecordError, append_group, group_length, read_group, short_groups_have_a_form,
+};
 use std::alloc::Global;
 use std::marker::Model;
 
@@ -64,6 +66,8 @@ fn build_entry(alloc: Global, group: &Vec<Record>, len: u64) -> Result<Vec<u8>, 
 {
     let mut bytes = Vec::with_capacity(alloc, ENTRY_ROOM + len as usize + 1)?;
     bytes.extend_from_slice(&[0; ENTRY_ROOM])?;
+    // The law by which the group may be appended.
+    short_groups_have_a_form();
     append_group(&mut bytes, group)?;
     Ok(bytes)
 }

@@ -4,7 +4,7 @@ use crate::{GROUP_LIMIT, MemSink, Sink, SinkError, TopicError, TopicLog};
 use dbl_base::Text;
 use dbl_disk::{Choice, Disk, FuseDisk, MemDisk};
 use dbl_journal::Journal;
-use dbl_record::{Record, group_length, write_group};
+use dbl_record::{Record, group_length, short_groups_have_a_form, write_group};
 use std::test::Fail;
 
 fn empty_disk(rt: &HostRuntime) -> MemDisk
@@ -65,11 +65,11 @@ fn count_on(rt: &HostRuntime, disk: MemDisk) -> Result<u64, TopicError> {
 }
 
 // The bytes form of a group that isn't large.
-#[tactic(auto, using(dbl_record::proofs::Sizes::has_form))]
 fn form(rt: &HostRuntime, group: &Vec<Record>) -> Result<Vec<u8>, Fail> {
-    if group.len() > 2000 || group_length(group) > 100_000 {
+    if group_length(group) > 100_000 {
         return Err(Fail::from("too large"));
     }
+    short_groups_have_a_form();
     Ok(write_group(rt.alloc(), group)?.into_items())
 }
 

@@ -5,7 +5,7 @@ use Rattle.std.specs.List.{flat_map, AllByRecursion}
 use Rattle.std.proofs.lemmas.List.{length-append, length-drop, append-nil, nil_from_length}
 use Rattle.std.proofs.Math.Seq.{drop-cons}
 use Rattle.dbl_record.specs.declared.record.Record.{Record}
-use Rattle.dbl_record.specs.Fields.{number32, number64, text_form, optional_form, IsShort, IsShortOrAbsent}
+use Rattle.dbl_record.specs.Fields.{number32, number64, text_form, optional_form, IsShortOrAbsent}
 use Rattle.dbl_record.specs.Groups.{record_form, group_form, IsNarrow, HasForm}
 
 pub number32_size : (n : ℕ) → length (number32 n) ≡ 4

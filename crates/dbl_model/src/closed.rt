@@ -38,13 +38,6 @@ impl KeyedRows {
         let _count = self.rows.len();
         &self.rows
     }
-
-    /// Takes no memory.
-    pub fn into_rows(self) -> BTreeMap<Key, Row>
-        ensures { result.entries ≡ self }
-    {
-        self.rows
-    }
 }
 
 /// A window of a table's snapshot, closed at its high watermark: the rows that were read and that no change replaced.

@@ -6,6 +6,7 @@ ghost use Rattle.dbl_envelope.specs.Frames.{Framed};
 ghost use Rattle.dbl_model.specs.Clashes.{clash_of};
 ghost use Rattle.dbl_envelope.specs.Clashing.{IsClash};
 ghost use Rattle.dbl_envelope.specs.Writers.{records_from, change_records, tail_at, AreTails};
+ghost use Rattle.dbl_envelope.specs.declared.left.TheConstants.{CHANGES_AT_ONCE};
 
 use crate::changes::changes;
 use crate::clash::check;
@@ -22,7 +23,7 @@ use std::alloc::{AllocError, Global};
 use std::marker::Model;
 
 /// So many changes' records are made at a time. They are few, so that the memory of the last ones serves the next.
-const CHANGES_AT_ONCE: usize = 6;
+pub const CHANGES_AT_ONCE: usize = 6;
 
 /// The records of a commit that are still to be made. Contracts see their list.
 #[derive(Drop)]
@@ -184,6 +185,7 @@ fn some_records(
         ≡ records_from writer.now commit.now now_ms.now from ordinal) }
     ensures most { IfOk result (λ made. ordinal + length made.items ≤ 3 * upto) }
     ensures some { IfOk result (λ made. upto ≤ from + length made.items) }
+    ensures few { IfOk result (λ made. 3 * from + length made.items ≤ 3 * upto) }
     ensures long { length tails.new.items ≡ length writer.now.infos }
     ensures tails { AreTails writer.now commit.now now_ms.now tails.new.items }
 {
@@ -214,6 +216,7 @@ fn next_place(change: usize, count: usize) -> usize
     ensures within { result ≤ count }
     ensures more { result ≡ change → change ≡ count }
     ensures not_before { change ≤ result }
+    ensures few { result ≤ change + CHANGES_AT_ONCE }
 {
     if count - change < CHANGES_AT_ONCE {
         count
@@ -234,10 +237,11 @@ fn no_tails(alloc: Global, count: usize) -> Result<Vec<Option<Text>>, AllocError
 }
 
 impl<'a> RecordsLeft<'a> {
-    /// Makes the next records, those of up to 6 changes. There are none only where none is left. After an error the same
-    /// records are left.
+    /// Makes the next records, those of up to 6 changes, each of which has at most 3. There are none only where none is left.
+    /// After an error the same records are left.
     pub fn next(&mut self, alloc: Global) -> Result<Vec<Record>, AllocError>
         ensures ok { IfOk result (λ made. self.old ≡ made.items ++ self.new) }
+        ensures few { IfOk result (λ made. length made.items ≤ 3 * CHANGES_AT_ONCE) }
         ensures end { IfOk result (λ made. made.items ≡ [] → self.old ≡ []) }
         ensures kept { OnErr result (self.new ≡ self.old) }
     {

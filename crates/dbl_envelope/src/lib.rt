@@ -25,5 +25,5 @@ mod writer;
 
 pub use error::EnvelopeError;
 pub use laws::fitting_suits;
-pub use left::RecordsLeft;
+pub use left::{CHANGES_AT_ONCE, RecordsLeft};
 pub use writer::EventWriter;

@@ -37,6 +37,7 @@ loop-change-preserved c =
       made = subst (λ k. c.add_change.new.out.items ++ records_from writer commit now (i + 1) k ≡ records_from writer commit now c.args.from c.args.ordinal) next step;
       most = omega (arith, inv.most, most, ap length pushed, longer);
       some = omega (arith, inv.some, some, ap length pushed, longer);
+      few = omega (arith, inv.few, most, ap length pushed, longer);
       long = c.in_ok-add_change.ensures.long;
       tails = c.in_ok-add_change.ensures.tails;
     }

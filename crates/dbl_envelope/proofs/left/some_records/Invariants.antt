@@ -7,6 +7,7 @@ invariant-loop-change l = record {
   made : l.made.items ++ records_from l.writer l.commit l.now_ms l.change (l.ordinal + length l.made.items) ≡ records_from l.writer l.commit l.now_ms l.from l.ordinal;
   most : l.ordinal + length l.made.items ≤ 3 * l.change;
   some : l.change ≤ l.from + length l.made.items;
+  few : 3 * l.from + length l.made.items ≤ 3 * l.change;
   long : length l.tails.items ≡ length l.writer.infos;
   tails : AreTails l.writer l.commit l.now_ms l.tails.items;
 }

@@ -246,10 +246,12 @@ fn each_kind_of_change(alloc: Global) -> Result<String, Fail> {
         &writer,
         renamed(alloc, text(alloc, PLACEHOLDER)?, 1)?,
     )?;
+    add_error(&mut all, alloc, &EnvelopeError::Memory)?;
     Ok(all)
 }
 
-// An unsent cell, a whole old row, a moved key, a delete, truncates at the least times, an old cell that is the placeholder.
+// An unsent cell, a whole old row, a moved key, a delete, truncates at the least times, an old cell that is the placeholder; and
+// what is said where memory is wanting.
 const EACH_KIND: &str =
     r#"{"headers":{"dblog.last":true,"dblog.ordinal":0,"dblog.position":256},"key":{"id":1},"topic":"demo.public.users","value":{"after":{"id":1,"name":"__debezium_unavailable_value"},"before":null,"op":"u","source":{"connector":"postgresql","db":"demo","lsn":256,"name":"demo","schema":"public","snapshot":"false","table":"users","ts_ms":946684800000,"txId":7,"version":"1.0","xmin":null},"transaction":null,"ts_ms":0}}
 {"headers":{"dblog.last":true,"dblog.ordinal":0,"dblog.position":256},"key":{"id":1},"topic":"demo.public.items","value":{"after":{"id":1,"name":"Ann"},"before":{"id":1,"name":"Ann"},"op":"u","source":{"connector":"postgresql","db":"demo","lsn":256,"name":"demo","schema":"public","snapshot":"false","table":"items","ts_ms":946684800000,"txId":7,"version":"1.0","xmin":null},"transaction":null,"ts_ms":0}}
@@ -261,6 +263,7 @@ const EACH_KIND: &str =
 {"headers":{"dblog.last":false,"dblog.ordinal":0,"dblog.position":256},"key":null,"topic":"demo.public.users","value":{"after":null,"before":null,"op":"t","source":{"connector":"postgresql","db":"demo","lsn":256,"name":"demo","schema":"public","snapshot":"false","table":"users","ts_ms":-9222425352054776,"txId":7,"version":"1.0","xmin":null},"transaction":null,"ts_ms":-9223372036854775808}}
 {"headers":{"dblog.last":true,"dblog.ordinal":1,"dblog.position":256},"key":null,"topic":"demo.public.items","value":{"after":null,"before":null,"op":"t","source":{"connector":"postgresql","db":"demo","lsn":256,"name":"demo","schema":"public","snapshot":"false","table":"items","ts_ms":-9222425352054776,"txId":7,"version":"1.0","xmin":null},"transaction":null,"ts_ms":-9223372036854775808}}
 placeholder in public.items.name
+out of memory
 "#;
 
 #[test]

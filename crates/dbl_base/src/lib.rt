@@ -1,9 +1,10 @@
-//! Texts, lists and byte streams: what every crate above stands on.
+//! Texts and their lines, lists and byte streams: what every crate above stands on.
 #![tactic(auto)]
 
 mod failed;
 mod fault_plan;
 mod input;
+mod lines;
 mod lsn;
 mod memory;
 mod output;
@@ -16,6 +17,7 @@ mod text;
 pub use failed::Failed;
 pub use fault_plan::FaultPlan;
 pub use input::{INPUT_LIMIT, Input, InputError, read_all};
+pub use lines::{next_line, passes_over};
 pub use lsn::Lsn;
 pub use memory::{MemInput, MemOutput};
 pub use output::Output;

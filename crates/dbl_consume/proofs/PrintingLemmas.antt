@@ -3,12 +3,14 @@ use Rattle.std.proofs.Common.{◌≡◌, ◌∙◌, ℕ, ◌+◌, true, false, O
 use Rattle.std.specs.List.{join_with_byte}
 use Rattle.std.proofs.lemmas.List.{take-append-drop}
 use Rattle.std.proofs.Math.Seq.{take-append-add, take-append_seam}
+use Rattle.dbl_base.specs.Lines.{lines_text}
+use Rattle.dbl_base.proofs.LineLemmas.{lines_text-append}
 use Rattle.dbl_record.specs.declared.acts.HeldCell.{HeldCell}
 use Rattle.dbl_record.specs.Consumers.{HeldCells}
 use Rattle.dbl_record.specs.Line.{part_text, object_text}
 use Rattle.dbl_consume.specs.declared.error.PrintError.{PrintError}
 use Rattle.dbl_consume.specs.declared.error.PrintError.TheVariants.{Failed, Memory}
-use Rattle.dbl_consume.specs.Printing.{cell_part, text_of, Wrote, WroteFront, PrintFails, Prints}
+use Rattle.dbl_consume.specs.Printing.{cell_part, Wrote, WroteFront, PrintFails, Prints}
 use Rattle.dbl_consume.specs.Gathering.{cells_tail, IsGathered}
 
 -- ---- a row
@@ -24,10 +26,6 @@ row_is [] = refl
 row_is (c ∷ cs) = ap (λ t. 123 ∷ t) (sym (joined c cs))
 
 -- ---- what is written
-
-pub text_of-append : (xs ys : List (List ℕ)) → text_of (xs ++ ys) ≡ text_of xs ++ text_of ys
-text_of-append [] ys = refl
-text_of-append (x ∷ xs) ys = ap (λ t. x ++ 10 ∷ t) (text_of-append xs ys) ∙ sym (append_assoc x (10 ∷ text_of xs) (text_of ys))
 
 pub wrote_then : (before middle after : Option (List ℕ)) (first second : List ℕ) → Wrote before middle first → Wrote middle after second → Wrote before after (first ++ second)
 wrote_then before middle after first second one two bytes is = two (bytes ++ first) (one bytes is) ∙ ap Some (append_assoc bytes first second)
@@ -51,8 +49,8 @@ front_more before after first second front bytes is =
 -- ---- what is gathered
 
 -- what was written and what stands in the buffer
-gathered_text : (before now : Option (List ℕ)) (buffer : List ℕ) (rest all : List (List ℕ)) → (h : IsGathered before now buffer rest all) → text_of h.written ++ buffer ≡ text_of (h.written ++ h.kept)
-gathered_text before now buffer rest all h = ap (λ t. text_of h.written ++ t) h.buffer_is ∙ sym (text_of-append h.written h.kept)
+gathered_text : (before now : Option (List ℕ)) (buffer : List ℕ) (rest all : List (List ℕ)) → (h : IsGathered before now buffer rest all) → lines_text h.written ++ buffer ≡ lines_text (h.written ++ h.kept)
+gathered_text before now buffer rest all h = ap (λ t. lines_text h.written ++ t) h.buffer_is ∙ sym (lines_text-append h.written h.kept)
 
 -- nothing is written yet
 pub none_gathered : (before : Option (List ℕ)) (buffer : List ℕ) (lines : List (List ℕ)) → buffer ≡ [] → IsGathered before before buffer (lines ++ []) lines
@@ -70,7 +68,7 @@ line_gathered before now buffer filled line rest all is h = record {
   written = h.written;
   kept = h.kept ++ line ∷ [];
   wrote = h.wrote;
-  buffer_is = is ∙ append_assoc buffer line (10 ∷ []) ∙ ap (λ t. t ++ (line ++ 10 ∷ [])) h.buffer_is ∙ sym (text_of-append h.kept (line ∷ []));
+  buffer_is = is ∙ append_assoc buffer line (10 ∷ []) ∙ ap (λ t. t ++ (line ++ 10 ∷ [])) h.buffer_is ∙ sym (lines_text-append h.kept (line ∷ []));
   all_are =
       ap (λ lines. lines ++ rest) (sym (append_assoc h.written h.kept (line ∷ []))) ∙ append_assoc (h.written ++ h.kept) (line ∷ []) rest ∙ h.all_are;
 }
@@ -80,30 +78,30 @@ pub buffer_written : (before now next : Option (List ℕ)) (buffer emptied : Lis
 buffer_written before now next buffer emptied rest all none wrote h = record {
   written = h.written ++ h.kept;
   kept = [];
-  wrote = subst (Wrote before next) (gathered_text before now buffer rest all h) (wrote_then before now next (text_of h.written) buffer h.wrote wrote);
+  wrote = subst (Wrote before next) (gathered_text before now buffer rest all h) (wrote_then before now next (lines_text h.written) buffer h.wrote wrote);
   buffer_is = none;
   all_are = ap (λ lines. lines ++ rest) (append-nil (h.written ++ h.kept)) ∙ h.all_are;
 }
 
 -- the output failed while the buffer was being written
-pub buffer_fails : (before now next : Option (List ℕ)) (buffer : List ℕ) (rest all : List (List ℕ)) → WroteFront now next buffer → IsGathered before now buffer rest all → WroteFront before next (text_of all)
+pub buffer_fails : (before now next : Option (List ℕ)) (buffer : List ℕ) (rest all : List (List ℕ)) → WroteFront now next buffer → IsGathered before now buffer rest all → WroteFront before next (lines_text all)
 buffer_fails before now next buffer rest all front h =
-    subst (WroteFront before next) (ap (λ t. t ++ text_of rest) (gathered_text before now buffer rest all h) ∙ sym (text_of-append (h.written ++ h.kept) rest) ∙ ap text_of h.all_are)
-    (front_more before next (text_of h.written ++ buffer) (text_of rest) (front_then before now next (text_of h.written) buffer h.wrote front))
+    subst (WroteFront before next) (ap (λ t. t ++ lines_text rest) (gathered_text before now buffer rest all h) ∙ sym (lines_text-append (h.written ++ h.kept) rest) ∙ ap lines_text h.all_are)
+    (front_more before next (lines_text h.written ++ buffer) (lines_text rest) (front_then before now next (lines_text h.written) buffer h.wrote front))
 
 -- memory was wanting: the first lines are written
 pub gathered_wanting : (before now : Option (List ℕ)) (buffer : List ℕ) (rest all : List (List ℕ)) → IsGathered before now buffer rest all → PrintFails all Memory before now
 gathered_wanting before now buffer rest all h =
     let first : take (length h.written) all ≡ h.written = ap (take (length h.written)) (sym (sym (append_assoc h.written h.kept rest) ∙ h.all_are)) ∙ take-append_seam h.written (h.kept ++ rest) in
-    (length h.written, subst (λ lines. Wrote before now (text_of lines)) (sym first) h.wrote)
+    (length h.written, subst (λ lines. Wrote before now (lines_text lines)) (sym first) h.wrote)
 
 -- all lines are written, with the buffer at last
-pub all_written : (before now next : Option (List ℕ)) (buffer : List ℕ) (all : List (List ℕ)) → Wrote now next buffer → IsGathered before now buffer [] all → Wrote before next (text_of all)
+pub all_written : (before now next : Option (List ℕ)) (buffer : List ℕ) (all : List (List ℕ)) → Wrote now next buffer → IsGathered before now buffer [] all → Wrote before next (lines_text all)
 all_written before now next buffer all wrote h =
-    subst (Wrote before next) (gathered_text before now buffer [] all h ∙ ap text_of (sym (append-nil (h.written ++ h.kept)) ∙ h.all_are)) (wrote_then before now next (text_of h.written) buffer h.wrote wrote)
+    subst (Wrote before next) (gathered_text before now buffer [] all h ∙ ap lines_text (sym (append-nil (h.written ++ h.kept)) ∙ h.all_are)) (wrote_then before now next (lines_text h.written) buffer h.wrote wrote)
 
 -- nothing is left to be written
-pub nothing_left : (before now : Option (List ℕ)) (buffer : List ℕ) (all : List (List ℕ)) → buffer ≡ [] → IsGathered before now buffer [] all → Wrote before now (text_of all)
+pub nothing_left : (before now : Option (List ℕ)) (buffer : List ℕ) (all : List (List ℕ)) → buffer ≡ [] → IsGathered before now buffer [] all → Wrote before now (lines_text all)
 nothing_left before now buffer all empty h = all_written before now now buffer all (λ bytes is. is ∙ ap Some (sym (ap (λ t. bytes ++ t) empty ∙ append-nil bytes))) h
 
 -- the buffer was to be written at last

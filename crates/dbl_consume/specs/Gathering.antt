@@ -2,12 +2,13 @@
 use Rattle.std.specs.Prelude.{◌≡◌, ℕ, List, [], ◌∷◌, ◌++◌, Bool, true, if◌then◌else◌, Option, Result, MatchResult, codes}
 use Rattle.json.specs.Print.{quoted}
 use Rattle.std.specs.BTreeMap.{IsOrdered}
+use Rattle.dbl_base.specs.Lines.{lines_text}
 use Rattle.dbl_base.specs.Texts.{text_cmp}
 use Rattle.dbl_record.specs.declared.acts.HeldCell.{HeldCell}
 use Rattle.dbl_record.specs.Consumers.{HeldCells}
 use Rattle.dbl_consume.specs.declared.error.PrintError.{PrintError}
 use Rattle.dbl_consume.specs.Rows.{Row, Table}
-use Rattle.dbl_consume.specs.Printing.{HeldRow, cell_text, text_of, Wrote, PrintFails}
+use Rattle.dbl_consume.specs.Printing.{HeldRow, cell_text, Wrote, PrintFails}
 
 -- a cell, with a comma before it where it isn't the first
 abbrev pub one_cell : Bool → List ℕ → HeldCell → List ℕ
@@ -37,8 +38,8 @@ AreInOrder (table ∷ tables) = IsOrdered text_cmp table.1 × AreInOrder tables
 pub record IsGathered (before now : Option (List ℕ)) (buffer : List ℕ) (rest all : List (List ℕ)) : Type 0 where
   pub written : List (List ℕ)
   pub kept : List (List ℕ)
-  pub wrote : Wrote before now (text_of written)
-  pub buffer_is : buffer ≡ text_of kept
+  pub wrote : Wrote before now (lines_text written)
+  pub buffer_is : buffer ≡ lines_text kept
   pub all_are : (written ++ kept) ++ rest ≡ all
 
 -- these lines were gathered or written, whatever went before and comes after them

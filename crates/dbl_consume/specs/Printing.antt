@@ -1,10 +1,11 @@
 -- The text of the rows that a consumer holds, and how it is written. Source: own.
-use Rattle.std.specs.Prelude.{◌≡◌, ℕ, List, [], ◌∷◌, ◌++◌, Option, Some, Result, Ok, Err, map, take, codes}
+use Rattle.std.specs.Prelude.{◌≡◌, ℕ, List, ◌++◌, Option, Some, Result, Ok, Err, map, take, codes}
 use Rattle.std.specs.declared.cmp.Ordering.{Ordering}
 use Rattle.std.specs.Ordering.{on, then_cmp}
 use Rattle.std.specs.Map.{lookup, keys_of}
 use Rattle.std.specs.BTreeMap.{is_at}
 use Rattle.std.specs.List.Sorted.{IsStrictlySortedBy}
+use Rattle.dbl_base.specs.Lines.{lines_text}
 use Rattle.dbl_base.specs.Texts.{text_cmp}
 use Rattle.dbl_record.specs.declared.acts.HeldCell.{HeldCell}
 use Rattle.dbl_record.specs.declared.acts.HeldCell.TheVariants.{Known, Unknown}
@@ -46,11 +47,6 @@ cell_part cell = (cell.0, cell_text cell.1)
 abbrev pub row_line : HeldRow → List ℕ
 row_line row = row.0.0 ++ codes " " ++ row.0.1 ++ codes " " ++ object_text (map cell_part row.1)
 
--- lines as a text, a newline behind each
-abbrev pub text_of : List (List ℕ) → List ℕ
-text_of [] = []
-text_of (line ∷ lines) = line ++ 10 ∷ text_of lines
-
 -- the text was appended
 abbrev pub Wrote : Option (List ℕ) → Option (List ℕ) → List ℕ → Type 0
 Wrote before after text = (bytes : List ℕ) → before ≡ Some bytes → after ≡ Some (bytes ++ text)
@@ -61,12 +57,12 @@ WroteFront before after text = (bytes : List ℕ) → before ≡ Some bytes → 
 
 -- where lines aren't written, or not all, a front of their text was, and where memory is wanting some first lines
 abbrev pub PrintFails : List (List ℕ) → PrintError → Option (List ℕ) → Option (List ℕ) → Type 0
-PrintFails lines Failed before after = WroteFront before after (text_of lines)
-PrintFails lines Memory before after = (n : ℕ) × Wrote before after (text_of (take n lines))
+PrintFails lines Failed before after = WroteFront before after (lines_text lines)
+PrintFails lines Memory before after = (n : ℕ) × Wrote before after (lines_text (take n lines))
 
 -- the lines were written, or why not
 abbrev pub Prints : {A : Type 0} → List (List ℕ) → Result A PrintError → Option (List ℕ) → Option (List ℕ) → Type 0
-Prints lines (Ok done) before after = Wrote before after (text_of lines)
+Prints lines (Ok done) before after = Wrote before after (lines_text lines)
 Prints lines (Err error) before after = PrintFails lines error before after
 
 -- the lines of the rows that are held

@@ -3,12 +3,12 @@ use Rattle.std.proofs.Common.{◌≡◌, ◌∙◌, ◌⊎◌, inl, inr, ℕ, ze
 use Rattle.std.specs.List.{list_all}
 use Rattle.std.specs.Str.Parse.{digits_value}
 use Rattle.std.proofs.lemmas.List.Folds.{list_all-append}
+use Rattle.dbl_base.specs.Lines.{lines_of, lines_text}
 use Rattle.dbl_model.specs.declared.table.TableName.{TableName}
 use Rattle.dbl_script.specs.declared.script.Script.{Script}
 use Rattle.dbl_script.specs.declared.script.ScriptTable.{ScriptTable}
 use Rattle.dbl_script.specs.declared.line.Line.{Line}
 use Rattle.dbl_script.specs.declared.line.Line.TheVariants.{Table, Row, Act}
-use Rattle.dbl_script.specs.Words.{lines_of}
 use Rattle.dbl_script.specs.Reads.{all_of, some_of}
 use Rattle.dbl_script.specs.Texts as text
 use Rattle.dbl_script.specs.Columns.{column_of, named_column, typed_column, columns_of}
@@ -17,7 +17,7 @@ use Rattle.dbl_script.specs.Scripts.{script_of, is_empty, may_follow, follows, i
 use Rattle.dbl_script.specs.Building.{with_line, with_said}
 use Rattle.dbl_script.proofs.ScriptLemmas.{script_more}
 use Rattle.dbl_gen.specs.Draws.{next_state, drawn}
-use Rattle.dbl_gen.specs.Workload.{line_of, text_of, accounts, numbered, id_cell, owner_cell, table_lines, row_line, row_lines, session, insert_line, balance_line, delete_line, note_line, change, begin_line, commit_line, tick_line, lines_before, group_lines, groups_from, last_lines, workload_lines, workload}
+use Rattle.dbl_gen.specs.Workload.{line_of, accounts, numbered, id_cell, owner_cell, table_lines, row_line, row_lines, session, insert_line, balance_line, delete_line, note_line, change, begin_line, commit_line, tick_line, lines_before, group_lines, groups_from, last_lines, workload_lines, workload}
 use Rattle.dbl_gen.proofs.Plain.{free, is_plain, and_both, lines_back}
 use Rattle.dbl_gen.proofs.Steps.{IsStep, IsRow, accounts_named, utf8_plain, said_by_words, session_cases, tick_steps, begin_steps, commit_steps, delete_steps, insert_steps, balance_steps, note_steps, row_is}
 
@@ -236,7 +236,7 @@ module _ (number rows groups : ℕ) (few_rows : rows ≤ 400000) (few_groups : g
   lines_are : lines_of (workload number rows groups) ≡ first_line ∷ second_line ∷ (row_lines 1 rows ++ (groups_from rows 1 groups number ++ last_lines groups))
   unfolding first_line second_line
   lines_are =
-      ap (λ lines. lines_of (text_of lines)) (whole_is number rows groups)
+      ap (λ lines. lines_of (lines_text lines)) (whole_is number rows groups)
       ∙ lines_back (first_line ∷ second_line ∷ (row_lines 1 rows ++ (groups_from rows 1 groups number ++ last_lines groups)))
       (list_all-append (free 10) (row_lines 1 rows) (groups_from rows 1 groups number ++ last_lines groups) ∙ and_both _ _ (free_rows (row_lines 1 rows) accounts_are) (free_steps (groups_from rows 1 groups number ++ last_lines groups) later))
 

@@ -10,8 +10,9 @@ use Rattle.std.proofs.lemmas.Bool.Decides.{nat_tests}
 use Rattle.std.proofs.lemmas.Fmt.{digits_decimal}
 use Rattle.std.proofs.lemmas.List.Folds.{list_all-append}
 use Rattle.std.proofs.lemmas.Str.Parse.{IsNumeralModel, numerals_by_value}
-use Rattle.dbl_script.specs.Words.{parts_at, lines_of}
-use Rattle.dbl_gen.specs.Workload.{line_of, text_of}
+use Rattle.dbl_base.specs.Lines.{lines_of, lines_text}
+use Rattle.dbl_script.specs.Words.{parts_at}
+use Rattle.dbl_gen.specs.Workload.{line_of}
 
 pub and_first : (a b : Bool) → (a && b) ≡ true → a ≡ true
 and_first true b h = refl
@@ -60,9 +61,9 @@ line_front (c ∷ cs) rest is =
     rw (other, line_front cs rest others) refl
 
 -- the lines of a text are those that it was made of
-pub lines_back : (lines : List (List ℕ)) → list_all (free 10) lines ≡ true → lines_of (text_of lines) ≡ lines
+pub lines_back : (lines : List (List ℕ)) → list_all (free 10) lines ≡ true → lines_of (lines_text lines) ≡ lines
 lines_back [] is = refl
-lines_back (line ∷ lines) is = line_front line (text_of lines) (and_first _ _ is) ∙ ap (λ rest. line ∷ rest) (lines_back lines (and_second _ _ is))
+lines_back (line ∷ lines) is = line_front line (lines_text lines) (and_first _ _ is) ∙ ap (λ rest. line ∷ rest) (lines_back lines (and_second _ _ is))
 
 -- ---- plain words
 

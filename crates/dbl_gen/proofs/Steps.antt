@@ -7,6 +7,7 @@ use Rattle.std.proofs.lemmas.Bool.{ltb-true}
 use Rattle.std.proofs.lemmas.Fmt.{decimal_digit}
 use Rattle.std.proofs.lemmas.List.{append-nil}
 use Rattle.std.proofs.lemmas.Str.{is_utf8-from_IsUtf8, IsUtf8-from_ascii}
+use Rattle.dbl_base.specs.Lines.{is_passed_over}
 use Rattle.dbl_model.specs.declared.table.TableName.{TableName}
 use Rattle.dbl_script.specs.declared.script.NamedCell.{NamedCell}
 use Rattle.dbl_script.specs.declared.script.ScriptRow.{ScriptRow}
@@ -17,7 +18,7 @@ use Rattle.dbl_script.specs.declared.line.Line.TheVariants.{Row, Act}
 use Rattle.dbl_script.specs.Words.{parts_at, words_of}
 use Rattle.dbl_script.specs.Reads.{all_of, some_of}
 use Rattle.dbl_script.specs.Texts as text
-use Rattle.dbl_script.specs.Grammar.{value_cell_of, cell_in, cell_of, row_in, insert_in, update_in, delete_in, verb_in, step_in, worded, is_passed_over, line_at}
+use Rattle.dbl_script.specs.Grammar.{value_cell_of, cell_in, cell_of, row_in, insert_in, update_in, delete_in, verb_in, step_in, worded, line_at}
 use Rattle.dbl_gen.specs.Workload.{line_of, accounts, numbered, id_cell, owner_cell, row_line, session}
 use Rattle.dbl_gen.proofs.Plain.{free, is_plain, plain_words, plain_line, plain_ascii, and_both, plain_decimal, free_percent, parts_last, and_first, and_second}
 

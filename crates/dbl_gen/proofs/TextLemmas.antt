@@ -2,12 +2,10 @@
 use Rattle.std.proofs.Common.{◌≡◌, ◌∙◌, ℕ, suc, ◌+◌, ◌-◌, ◌<◌, ◌*◌, ◌/◌, ◌%◌, ◌==◌, ◌≤◌, true, false, zero, List, [], ◌∷◌, ◌++◌, append_assoc, refl, ap, sym, arith, add-one}
 use Rattle.std.proofs.lemmas.List.{append-nil}
 use Rattle.std.proofs.lemmas.Bool.{eq-eqb, ne_eqb}
+use Rattle.dbl_base.specs.Lines.{lines_text}
+use Rattle.dbl_base.proofs.LineLemmas.{lines_text-append}
 use Rattle.dbl_gen.specs.Draws.{next_state, drawn}
-use Rattle.dbl_gen.specs.Workload.{text_of, row_line, row_lines, insert_line, balance_line, delete_line, note_line, change, begin_line, lines_before, tick_line, group_lines, groups_from, table_lines, last_lines, workload_lines}
-
-pub text_of-append : (xs ys : List (List ℕ)) → text_of (xs ++ ys) ≡ text_of xs ++ text_of ys
-text_of-append [] ys = refl
-text_of-append (x ∷ xs) ys = ap (λ rest. x ++ 10 ∷ rest) (text_of-append xs ys) ∙ sym (append_assoc x (10 ∷ text_of xs) (text_of ys))
+use Rattle.dbl_gen.specs.Workload.{row_line, row_lines, insert_line, balance_line, delete_line, note_line, change, begin_line, lines_before, tick_line, group_lines, groups_from, table_lines, last_lines, workload_lines}
 
 -- what is written of a line in pieces
 pub joined_two : (old p d q e t end : List ℕ) → old ++ (p ++ (d ++ (q ++ (e ++ (t ++ end))))) ≡ old ++ ((p ++ (d ++ (q ++ (e ++ t)))) ++ end)
@@ -20,39 +18,39 @@ pub joined_four : (old p d q e r f t end : List ℕ) → old ++ (p ++ (d ++ (q +
 joined_four old p d q e r f t end = simp append_assoc
 
 -- one more row
-pub rows_more : (before after whole : List ℕ) (row count : ℕ) → row < count → before ++ text_of (row_lines (row + 1) (count - row)) ≡ whole → after ≡ before ++ text_of (row_line (row + 1) ∷ [])
-    → after ++ text_of (row_lines (row + 1 + 1) (count - (row + 1))) ≡ whole
+pub rows_more : (before after whole : List ℕ) (row count : ℕ) → row < count → before ++ lines_text (row_lines (row + 1) (count - row)) ≡ whole → after ≡ before ++ lines_text (row_line (row + 1) ∷ [])
+    → after ++ lines_text (row_lines (row + 1 + 1) (count - (row + 1))) ≡ whole
 unfolding row_lines
 rows_more before after whole row count less so_far is =
     let left : count - row ≡ suc (count - (row + 1)) = omega arith in
-    let one : text_of (row_lines (row + 1) (count - row)) ≡ text_of (row_line (row + 1) ∷ []) ++ text_of (row_lines (row + 1 + 1) (count - (row + 1))) = rw left (text_of-append (row_line (row + 1) ∷ []) (row_lines (row + 1 + 1) (count - (row + 1)))) in
-    ap (λ front. front ++ text_of (row_lines (row + 1 + 1) (count - (row + 1)))) is
-    ∙ append_assoc before (text_of (row_line (row + 1) ∷ [])) (text_of (row_lines (row + 1 + 1) (count - (row + 1))))
+    let one : lines_text (row_lines (row + 1) (count - row)) ≡ lines_text (row_line (row + 1) ∷ []) ++ lines_text (row_lines (row + 1 + 1) (count - (row + 1))) = rw left (lines_text-append (row_line (row + 1) ∷ []) (row_lines (row + 1 + 1) (count - (row + 1)))) in
+    ap (λ front. front ++ lines_text (row_lines (row + 1 + 1) (count - (row + 1)))) is
+    ∙ append_assoc before (lines_text (row_line (row + 1) ∷ [])) (lines_text (row_lines (row + 1 + 1) (count - (row + 1))))
     ∙ ap (λ rest. before ++ rest) (sym one) ∙ so_far
 
 -- one more group
-pub groups_more : (before after whole : List ℕ) (rows group count state next : ℕ) → group < count → before ++ text_of (groups_from rows (group + 1) (count - group) state) ≡ whole
-    → after ≡ before ++ text_of (group_lines rows (group + 1) state).0 → next ≡ (group_lines rows (group + 1) state).1
-    → after ++ text_of (groups_from rows (group + 1 + 1) (count - (group + 1)) next) ≡ whole
+pub groups_more : (before after whole : List ℕ) (rows group count state next : ℕ) → group < count → before ++ lines_text (groups_from rows (group + 1) (count - group) state) ≡ whole
+    → after ≡ before ++ lines_text (group_lines rows (group + 1) state).0 → next ≡ (group_lines rows (group + 1) state).1
+    → after ++ lines_text (groups_from rows (group + 1 + 1) (count - (group + 1)) next) ≡ whole
 unfolding groups_from
 groups_more before after whole rows group count state next less so_far is next_is =
     let left : count - group ≡ suc (count - (group + 1)) = omega arith in
-    let one : text_of (groups_from rows (group + 1) (count - group) state) ≡ text_of (group_lines rows (group + 1) state).0 ++ text_of (groups_from rows (group + 1 + 1) (count - (group + 1)) (group_lines rows (group + 1) state).1)
-    = rw left (text_of-append (group_lines rows (group + 1) state).0 (groups_from rows (group + 1 + 1) (count - (group + 1)) (group_lines rows (group + 1) state).1)) in
-    ap (λ front. front ++ text_of (groups_from rows (group + 1 + 1) (count - (group + 1)) next)) is
-    ∙ append_assoc before (text_of (group_lines rows (group + 1) state).0) (text_of (groups_from rows (group + 1 + 1) (count - (group + 1)) next))
-    ∙ ap (λ s. before ++ (text_of (group_lines rows (group + 1) state).0 ++ text_of (groups_from rows (group + 1 + 1) (count - (group + 1)) s))) next_is
+    let one : lines_text (groups_from rows (group + 1) (count - group) state) ≡ lines_text (group_lines rows (group + 1) state).0 ++ lines_text (groups_from rows (group + 1 + 1) (count - (group + 1)) (group_lines rows (group + 1) state).1)
+    = rw left (lines_text-append (group_lines rows (group + 1) state).0 (groups_from rows (group + 1 + 1) (count - (group + 1)) (group_lines rows (group + 1) state).1)) in
+    ap (λ front. front ++ lines_text (groups_from rows (group + 1 + 1) (count - (group + 1)) next)) is
+    ∙ append_assoc before (lines_text (group_lines rows (group + 1) state).0) (lines_text (groups_from rows (group + 1 + 1) (count - (group + 1)) next))
+    ∙ ap (λ s. before ++ (lines_text (group_lines rows (group + 1) state).0 ++ lines_text (groups_from rows (group + 1 + 1) (count - (group + 1)) s))) next_is
     ∙ ap (λ rest. before ++ rest) (sym one) ∙ so_far
 
 -- all rows are written
-pub rows_done : (before whole : List ℕ) (row count : ℕ) → count ≤ row → before ++ text_of (row_lines (row + 1) (count - row)) ≡ whole → before ≡ whole
+pub rows_done : (before whole : List ℕ) (row count : ℕ) → count ≤ row → before ++ lines_text (row_lines (row + 1) (count - row)) ≡ whole → before ≡ whole
 unfolding row_lines
 rows_done before whole row count all so_far =
     let left : count - row ≡ 0 = omega arith in
     sym (append-nil before) ∙ sym (rw left refl) ∙ so_far
 
 -- all groups are written
-pub groups_done : (before whole : List ℕ) (rows group count state : ℕ) → count ≤ group → before ++ text_of (groups_from rows (group + 1) (count - group) state) ≡ whole → before ≡ whole
+pub groups_done : (before whole : List ℕ) (rows group count state : ℕ) → count ≤ group → before ++ lines_text (groups_from rows (group + 1) (count - group) state) ≡ whole → before ≡ whole
 unfolding groups_from
 groups_done before whole rows group count state all so_far =
     let left : count - group ≡ 0 = omega arith in
@@ -64,31 +62,31 @@ chain : (old a b c d e f : List ℕ) → (((((old ++ a) ++ b) ++ c) ++ d) ++ e) 
 chain old a b c d e f = simp append_assoc
 
 text_group : (a b c d : List ℕ) (lines : List (List ℕ)) (last : List ℕ)
-    → text_of (a ∷ b ∷ c ∷ d ∷ (lines ++ last ∷ [])) ≡ text_of (a ∷ []) ++ (text_of (b ∷ []) ++ (text_of (c ∷ []) ++ (text_of (d ∷ []) ++ (text_of lines ++ text_of (last ∷ [])))))
+    → lines_text (a ∷ b ∷ c ∷ d ∷ (lines ++ last ∷ [])) ≡ lines_text (a ∷ []) ++ (lines_text (b ∷ []) ++ (lines_text (c ∷ []) ++ (lines_text (d ∷ []) ++ (lines_text lines ++ lines_text (last ∷ [])))))
 text_group a b c d lines last =
-    text_of-append (a ∷ []) (b ∷ c ∷ d ∷ (lines ++ last ∷ []))
-    ∙ ap (λ r. text_of (a ∷ []) ++ r) (text_of-append (b ∷ []) (c ∷ d ∷ (lines ++ last ∷ []))
-    ∙ ap (λ r. text_of (b ∷ []) ++ r) (text_of-append (c ∷ []) (d ∷ (lines ++ last ∷ []))
-    ∙ ap (λ r. text_of (c ∷ []) ++ r) (text_of-append (d ∷ []) (lines ++ last ∷ [])
-    ∙ ap (λ r. text_of (d ∷ []) ++ r) (text_of-append lines (last ∷ [])))))
+    lines_text-append (a ∷ []) (b ∷ c ∷ d ∷ (lines ++ last ∷ []))
+    ∙ ap (λ r. lines_text (a ∷ []) ++ r) (lines_text-append (b ∷ []) (c ∷ d ∷ (lines ++ last ∷ []))
+    ∙ ap (λ r. lines_text (b ∷ []) ++ r) (lines_text-append (c ∷ []) (d ∷ (lines ++ last ∷ []))
+    ∙ ap (λ r. lines_text (c ∷ []) ++ r) (lines_text-append (d ∷ []) (lines ++ last ∷ [])
+    ∙ ap (λ r. lines_text (d ∷ []) ++ r) (lines_text-append lines (last ∷ [])))))
 
 -- texts that follow from one another, by six lines and more
-all_written : (old one two three four five six a b c d : List ℕ) (lines : List (List ℕ)) (last : List ℕ) → one ≡ old ++ text_of (a ∷ []) → two ≡ one ++ text_of (b ∷ []) → three ≡ two ++ text_of (c ∷ []) → four ≡ three ++ text_of (d ∷ [])
-    → five ≡ four ++ text_of lines → six ≡ five ++ text_of (last ∷ []) → six ≡ old ++ text_of (a ∷ b ∷ c ∷ d ∷ (lines ++ last ∷ []))
+all_written : (old one two three four five six a b c d : List ℕ) (lines : List (List ℕ)) (last : List ℕ) → one ≡ old ++ lines_text (a ∷ []) → two ≡ one ++ lines_text (b ∷ []) → three ≡ two ++ lines_text (c ∷ []) → four ≡ three ++ lines_text (d ∷ [])
+    → five ≡ four ++ lines_text lines → six ≡ five ++ lines_text (last ∷ []) → six ≡ old ++ lines_text (a ∷ b ∷ c ∷ d ∷ (lines ++ last ∷ []))
 all_written old one two three four five six a b c d lines last one_is two_is three_is four_is five_is six_is =
-    rw (six_is, five_is, four_is, three_is, two_is, one_is) (chain old (text_of (a ∷ [])) (text_of (b ∷ [])) (text_of (c ∷ [])) (text_of (d ∷ [])) (text_of lines) (text_of (last ∷ [])) ∙ ap (λ r. old ++ r) (sym (text_group a b c d lines last)))
+    rw (six_is, five_is, four_is, three_is, two_is, one_is) (chain old (lines_text (a ∷ [])) (lines_text (b ∷ [])) (lines_text (c ∷ [])) (lines_text (d ∷ [])) (lines_text lines) (lines_text (last ∷ [])) ∙ ap (λ r. old ++ r) (sym (text_group a b c d lines last)))
 
 group_is : (rows group start first second : ℕ) → first ≡ (change rows group start).1 → second ≡ (change rows group first).1
     → begin_line group ∷ (change rows group start).0 ∷ (change rows group first).0 ∷ (change rows group second).0 ∷ (lines_before group ++ tick_line ∷ []) ≡ (group_lines rows group start).0
 unfolding group_lines
 group_is rows group start first second first_is second_is = rw (second_is, first_is) refl
 
-pub group_written : (old one two three four five six : List ℕ) (rows group start first second : ℕ) → one ≡ old ++ text_of (begin_line group ∷ []) → two ≡ one ++ text_of ((change rows group start).0 ∷ []) → first ≡ (change rows group start).1
-    → three ≡ two ++ text_of ((change rows group first).0 ∷ []) → second ≡ (change rows group first).1 → four ≡ three ++ text_of ((change rows group second).0 ∷ [])
-    → five ≡ four ++ text_of (lines_before group) → six ≡ five ++ text_of (tick_line ∷ []) → six ≡ old ++ text_of (group_lines rows group start).0
+pub group_written : (old one two three four five six : List ℕ) (rows group start first second : ℕ) → one ≡ old ++ lines_text (begin_line group ∷ []) → two ≡ one ++ lines_text ((change rows group start).0 ∷ []) → first ≡ (change rows group start).1
+    → three ≡ two ++ lines_text ((change rows group first).0 ∷ []) → second ≡ (change rows group first).1 → four ≡ three ++ lines_text ((change rows group second).0 ∷ [])
+    → five ≡ four ++ lines_text (lines_before group) → six ≡ five ++ lines_text (tick_line ∷ []) → six ≡ old ++ lines_text (group_lines rows group start).0
 group_written old one two three four five six rows group start first second one_is two_is first_is three_is second_is four_is five_is six_is =
     all_written old one two three four five six (begin_line group) (change rows group start).0 (change rows group first).0 (change rows group second).0 (lines_before group) tick_line one_is two_is three_is four_is five_is six_is
-    ∙ ap (λ lines. old ++ text_of lines) (group_is rows group start first second first_is second_is)
+    ∙ ap (λ lines. old ++ lines_text lines) (group_is rows group start first second first_is second_is)
 
 pub group_state : (rows group start first second third : ℕ) → first ≡ (change rows group start).1 → second ≡ (change rows group first).1 → third ≡ (change rows group second).1 → third ≡ (group_lines rows group start).1
 unfolding group_lines
@@ -96,8 +94,8 @@ group_state rows group start first second third first_is second_is third_is = rw
 
 -- ---- the whole
 
-pub workload_text : (number rows groups : ℕ) → text_of (workload_lines number rows groups) ≡ ((text_of table_lines ++ text_of (row_lines 1 rows)) ++ text_of (groups_from rows 1 groups number)) ++ text_of (last_lines groups)
+pub workload_text : (number rows groups : ℕ) → lines_text (workload_lines number rows groups) ≡ ((lines_text table_lines ++ lines_text (row_lines 1 rows)) ++ lines_text (groups_from rows 1 groups number)) ++ lines_text (last_lines groups)
 unfolding workload_lines
 workload_text number rows groups =
-    text_of-append (table_lines ++ row_lines 1 rows ++ groups_from rows 1 groups number) (last_lines groups)
-    ∙ ap (λ front. front ++ text_of (last_lines groups)) (text_of-append (table_lines ++ row_lines 1 rows) (groups_from rows 1 groups number) ∙ ap (λ front. front ++ text_of (groups_from rows 1 groups number)) (text_of-append table_lines (row_lines 1 rows)))
+    lines_text-append (table_lines ++ row_lines 1 rows ++ groups_from rows 1 groups number) (last_lines groups)
+    ∙ ap (λ front. front ++ lines_text (last_lines groups)) (lines_text-append (table_lines ++ row_lines 1 rows) (groups_from rows 1 groups number) ∙ ap (λ front. front ++ lines_text (groups_from rows 1 groups number)) (lines_text-append table_lines (row_lines 1 rows)))

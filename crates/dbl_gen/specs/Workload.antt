@@ -2,16 +2,12 @@
 use Rattle.std.specs.Prelude.{ℕ, zero, suc, ◌+◌, ◌-◌, ◌*◌, ◌%◌, ◌==◌, nat_lt, if◌then◌else◌, List, [], ◌∷◌, ◌++◌, codes}
 use Rattle.std.specs.List.{join_with_byte}
 use Rattle.std.specs.Fmt.{decimal}
+use Rattle.dbl_base.specs.Lines.{lines_text}
 use Rattle.dbl_gen.specs.Draws.{next_state, drawn}
 
 -- a line of these words
 abbrev pub line_of : List (List ℕ) → List ℕ
 line_of words = join_with_byte 32 words
-
--- lines as a text, a newline behind each
-abbrev pub text_of : List (List ℕ) → List ℕ
-text_of [] = []
-text_of (line ∷ lines) = line ++ 10 ∷ text_of lines
 
 abbrev pub accounts : List ℕ
 accounts = codes "public.accounts"
@@ -104,4 +100,4 @@ unfoldable pub workload_lines : ℕ → ℕ → ℕ → List (List ℕ)
 workload_lines number rows groups = table_lines ++ row_lines 1 rows ++ groups_from rows 1 groups number ++ last_lines groups
 
 abbrev pub workload : ℕ → ℕ → ℕ → List ℕ
-workload number rows groups = text_of (workload_lines number rows groups)
+workload number rows groups = lines_text (workload_lines number rows groups)

@@ -1,8 +1,8 @@
 ghost use Rattle.std.specs.Prelude.{◌≡◌, ◌≤◌, ◌<◌, ◌++◌, ◌+◌, ◌%◌, ◌∷◌, [], None, length, IfOk, OnOk};
-ghost use Rattle.dbl_script.specs.Words.{lines_of};
 ghost use Rattle.dbl_script.specs.Scripts.{first_bad};
 ghost use Rattle.std.specs.String.{string_bytes};
-ghost use Rattle.dbl_gen.specs.Workload.{text_of, row_line, row_lines, insert_line, balance_line, delete_line, note_line, tick_line, change, begin_line, commit_line, lines_before, group_lines, groups_from, last_lines, workload};
+ghost use Rattle.dbl_base.specs.Lines.{lines_of, lines_text};
+ghost use Rattle.dbl_gen.specs.Workload.{row_line, row_lines, insert_line, balance_line, delete_line, note_line, tick_line, change, begin_line, commit_line, lines_before, group_lines, groups_from, last_lines, workload};
 
 use crate::draws::Draws;
 use dbl_base::Text;
@@ -16,7 +16,7 @@ table public.empty default toast 64 id:int4:key name:text
 
 #[tactic(auto, unfolding(crate::specs::Workload::row_line))]
 fn write_row(text: &mut String, key: u32) -> Result<(), AllocError>
-    ensures { OnOk result (string_bytes text.new ≡ string_bytes text.old ++ text_of (row_line key ∷ [])) }
+    ensures { OnOk result (string_bytes text.new ≡ string_bytes text.old ++ lines_text (row_line key ∷ [])) }
 {
     writeln!(
         text,
@@ -25,7 +25,7 @@ fn write_row(text: &mut String, key: u32) -> Result<(), AllocError>
 }
 
 fn write_insert(text: &mut String, group: u32, key: u64) -> Result<(), AllocError>
-    ensures { OnOk result (string_bytes text.new ≡ string_bytes text.old ++ text_of (insert_line group key ∷ [])) }
+    ensures { OnOk result (string_bytes text.new ≡ string_bytes text.old ++ lines_text (insert_line group key ∷ [])) }
 {
     let session = group % 3;
     writeln!(
@@ -35,7 +35,7 @@ fn write_insert(text: &mut String, group: u32, key: u64) -> Result<(), AllocErro
 }
 
 fn write_balance(text: &mut String, group: u32, key: u64, balance: u64) -> Result<(), AllocError>
-    ensures { OnOk result (string_bytes text.new ≡ string_bytes text.old ++ text_of (balance_line group key balance ∷ [])) }
+    ensures { OnOk result (string_bytes text.new ≡ string_bytes text.old ++ lines_text (balance_line group key balance ∷ [])) }
 {
     let session = group % 3;
     writeln!(
@@ -45,14 +45,14 @@ fn write_balance(text: &mut String, group: u32, key: u64, balance: u64) -> Resul
 }
 
 fn write_delete(text: &mut String, group: u32, key: u64) -> Result<(), AllocError>
-    ensures { OnOk result (string_bytes text.new ≡ string_bytes text.old ++ text_of (delete_line group key ∷ [])) }
+    ensures { OnOk result (string_bytes text.new ≡ string_bytes text.old ++ lines_text (delete_line group key ∷ [])) }
 {
     let session = group % 3;
     writeln!(text, "s{session} delete public.accounts id={key}")
 }
 
 fn write_note(text: &mut String, group: u32, key: u64) -> Result<(), AllocError>
-    ensures { OnOk result (string_bytes text.new ≡ string_bytes text.old ++ text_of (note_line group key ∷ [])) }
+    ensures { OnOk result (string_bytes text.new ≡ string_bytes text.old ++ lines_text (note_line group key ∷ [])) }
 {
     let session = group % 3;
     writeln!(
@@ -68,7 +68,7 @@ fn write_change(
     group: u32,
 ) -> Result<(), AllocError>
     requires { rows ≤ 400_000 }
-    ensures line { OnOk result (string_bytes text.new ≡ string_bytes text.old ++ text_of ((change rows group draws.old.state).0 ∷ [])) }
+    ensures line { OnOk result (string_bytes text.new ≡ string_bytes text.old ++ lines_text ((change rows group draws.old.state).0 ∷ [])) }
     ensures state { OnOk result (draws.new.state ≡ (change rows group draws.old.state).1) }
 {
     let key = 1 + draws.draw() % (u64::from(rows) + 100);
@@ -91,7 +91,7 @@ fn write_change(
 }
 
 fn write_commit(text: &mut String, group: u32) -> Result<(), AllocError>
-    ensures { OnOk result (string_bytes text.new ≡ string_bytes text.old ++ text_of (commit_line group ∷ [])) }
+    ensures { OnOk result (string_bytes text.new ≡ string_bytes text.old ++ lines_text (commit_line group ∷ [])) }
 {
     let session = group % 3;
     writeln!(text, "s{session} commit")
@@ -99,7 +99,7 @@ fn write_commit(text: &mut String, group: u32) -> Result<(), AllocError>
 
 // The transaction of the group before commits, where there is one.
 fn write_commit_before(text: &mut String, group: u32) -> Result<(), AllocError>
-    ensures { OnOk result (string_bytes text.new ≡ string_bytes text.old ++ text_of (lines_before group)) }
+    ensures { OnOk result (string_bytes text.new ≡ string_bytes text.old ++ lines_text (lines_before group)) }
 {
     if group <= 1 {
         return Ok(());
@@ -108,14 +108,14 @@ fn write_commit_before(text: &mut String, group: u32) -> Result<(), AllocError>
 }
 
 fn write_begin(text: &mut String, group: u32) -> Result<(), AllocError>
-    ensures { OnOk result (string_bytes text.new ≡ string_bytes text.old ++ text_of (begin_line group ∷ [])) }
+    ensures { OnOk result (string_bytes text.new ≡ string_bytes text.old ++ lines_text (begin_line group ∷ [])) }
 {
     let session = group % 3;
     writeln!(text, "s{session} begin")
 }
 
 fn write_tick(text: &mut String) -> Result<(), AllocError>
-    ensures { OnOk result (string_bytes text.new ≡ string_bytes text.old ++ text_of (tick_line ∷ [])) }
+    ensures { OnOk result (string_bytes text.new ≡ string_bytes text.old ++ lines_text (tick_line ∷ [])) }
 {
     text.push_str("tick\n")
 }
@@ -127,7 +127,7 @@ fn write_group(
     group: u32,
 ) -> Result<(), AllocError>
     requires { rows ≤ 400_000 }
-    ensures lines { OnOk result (string_bytes text.new ≡ string_bytes text.old ++ text_of (group_lines rows group draws.old.state).0) }
+    ensures lines { OnOk result (string_bytes text.new ≡ string_bytes text.old ++ lines_text (group_lines rows group draws.old.state).0) }
     ensures state { OnOk result (draws.new.state ≡ (group_lines rows group draws.old.state).1) }
 {
     write_begin(text, group)?;
@@ -141,7 +141,7 @@ fn write_group(
 
 fn write_rows(text: &mut String, rows: u32) -> Result<(), AllocError>
     requires { rows ≤ 400_000 }
-    ensures { OnOk result (string_bytes text.new ≡ string_bytes text.old ++ text_of (row_lines 1 rows)) }
+    ensures { OnOk result (string_bytes text.new ≡ string_bytes text.old ++ lines_text (row_lines 1 rows)) }
 {
     'rows: for row in 0..rows {
         write_row(text, row + 1)?;
@@ -152,7 +152,7 @@ fn write_rows(text: &mut String, rows: u32) -> Result<(), AllocError>
 fn write_groups(text: &mut String, number: u64, rows: u32, groups: u32) -> Result<(), AllocError>
     requires rows { rows ≤ 400_000 }
     requires groups { groups ≤ 90_000 }
-    ensures { OnOk result (string_bytes text.new ≡ string_bytes text.old ++ text_of (groups_from rows 1 groups number)) }
+    ensures { OnOk result (string_bytes text.new ≡ string_bytes text.old ++ lines_text (groups_from rows 1 groups number)) }
 {
     let mut draws = Draws { state: number };
     'groups: for group in 0..groups {
@@ -162,7 +162,7 @@ fn write_groups(text: &mut String, number: u64, rows: u32, groups: u32) -> Resul
 }
 
 fn write_last(text: &mut String, groups: u32) -> Result<(), AllocError>
-    ensures { OnOk result (string_bytes text.new ≡ string_bytes text.old ++ text_of (last_lines groups)) }
+    ensures { OnOk result (string_bytes text.new ≡ string_bytes text.old ++ lines_text (last_lines groups)) }
 {
     if groups == 0 {
         return Ok(());

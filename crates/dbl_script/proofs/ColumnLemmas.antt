@@ -1,12 +1,11 @@
 -- Columns that are read one by one into two lists.
 use Rattle.std.proofs.Common.{◌≡◌, ◌∙◌, ℕ, ◌<◌, ◌≤◌, ◌==◌, Bool, true, false, cond, nat_le, ◌⊎◌, List, [], ◌∷◌, ◌++◌, Option, Some, None, option_map, option_and_then, length, map, filter, refl, ap, sym, arith, inl, inr}
 use Rattle.std.proofs.lemmas.List.{map-append, length-map}
-use Rattle.std.proofs.lemmas.Bool.{le-leb, ne_eqb, leb-true}
+use Rattle.std.proofs.lemmas.Bool.{false_from_ne_true, le-leb, ne_eqb, leb-true}
 use Rattle.dbl_model.specs.declared.table.RawColumn.{RawColumn}
 use Rattle.dbl_script.specs.declared.columns.ColumnWord.{ColumnWord}
 use Rattle.dbl_script.specs.declared.fault.Fault.{Fault}
 use Rattle.dbl_script.specs.declared.fault.Fault.TheVariants.{Memory}
-use Rattle.dbl_script.proofs.PartLemmas.{is_false}
 use Rattle.dbl_script.specs.Reads.{all_of, some_of}
 use Rattle.dbl_script.specs.Columns.{column_of, columns_in, key_in, columns_of, split_columns}
 use Rattle.dbl_script.proofs.Many.{with_front, front_begins, front_more, front_fails, front_ends}
@@ -63,7 +62,7 @@ reading_ends old rest columns key so_far rest_is =
 -- ---- how many columns
 
 above_limit : (n : ℕ) → 1600 < n → nat_le n 1600 ≡ false
-above_limit n above = is_false (nat_le n 1600) (λ holds. let few = leb-true n 1600 holds in absurd (omega arith))
+above_limit n above = false_from_ne_true (nat_le n 1600) (λ holds. let few = leb-true n 1600 holds in absurd (omega arith))
 
 -- what `columns_of` makes of what was read
 abbrev limited : Option (List ColumnWord) → Option (List ColumnWord)

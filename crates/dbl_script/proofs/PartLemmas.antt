@@ -1,11 +1,7 @@
--- The first separator of some bytes, and the parts and lines that it ends.
+-- The first separator of some bytes, and the parts that it ends.
 use Rattle.std.proofs.Common.{◌≡◌, ℕ, zero, suc, ◌<◌, ◌==◌, if◌then◌else◌, Bool, true, false, List, [], ◌∷◌, Option, Some, None, option_map, length, get_or, take, drop, refl, ap, arith}
 use Rattle.std.specs.List.{onto_first}
-use Rattle.dbl_script.specs.Words.{cut_at, parts_at, lines_of}
-
-pub is_false : (b : Bool) → (b ≡ true → ⊥) → b ≡ false
-is_false true never = absurd (never refl)
-is_false false never = refl
+use Rattle.dbl_script.specs.Words.{cut_at, parts_at}
 
 -- no byte is the separator
 pub cut_missing : (c : ℕ) (xs : List ℕ) → ((k : ℕ) → k < length xs → (get_or xs k 0 == c) ≡ false) → cut_at c xs ≡ None
@@ -34,27 +30,3 @@ part_step c x xs false (Some p) same = ap (onto_first x) same
 pub parts_of_cut : (c : ℕ) (xs : List ℕ) → parts_at c xs ≡ parts_from c xs (cut_at c xs)
 parts_of_cut c [] = refl
 parts_of_cut c (x ∷ xs) = part_step c x xs (x == c) (cut_at c xs) (parts_of_cut c xs)
-
--- the lines, by the cut at the first newline
-abbrev pub lines_from : List ℕ → Option (List ℕ × List ℕ) → List (List ℕ)
-lines_from whole None = whole ∷ []
-lines_from whole (Some p) = p.0 ∷ lines_of p.1
-
-line_step : (x : ℕ) (xs : List ℕ) (b : Bool) (o : Option (List ℕ × List ℕ)) → lines_of xs ≡ lines_from xs o
-    → (if b then [] ∷ lines_of xs else onto_first x (lines_of xs)) ≡ lines_from (x ∷ xs) (if b then Some ([], xs) else option_map (λ (p : List ℕ × List ℕ). (x ∷ p.0, p.1)) o)
-line_step x xs true o same = refl
-line_step x xs false None same = ap (onto_first x) same
-line_step x xs false (Some p) same = ap (onto_first x) same
-
-line_alone : (x : ℕ) (b : Bool) → (if b then [] ∷ [] else (x ∷ []) ∷ []) ≡ lines_from (x ∷ []) (if b then Some ([], []) else None)
-line_alone x true = refl
-line_alone x false = refl
-
-pub lines_of_cut : (x : ℕ) (xs : List ℕ) → lines_of (x ∷ xs) ≡ lines_from (x ∷ xs) (cut_at 10 (x ∷ xs))
-lines_of_cut x [] = line_alone x (x == 10)
-lines_of_cut x (y ∷ ys) = line_step x (y ∷ ys) (x == 10) (cut_at 10 (y ∷ ys)) (lines_of_cut y ys)
-
--- a text with a byte in it, by its cut
-pub lines_cut : (xs : List ℕ) → 0 < length xs → lines_of xs ≡ lines_from xs (cut_at 10 xs)
-lines_cut [] some = absurd (omega arith)
-lines_cut (x ∷ xs) some = lines_of_cut x xs

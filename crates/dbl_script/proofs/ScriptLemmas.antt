@@ -6,7 +6,7 @@ use Rattle.dbl_script.specs.declared.script.Script.{Script}
 use Rattle.dbl_script.specs.declared.line.Line.{Line}
 use Rattle.dbl_script.specs.declared.line.Line.TheVariants.{Passed, Table, Row, Act}
 use Rattle.dbl_script.specs.Grammar.{line_at}
-use Rattle.dbl_script.specs.Words.{lines_of}
+use Rattle.dbl_base.specs.Lines.{lines_of}
 use Rattle.dbl_script.specs.Scripts.{said, table_said, row_said, step_said, script_of, is_empty, follows, is_good, first_bad_behind, first_bad}
 use Rattle.dbl_script.specs.Building.{with_line, with_said}
 

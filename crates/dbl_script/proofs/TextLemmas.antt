@@ -5,14 +5,13 @@ use Rattle.std.specs.Int.{is_in_range}
 use Rattle.std.specs.Str.Parse.{ParsesUnsigned, digits_value}
 use Rattle.std.proofs.lemmas.Str.Parse.{IsNumeralModel, numerals_by_value, parse_gives, digits_value_short}
 use Rattle.std.proofs.Common.{inl, inr}
-use Rattle.std.proofs.lemmas.Bool.{false≢true, cases_Bool, eqb-true, lt-ltb, le-leb}
+use Rattle.std.proofs.lemmas.Bool.{false_from_ne_true, false≢true, cases_Bool, eqb-true, lt-ltb, le-leb}
 use Rattle.std.proofs.lemmas.Bool.Decides.{nat_tests}
 use Rattle.std.specs.List.{list_all}
 use Rattle.std.specs.Str.{IsUtf8, is_utf8}
 use Rattle.std.proofs.lemmas.Str.{IsUtf8-from_is_utf8, is_utf8-from_IsUtf8, IsUtf8-from_ascii}
 use Rattle.dbl_script.specs.Texts.{utf8_text, is_session_byte, is_column_byte, session_of, column_name_of, escape_of, escapes_of}
 use Rattle.std.proofs.lemmas.List.{append-nil}
-use Rattle.dbl_script.proofs.PartLemmas.{is_false}
 use Rattle.dbl_script.proofs.Many.{with_front}
 
 or_second : (a b : Bool) → a ≡ false → (a || b) ≡ true → b ≡ true
@@ -25,7 +24,7 @@ utf8_taken bytes h = rw (is_utf8-from_IsUtf8 bytes h) refl
 
 pub utf8_refused : (bytes : List ℕ) → (IsUtf8 bytes → ⊥) → utf8_text bytes ≡ None
 unfolding utf8_text
-utf8_refused bytes h = rw (is_false (is_utf8 bytes) (λ e. h (IsUtf8-from_is_utf8 bytes e))) refl
+utf8_refused bytes h = rw (false_from_ne_true (is_utf8 bytes) (λ e. h (IsUtf8-from_is_utf8 bytes e))) refl
 
 and_first : (a b : Bool) → (a && b) ≡ true → a ≡ true
 and_first true b h = refl

@@ -1,5 +1,6 @@
 -- What a line of a workload says. Source: own.
 use Rattle.std.specs.Prelude.{ℕ, ◌==◌, Bool, true, false, if◌then◌else◌, Option, Some, None, option_map, List, [], ◌∷◌, length, bytes_eq, codes}
+use Rattle.dbl_base.specs.Lines.{is_passed_over}
 use Rattle.dbl_script.specs.declared.script.NamedCell.{NamedCell}
 use Rattle.dbl_script.specs.declared.script.ScriptTable.{ScriptTable}
 use Rattle.dbl_script.specs.declared.script.ScriptRow.{ScriptRow}
@@ -141,11 +142,6 @@ worded number (first ∷ words) =
     else (if bytes_eq first (codes "row") then option_map Row (row_in number words)
     else (if bytes_eq first (codes "tick") then option_map Act (alone Tick words)
     else option_map Act (step_in first words)))
-
--- a line without bytes, and one that begins with `#`, is passed over
-abbrev pub is_passed_over : List ℕ → Bool
-is_passed_over [] = true
-is_passed_over (c ∷ cs) = c == 35
 
 -- what the line with this number says, if it is of the language
 unfoldable pub line_at : ℕ → List ℕ → Option Line

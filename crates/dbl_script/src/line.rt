@@ -3,7 +3,7 @@
 ghost use Rattle.std.specs.Prelude.{◌≡◌};
 ghost use Rattle.dbl_script.specs.Reads.{Reads};
 ghost use Rattle.dbl_script.specs.Words.{words_of};
-ghost use Rattle.dbl_script.specs.Grammar.{is_passed_over, worded, line_at};
+ghost use Rattle.dbl_script.specs.Grammar.{worded, line_at};
 
 use crate::columns::table;
 use crate::fault::Fault;
@@ -11,6 +11,7 @@ use crate::parts::Parts;
 use crate::steps::{alone, row, step};
 use crate::words::is_word;
 use crate::{ScriptRow, ScriptTable, Step};
+use dbl_base::passes_over;
 use std::alloc::Global;
 
 /// What a line says.
@@ -43,21 +44,12 @@ fn worded_line(alloc: Global, number: u32, bytes: &[u8]) -> Result<Line, Fault>
     }
 }
 
-fn is_passed_over(line: &[u8]) -> bool
-    ensures { result ≡ is_passed_over line.now }
-{
-    match line {
-        [] => true,
-        [first, ..] => *first == b'#',
-    }
-}
-
 /// What the line with this number says.
 #[tactic(auto, unfolding(crate::specs::Grammar::line_at))]
 pub fn read_line(alloc: Global, number: u32, bytes: &[u8]) -> Result<Line, Fault>
     ensures { Reads (line_at number bytes.now) result }
 {
-    if is_passed_over(bytes) {
+    if passes_over(bytes) {
         return Ok(Line::Passed);
     }
     worded_line(alloc, number, bytes)

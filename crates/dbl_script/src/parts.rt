@@ -1,5 +1,5 @@
 ghost use Rattle.std.specs.Prelude.{◌≡◌, ◌<◌, ◌∷◌, [], length, option_map, IfSome, MatchOption, MatchResult};
-ghost use Rattle.dbl_script.specs.Words.{cut_at, parts_at, lines_of};
+ghost use Rattle.dbl_script.specs.Words.{cut_at, parts_at};
 
 use crate::fault::Fault;
 use memchr::memchr;
@@ -65,17 +65,5 @@ impl<'a> Parts<'a> {
             Some(part) => Ok(part),
             None => Err(Fault::Bad),
         }
-    }
-}
-
-/// The first line, and the bytes behind it.
-pub fn next_line(bytes: &[u8]) -> (&[u8], &[u8])
-    requires { 0 < length bytes.now }
-    ensures first { lines_of bytes.now ≡ result.0.now ∷ lines_of result.1.now }
-    ensures shorter { length result.1.now < length bytes.now }
-{
-    match cut(b'\n', bytes) {
-        Some((line, behind)) => (line, behind),
-        None => (bytes, &[]),
     }
 }

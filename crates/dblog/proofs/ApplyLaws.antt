@@ -1,10 +1,10 @@
 -- Bytes have one answer of `apply --lines`.
 use Rattle.std.proofs.Common.{◌≡◌, ◌∙◌, ℕ, true, List, map, sym, ap, arith}
+use Rattle.dbl_base.specs.Lines.{lines_of}
 use Rattle.dbl_record.specs.Consumers.{consumer_of}
 use Rattle.dbl_consume.specs.Printing.{row_line}
 use Rattle.dbl_consume.proofs.RowLemmas.{rows_are_one}
 use Rattle.dblog.specs.declared.apply.FaultAt.{FaultAt}
-use Rattle.dblog.specs.Lines.{lines_of}
 use Rattle.dblog.specs.Apply.{readings_of}
 use Rattle.dblog.specs.Run.{Answer, done, line_fault, Applies, long_input, refused, applied}
 

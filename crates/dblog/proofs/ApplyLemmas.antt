@@ -5,6 +5,7 @@ use Rattle.std.specs.List.{cons_option}
 use Rattle.std.specs.Option.{option_to_list}
 use Rattle.std.specs.Str.{IsUtf8, is_utf8}
 use Rattle.std.proofs.lemmas.Str.{IsUtf8-from_is_utf8, is_utf8-from_IsUtf8}
+use Rattle.dbl_base.specs.Lines.{lines_of}
 use Rattle.serde_json.specs.Data.{Data}
 use Rattle.dbl_record.specs.Acts.{Reading}
 use Rattle.dbl_record.specs.Reading.{reading_in}
@@ -12,7 +13,6 @@ use Rattle.dbl_consume.specs.declared.consumer.Consumer.{Consumer}
 use Rattle.dbl_consume.specs.Holdings.{Took, placeholder_of}
 use Rattle.dblog.specs.declared.apply.FaultAt.{FaultAt}
 use Rattle.dblog.specs.declared.apply.LineFault.{LineFault}
-use Rattle.dblog.specs.Lines.{lines_of}
 use Rattle.dblog.specs.Apply.{reading_of_line, readings_of, fault_in, fault_of, or_later, first_fault, first_fault_from}
 
 -- the lines up to this number were applied

@@ -1,5 +1,6 @@
 -- How a run of `apply --lines` ends.
 use Rattle.std.proofs.Common.{◌≡◌, ◌≢◌, ◌⊎◌, inl, inr, ◌∙◌, ℕ, ℤ, ◌≤◌, Option, Some, None, List, [], ◌∷◌, ◌++◌, Bool, true, bytes_eq, Result, Ok, Err, codes, get_or, length, take, map, refl, sym, ap, subst, arith}
+use Rattle.dbl_base.specs.Lines.{lines_of, lines_text}
 use Rattle.dbl_base.specs.declared.input.TheConstants.{INPUT_LIMIT}
 use Rattle.dbl_record.specs.declared.acts.ConsumeError.{ConsumeError}
 use Rattle.dbl_record.specs.Acts.{Reading}
@@ -7,7 +8,6 @@ use Rattle.dbl_record.specs.Consumers.{HeldCells, consumer_of}
 use Rattle.dbl_consume.specs.declared.consumer.Consumer.{Consumer}
 use Rattle.dbl_consume.specs.declared.error.PrintError.TheVariants as print_error
 use Rattle.dbl_consume.specs.Holdings.{Took, placeholder_of}
-use Rattle.dbl_consume.specs.Printing as printed
 use Rattle.dbl_consume.specs.Printing.{row_line, PrintsRows}
 use Rattle.dblog.specs.declared.apply.FaultAt.{FaultAt}
 use Rattle.dblog.specs.declared.apply.LineFault.{LineFault}
@@ -15,9 +15,8 @@ use Rattle.dblog.specs.declared.apply.LineFault.TheVariants as line
 use Rattle.dblog.specs.declared.halt.Halt.{Halt}
 use Rattle.dblog.specs.declared.halt.Halt.TheVariants.{Usage, BadLine, InputTooLong, InputFailed, Memory}
 use Rattle.dblog.specs.Faults.{status_of, fault_line, output_failed_status}
-use Rattle.dblog.specs.Lines.{lines_of}
 use Rattle.dblog.specs.Apply.{first_fault, fault_text, readings_of}
-use Rattle.dblog.specs.Run.{Answer, fault, done, line_fault, lines_text, Applies, long_input, refused, applied, Wrote, WroteFront, whole, out_of_memory, Writes, Ends, IsOutside, Says, IsApplyStatus, HaltsApplying, RunsApplying, EndsAs, PrintedAs}
+use Rattle.dblog.specs.Run.{Answer, fault, done, line_fault, Applies, long_input, refused, applied, Wrote, WroteFront, whole, out_of_memory, Writes, Ends, IsOutside, Says, IsApplyStatus, HaltsApplying, RunsApplying, EndsAs, PrintedAs}
 use Rattle.dblog.proofs.ApplyLaws.{applies_one, applies_reads}
 use Rattle.dblog.proofs.RunLemmas.{says_ends, memory_ends, input_ends, input_is_outside, written_or_outside, memory_is_outside, writes_then}
 
@@ -108,23 +107,19 @@ lines_starved lines n status before middle after wrote says =
       told = inl (memory_is_outside status (written_or_outside _ _ status before after all));
     }
 
-text_is : (lines : List (List ℕ)) → printed.text_of lines ≡ lines_text lines
-text_is [] = refl
-text_is (line ∷ lines) = ap (λ t. line ++ 10 ∷ t) (text_is lines)
-
 -- what the consumer's printing answers
 pub rows_printed : (held : List ℕ → List ℕ → Option HeldCells) (before after : Option (List ℕ)) → PrintsRows {A = Unit {0}} held (Ok tt) before after → PrintedAs held 0 before after
 rows_printed held before after prints = record {
   rows = prints.0;
   are = prints.1;
-  ends = lines_printed (map row_line prints.0) before after (subst (Wrote before after) (text_is (map row_line prints.0)) prints.2);
+  ends = lines_printed (map row_line prints.0) before after prints.2;
 }
 
 pub rows_cut : (held : List ℕ → List ℕ → Option HeldCells) (status : ℕ) (before after : Option (List ℕ)) → status ≡ output_failed_status → PrintsRows {A = Unit {0}} held (Err print_error.Failed) before after → PrintedAs held status before after
 rows_cut held status before after is prints = record {
   rows = prints.0;
   are = prints.1;
-  ends = lines_cut (map row_line prints.0) status before after is (subst (WroteFront before after) (text_is (map row_line prints.0)) prints.2);
+  ends = lines_cut (map row_line prints.0) status before after is prints.2;
 }
 
 pub rows_starved : (held : List ℕ → List ℕ → Option HeldCells) (status : ℕ) (before middle after : Option (List ℕ)) → PrintsRows {A = Unit {0}} held (Err print_error.Memory) before middle → Says Memory status middle after → PrintedAs held status before after
@@ -133,7 +128,7 @@ rows_starved held status before middle after prints says =
     record {
       rows = prints.0;
       are = prints.1;
-      ends = lines_starved lines prints.2.0 status before middle after (subst (Wrote before middle) (text_is (take prints.2.0 lines)) prints.2.1) says;
+      ends = lines_starved lines prints.2.0 status before middle after prints.2.1 says;
     }
 
 pub says_memory : (status : ℕ) (before after : Option (List ℕ)) → Says Memory status before after → (status ≡ 13) ⊎ ((status ≡ output_failed_status) ⊎ (status ≡ status_of Memory))

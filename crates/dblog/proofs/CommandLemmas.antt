@@ -1,15 +1,16 @@
 -- How a run of a command ends, and one over words.
 use Rattle.std.proofs.Common.{◌≡◌, ◌≢◌, ◌⊎◌, inl, inr, ◌∙◌, ℕ, ℤ, Bool, true, false, Option, List, [], ◌∷◌, ◌++◌, refl, sym, ap, subst}
+use Rattle.dbl_base.specs.Lines.{lines_text}
 use Rattle.dbl_model.specs.declared.table.TableKey.{TableKey}
 use Rattle.dblog.specs.declared.options.ReplayOptions.{ReplayOptions}
-use Rattle.dbl_gen.specs.Workload.{workload, workload_lines, text_of}
+use Rattle.dbl_gen.specs.Workload.{workload, workload_lines}
 use Rattle.dbl_cli.specs.declared.commands.Command.{Command}
 use Rattle.dbl_cli.specs.declared.commands.Command.TheVariants as command
 use Rattle.dbl_cli.specs.Commands.{Spells}
 use Rattle.dbl_cli.proofs.SayLemmas.{one_command}
 use Rattle.dblog.specs.declared.halt.Halt.TheVariants.{Usage, InputFailed, Memory}
 use Rattle.dblog.specs.Faults.{status_of, output_failed_status}
-use Rattle.dblog.specs.Run.{Answer, fault, lines_text, MayEnd, whole, input_failed, out_of_memory, Writes, Ends, IsOutside, Says, EndsAs, RunsReplaying, RunsApplying}
+use Rattle.dblog.specs.Run.{Answer, fault, MayEnd, whole, input_failed, out_of_memory, Writes, Ends, IsOutside, Says, EndsAs, RunsReplaying, RunsApplying}
 use Rattle.dblog.specs.Means.{made, not_built, options_of, Answers, Means, usage, spelled, Runs, RunsCommand, TellsInput, IsCutShort, IsStatusOf}
 use Rattle.dblog.proofs.ApplyLaws.{applies_one}
 use Rattle.dblog.proofs.ApplyRunLemmas.{memory_outside, memory_written, says_is}
@@ -101,13 +102,6 @@ written_ends answer text status before after is writes = record {
   ended = record { wanted = answer.status; text = text; may = whole refl is; writes = writes };
   told = elim (written_or_outside _ _ status before after writes) [ inl same ↦ inr (sym same) | inr outside ↦ inl outside ];
 }
-
-lines_are : (lines : List (List ℕ)) → text_of lines ≡ lines_text lines
-lines_are [] = refl
-lines_are (line ∷ lines) = ap (λ t. line ++ 10 ∷ t) (lines_are lines)
-
-pub workload_is : (number rows groups : ℕ) → workload number rows groups ≡ lines_text (made number rows groups).lines
-workload_is number rows groups = lines_are (workload_lines number rows groups)
 
 -- want of memory is a status of every command, and tells nothing of the input
 cut_short : (status : ℕ) (before after : Option (List ℕ)) → Says Memory status before after → IsCutShort status

@@ -1,47 +1,16 @@
--- Where the first line of a text ends.
+-- Lines whose messages are taken one by one.
 use Rattle.std.proofs.Common.{◌≡◌, ◌∙◌, ℕ, zero, suc, ◌+◌, ◌-◌, ◌<◌, ◌≤◌, ◌==◌, true, false, Bool, List, [], ◌∷◌, ◌++◌, Option, Some, None, append_assoc, length, get_or, take, drop, length-drop, add-one, sym, ap, refl, arith, take_all}
 use Rattle.std.proofs.lemmas.List.{append-nil}
 use Rattle.std.specs.List.{position_from, cons_option}
 use Rattle.std.specs.Option.{option_to_list}
-use Rattle.dblog.specs.Lines.{lines_of, onto_first, without_spaces, message_in, messages_in, is_bad, first_bad}
-
--- before a newline at n stands no other
-pub line_at : (xs : List ℕ) (n : ℕ) → n < length xs → (get_or xs n 0 == 10) ≡ true → ((k : ℕ) → k < n → (get_or xs k 0 == 10) ≡ false) → lines_of xs ≡ take n xs ∷ lines_of (drop (suc n) xs)
-line_at [] n within is none = absurd (omega arith)
-line_at (c ∷ cs) zero within is none = rw is refl
-line_at (c ∷ cs) (suc n) within is none =
-    let here : (c == 10) ≡ false = none 0 (omega arith) in
-    let rest : lines_of cs ≡ take n cs ∷ lines_of (drop (suc n) cs) = line_at cs n (omega arith) is (λ k below. none (suc k) (omega arith)) in
-    rw (here, rest) refl
-
--- a text without a newline is one line
-pub line_alone : (c : ℕ) (cs : List ℕ) → ((k : ℕ) → k < length (c ∷ cs) → (get_or (c ∷ cs) k 0 == 10) ≡ false) → lines_of (c ∷ cs) ≡ (c ∷ cs) ∷ []
-line_alone c [] none = rw (none 0 (omega arith)) refl
-line_alone c (d ∷ ds) none =
-    let rest : lines_of (d ∷ ds) ≡ (d ∷ ds) ∷ [] = line_alone d ds (λ k below. none (suc k) (omega arith)) in
-    let here : (c == 10) ≡ false = none 0 (omega arith) in
-    let joined : lines_of (c ∷ d ∷ ds) ≡ onto_first c (lines_of (d ∷ ds)) = rw here refl in
-    joined ∙ ap (onto_first c) rest
+use Rattle.dbl_base.specs.Lines.{lines_of}
+use Rattle.dblog.specs.Lines.{without_spaces, message_in, messages_in, is_bad, first_bad}
 
 pub no_spaces : (xs : List ℕ) → ((k : ℕ) → k < length xs → (get_or xs k 0 == 32) ≡ false) → without_spaces xs ≡ xs
 no_spaces [] none = refl
 no_spaces (c ∷ cs) none =
     let here : (c == 32) ≡ false = none 0 (omega arith) in
     rw (here, no_spaces cs (λ k below. none (suc k) (omega arith))) refl
-
-pub is_false : (b : Bool) → (b ≡ true → ⊥) → b ≡ false
-is_false b never = elim b as (λ v. (v ≡ true → ⊥) → v ≡ false) [ true ↦ λ h. absurd (h refl) | false ↦ λ h. refl ] never
-
-pub line_first : (xs : List ℕ) (n m : ℕ) → n < length xs → (get_or xs n 0 == 10) ≡ true → ((k : ℕ) → k < n → (get_or xs k 0 == 10) ≡ false) → m ≡ length xs - (n + 1)
-    → lines_of xs ≡ take n xs ∷ lines_of (take m (drop (n + 1) xs))
-line_first xs n m within is none size =
-    let all : take m (drop (n + 1) xs) ≡ drop (n + 1) xs = take_all m (drop (n + 1) xs) (omega (arith, length-drop (n + 1) xs)) in
-    let first : lines_of xs ≡ take n xs ∷ lines_of (drop (n + 1) xs) = rw add-one (line_at xs n within is none) in
-    first ∙ ap (λ rest. take n xs ∷ lines_of rest) (sym all)
-
-pub line_last : (xs : List ℕ) (m : ℕ) → 0 < length xs → ((k : ℕ) → k < length xs → (get_or xs k 0 == 10) ≡ false) → m ≡ 0 → lines_of xs ≡ xs ∷ lines_of (take m (drop (length xs) xs))
-line_last [] m some none size = absurd (omega arith)
-line_last (c ∷ cs) m some none size = line_alone c cs none ∙ ap (λ k. (c ∷ cs) ∷ lines_of (take k (drop (length (c ∷ cs)) (c ∷ cs)))) (sym size)
 
 -- the lines up to this number are taken
 pub record IsTaking (text rest : List ℕ) (found : List (List ℕ)) (number : ℕ) : Type 0 where

@@ -4,14 +4,12 @@ use Rattle.std.specs.List.{slice_index_or}
 use Rattle.std.proofs.lemmas.List.{drop_more, drop_all, take-append-drop, map-append}
 use Rattle.std.proofs.lemmas.Bool.Decides.{Decides-eqb}
 use Rattle.std.proofs.Math.Seq.{take-append-add, take-append_seam}
+use Rattle.dbl_base.specs.Lines.{lines_text}
+use Rattle.dbl_base.proofs.LineLemmas.{lines_text-append}
 use Rattle.dblog.specs.declared.printing.PrintError.{PrintError}
 use Rattle.dblog.specs.declared.printing.PrintError.TheVariants.{OutputFailed, Memory}
-use Rattle.dblog.specs.Run.{Wrote, WroteFront, lines_text}
+use Rattle.dblog.specs.Run.{Wrote, WroteFront}
 use Rattle.dblog.specs.Printing.{Gathers, LineFails, Puts, kept, passed, LinesFail}
-
-pub lines_text-append : (xs ys : List (List ℕ)) → lines_text (xs ++ ys) ≡ lines_text xs ++ lines_text ys
-lines_text-append [] ys = refl
-lines_text-append (x ∷ xs) ys = ap (λ t. x ++ 10 ∷ t) (lines_text-append xs ys) ∙ sym (append_assoc x (10 ∷ lines_text xs) (lines_text ys))
 
 pub wrote_then : (before middle after : Option (List ℕ)) (first second : List ℕ) → Wrote before middle first → Wrote middle after second → Wrote before after (first ++ second)
 wrote_then before middle after first second one two bytes is = two (bytes ++ first) (one bytes is) ∙ ap Some (append_assoc bytes first second)

@@ -1,22 +1,9 @@
--- The lines of an input, and the messages that the lines of `replay` spell.
-use Rattle.std.specs.Prelude.{ℕ, ◌==◌, ◌&&◌, not, Bool, true, if◌then◌else◌, Option, None, is_none, List, [], ◌∷◌, filter}
+-- The messages that the lines of `replay` spell.
+use Rattle.std.specs.Prelude.{ℕ, ◌==◌, ◌&&◌, not, Bool, if◌then◌else◌, Option, None, is_none, List, filter}
 use Rattle.std.specs.List.{filter_map, position_from}
 use Rattle.std.specs.Result.{result_ok}
 use Rattle.hex.specs.Hex.{decode_of}
-
-abbrev pub onto_first : ℕ → List (List ℕ) → List (List ℕ)
-onto_first c [] = (c ∷ []) ∷ []
-onto_first c (line ∷ lines) = (c ∷ line) ∷ lines
-
--- the lines of a text, each without its newline; the last one may lack it
-abbrev pub lines_of : List ℕ → List (List ℕ)
-lines_of [] = []
-lines_of (c ∷ cs) = if c == 10 then [] ∷ lines_of cs else onto_first c (lines_of cs)
-
--- a line without bytes, and one that begins with `#`, is passed over
-abbrev pub is_passed_over : List ℕ → Bool
-is_passed_over [] = true
-is_passed_over (c ∷ cs) = c == 35
+use Rattle.dbl_base.specs.Lines.{is_passed_over}
 
 abbrev pub without_spaces : List ℕ → List ℕ
 without_spaces line = filter (λ c. not (c == 32)) line

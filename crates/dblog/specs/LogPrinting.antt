@@ -1,5 +1,6 @@
 -- For private clauses: lines of a log that are put and written.
 use Rattle.std.specs.Prelude.{◌≡◌, ◌⊎◌, ℕ, ℤ, List, [], ◌∷◌, ◌++◌, take, Option, None, Some, Result, Ok, Err}
+use Rattle.dbl_base.specs.Lines.{lines_text}
 use Rattle.dbl_pgmsg.specs.declared.messages.Message.{Message}
 use Rattle.dbl_model.specs.declared.table.TableInfo.{TableInfo}
 use Rattle.dbl_model.specs.Stated.{list_of, ended}
@@ -14,7 +15,7 @@ use Rattle.dblog.specs.declared.replay.Replayer.{Replayer}
 use Rattle.dblog.specs.Following.{Follows}
 use Rattle.dblog.specs.Log.{lines_in, IsLogFault, IsTaken, LogWrites, end_status, end_lines}
 use Rattle.dblog.specs.Printing.{Puts, LinesFail}
-use Rattle.dblog.specs.Run.{Wrote, WroteFront, lines_text, log_answer, Ends, IsOutside}
+use Rattle.dblog.specs.Run.{Wrote, WroteFront, log_answer, Ends, IsOutside}
 
 -- a fault, and no line was put
 pub record IsHalted (fault : LogFault) (gathered : List ℕ) (put : LogPut) (before after : Option (List ℕ)) : Type 0 where

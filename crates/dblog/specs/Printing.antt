@@ -1,8 +1,9 @@
 -- For private clauses: lines that are gathered before they are written.
 use Rattle.std.specs.Prelude.{◌≡◌, ◌⊎◌, List, [], ◌++◌, ℕ, Option, Result, Ok, Err}
+use Rattle.dbl_base.specs.Lines.{lines_text}
 use Rattle.dblog.specs.declared.printing.PrintError.{PrintError}
 use Rattle.dblog.specs.declared.printing.PrintError.TheVariants.{OutputFailed, Memory}
-use Rattle.dblog.specs.Run.{Wrote, WroteFront, lines_text}
+use Rattle.dblog.specs.Run.{Wrote, WroteFront}
 
 -- the text was gathered, or it was written and nothing is gathered
 abbrev pub Gathers : List ℕ → List ℕ → Option (List ℕ) → Option (List ℕ) → Type 0

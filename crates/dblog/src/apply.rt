@@ -2,15 +2,13 @@
 ghost use Rattle.std.specs.Prelude.{◌≡◌, ◌≢◌, ◌++◌, ◌∷◌, [], List, ℕ, Some, None, IfOk, IfErr, OnOk};
 ghost use Rattle.std.specs.Option.{option_to_list};
 ghost use Rattle.std.specs.String.{string_bytes};
+ghost use Rattle.dbl_base.specs.Lines.{lines_of, lines_text};
 ghost use Rattle.dbl_record.specs.Acts.{Reading};
 ghost use Rattle.dbl_record.specs.Reading.{parsed_as};
 ghost use Rattle.dbl_consume.specs.Holdings.{Took, placeholder_of};
 ghost use Rattle.dblog.specs.Apply.{fault_of, fault_in, first_fault, reading_of_line, readings_of, refusal_text, words_of, fault_text};
-ghost use Rattle.dblog.specs.Lines.{lines_of};
-ghost use Rattle.dblog.specs.Run.{lines_text};
 
-use crate::lines::next_line;
-use dbl_base::Text;
+use dbl_base::{Text, next_line};
 use dbl_consume::{ConsumeError, Consumer};
 use dbl_record::{ParsedLine, RecordError, parse_line};
 use std::alloc::{AllocError, Global};

@@ -1,7 +1,7 @@
 ghost use Rattle.std.specs.Prelude.{◌≡◌, ◌∷◌, [], IfOk};
 ghost use Rattle.std.specs.String.{string_bytes};
+ghost use Rattle.dbl_base.specs.Lines.{lines_text};
 ghost use Rattle.dblog.specs.Faults.{status_of, fault_line};
-ghost use Rattle.dblog.specs.Run.{lines_text};
 
 use std::alloc::{AllocError, Global};
 

@@ -1,10 +1,11 @@
 ghost use Rattle.std.specs.Prelude.{◌≡◌, ◌<◌, ◌++◌, ◌∷◌, ℕ, true, false, length, Some, None, Err, IfOk, OnOk};
 ghost use Rattle.std.specs.Option.{option_to_list};
 ghost use Rattle.std.specs.Result.{result_ok};
+ghost use Rattle.dbl_base.specs.Lines.{is_passed_over, lines_of};
 ghost use Rattle.hex.specs.Hex.{decode_of};
-ghost use Rattle.dblog.specs.Lines.{lines_of, is_passed_over, without_spaces, bytes_in, message_in, is_bad, messages_in, first_bad};
+ghost use Rattle.dblog.specs.Lines.{without_spaces, bytes_in, message_in, is_bad, messages_in, first_bad};
 
-use dbl_base::Bytes;
+use dbl_base::{Bytes, next_line, passes_over};
 use hex::FromHexError;
 use memchr::memchr;
 use std::alloc::{AllocError, AllocFailed, Global};
@@ -39,27 +40,6 @@ impl<T: Drop> From<AllocFailed<T>> for LineError {
 
     fn from(_error: AllocFailed<T>) -> LineError {
         LineError::Memory
-    }
-}
-
-// The first line, and the bytes behind it.
-pub fn next_line(bytes: &[u8]) -> (&[u8], &[u8])
-    requires { 0 < length bytes.now }
-    ensures first { lines_of bytes.now ≡ result.0.now ∷ lines_of result.1.now }
-    ensures shorter { length result.1.now < length bytes.now }
-{
-    match memchr(b'\n', bytes) {
-        Some(end) => (&bytes[..end], &bytes[end + 1..]),
-        None => (bytes, &bytes[bytes.len()..]),
-    }
-}
-
-fn passes_over(line: &[u8]) -> bool
-    ensures { result ≡ is_passed_over line.now }
-{
-    match line {
-        [] => true,
-        [first, ..] => *first == b'#',
     }
 }
 

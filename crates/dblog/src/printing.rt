@@ -1,4 +1,5 @@
 ghost use Rattle.std.specs.Prelude.{◌≡◌, ◌≢◌, Some, ◌≤◌, ◌+◌, ◌++◌, ◌∷◌, List, [], length, map, None, option_and_then, All, IfSome, IfOk, IfErr, OnOk, Err};
+ghost use Rattle.dbl_base.specs.Lines.{lines_text};
 ghost use Rattle.dbl_base.specs.Streams.{Rose};
 ghost use Rattle.dbl_pgmsg.specs.declared.messages.Message.{Message};
 ghost use Rattle.dbl_record.specs.Line.{line_of};
@@ -11,7 +12,7 @@ ghost use Rattle.dbl_envelope.specs.Suits.{Suits};
 ghost use Rattle.dblog.specs.declared.options.ReplayOptions.{ReplayOptions};
 ghost use Rattle.dblog.specs.Following.{Follows, IsFollowing};
 ghost use Rattle.dblog.specs.Log.{lines_in, commit_fault, end_fault, end_status, end_lines};
-ghost use Rattle.dblog.specs.Run.{Wrote, WroteFront, lines_text};
+ghost use Rattle.dblog.specs.Run.{Wrote, WroteFront};
 ghost use Rattle.dblog.specs.Printing.{PutsLine, PutsLines};
 ghost use Rattle.dblog.specs.LogPrinting.{PutsCommit, Steps, PutsLog, PrintsLog, EndsLog};
 

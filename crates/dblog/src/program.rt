@@ -1,11 +1,12 @@
 ghost use Rattle.std.specs.Prelude.{◌≡◌, ◌≢◌, ◌⊎◌, false, ◌↔◌, ℕ, ◌≤◌, List, [], length, Some, Err, None, IfOk, IfErr, OnOk, MatchResult, IsTrue, ℤ};
+ghost use Rattle.dbl_base.specs.Lines.{lines_of};
 ghost use Rattle.dbl_base.specs.Streams.{Rose};
 ghost use Rattle.dbl_base.specs.declared.input.TheConstants.{INPUT_LIMIT};
 ghost use Rattle.dbl_record.specs.Acts.{Reading};
 ghost use Rattle.dbl_record.specs.Consumers.{consumer_of};
 ghost use Rattle.dbl_consume.specs.Holdings.{Took, placeholder_of};
 ghost use Rattle.dblog.specs.Faults.{status_of, output_failed_status};
-ghost use Rattle.dblog.specs.Lines.{lines_of, messages_in, first_bad};
+ghost use Rattle.dblog.specs.Lines.{messages_in, first_bad};
 ghost use Rattle.dblog.specs.declared.options.ReplayOptions.{ReplayOptions};
 ghost use Rattle.dbl_cli.specs.declared.commands.Command.{Command};
 ghost use Rattle.dbl_cli.specs.Commands.{Spells};

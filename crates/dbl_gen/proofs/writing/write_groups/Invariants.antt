@@ -1,7 +1,8 @@
 use Rattle.std.proofs.Common.{◌≡◌, ◌+◌, ◌-◌, ◌++◌}
 use Rattle.std.specs.String.{string_bytes}
-use Rattle.dbl_gen.specs.Workload.{text_of, groups_from}
+use Rattle.dbl_base.specs.Lines.{lines_text}
+use Rattle.dbl_gen.specs.Workload.{groups_from}
 use Rattle.dbl_gen.proofs.writing.write_groups.Given as goal
 
 abbrev pub invariant-groups : goal.invariant-groups
-invariant-groups l = string_bytes l.text ++ text_of (groups_from l.rows (l.group + 1) (l.groups - l.group) l.draws.state) ≡ string_bytes l.fn.text ++ text_of (groups_from l.rows 1 l.groups l.fn.number)
+invariant-groups l = string_bytes l.text ++ lines_text (groups_from l.rows (l.group + 1) (l.groups - l.group) l.draws.state) ≡ string_bytes l.fn.text ++ lines_text (groups_from l.rows 1 l.groups l.fn.number)

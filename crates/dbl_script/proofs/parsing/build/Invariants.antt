@@ -1,5 +1,5 @@
 use Rattle.std.proofs.Common.{length}
-use Rattle.dbl_script.specs.Words.{lines_of}
+use Rattle.dbl_base.specs.Lines.{lines_of}
 use Rattle.dbl_script.proofs.ScriptLemmas.{IsBuilding}
 use Rattle.dbl_script.proofs.parsing.build.Given as goal
 

@@ -1,5 +1,5 @@
 use Rattle.std.proofs.Common.{◌≡◌, ◌+◌, ◌≤◌, length}
-use Rattle.dbl_script.specs.Words.{lines_of}
+use Rattle.dbl_base.specs.Lines.{lines_of}
 use Rattle.dbl_script.proofs.parsing.count_lines.Given as goal
 
 abbrev pub invariant-lines : goal.invariant-lines

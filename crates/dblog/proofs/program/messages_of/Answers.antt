@@ -1,5 +1,6 @@
 use Rattle.std.proofs.Common.{◌∙◌, refl, sym, ap, Err}
-use Rattle.dblog.specs.Lines.{lines_of, first_bad}
+use Rattle.dbl_base.specs.Lines.{lines_of}
+use Rattle.dblog.specs.Lines.{first_bad}
 use Rattle.dblog.specs.Run.{bad_line}
 use Rattle.dblog.proofs.program.messages_of.Goals as goal
 

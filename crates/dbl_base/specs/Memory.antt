@@ -1,5 +1,5 @@
 -- What the implementations in memory are made of.
-use Rattle.std.specs.Prelude.{ℕ, List, []}
+use Rattle.std.specs.Prelude.{ℕ, List}
 
 -- which calls are planned to fail, counted from 1, how many calls were made, and how many faults were counted
 pub record Plan : Type 0 where

@@ -1,4 +1,4 @@
-use Rattle.std.proofs.Common.{◌∙◌, ◌≡◌, ◌<◌, List, [], ℕ, Ok, Some, length, ap, arith}
+use Rattle.std.proofs.Common.{◌∙◌, Ok, ap, arith}
 use Rattle.dbl_base.specs.declared.input.TheConstants.{INPUT_LIMIT}
 use Rattle.dbl_base.proofs.Readings.{reading_begins, reading_goes_on, reading_ends, nothing_left, reading_passed}
 use Rattle.dbl_base.proofs.input.read_all.Goals as goal

@@ -20,6 +20,7 @@ use Rattle.dbl_value.specs.Values.{SpellsValue, IsOf}
 use Rattle.dbl_value.specs.Order.{rank}
 use Rattle.dbl_value.proofs.Decimals.{decimals_spell_integers}
 use Rattle.dbl_value.proofs.KindLemmas.{kind_of, spelled_kind, text_spelled}
+use Rattle.dbl_record.specs.Fields.{number64, text_form, truth_form, IsStored}
 use Rattle.dbl_model.specs.declared.row.Key.{Key}
 use Rattle.dbl_model.specs.declared.cursor.Cursor.{Cursor}
 use Rattle.dbl_model.specs.declared.table.TableInfo.{TableInfo}
@@ -27,7 +28,7 @@ use Rattle.dbl_model.specs.Tables.{is_key_type}
 use Rattle.dbl_model.specs.Infos.{key_types}
 use Rattle.dbl_model.specs.Fit.{AreOf}
 use Rattle.dbl_model.specs.Cursors.{IsCursorOf}
-use Rattle.dbl_offset.specs.Entries.{number64, text, truth, cell, last_key, cursor, IsText, FitsCell, FitsCursor}
+use Rattle.dbl_offset.specs.Entries.{cell, last_key, cursor, FitsCell, FitsCursor}
 use Rattle.dbl_offset.specs.Reading.{◌>>=◌, byte_at, truth_at, is_integer_of, word_of, integer_at, word_at, cell_at, cells_at, key_at, last_at, cursor_at}
 use Rattle.dbl_offset.proofs.FieldLaws.{IsBytes, some_is, bind_some, guard_held, chosen, Takes, Takes-then, Reads, took, byte_reads, number64_reads, text_reads, truth_reads}
 
@@ -98,7 +99,7 @@ is_word type.Int4 t key is = absurd (eqb-false 3 2 refl (spelled_kind type.Int4 
 is_word type.Int8 t key is = absurd (eqb-false 3 2 refl (spelled_kind type.Int8 is.text (val.Text t) is.spells))
 is_word ty t key is = cc
 
-word_again : (ty : PgType) (t rest : List ℕ) → word_of ty t ≡ Some (val.Text t) → IsText t → word_at ty (text t ++ rest) ≡ Some (val.Text t, rest)
+word_again : (ty : PgType) (t rest : List ℕ) → word_of ty t ≡ Some (val.Text t) → IsStored t → word_at ty (text_form t ++ rest) ≡ Some (val.Text t, rest)
 unfolding word_at
 word_again ty t rest h fits = rw (text_reads.again t rest fits, h) refl
 
@@ -208,12 +209,12 @@ last_takes types bytes last rest fits e =
           let c = bind_some (cells_at types there.rest) (λ (cells : List Val × List ℕ). Some (let key : Key = record { cells = cells.0 } in key, cells.1)) k.0 k.1 in
           let read = cells_takes types there.rest c.0.0 c.0.1 there.takes.rest_fits c.1 in
           let key : Key = record { cells = c.0.0 } in
-          let front : Takes bytes (1 ∷ []) there.rest = subst (λ (b : Bool). Takes bytes (truth b) there.rest) p.0 there.takes in
+          let front : Takes bytes (1 ∷ []) there.rest = subst (λ (b : Bool). Takes bytes (truth_form b) there.rest) p.0 there.takes in
           let made : IsLastRead types bytes (Some key) c.0.1 = record { takes = Takes-then bytes (1 ∷ []) there.rest (flat_map cell c.0.0) c.0.1 front read.takes; is = read.are; fits = read.fits } in
           let inner : IsLastRead types bytes (Some k.0.0) k.0.1 = subst (λ (y : Key × List ℕ). IsLastRead types bytes (Some y.0) y.1) (some_is (key, c.0.1) k.0 c.2) made in
           subst (λ (y : Option Key × List ℕ). IsLastRead types bytes y.0 y.1) (some_is (Some k.0.0, k.0.1) (last, rest) k.2) inner)
       | inr p ↦ (
-          let front : Takes bytes (0 ∷ []) there.rest = subst (λ (b : Bool). Takes bytes (truth b) there.rest) p.0 there.takes in
+          let front : Takes bytes (0 ∷ []) there.rest = subst (λ (b : Bool). Takes bytes (truth_form b) there.rest) p.0 there.takes in
           let made : IsLastRead types bytes None there.rest = record { takes = front; is = tt; fits = tt } in
           subst (λ (y : Option Key × List ℕ). IsLastRead types bytes y.0 y.1) (some_is (None, there.rest) (last, rest) p.1) made)
     ]
@@ -224,7 +225,7 @@ module _ (info : TableInfo) (keys : AllByRecursion (λ ty. is_key_type ty ≡ tr
   cursor_again : (c : Cursor) (rest : List ℕ) → IsCursorOf info c × FitsCursor c → cursor_at info (cursor c ++ rest) ≡ Some (c, rest)
   unfolding cursor_at cursor
   cursor_again c rest h =
-      rw (append_assoc (truth c.done) (last_key c.last) rest, truth_reads.again c.done (last_key c.last ++ rest) tt, last_again (key_types info) c.last rest keys h.0 h.1) refl
+      rw (append_assoc (truth_form c.done) (last_key c.last) rest, truth_reads.again c.done (last_key c.last ++ rest) tt, last_again (key_types info) c.last rest keys h.0 h.1) refl
 
   cursor_takes : (bytes : List ℕ) (c : Cursor) (rest : List ℕ) → IsBytes bytes → cursor_at info bytes ≡ Some (c, rest) → Takes bytes (cursor c) rest × (IsCursorOf info c × FitsCursor c)
   unfolding cursor_at cursor
@@ -234,7 +235,7 @@ module _ (info : TableInfo) (keys : AllByRecursion (λ ty. is_key_type ty ≡ tr
       let read = last_takes (key_types info) done.rest l.0.0 l.0.1 done.takes.rest_fits l.1 in
       let made : Cursor = record { last = l.0.0; done = done.value } in
       subst (λ (y : Cursor × List ℕ). Takes bytes (cursor y.0) y.1 × (IsCursorOf info y.0 × FitsCursor y.0)) (some_is (made, l.0.1) (c, rest) l.2)
-      (Takes-then bytes (truth done.value) done.rest (last_key l.0.0) l.0.1 done.takes read.takes, (read.is, read.fits))
+      (Takes-then bytes (truth_form done.value) done.rest (last_key l.0.0) l.0.1 done.takes read.takes, (read.is, read.fits))
 
   pub cursor_reads : Reads (cursor_at info) cursor (λ c. IsCursorOf info c × FitsCursor c)
   cursor_reads = record { again = cursor_again; takes = cursor_takes }

@@ -7,7 +7,8 @@ use Rattle.std.proofs.lemmas.Bool.{cases_lt, eqb-true, ltb-false, le-ltb}
 use Rattle.std.proofs.lemmas.Str.{IsUtf8-from_is_utf8, is_utf8-from_IsUtf8}
 use Rattle.std.proofs.lemmas.List.{take_at, drop_at, take-append-drop, length-append, length-take, get_or-drop, get_or-take, get_or_past}
 use Rattle.std.proofs.lemmas.Nat.{be_bytes_4, be_bytes_8, from_be_bytes-to_be_bytes_4, from_be_bytes-to_be_bytes_8}
-use Rattle.dbl_offset.specs.Entries.{number32, number64, text, counted, truth, IsText}
+use Rattle.dbl_record.specs.Fields.{number32, number64, text_form, truth_form, IsStored}
+use Rattle.dbl_offset.specs.Entries.{counted}
 use Rattle.dbl_offset.specs.Reading.{Read, ◌>>=◌, byte_at, number_at, utf8_of, text_at, truth_at, many_at, counted_at}
 
 abbrev pub IsBytes : List ℕ → Type 0
@@ -141,24 +142,24 @@ byte_again b rest = refl
 pub byte_reads : Reads byte_at (λ b. b ∷ []) (λ b. b < 2 ^ 8)
 byte_reads = record { again = λ b rest lt. byte_again b rest; takes = byte_takes }
 
-truth_again : (b : Bool) (rest : List ℕ) → truth_at (truth b ++ rest) ≡ Some (b, rest)
+truth_again : (b : Bool) (rest : List ℕ) → truth_at (truth_form b ++ rest) ≡ Some (b, rest)
 unfolding truth_at byte_at
 truth_again true rest = refl
 truth_again false rest = refl
 
-truth_takes : (bytes : List ℕ) (b : Bool) (rest : List ℕ) → IsBytes bytes → truth_at bytes ≡ Some (b, rest) → Takes bytes (truth b) rest × Unit {0}
+truth_takes : (bytes : List ℕ) (b : Bool) (rest : List ℕ) → IsBytes bytes → truth_at bytes ≡ Some (b, rest) → Takes bytes (truth_form b) rest × Unit {0}
 unfolding truth_at
 truth_takes bytes b rest fits e =
     let a = bind_some (byte_at bytes) (λ (x : ℕ × List ℕ). cond (eqb x.0 0) (Some (false, x.1)) (cond (eqb x.0 1) (Some (true, x.1)) None)) (b, rest) e in
     let t = byte_takes bytes a.0.0 a.0.1 fits a.1 in
     elim (chosen (eqb a.0.0 0) _ _ _ a.2) [
-      | inl p ↦ (subst (λ (x : Bool × List ℕ). Takes bytes (truth x.0) x.1) (some_is (false, a.0.1) (b, rest) p.1) (subst (λ (n : ℕ). Takes bytes (n ∷ []) a.0.1) (eqb-true _ _ p.0) t.0), tt)
+      | inl p ↦ (subst (λ (x : Bool × List ℕ). Takes bytes (truth_form x.0) x.1) (some_is (false, a.0.1) (b, rest) p.1) (subst (λ (n : ℕ). Takes bytes (n ∷ []) a.0.1) (eqb-true _ _ p.0) t.0), tt)
       | inr p ↦ (
           let g = guard_held (eqb a.0.0 1) (Some (true, a.0.1)) (b, rest) p.1 in
-          (subst (λ (x : Bool × List ℕ). Takes bytes (truth x.0) x.1) (some_is (true, a.0.1) (b, rest) g.1) (subst (λ (n : ℕ). Takes bytes (n ∷ []) a.0.1) (eqb-true _ _ g.0) t.0), tt))
+          (subst (λ (x : Bool × List ℕ). Takes bytes (truth_form x.0) x.1) (some_is (true, a.0.1) (b, rest) g.1) (subst (λ (n : ℕ). Takes bytes (n ∷ []) a.0.1) (eqb-true _ _ g.0) t.0), tt))
     ]
 
-pub truth_reads : Reads truth_at truth (λ b. Unit {0})
+pub truth_reads : Reads truth_at truth_form (λ b. Unit {0})
 truth_reads = record { again = λ b rest fits. truth_again b rest; takes = truth_takes }
 
 -- ---- texts
@@ -182,14 +183,14 @@ pub utf8_refused : (t : List ℕ) → (IsUtf8 t → ⊥) → utf8_of t ≡ None
 unfolding utf8_of
 utf8_refused t h = rw (is_false (is_utf8 t) (λ e. h (IsUtf8-from_is_utf8 t e))) refl
 
-text_again : (t rest : List ℕ) → IsText t → text_at (text t ++ rest) ≡ Some (t, rest)
-unfolding text_at text
+text_again : (t rest : List ℕ) → IsStored t → text_at (text_form t ++ rest) ≡ Some (t, rest)
+unfolding text_at text_form
 text_again t rest fits =
     let long : ltb (length (t ++ rest)) (length t) ≡ false = le-ltb _ _ (omega (arith, length-append t rest)) in
     rw (append_assoc (number32 (length t)) t rest, number32_reads.again (length t) (t ++ rest) fits.short, long, take_at t rest (length t) refl, drop_at t rest (length t) refl, utf8_again t fits.utf8) refl
 
-text_takes : (bytes t rest : List ℕ) → IsBytes bytes → text_at bytes ≡ Some (t, rest) → Takes bytes (text t) rest × IsText t
-unfolding text_at text
+text_takes : (bytes t rest : List ℕ) → IsBytes bytes → text_at bytes ≡ Some (t, rest) → Takes bytes (text_form t) rest × IsStored t
+unfolding text_at text_form
 text_takes bytes t rest fits e =
     let a = bind_some (number_at w32 bytes) _ (t, rest) e in
     let n = a.0 in
@@ -206,7 +207,7 @@ text_takes bytes t rest fits e =
     let both = Takes-then bytes (number32 n.0) n.1 t rest s.0 second in
     (subst (λ (k : ℕ). Takes bytes (number32 k ++ t) rest) (sym len) both, record { utf8 = subst IsUtf8 (sym u.0 ∙ text_is) u.1; short = omega (arith, s.1, len) })
 
-pub text_reads : Reads text_at text IsText
+pub text_reads : Reads text_at text_form IsStored
 text_reads = record { again = text_again; takes = text_takes }
 
 -- ---- lists

@@ -6,6 +6,7 @@ use Rattle.std.specs.List.{AllByRecursion, AllZip, flat_map, list_any, zip}
 use Rattle.std.proofs.lemmas.Bool.{eqb-true, lt-ltb, ltb-true, le-leb, leb-true}
 use Rattle.std.proofs.lemmas.List.{append-nil, drop_more, length-drop, nil_from_length, take_all}
 use Rattle.std.proofs.lemmas.Slice.Zip.{AllZip-long, firsts-zip, seconds-zip}
+use Rattle.dbl_record.specs.Fields.{number32, number64, text_form}
 use Rattle.dbl_model.specs.declared.table.TableInfo.{TableInfo}
 use Rattle.dbl_model.specs.declared.table.TableName.{TableName}
 use Rattle.dbl_model.specs.declared.identity.Identity.{Identity}
@@ -17,7 +18,7 @@ use Rattle.dbl_model.proofs.Lists.{and_left, and_right}
 use Rattle.dbl_offset.specs.declared.offset.Offset.{Offset}
 use Rattle.dbl_offset.specs.declared.refusal.Refusal.{Refusal}
 use Rattle.dbl_offset.specs.declared.refusal.Refusal.TheVariants.{NoOffset, Memory}
-use Rattle.dbl_offset.specs.Entries.{number32, number64, text, names, counted, entry, tables_of, spelling, FitsNames, FitsEntry, Fits}
+use Rattle.dbl_offset.specs.Entries.{names, counted, entry, tables_of, spelling, FitsNames, FitsEntry, Fits}
 use Rattle.dbl_offset.specs.Offsets.{IsOffset, Spells, IsEntry}
 use Rattle.dbl_offset.specs.Reading.{Gives, number_at, many_at, entry_at, identity_at, infos_of, cursors_of, tables_at, numbers_at, ended, version_at, offset_at, whole}
 use Rattle.dbl_offset.proofs.FieldLaws.{IsBytes, some_is, bind_some, guard_held, Takes, Takes-then, Reads, took, byte_reads, number32_reads, number64_reads, text_reads, many_again, many_takes}
@@ -28,8 +29,8 @@ use Rattle.dbl_offset.proofs.TableLaws.{HoldsEntry, entry_reads}
 identity_again : (x : Identity) (rest : List ℕ) → FitsNames x × (is_good_identity x ≡ true) → identity_at (names x ++ rest) ≡ Some (x, rest)
 unfolding identity_at names
 identity_again x rest h =
-    let regrouped : ((text x.prefix ++ text x.db) ++ text x.placeholder) ++ rest ≡ text x.prefix ++ (text x.db ++ (text x.placeholder ++ rest)) = simp append_assoc in
-    ap identity_at regrouped ∙ rw (text_reads.again x.prefix (text x.db ++ (text x.placeholder ++ rest)) h.0.prefix, text_reads.again x.db (text x.placeholder ++ rest) h.0.db, text_reads.again x.placeholder rest h.0.placeholder, h.1) refl
+    let regrouped : ((text_form x.prefix ++ text_form x.db) ++ text_form x.placeholder) ++ rest ≡ text_form x.prefix ++ (text_form x.db ++ (text_form x.placeholder ++ rest)) = simp append_assoc in
+    ap identity_at regrouped ∙ rw (text_reads.again x.prefix (text_form x.db ++ (text_form x.placeholder ++ rest)) h.0.prefix, text_reads.again x.db (text_form x.placeholder ++ rest) h.0.db, text_reads.again x.placeholder rest h.0.placeholder, h.1) refl
 
 identity_takes : (bytes : List ℕ) (x : Identity) (rest : List ℕ) → IsBytes bytes → identity_at bytes ≡ Some (x, rest) → Takes bytes (names x) rest × (FitsNames x × (is_good_identity x ≡ true))
 unfolding identity_at names
@@ -39,7 +40,7 @@ identity_takes bytes x rest fits e =
     let placeholder = took text_reads bytes _ db.rest _ (x, rest) db.takes db.more in
     let read : Identity = record { prefix = prefix.value; db = db.value; placeholder = placeholder.value } in
     let g = guard_held (is_good_identity read) (Some (read, placeholder.rest)) (x, rest) placeholder.more in
-    subst (λ (y : Identity × List ℕ). Takes bytes ((text y.0.prefix ++ text y.0.db) ++ text y.0.placeholder) y.1 × (FitsNames y.0 × (is_good_identity y.0 ≡ true))) (some_is (read, placeholder.rest) (x, rest) g.1)
+    subst (λ (y : Identity × List ℕ). Takes bytes ((text_form y.0.prefix ++ text_form y.0.db) ++ text_form y.0.placeholder) y.1 × (FitsNames y.0 × (is_good_identity y.0 ≡ true))) (some_is (read, placeholder.rest) (x, rest) g.1)
     (placeholder.takes, (record { prefix = prefix.fits; db = db.fits; placeholder = placeholder.fits }, g.0))
 
 identity_reads : Reads identity_at names (λ x. FitsNames x × (is_good_identity x ≡ true))

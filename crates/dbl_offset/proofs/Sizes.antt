@@ -3,43 +3,32 @@ use Rattle.std.proofs.Common.{◌≡◌, ℕ, ℤ, suc, ◌+◌, ◌*◌, ◌^�
 use Rattle.std.specs.Prelude.{FitsSigned}
 use Rattle.std.specs.Int.{w64, cast_unsigned}
 use Rattle.std.specs.List.{flat_map, zip, AllByRecursion}
-use Rattle.std.proofs.lemmas.List.{length-append, length-drop, append-nil, nil_from_length}
+use Rattle.std.proofs.lemmas.List.{length-append}
 use Rattle.std.proofs.lemmas.List.Elements.{All-from_recursion, All-get_or}
 use Rattle.std.proofs.lemmas.Slice.Zip.{get_or-zip, length-zip}
-use Rattle.std.proofs.Math.Seq.{drop-cons}
 use Rattle.dbl_value.specs.declared.value.Val.{Val}
 use Rattle.dbl_value.specs.declared.value.Val.TheVariants as val
 use Rattle.dbl_value.specs.Types.{oid_of}
+use Rattle.dbl_record.specs.Fields.{number32, number64, text_form, IsStored}
+use Rattle.dbl_record.proofs.Sizes.{number32_size, number64_size, next_item, no_item}
 use Rattle.dbl_model.specs.declared.table.Column.{Column}
 use Rattle.dbl_model.specs.declared.table.TableInfo.{TableInfo}
 use Rattle.dbl_model.specs.declared.identity.Identity.{Identity}
 use Rattle.dbl_model.specs.declared.row.Key.{Key}
 use Rattle.dbl_model.specs.declared.cursor.Cursor.{Cursor}
 use Rattle.dbl_offset.specs.declared.offset.Offset.{Offset}
-use Rattle.dbl_offset.specs.Entries.{number32, number64, text, counted, names, column, table, cell, last_key, cursor, entry, tables_of, spelling, IsText, FitsNames, FitsColumn, FitsTable, FitsCell, FitsCursor, FitsEntry, Fits}
+use Rattle.dbl_offset.specs.Entries.{counted, names, column, table, cell, last_key, cursor, entry, tables_of, spelling, FitsNames, FitsColumn, FitsTable, FitsCell, FitsCursor, FitsEntry, Fits}
 use Rattle.dbl_offset.specs.Measures.{capped, Measures}
 
 -- ---- sizes
 
-pub number32_size : (n : ℕ) → length (number32 n) ≡ 4
-unfolding number32
-number32_size n = refl
-
-pub number64_size : (n : ℕ) → length (number64 n) ≡ 8
-unfolding number64
-number64_size n = refl
-
-pub text_size : (t : List ℕ) → length (text t) ≡ 4 + length t
-unfolding text
-text_size t = omega (arith, number32_size (length t), length-append (number32 (length t)) t)
-
-pub names_size : (x : Identity) → length (names x) ≡ length (text x.prefix) + length (text x.db) + length (text x.placeholder)
+pub names_size : (x : Identity) → length (names x) ≡ length (text_form x.prefix) + length (text_form x.db) + length (text_form x.placeholder)
 unfolding names
 names_size x = simp length-append refl
 
-pub column_size : (c : Column) → length (column c) ≡ length (text c.name) + 4
+pub column_size : (c : Column) → length (column c) ≡ length (text_form c.name) + 4
 unfolding column
-column_size c = omega (arith, number32_size (oid_of c.ty), length-append (text c.name) (number32 (oid_of c.ty)))
+column_size c = omega (arith, number32_size (oid_of c.ty), length-append (text_form c.name) (number32 (oid_of c.ty)))
 
 pub counted_size : {A : Type 0} (item : A → List ℕ) (items : List A) → length (counted item items) ≡ 4 + length (flat_map item items)
 unfolding counted
@@ -49,7 +38,7 @@ pub places_size : (key : List ℕ) → length (flat_map number32 key) ≡ length
 places_size [] = refl
 places_size (place ∷ key) = omega (arith, number32_size place, places_size key, length-append (number32 place) (flat_map number32 key))
 
-pub table_size : (info : TableInfo) → length (table info) ≡ length (text info.name.schema) + length (text info.name.name) + (4 + length (flat_map column info.columns)) + length (counted number32 info.key)
+pub table_size : (info : TableInfo) → length (table info) ≡ length (text_form info.name.schema) + length (text_form info.name.name) + (4 + length (flat_map column info.columns)) + length (counted number32 info.key)
 unfolding table
 table_size info = simp (length-append, counted_size column info.columns) refl
 
@@ -83,7 +72,7 @@ module _ {A : Type 0} (form : A → List ℕ) (Held : A → Type 0) where
 
   pub sum_goes : (before now next : ℕ) (items : List A) (i : ℕ) (x default : A) → i < length items → x ≡ get_or items i default → Measures now (length (form x)) (Held x) next → Rest before now items i → Rest before next items (i + 1)
   sum_goes before now next items i x default lt is one rest r h =
-      let e : drop i items ≡ x ∷ drop (i + 1) items = (let k : suc i ≡ i + 1 = omega arith in drop-cons items i default lt ∙ ap (λ (y : A). y ∷ drop (suc i) items) (sym is) ∙ ap (λ (k : ℕ). x ∷ drop k items) k) in
+      let e = next_item form items i x default lt is in
       let two = both now (length (form x)) next (length (flat_map form (drop (i + 1) items))) r (Held x) (AllByRecursion Held (drop (i + 1) items)) one h in
       let whole : Measures now (length (flat_map form (x ∷ drop (i + 1) items))) (AllByRecursion Held (x ∷ drop (i + 1) items)) r =
       weaker now _ _ r _ _ (sym (length-append (form x) (flat_map form (drop (i + 1) items)))) (λ p. (p.0, p.1)) two in
@@ -91,21 +80,8 @@ module _ {A : Type 0} (form : A → List ℕ) (Held : A → Type 0) where
 
   pub sum_done : (before now : ℕ) (items : List A) (i : ℕ) → length items ≤ i → now < 2 ^ 64 → Rest before now items i → Measures before (length (flat_map form items)) (AllByRecursion Held items) now
   sum_done before now items i le lt rest =
-      let e : drop i items ≡ [] = nil_from_length (drop i items) (omega (arith, length-drop i items)) in
+      let e = no_item form items i le in
       rest now (subst (λ (xs : List A). Measures now (length (flat_map form xs)) (AllByRecursion Held xs) now) (sym e) (record { long = omega arith; fits = λ le. tt }))
-
--- ---- items written one behind the other
-
-module _ {A : Type 0} (spell : A → List ℕ) where
-  pub written_goes : (out new total : List ℕ) (items : List A) (i : ℕ) (x default : A) → i < length items → x ≡ get_or items i default → new ≡ out ++ spell x → out ++ flat_map spell (drop i items) ≡ total → new ++ flat_map spell (drop (i + 1) items) ≡ total
-  written_goes out new total items i x default lt is more so_far =
-      let e : drop i items ≡ x ∷ drop (i + 1) items = (let k : suc i ≡ i + 1 = omega arith in drop-cons items i default lt ∙ ap (λ (y : A). y ∷ drop (suc i) items) (sym is) ∙ ap (λ (k : ℕ). x ∷ drop k items) k) in
-      ap (λ (w : List ℕ). w ++ flat_map spell (drop (i + 1) items)) more ∙ append_assoc out (spell x) (flat_map spell (drop (i + 1) items)) ∙ ap (λ (xs : List A). out ++ flat_map spell xs) (sym e) ∙ so_far
-
-  pub written_done : (out total : List ℕ) (items : List A) (i : ℕ) → length items ≤ i → out ++ flat_map spell (drop i items) ≡ total → out ≡ total
-  written_done out total items i le so_far =
-      let e : drop i items ≡ [] = nil_from_length (drop i items) (omega (arith, length-drop i items)) in
-      sym (append-nil out) ∙ ap (λ (xs : List A). out ++ flat_map spell xs) (sym e) ∙ so_far
 
 pub all_places : (key : List ℕ) → ((i : ℕ) → get_or key i 0 < 2 ^ 32) → AllByRecursion (λ place. place < 2 ^ 32) key
 all_places [] h = tt
@@ -117,7 +93,7 @@ pub int_measured : (before c : ℕ) (z : ℤ) → Measures before 9 (FitsSigned 
 unfolding cell
 int_measured before c z m = record { long = omega (arith, m.long, number64_size (cast_unsigned w64 z)); fits = m.fits }
 
-pub text_measured : (before a c : ℕ) (t : List ℕ) → a ≡ capped (before + 1) → Measures a (length (text t)) (IsText t) c → Measures before (length (cell (val.Text t))) (FitsCell (val.Text t)) c
+pub text_measured : (before a c : ℕ) (t : List ℕ) → a ≡ capped (before + 1) → Measures a (length (text_form t)) (IsStored t) c → Measures before (length (cell (val.Text t))) (FitsCell (val.Text t)) c
 unfolding cell
 text_measured before a c t h m = record { long = omega (arith, h, m.long); fits = m.fits }
 
@@ -135,7 +111,7 @@ pub key_measured : (before a c : ℕ) (x : Cursor) (key : Key) → x.last ≡ So
 unfolding cursor last_key
 key_measured before a c x key some h m = rw some (record { long = omega (arith, h, m.long); fits = m.fits })
 
-pub table_measured : (before schema name a columns c : ℕ) (info : TableInfo) → Measures before (length (text info.name.schema)) (IsText info.name.schema) schema → Measures schema (length (text info.name.name)) (IsText info.name.name) name
+pub table_measured : (before schema name a columns c : ℕ) (info : TableInfo) → Measures before (length (text_form info.name.schema)) (IsStored info.name.schema) schema → Measures schema (length (text_form info.name.name)) (IsStored info.name.name) name
     → a ≡ capped (name + 4) → Measures a (length (flat_map column info.columns)) (AllByRecursion FitsColumn info.columns) columns
     → Measures columns (length (counted number32 info.key)) ((length info.key < 2 ^ 32) × AllByRecursion (λ place. place < 2 ^ 32) info.key) c → Measures before (length (table info)) (FitsTable info) c
 table_measured before schema name a columns c info of_schema of_name h of_columns of_key =

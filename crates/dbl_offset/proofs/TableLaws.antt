@@ -8,6 +8,7 @@ use mathlib.Core.HLevel.{is_prop→PathP}
 use Rattle.dbl_value.specs.declared.column_type.PgType.{PgType}
 use Rattle.dbl_value.specs.Types.{oid_of, type_of, is_column_type}
 use Rattle.dbl_value.proofs.TypeLemmas.{type_of-oid_of, oids_name_types}
+use Rattle.dbl_record.specs.Fields.{number32, text_form, IsStored}
 use Rattle.dbl_model.specs.declared.table.TableName.{TableName}
 use Rattle.dbl_model.specs.declared.table.Column.{Column}
 use Rattle.dbl_model.specs.declared.table.TableInfo.{TableInfo}
@@ -17,7 +18,7 @@ use Rattle.dbl_model.specs.Infos.{key_types}
 use Rattle.dbl_model.specs.Cursors.{IsCursorOf}
 use Rattle.dbl_model.proofs.Lists.{and_left, and_right, and_both}
 use Rattle.dbl_model.proofs.InfoLemmas.{typed_columns, sound_key}
-use Rattle.dbl_offset.specs.Entries.{number32, text, counted, column, table, cursor, entry, IsText, FitsColumn, FitsTable, FitsEntry}
+use Rattle.dbl_offset.specs.Entries.{counted, column, table, cursor, entry, FitsColumn, FitsTable, FitsEntry}
 use Rattle.dbl_offset.specs.Reading.{◌>>=◌, text_at, number_at, counted_at, column_at, made, info_of, table_at, entry_at}
 use Rattle.dbl_offset.proofs.FieldLaws.{IsBytes, some_is, bind_some, Takes, Reads, took, number32_reads, text_reads, counted_reads}
 use Rattle.dbl_offset.proofs.CellLaws.{cursor_reads}
@@ -34,17 +35,17 @@ HoldsColumn c = FitsColumn c × (is_column_type c.ty ≡ true)
 column_again : (c : Column) (rest : List ℕ) → HoldsColumn c → column_at (column c ++ rest) ≡ Some (c, rest)
 unfolding column_at column
 column_again c rest h =
-    rw (append_assoc (text c.name) (number32 (oid_of c.ty)) rest, text_reads.again c.name (number32 (oid_of c.ty) ++ rest) h.0.name, number32_reads.again (oid_of c.ty) rest h.0.oid, type_of-oid_of c.ty h.1) refl
+    rw (append_assoc (text_form c.name) (number32 (oid_of c.ty)) rest, text_reads.again c.name (number32 (oid_of c.ty) ++ rest) h.0.name, number32_reads.again (oid_of c.ty) rest h.0.oid, type_of-oid_of c.ty h.1) refl
 
 column_takes : (bytes : List ℕ) (c : Column) (rest : List ℕ) → IsBytes bytes → column_at bytes ≡ Some (c, rest) → Takes bytes (column c) rest × HoldsColumn c
 unfolding column_at column
 column_takes bytes c rest fits e =
     let name = took text_reads bytes [] bytes _ (c, rest) (record { parts = refl; rest_fits = fits }) e in
-    let oid = took number32_reads bytes (text name.value) name.rest _ (c, rest) name.takes name.more in
+    let oid = took number32_reads bytes (text_form name.value) name.rest _ (c, rest) name.takes name.more in
     let ty = bind_some (type_of oid.value) (λ (ty : PgType). Some (let made : Column = record { name = name.value; ty = ty } in made, oid.rest)) (c, rest) oid.more in
     let named = (oids_name_types oid.value ty.0).0 ty.1 in
     let spelled : Column = record { name = name.value; ty = ty.0 } in
-    let takes : Takes bytes (column spelled) oid.rest = subst (λ (n : ℕ). Takes bytes (text name.value ++ number32 n) oid.rest) (sym named.0) oid.takes in
+    let takes : Takes bytes (column spelled) oid.rest = subst (λ (n : ℕ). Takes bytes (text_form name.value ++ number32 n) oid.rest) (sym named.0) oid.takes in
     let fit : FitsColumn spelled = record { name = name.fits; oid = subst (λ (n : ℕ). n < 2 ^ 32) (sym named.0) oid.fits } in
     subst (λ (y : Column × List ℕ). Takes bytes (column y.0) y.1 × HoldsColumn y.0) (some_is (spelled, oid.rest) (c, rest) ty.2) (takes, (fit, named.1))
 
@@ -105,17 +106,17 @@ table_again info rest fits =
     let name = info.name.name in
     let columns = counted column info.columns in
     let key = counted number32 info.key in
-    let regrouped : (((text schema ++ text name) ++ columns) ++ key) ++ rest ≡ text schema ++ (text name ++ (columns ++ (key ++ rest))) = simp append_assoc in
-    ap table_at regrouped ∙ rw (text_reads.again schema (text name ++ (columns ++ (key ++ rest))) fits.schema, text_reads.again name (columns ++ (key ++ rest)) fits.name, (counted_reads column_reads).again info.columns (key ++ rest) (fits.columns, holds_of info.columns fits.each (typed_columns info)), (counted_reads number32_reads).again info.key rest (fits.key, fits.places), info_again info) refl
+    let regrouped : (((text_form schema ++ text_form name) ++ columns) ++ key) ++ rest ≡ text_form schema ++ (text_form name ++ (columns ++ (key ++ rest))) = simp append_assoc in
+    ap table_at regrouped ∙ rw (text_reads.again schema (text_form name ++ (columns ++ (key ++ rest))) fits.schema, text_reads.again name (columns ++ (key ++ rest)) fits.name, (counted_reads column_reads).again info.columns (key ++ rest) (fits.columns, holds_of info.columns fits.each (typed_columns info)), (counted_reads number32_reads).again info.key rest (fits.key, fits.places), info_again info) refl
 
 abbrev parted : (schema name : List ℕ) (columns : List Column) (key : List ℕ) → List ℕ
-parted schema name columns key = ((text schema ++ text name) ++ counted column columns) ++ counted number32 key
+parted schema name columns key = ((text_form schema ++ text_form name) ++ counted column columns) ++ counted number32 key
 
 -- the table has these parts
 abbrev AreParts : (schema name : List ℕ) (columns : List Column) (key : List ℕ) (info : TableInfo) → Type 0
 AreParts schema name columns key info = (info.name ≡ record { schema = schema; name = name }) × (info.columns ≡ columns) × (info.key ≡ key)
 
-table_made : (bytes schema name : List ℕ) (columns : List Column) (key : List ℕ) (info : TableInfo) (rest : List ℕ) → Takes bytes (parted schema name columns key) rest → IsText schema → IsText name
+table_made : (bytes schema name : List ℕ) (columns : List Column) (key : List ℕ) (info : TableInfo) (rest : List ℕ) → Takes bytes (parted schema name columns key) rest → IsStored schema → IsStored name
     → (length columns < 2 ^ 32) × AllByRecursion HoldsColumn columns → (length key < 2 ^ 32) × AllByRecursion (λ place. place < 2 ^ 32) key → AreParts schema name columns key info → Takes bytes (table info) rest × FitsTable info
 unfolding table
 table_made bytes schema name columns key info rest takes of_schema of_name of_columns of_key parts =
@@ -126,8 +127,8 @@ table_made bytes schema name columns key info rest takes of_schema of_name of_co
     let spelled : parted schema name columns key ≡ parted info.name.schema info.name.name info.columns info.key = λ i. parted (schema_is i) (name_is i) (columns_are i) (key_is i) in (
       subst (λ (w : List ℕ). Takes bytes w rest) spelled takes,
       record {
-        schema = subst IsText schema_is of_schema;
-        name = subst IsText name_is of_name;
+        schema = subst IsStored schema_is of_schema;
+        name = subst IsStored name_is of_name;
         columns = subst (λ (c : List Column). length c < 2 ^ 32) columns_are of_columns.0;
         each = subst (λ (c : List Column). AllByRecursion FitsColumn c) columns_are (fits_of columns of_columns.1);
         key = subst (λ (k : List ℕ). length k < 2 ^ 32) key_is of_key.0;
@@ -135,7 +136,7 @@ table_made bytes schema name columns key info rest takes of_schema of_name of_co
       },
     )
 
-table_done : (bytes schema name : List ℕ) (columns : List Column) (key : List ℕ) (x info : TableInfo) (left rest : List ℕ) → ◌≡◌ {A = Option (TableInfo × List ℕ)} (Some (x, left)) (Some (info, rest)) → Takes bytes (parted schema name columns key) left → IsText schema → IsText name
+table_done : (bytes schema name : List ℕ) (columns : List Column) (key : List ℕ) (x info : TableInfo) (left rest : List ℕ) → ◌≡◌ {A = Option (TableInfo × List ℕ)} (Some (x, left)) (Some (info, rest)) → Takes bytes (parted schema name columns key) left → IsStored schema → IsStored name
     → (length columns < 2 ^ 32) × AllByRecursion HoldsColumn columns → (length key < 2 ^ 32) × AllByRecursion (λ place. place < 2 ^ 32) key → AreParts schema name columns key x → Takes bytes (table info) rest × FitsTable info
 table_done bytes schema name columns key x info left rest same takes of_schema of_name of_columns of_key parts =
     subst (λ (y : TableInfo × List ℕ). Takes bytes (table y.0) y.1 × FitsTable y.0) (some_is (x, left) (info, rest) same) (table_made bytes schema name columns key x left takes of_schema of_name of_columns of_key parts)

@@ -1,11 +1,11 @@
--- An offset as the bytes of a journal's entry, format 1. Numbers stand with the highest byte first.
-use Rattle.std.specs.Prelude.{ℕ, ◌<◌, ◌^◌, Bool, cond, Option, Some, None, IfSome, List, [], ◌∷◌, ◌++◌, length, FitsSigned}
+-- An offset as the bytes of a journal's entry, format 1, made of the fields that stored forms have.
+use Rattle.std.specs.Prelude.{ℕ, ◌<◌, ◌^◌, Option, Some, None, IfSome, List, [], ◌∷◌, ◌++◌, length, FitsSigned}
 use Rattle.std.specs.List.{AllByRecursion, flat_map, zip}
-use Rattle.std.specs.Int.{w32, w64, to_be_bytes, cast_unsigned}
-use Rattle.std.specs.Str.{IsUtf8}
+use Rattle.std.specs.Int.{w64, cast_unsigned}
 use Rattle.dbl_value.specs.declared.value.Val.{Val}
 use Rattle.dbl_value.specs.declared.value.Val.TheVariants as val
 use Rattle.dbl_value.specs.Types.{oid_of}
+use Rattle.dbl_record.specs.Fields.{number32, number64, text_form, truth_form, IsStored}
 use Rattle.dbl_model.specs.declared.table.Column.{Column}
 use Rattle.dbl_model.specs.declared.table.TableInfo.{TableInfo}
 use Rattle.dbl_model.specs.declared.identity.Identity.{Identity}
@@ -15,40 +15,25 @@ use Rattle.dbl_offset.specs.declared.offset.Offset.{Offset}
 
 -- ---- the form
 
--- numbers of 32 and of 64 bits
-unfoldable pub number32 : ℕ → List ℕ
-number32 n = to_be_bytes w32 n
-
-unfoldable pub number64 : ℕ → List ℕ
-number64 n = to_be_bytes w64 n
-
--- a text behind its length
-unfoldable pub text : List ℕ → List ℕ
-text t = number32 (length t) ++ t
-
 -- items behind their number
 unfoldable pub counted : {A : Type 0} → (A → List ℕ) → List A → List ℕ
 counted item items = number32 (length items) ++ flat_map item items
 
--- no as 0 and yes as 1
-abbrev pub truth : Bool → List ℕ
-truth b = cond b 1 0 ∷ []
-
 unfoldable pub names : Identity → List ℕ
-names identity = text identity.prefix ++ text identity.db ++ text identity.placeholder
+names identity = text_form identity.prefix ++ text_form identity.db ++ text_form identity.placeholder
 
 -- a column: its name, and its type's OID
 unfoldable pub column : Column → List ℕ
-column c = text c.name ++ number32 (oid_of c.ty)
+column c = text_form c.name ++ number32 (oid_of c.ty)
 
 -- a table: its name, its columns, and the places of its key columns
 unfoldable pub table : TableInfo → List ℕ
-table info = text info.name.schema ++ text info.name.name ++ counted column info.columns ++ counted number32 info.key
+table info = text_form info.name.schema ++ text_form info.name.name ++ counted column info.columns ++ counted number32 info.key
 
 -- a cell of a key: a signed number, in two's complement, or a text. Keys have no other cells.
 unfoldable pub cell : Val → List ℕ
 cell (val.Int z) = 1 ∷ number64 (cast_unsigned w64 z)
-cell (val.Text t) = 2 ∷ text t
+cell (val.Text t) = 2 ∷ text_form t
 cell v = []
 
 -- a key, where there is one. Its number of cells isn't told, since the table's key has it.
@@ -57,7 +42,7 @@ last_key None = 0 ∷ []
 last_key (Some key) = 1 ∷ flat_map cell key.cells
 
 unfoldable pub cursor : Cursor → List ℕ
-cursor c = truth c.done ++ last_key c.last
+cursor c = truth_form c.done ++ last_key c.last
 
 -- a table, and how far its snapshot has come
 abbrev pub entry : TableInfo × Cursor → List ℕ
@@ -73,22 +58,18 @@ spelling offset = 1 ∷ (names offset.identity ++ number64 offset.incarnation ++
 
 -- ---- what the form holds: texts are UTF-8, and numbers and lengths have as many bits as the form gives them
 
-pub record IsText (t : List ℕ) : Type 0 where
-  pub utf8 : IsUtf8 t
-  pub short : length t < 2 ^ 32
-
 pub record FitsNames (identity : Identity) : Type 0 where
-  pub prefix : IsText identity.prefix
-  pub db : IsText identity.db
-  pub placeholder : IsText identity.placeholder
+  pub prefix : IsStored identity.prefix
+  pub db : IsStored identity.db
+  pub placeholder : IsStored identity.placeholder
 
 pub record FitsColumn (c : Column) : Type 0 where
-  pub name : IsText c.name
+  pub name : IsStored c.name
   pub oid : oid_of c.ty < 2 ^ 32
 
 pub record FitsTable (info : TableInfo) : Type 0 where
-  pub schema : IsText info.name.schema
-  pub name : IsText info.name.name
+  pub schema : IsStored info.name.schema
+  pub name : IsStored info.name.name
   pub columns : length info.columns < 2 ^ 32
   pub each : AllByRecursion FitsColumn info.columns
   pub key : length info.key < 2 ^ 32
@@ -96,7 +77,7 @@ pub record FitsTable (info : TableInfo) : Type 0 where
 
 abbrev pub FitsCell : Val → Type 0
 FitsCell (val.Int z) = FitsSigned w64 z
-FitsCell (val.Text t) = IsText t
+FitsCell (val.Text t) = IsStored t
 FitsCell v = Unit {0}
 
 abbrev pub FitsCursor : Cursor → Type 0

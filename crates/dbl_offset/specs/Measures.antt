@@ -1,5 +1,5 @@
 -- How long an offset's bytes are, as far as 64 bits go.
-use Rattle.std.specs.Prelude.{◌≡◌, ℕ, ◌+◌, ◌-◌, ◌^◌, ◌≤◌, min, List, ◌++◌}
+use Rattle.std.specs.Prelude.{◌≡◌, ℕ, ◌+◌, ◌-◌, ◌^◌, ◌≤◌, min}
 
 -- a number, or the greatest one of 64 bits
 abbrev pub capped : ℕ → ℕ
@@ -9,7 +9,3 @@ capped n = min n (2 ^ 64 - 1)
 pub record Measures (before size : ℕ) (Fits : Type 0) (result : ℕ) : Type 0 where
   pub long : result ≡ capped (before + size)
   pub fits : result ≤ 2 ^ 28 → Fits
-
--- these bytes were written behind those that stood there
-abbrev pub Appends : List ℕ → List ℕ → List ℕ → Type 0
-Appends old bytes new = new ≡ old ++ bytes

@@ -3,7 +3,8 @@
 ghost use Rattle.std.specs.Prelude.{◌≡◌, ◌<◌, ◌^◌, length, FitsSigned};
 ghost use Rattle.std.specs.Int.{w64};
 ghost use Rattle.std.specs.List.{AllByRecursion, flat_map, zip};
-ghost use Rattle.dbl_offset.specs.Entries.{Fits, FitsCell, FitsColumn, FitsCursor, FitsEntry, FitsNames, FitsTable, IsText, cell, column, counted, cursor, entry, names, number32, spelling, table, text};
+ghost use Rattle.dbl_record.specs.Fields.{IsStored, number32, text_form};
+ghost use Rattle.dbl_offset.specs.Entries.{Fits, FitsCell, FitsColumn, FitsCursor, FitsEntry, FitsNames, FitsTable, cell, column, counted, cursor, entry, names, spelling, table};
 ghost use Rattle.dbl_offset.specs.Measures.{Measures};
 
 use crate::offset::Offset;
@@ -12,7 +13,7 @@ use dbl_model::{Column, Cursor, Identity, TableInfo};
 use dbl_value::Val;
 
 fn add_text(before: u64, content: &Text) -> u64
-    ensures { Measures before (length (text content.now)) (IsText content.now) result }
+    ensures { Measures before (length (text_form content.now)) (IsStored content.now) result }
 {
     let content = content.as_str();
     before

@@ -2,62 +2,38 @@
 
 ghost use Rattle.std.specs.Prelude.{◌≡◌, ◌<◌, ◌^◌, length, IfOk, OnOk};
 ghost use Rattle.std.specs.List.{AllByRecursion, flat_map, zip};
-ghost use Rattle.dbl_offset.specs.Entries.{Fits, FitsCell, FitsColumn, FitsCursor, FitsEntry, FitsNames, FitsTable, IsText, cell, column, counted, cursor, entry, last_key, names, number32, number64, spelling, table, text};
-ghost use Rattle.dbl_offset.specs.Measures.{Appends};
+ghost use Rattle.dbl_record.specs.Fields.{Extends, number32};
+ghost use Rattle.dbl_offset.specs.Entries.{Fits, FitsCell, FitsColumn, FitsCursor, FitsEntry, FitsNames, FitsTable, cell, column, counted, cursor, entry, last_key, names, spelling, table};
 
 use crate::decoding::VERSION;
 use crate::offset::Offset;
-use dbl_base::Text;
 use dbl_model::{Column, Cursor, Identity, TableInfo};
+use dbl_record::fields::{append_number32, append_number64, append_text, append_truth};
 use dbl_value::Val;
 use std::alloc::{AllocError, Global};
-
-#[tactic(auto, unfolding(crate::specs::Entries::number32))]
-fn write_number32(out: &mut Vec<u8>, number: u32) -> Result<(), AllocError>
-    ensures { OnOk result (Appends out.old.items (number32 number) out.new.items) }
-{
-    out.extend_from_slice(&number.to_be_bytes())
-}
-
-#[tactic(auto, unfolding(crate::specs::Entries::number64))]
-fn write_number64(out: &mut Vec<u8>, number: u64) -> Result<(), AllocError>
-    ensures { OnOk result (Appends out.old.items (number64 number) out.new.items) }
-{
-    out.extend_from_slice(&number.to_be_bytes())
-}
-
-#[tactic(auto, unfolding(crate::specs::Entries::text))]
-fn write_text(out: &mut Vec<u8>, content: &Text) -> Result<(), AllocError>
-    requires { IsText content.now }
-    ensures { OnOk result (Appends out.old.items (text content.now) out.new.items) }
-{
-    let content = content.as_str();
-    write_number32(out, content.len() as u32)?;
-    out.extend_from_slice(content.as_bytes())
-}
 
 #[tactic(auto, unfolding(crate::specs::Entries::names))]
 fn write_names(out: &mut Vec<u8>, identity: &Identity) -> Result<(), AllocError>
     requires { FitsNames identity.now }
-    ensures { OnOk result (Appends out.old.items (names identity.now) out.new.items) }
+    ensures { OnOk result (Extends out.old.items (names identity.now) out.new.items) }
 {
-    write_text(out, &identity.prefix)?;
-    write_text(out, &identity.db)?;
-    write_text(out, &identity.placeholder)
+    append_text(out, &identity.prefix)?;
+    append_text(out, &identity.db)?;
+    append_text(out, &identity.placeholder)
 }
 
 #[tactic(auto, unfolding(crate::specs::Entries::column))]
 fn write_column(out: &mut Vec<u8>, item: &Column) -> Result<(), AllocError>
     requires { FitsColumn item.now }
-    ensures { OnOk result (Appends out.old.items (column item.now) out.new.items) }
+    ensures { OnOk result (Extends out.old.items (column item.now) out.new.items) }
 {
-    write_text(out, &item.name)?;
-    write_number32(out, dbl_value::oid(item.ty))
+    append_text(out, &item.name)?;
+    append_number32(out, dbl_value::oid(item.ty))
 }
 
 fn write_each_column(out: &mut Vec<u8>, columns: &[Column]) -> Result<(), AllocError>
     requires { AllByRecursion FitsColumn columns.now }
-    ensures { OnOk result (Appends out.old.items (flat_map column columns.now) out.new.items) }
+    ensures { OnOk result (Extends out.old.items (flat_map column columns.now) out.new.items) }
 {
     for item in columns {
         write_column(out, item)?;
@@ -69,17 +45,17 @@ fn write_each_column(out: &mut Vec<u8>, columns: &[Column]) -> Result<(), AllocE
 fn write_columns(out: &mut Vec<u8>, columns: &[Column]) -> Result<(), AllocError>
     requires few { length columns.now < 2 ^ 32 }
     requires each { AllByRecursion FitsColumn columns.now }
-    ensures { OnOk result (Appends out.old.items (counted column columns.now) out.new.items) }
+    ensures { OnOk result (Extends out.old.items (counted column columns.now) out.new.items) }
 {
-    write_number32(out, columns.len() as u32)?;
+    append_number32(out, columns.len() as u32)?;
     write_each_column(out, columns)
 }
 
 fn write_each_place(out: &mut Vec<u8>, key: &[u32]) -> Result<(), AllocError>
-    ensures { OnOk result (Appends out.old.items (flat_map number32 key.now) out.new.items) }
+    ensures { OnOk result (Extends out.old.items (flat_map number32 key.now) out.new.items) }
 {
     for place in key {
-        write_number32(out, *place)?;
+        append_number32(out, *place)?;
     }
     Ok(())
 }
@@ -87,19 +63,19 @@ fn write_each_place(out: &mut Vec<u8>, key: &[u32]) -> Result<(), AllocError>
 #[tactic(auto, unfolding(crate::specs::Entries::counted))]
 fn write_places(out: &mut Vec<u8>, key: &[u32]) -> Result<(), AllocError>
     requires { length key.now < 2 ^ 32 }
-    ensures { OnOk result (Appends out.old.items (counted number32 key.now) out.new.items) }
+    ensures { OnOk result (Extends out.old.items (counted number32 key.now) out.new.items) }
 {
-    write_number32(out, key.len() as u32)?;
+    append_number32(out, key.len() as u32)?;
     write_each_place(out, key)
 }
 
 #[tactic(auto, unfolding(crate::specs::Entries::table))]
 fn write_table(out: &mut Vec<u8>, info: &TableInfo) -> Result<(), AllocError>
     requires { FitsTable info.now }
-    ensures { OnOk result (Appends out.old.items (table info.now) out.new.items) }
+    ensures { OnOk result (Extends out.old.items (table info.now) out.new.items) }
 {
-    write_text(out, &info.name.schema)?;
-    write_text(out, &info.name.name)?;
+    append_text(out, &info.name.schema)?;
+    append_text(out, &info.name.name)?;
     write_columns(out, info.columns.items())?;
     write_places(out, info.key.items())
 }
@@ -107,16 +83,16 @@ fn write_table(out: &mut Vec<u8>, info: &TableInfo) -> Result<(), AllocError>
 #[tactic(auto, unfolding(crate::specs::Entries::cell))]
 fn write_cell(out: &mut Vec<u8>, value: &Val) -> Result<(), AllocError>
     requires { FitsCell value.now }
-    ensures { OnOk result (Appends out.old.items (cell value.now) out.new.items) }
+    ensures { OnOk result (Extends out.old.items (cell value.now) out.new.items) }
 {
     match value {
         Val::Int(number) => {
             out.extend_from_slice(&[1])?;
-            write_number64(out, number.cast_unsigned())
+            append_number64(out, number.cast_unsigned())
         }
         Val::Text(content) => {
             out.extend_from_slice(&[2])?;
-            write_text(out, content)
+            append_text(out, content)
         }
         _ => Ok(()),
     }
@@ -124,7 +100,7 @@ fn write_cell(out: &mut Vec<u8>, value: &Val) -> Result<(), AllocError>
 
 fn write_cells(out: &mut Vec<u8>, cells: &[Val]) -> Result<(), AllocError>
     requires { AllByRecursion FitsCell cells.now }
-    ensures { OnOk result (Appends out.old.items (flat_map cell cells.now) out.new.items) }
+    ensures { OnOk result (Extends out.old.items (flat_map cell cells.now) out.new.items) }
 {
     for value in cells {
         write_cell(out, value)?;
@@ -135,9 +111,9 @@ fn write_cells(out: &mut Vec<u8>, cells: &[Val]) -> Result<(), AllocError>
 #[tactic(auto, unfolding(crate::specs::Entries::cursor, crate::specs::Entries::last_key))]
 fn write_cursor(out: &mut Vec<u8>, progress: &Cursor) -> Result<(), AllocError>
     requires { FitsCursor progress.now }
-    ensures { OnOk result (Appends out.old.items (cursor progress.now) out.new.items) }
+    ensures { OnOk result (Extends out.old.items (cursor progress.now) out.new.items) }
 {
-    out.extend_from_slice(&[u8::from(progress.done)])?;
+    append_truth(out, progress.done)?;
     match &progress.last {
         Some(key) => {
             out.extend_from_slice(&[1])?;
@@ -149,7 +125,7 @@ fn write_cursor(out: &mut Vec<u8>, progress: &Cursor) -> Result<(), AllocError>
 
 fn write_entry(out: &mut Vec<u8>, info: &TableInfo, progress: &Cursor) -> Result<(), AllocError>
     requires { FitsEntry (info.now, progress.now) }
-    ensures { OnOk result (Appends out.old.items (entry (info.now, progress.now)) out.new.items) }
+    ensures { OnOk result (Extends out.old.items (entry (info.now, progress.now)) out.new.items) }
 {
     write_table(out, info)?;
     write_cursor(out, progress)
@@ -162,7 +138,7 @@ fn write_entries(
 ) -> Result<(), AllocError>
     requires long { length cursors.now ≡ length infos.now }
     requires fit { AllByRecursion FitsEntry (zip infos.now cursors.now) }
-    ensures { OnOk result (Appends out.old.items (flat_map entry (zip infos.now cursors.now)) out.new.items) }
+    ensures { OnOk result (Extends out.old.items (flat_map entry (zip infos.now cursors.now)) out.new.items) }
 {
     for i in 0..infos.len() {
         write_entry(out, &infos[i], &cursors[i])?;
@@ -181,11 +157,11 @@ pub(crate) fn encode(alloc: Global, count: usize, offset: &Offset) -> Result<Vec
     let mut out = Vec::with_capacity(alloc, count)?;
     out.push(VERSION)?;
     write_names(&mut out, &offset.identity)?;
-    write_number64(&mut out, offset.incarnation)?;
-    write_number64(&mut out, offset.start.0)?;
-    write_number64(&mut out, offset.lsn.0)?;
-    write_number64(&mut out, offset.end_lsn.0)?;
-    write_number32(&mut out, offset.infos.items().len() as u32)?;
+    append_number64(&mut out, offset.incarnation)?;
+    append_number64(&mut out, offset.start.0)?;
+    append_number64(&mut out, offset.lsn.0)?;
+    append_number64(&mut out, offset.end_lsn.0)?;
+    append_number32(&mut out, offset.infos.items().len() as u32)?;
     write_entries(&mut out, offset.infos.items(), offset.cursors.items())?;
     Ok(out)
 }

@@ -1,5 +1,5 @@
 use Rattle.std.proofs.Common.{arith}
-use Rattle.dbl_offset.specs.Entries.{number32}
+use Rattle.dbl_record.specs.Fields.{number32}
 use Rattle.dbl_offset.proofs.Sizes.{counted_size, places_size, all_places}
 use Rattle.dbl_offset.proofs.measuring.add_places.Goals as goal
 

@@ -1,5 +1,5 @@
 use Rattle.std.proofs.Common.{◌≡◌, ℕ, List, length, ap, arith}
-use Rattle.dbl_offset.proofs.Sizes.{text_size}
+use Rattle.dbl_record.proofs.Sizes.{text_size}
 use Rattle.dbl_offset.proofs.measuring.add_text.Goals as goal
 
 pub returns : goal.returns

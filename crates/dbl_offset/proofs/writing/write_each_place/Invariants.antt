@@ -1,6 +1,6 @@
 use Rattle.std.proofs.Common.{◌≡◌, ◌++◌, drop}
 use Rattle.std.specs.List.{flat_map}
-use Rattle.dbl_offset.specs.Entries.{number32}
+use Rattle.dbl_record.specs.Fields.{number32}
 use Rattle.dbl_offset.proofs.writing.write_each_place.Given as goal
 
 abbrev pub invariant-loop-place : goal.invariant-loop-place

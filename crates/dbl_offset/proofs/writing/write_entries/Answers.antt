@@ -1,7 +1,8 @@
 use Rattle.std.proofs.Common.{◌++◌, arith}
 use Rattle.std.specs.List.{flat_map, zip}
 use Rattle.dbl_offset.specs.Entries.{entry, FitsEntry}
-use Rattle.dbl_offset.proofs.Sizes.{held_at, written_goes, written_done, zip_at, zip_long}
+use Rattle.dbl_record.proofs.Sizes.{written_goes, written_done}
+use Rattle.dbl_offset.proofs.Sizes.{held_at, zip_at, zip_long}
 use Rattle.dbl_offset.proofs.writing.write_entries.Goals as goal
 
 pub write_entry-requires : goal.write_entry-requires

@@ -1,50 +1,20 @@
--- Reading items one behind the other, as a loop does.
-use Rattle.std.proofs.Common.{◌≡◌, ℕ, suc, ◌-◌, ◌+◌, ◌≤◌, ◌<◌, List, [], ◌∷◌, ◌++◌, length, map, get_or, drop, Some, None, refl, sym, ap, ◌∙◌, append_assoc, arith, inl, inr}
+-- Reading the cells of a key, as a loop does. Their types stand at the key's places.
+use Rattle.std.proofs.Common.{◌≡◌, ℕ, suc, ◌+◌, ◌≤◌, ◌<◌, List, [], ◌∷◌, ◌++◌, length, map, get_or, drop, Ok, Err, refl, sym, ap, ◌∙◌, append_assoc, arith, inl, inr}
 use Rattle.std.proofs.lemmas.List.{append-nil, length-drop, nil_from_length}
 use Rattle.std.proofs.Math.Seq.{drop-cons}
 use Rattle.dbl_value.specs.declared.column_type.PgType.{PgType}
 use Rattle.dbl_value.specs.declared.value.Val.{Val}
-use Rattle.dbl_offset.specs.declared.refusal.Refusal.{Refusal}
-use Rattle.dbl_offset.specs.Reading.{Read, ◌>>=◌, Fails, many_at, cell_at, cells_at}
+use Rattle.dbl_record.specs.declared.error.RecordError.{RecordError}
+use Rattle.dbl_record.specs.GroupReading.{Read, ◌>>=◌, Fails}
+use Rattle.dbl_offset.specs.Reading.{cell_at, cells_at}
 
 -- what was read before, and what is still read
 abbrev pub with_front : {A : Type 0} → List A → Read (List A) → Read (List A)
-with_front front read = read >>= λ x. Some (front ++ x.0, x.1)
+with_front front read = read >>= λ x. Ok (front ++ x.0, x.1)
 
-regroup : {A : Type 0} (front : List A) (x : A) (read : Read (List A)) → with_front front (read >>= λ y. Some (x ∷ y.0, y.1)) ≡ with_front (front ++ x ∷ []) read
-regroup {A = A} front x (Some y) = ap (λ (xs : List A). Some (xs, y.1)) (simp append_assoc)
-regroup front x None = refl
-
-pub starts : {A : Type 0} (read : Read (List A)) → with_front [] read ≡ read
-starts (Some x) = refl
-starts None = refl
-
-module _ {A : Type 0} (item : List ℕ → Read A) where
-  pub goes_on : (front : List A) (count i : ℕ) (bytes : List ℕ) (x : A) (after : List ℕ) (total : Read (List A)) → i < count → item bytes ≡ Some (x, after)
-      → with_front front (many_at item (count - i) bytes) ≡ total → with_front (front ++ x ∷ []) (many_at item (count - (i + 1)) after) ≡ total
-  unfolding many_at
-  goes_on front count i bytes x after total lt h so_far =
-      let k : count - i ≡ suc (count - (i + 1)) = omega arith in
-      let one : with_front front (many_at item (count - i) bytes) ≡ with_front (front ++ x ∷ []) (many_at item (count - (i + 1)) after) = rw (k, h) (regroup front x (many_at item (count - (i + 1)) after)) in
-      sym one ∙ so_far
-
-  pub ends : (e : Refusal) (front : List A) (count i : ℕ) (bytes : List ℕ) (total : Read (List A)) → i < count → Fails e (item bytes)
-      → with_front front (many_at item (count - i) bytes) ≡ total → Fails e total
-  unfolding many_at
-  ends e front count i bytes total lt (inl m) so_far = inl m
-  ends e front count i bytes total lt (inr h) so_far =
-      let k : count - i ≡ suc (count - (i + 1)) = omega arith in
-      let one : with_front front (many_at item (count - i) bytes) ≡ None = rw (k, h) refl in
-      inr (sym so_far ∙ one)
-
-  pub is_done : (front : List A) (count i : ℕ) (bytes : List ℕ) (total : Read (List A)) → count ≤ i → with_front front (many_at item (count - i) bytes) ≡ total → total ≡ Some (front, bytes)
-  unfolding many_at
-  is_done front count i bytes total le so_far =
-      let k : count - i ≡ 0 = omega arith in
-      let one : with_front front (many_at item (count - i) bytes) ≡ Some (front, bytes) = rw k (ap (λ (xs : List A). Some (xs, bytes)) (append-nil front)) in
-      sym so_far ∙ one
-
--- ---- the cells of a key, whose types stand at the places
+regroup : {A : Type 0} (front : List A) (x : A) (read : Read (List A)) → with_front front (read >>= λ y. Ok (x ∷ y.0, y.1)) ≡ with_front (front ++ x ∷ []) read
+regroup {A = A} front x (Ok y) = ap (λ (xs : List A). Ok (xs, y.1)) (simp append_assoc)
+regroup front x (Err e) = refl
 
 module _ (type_of : ℕ → PgType) (key : List ℕ) where
   rest_is : (i place : ℕ) → i < length key → place ≡ get_or key i 0 → map type_of (drop i key) ≡ type_of place ∷ map type_of (drop (i + 1) key)
@@ -52,7 +22,7 @@ module _ (type_of : ℕ → PgType) (key : List ℕ) where
       let k : suc i ≡ i + 1 = omega arith in
       ap (map type_of) (drop-cons key i 0 lt ∙ ap (λ (y : ℕ). y ∷ drop (suc i) key) (sym is) ∙ ap (λ (k : ℕ). place ∷ drop k key) k)
 
-  pub cells_go_on : (front : List Val) (i place : ℕ) (bytes : List ℕ) (x : Val) (after : List ℕ) (total : Read (List Val)) → i < length key → place ≡ get_or key i 0 → cell_at (type_of place) bytes ≡ Some (x, after)
+  pub cells_go_on : (front : List Val) (i place : ℕ) (bytes : List ℕ) (x : Val) (after : List ℕ) (total : Read (List Val)) → i < length key → place ≡ get_or key i 0 → cell_at (type_of place) bytes ≡ Ok (x, after)
       → with_front front (cells_at (map type_of (drop i key)) bytes) ≡ total → with_front (front ++ x ∷ []) (cells_at (map type_of (drop (i + 1) key)) after) ≡ total
   unfolding cells_at
   cells_go_on front i place bytes x after total lt is h so_far =
@@ -60,17 +30,17 @@ module _ (type_of : ℕ → PgType) (key : List ℕ) where
       rw (rest_is i place lt is, h) (regroup front x (cells_at (map type_of (drop (i + 1) key)) after)) in
       sym one ∙ so_far
 
-  pub cells_end : (e : Refusal) (front : List Val) (i place : ℕ) (bytes : List ℕ) (total : Read (List Val)) → i < length key → place ≡ get_or key i 0 → Fails e (cell_at (type_of place) bytes)
+  pub cells_end : (e : RecordError) (front : List Val) (i place : ℕ) (bytes : List ℕ) (total : Read (List Val)) → i < length key → place ≡ get_or key i 0 → Fails e (cell_at (type_of place) bytes)
       → with_front front (cells_at (map type_of (drop i key)) bytes) ≡ total → Fails e total
   unfolding cells_at
   cells_end e front i place bytes total lt is (inl m) so_far = inl m
   cells_end e front i place bytes total lt is (inr h) so_far =
-      let one : with_front front (cells_at (map type_of (drop i key)) bytes) ≡ None = rw (rest_is i place lt is, h) refl in
+      let one : with_front front (cells_at (map type_of (drop i key)) bytes) ≡ Err e = rw (rest_is i place lt is, h) refl in
       inr (sym so_far ∙ one)
 
-  pub cells_done : (front : List Val) (i : ℕ) (bytes : List ℕ) (total : Read (List Val)) → length key ≤ i → with_front front (cells_at (map type_of (drop i key)) bytes) ≡ total → total ≡ Some (front, bytes)
+  pub cells_done : (front : List Val) (i : ℕ) (bytes : List ℕ) (total : Read (List Val)) → length key ≤ i → with_front front (cells_at (map type_of (drop i key)) bytes) ≡ total → total ≡ Ok (front, bytes)
   unfolding cells_at
   cells_done front i bytes total le so_far =
       let none : drop i key ≡ [] = nil_from_length (drop i key) (omega (arith, length-drop i key)) in
-      let one : with_front front (cells_at (map type_of (drop i key)) bytes) ≡ Some (front, bytes) = rw none (ap (λ (xs : List Val). Some (xs, bytes)) (append-nil front)) in
+      let one : with_front front (cells_at (map type_of (drop i key)) bytes) ≡ Ok (front, bytes) = rw none (ap (λ (xs : List Val). Ok (xs, bytes)) (append-nil front)) in
       sym so_far ∙ one

@@ -1,7 +1,7 @@
--- Reading an entry from left to right: the step between the form and the code.
-use Rattle.std.specs.Prelude.{◌≡◌, ◌⊎◌, ℕ, ℤ, zero, suc, ◌==◌, ◌&&◌, ◌^◌, nat_lt, nat_le, Bool, true, false, List, [], ◌∷◌, length, map, take, drop, Option, Some, None, Result, Ok, Err, if◌then◌else◌}
-use Rattle.std.specs.Str.{is_utf8}
-use Rattle.std.specs.Int.{Width, w32, w64, byte_len, from_be_bytes, cast_signed}
+-- Reading an entry from left to right: the step between the form and the code. Fields are read as dbl_record reads them. The
+-- place of a fault is never told, so 0 stands for the number of all bytes.
+use Rattle.std.specs.Prelude.{◌≡◌, ℕ, ℤ, ◌==◌, ◌&&◌, ◌^◌, nat_lt, nat_le, Bool, true, false, List, [], ◌∷◌, length, map, Option, Some, None, Result, Ok, Err, if◌then◌else◌}
+use Rattle.std.specs.Int.{w32, w64, cast_signed}
 use Rattle.dbl_value.specs.declared.column_type.PgType.{PgType}
 use Rattle.dbl_value.specs.declared.column_type.PgType.TheVariants as type
 use Rattle.dbl_value.specs.declared.value.Val.{Val}
@@ -9,6 +9,9 @@ use Rattle.dbl_value.specs.declared.value.Val.TheVariants as val
 use Rattle.dbl_value.specs.Types.{type_of}
 use Rattle.dbl_value.specs.Decimals.{is_within}
 use Rattle.dbl_value.specs.Values.{value_of}
+use Rattle.dbl_record.specs.declared.error.RecordError.{RecordError}
+use Rattle.dbl_record.specs.declared.error.RecordError.TheVariants.{BadRecord}
+use Rattle.dbl_record.specs.GroupReading.{Read, ◌>>=◌, number_at, text_at, truth_at, many_at}
 use Rattle.dbl_model.specs.declared.table.TableName.{TableName}
 use Rattle.dbl_model.specs.declared.table.Column.{Column}
 use Rattle.dbl_model.specs.declared.table.TableInfo.{TableInfo}
@@ -19,91 +22,51 @@ use Rattle.dbl_model.specs.Tables.{same_name, are_distinct, is_table}
 use Rattle.dbl_model.specs.Infos.{key_types}
 use Rattle.dbl_model.specs.Identities.{is_good_identity}
 use Rattle.dbl_offset.specs.declared.offset.Offset.{Offset}
-use Rattle.dbl_offset.specs.declared.refusal.Refusal.{Refusal}
-use Rattle.dbl_offset.specs.declared.refusal.Refusal.TheVariants.{Memory}
 
--- what a reader of X answers: an X and the bytes behind it, or none
-abbrev pub Read : Type 0 → Type 0
-Read X = Option (X × List ℕ)
+-- the bytes spell no offset
+abbrev pub no_offset : RecordError
+no_offset = BadRecord 0
 
-infixl 10 ◌>>=◌
-abbrev pub ◌>>=◌ : {A B : Type 0} → Option A → (A → Option B) → Option B
-(Some x) >>= f = f x
-None >>= f = None
-
--- what a function returned, seen by view, is what reading gives, unless memory ran out
-abbrev pub Fails : {Y : Type 0} → Refusal → Option Y → Type 0
-Fails e read = (e ≡ Memory) ⊎ (read ≡ None)
-
-abbrev pub Gives : {X Y : Type 0} → (X → Y) → Result X Refusal → Option Y → Type 0
-Gives view (Ok x) read = read ≡ Some (view x)
-Gives view (Err e) read = Fails e read
-
--- ---- fields
+-- what is there, or else no offset
+abbrev pub found : {A : Type 0} → Option A → Result A RecordError
+found (Some x) = Ok x
+found None = Err no_offset
 
 unfoldable pub byte_at : List ℕ → Read ℕ
-byte_at [] = None
-byte_at (b ∷ rest) = Some (b, rest)
-
-unfoldable pub number_at : Width → List ℕ → Read ℕ
-number_at w bytes = if nat_lt (length bytes) (byte_len w) then None else Some (from_be_bytes w (take (byte_len w) bytes), drop (byte_len w) bytes)
-
-unfoldable pub utf8_of : List ℕ → Option (List ℕ)
-utf8_of text = if is_utf8 text then Some text else None
-
-unfoldable pub text_at : List ℕ → Read (List ℕ)
-text_at bytes = do
-  n ← number_at w32 bytes
-  if nat_lt (length n.1) n.0 then None else (do
-    text ← utf8_of (take n.0 n.1)
-    Some (text, drop n.0 n.1))
-
-unfoldable pub truth_at : List ℕ → Read Bool
-truth_at bytes = do
-  b ← byte_at bytes
-  if b.0 == 0 then Some (false, b.1) else (if b.0 == 1 then Some (true, b.1) else None)
-
--- ---- lists
-
--- so many items, one behind the other
-unfoldable pub many_at : {A : Type 0} → (List ℕ → Read A) → ℕ → List ℕ → Read (List A)
-many_at item zero bytes = Some ([], bytes)
-many_at item (suc n) bytes = do
-  first ← item bytes
-  others ← many_at item n first.1
-  Some (first.0 ∷ others.0, others.1)
+byte_at [] = Err no_offset
+byte_at (b ∷ rest) = Ok (b, rest)
 
 -- items behind their number
 unfoldable pub counted_at : {A : Type 0} → (List ℕ → Read A) → List ℕ → Read (List A)
 counted_at item bytes = do
-  n ← number_at w32 bytes
+  n ← number_at w32 0 bytes
   many_at item n.0 n.1
 
 -- ---- tables
 
 unfoldable pub column_at : List ℕ → Read Column
 column_at bytes = do
-  name ← text_at bytes
-  oid ← number_at w32 name.1
-  ty ← type_of oid.0
-  Some (record { name = name.0; ty = ty }, oid.1)
+  name ← text_at 0 bytes
+  oid ← number_at w32 0 name.1
+  ty ← found (type_of oid.0)
+  Ok (record { name = name.0; ty = ty }, oid.1)
 
 -- the table of these parts, where they are a table's
-abbrev pub made : (name : TableName) (columns : List Column) (key : List ℕ) (b : Bool) → is_table name columns key ≡ b → Option TableInfo
-made name columns key true sound = Some (record { name = name; columns = columns; key = key; sound = sound })
-made name columns key false sound = None
+abbrev pub made : (name : TableName) (columns : List Column) (key : List ℕ) (b : Bool) → is_table name columns key ≡ b → Result TableInfo RecordError
+made name columns key true sound = Ok (record { name = name; columns = columns; key = key; sound = sound })
+made name columns key false sound = Err no_offset
 
-unfoldable pub info_of : TableName → List Column → List ℕ → Option TableInfo
+unfoldable pub info_of : TableName → List Column → List ℕ → Result TableInfo RecordError
 info_of name columns key = made name columns key (is_table name columns key) (λ i. is_table name columns key)
 
 unfoldable pub table_at : List ℕ → Read TableInfo
 table_at bytes = do
-  schema ← text_at bytes
-  name ← text_at schema.1
+  schema ← text_at 0 bytes
+  name ← text_at 0 schema.1
   columns ← counted_at column_at name.1
-  key ← counted_at (number_at w32) columns.1
+  key ← counted_at (number_at w32 0) columns.1
   info ← info_of (record { schema = schema.0; name = name.0 }) columns.0 key.0
-  Some (info, key.1)
+  Ok (info, key.1)
 
 -- ---- cursors
 
@@ -123,61 +86,61 @@ word_of ty text = None
 
 unfoldable pub integer_at : PgType → List ℕ → Read Val
 integer_at ty bytes = do
-  n ← number_at w64 bytes
-  if is_integer_of ty (cast_signed w64 n.0) then Some (val.Int (cast_signed w64 n.0), n.1) else None
+  n ← number_at w64 0 bytes
+  if is_integer_of ty (cast_signed w64 n.0) then Ok (val.Int (cast_signed w64 n.0), n.1) else Err no_offset
 
 unfoldable pub word_at : PgType → List ℕ → Read Val
 word_at ty bytes = do
-  text ← text_at bytes
-  v ← word_of ty text.0
-  Some (v, text.1)
+  text ← text_at 0 bytes
+  v ← found (word_of ty text.0)
+  Ok (v, text.1)
 
 unfoldable pub cell_at : PgType → List ℕ → Read Val
 cell_at ty bytes = do
   b ← byte_at bytes
-  if b.0 == 1 then integer_at ty b.1 else (if b.0 == 2 then word_at ty b.1 else None)
+  if b.0 == 1 then integer_at ty b.1 else (if b.0 == 2 then word_at ty b.1 else Err no_offset)
 
 -- a cell of each type
 unfoldable pub cells_at : List PgType → List ℕ → Read (List Val)
-cells_at [] bytes = Some ([], bytes)
+cells_at [] bytes = Ok ([], bytes)
 cells_at (ty ∷ types) bytes = do
   first ← cell_at ty bytes
   others ← cells_at types first.1
-  Some (first.0 ∷ others.0, others.1)
+  Ok (first.0 ∷ others.0, others.1)
 
 unfoldable pub key_at : List PgType → List ℕ → Read Key
 key_at types bytes = do
   cells ← cells_at types bytes
-  Some (record { cells = cells.0 }, cells.1)
+  Ok (record { cells = cells.0 }, cells.1)
 
 unfoldable pub last_at : List PgType → List ℕ → Read (Option Key)
 last_at types bytes = do
-  there ← truth_at bytes
+  there ← truth_at 0 bytes
   if there.0 then (do
     key ← key_at types there.1
-    Some (Some key.0, key.1)) else Some (None, there.1)
+    Ok (Some key.0, key.1)) else Ok (None, there.1)
 
 unfoldable pub cursor_at : TableInfo → List ℕ → Read Cursor
 cursor_at info bytes = do
-  done ← truth_at bytes
+  done ← truth_at 0 bytes
   last ← last_at (key_types info) done.1
-  Some (record { last = last.0; done = done.0 }, last.1)
+  Ok (record { last = last.0; done = done.0 }, last.1)
 
 unfoldable pub entry_at : List ℕ → Read (TableInfo × Cursor)
 entry_at bytes = do
   info ← table_at bytes
   cursor ← cursor_at info.0 info.1
-  Some ((info.0, cursor.0), cursor.1)
+  Ok ((info.0, cursor.0), cursor.1)
 
 -- ---- offsets
 
 unfoldable pub identity_at : List ℕ → Read Identity
 identity_at bytes = do
-  prefix ← text_at bytes
-  db ← text_at prefix.1
-  placeholder ← text_at db.1
+  prefix ← text_at 0 bytes
+  db ← text_at 0 prefix.1
+  placeholder ← text_at 0 db.1
   let identity : Identity = record { prefix = prefix.0; db = db.0; placeholder = placeholder.0 } in
-      if is_good_identity identity then Some (identity, placeholder.1) else None
+      if is_good_identity identity then Ok (identity, placeholder.1) else Err no_offset
 
 -- tables and cursors, as the lists in which an offset has them
 abbrev pub infos_of : List (TableInfo × Cursor) → List TableInfo
@@ -188,28 +151,28 @@ cursors_of tables = map (λ t. t.1) tables
 
 unfoldable pub tables_at : List ℕ → Read (List (TableInfo × Cursor))
 tables_at bytes = do
-  n ← number_at w32 bytes
+  n ← number_at w32 0 bytes
   if nat_lt 0 n.0 && nat_le n.0 64 then (do
     tables ← many_at entry_at n.0 n.1
-    if are_distinct same_name (map (λ info. info.name) (infos_of tables.0)) then Some tables else None) else None
+    if are_distinct same_name (map (λ info. info.name) (infos_of tables.0)) then Ok tables else Err no_offset) else Err no_offset
 
 -- incarnation, start, LSN and end LSN
 unfoldable pub numbers_at : List ℕ → Read (ℕ × ℕ × ℕ × ℕ)
 numbers_at bytes = do
-  incarnation ← number_at w64 bytes
-  start ← number_at w64 incarnation.1
-  lsn ← number_at w64 start.1
-  end_lsn ← number_at w64 lsn.1
-  if nat_lt 0 incarnation.0 && nat_le incarnation.0 (2 ^ 63) && nat_le start.0 lsn.0 then Some ((incarnation.0, start.0, lsn.0, end_lsn.0), end_lsn.1) else None
+  incarnation ← number_at w64 0 bytes
+  start ← number_at w64 0 incarnation.1
+  lsn ← number_at w64 0 start.1
+  end_lsn ← number_at w64 0 lsn.1
+  if nat_lt 0 incarnation.0 && nat_le incarnation.0 (2 ^ 63) && nat_le start.0 lsn.0 then Ok ((incarnation.0, start.0, lsn.0, end_lsn.0), end_lsn.1) else Err no_offset
 
 -- nothing is left
-unfoldable pub ended : {X : Type 0} → X × List ℕ → Option X
-ended x = if length x.1 == 0 then Some x.0 else None
+unfoldable pub ended : {X : Type 0} → X × List ℕ → Result X RecordError
+ended x = if length x.1 == 0 then Ok x.0 else Err no_offset
 
-unfoldable pub version_at : List ℕ → Option (List ℕ)
+unfoldable pub version_at : List ℕ → Result (List ℕ) RecordError
 version_at bytes = do
   b ← byte_at bytes
-  if b.0 == 1 then Some b.1 else None
+  if b.0 == 1 then Ok b.1 else Err no_offset
 
 unfoldable pub offset_at : List ℕ → Read Offset
 offset_at bytes = do
@@ -217,7 +180,7 @@ offset_at bytes = do
   identity ← identity_at rest
   numbers ← numbers_at identity.1
   tables ← tables_at numbers.1
-  Some (
+  Ok (
     record {
       identity = identity.0;
       incarnation = numbers.0.0;
@@ -230,7 +193,7 @@ offset_at bytes = do
     tables.1,
   )
 
-unfoldable pub whole : List ℕ → Option Offset
+unfoldable pub whole : List ℕ → Result Offset RecordError
 whole bytes = do
   offset ← offset_at bytes
   ended offset

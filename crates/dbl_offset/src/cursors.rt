@@ -1,15 +1,17 @@
 //! Readers of cursors.
 
 ghost use Rattle.std.specs.Prelude.{◌≡◌, map};
+ghost use Rattle.dbl_record.specs.GroupReading.{Gives};
 ghost use Rattle.dbl_model.specs.Tables.{type_at};
 ghost use Rattle.dbl_model.specs.Infos.{key_types};
-ghost use Rattle.dbl_offset.specs.Reading.{Gives, cell_at, cells_at, cursor_at, entry_at, integer_at, is_integer_of, key_at, last_at, word_at};
+ghost use Rattle.dbl_offset.specs.Reading.{cell_at, cells_at, cursor_at, entry_at, integer_at, is_integer_of, key_at, last_at, word_at};
 
-use crate::reading::{byte, number64, text, truth};
-use crate::refusal::Refusal;
+use crate::reading::{NO_OFFSET, byte};
 use crate::tables::read_table;
 use dbl_base::Seq;
 use dbl_model::{Column, Cursor, Key, TableInfo};
+use dbl_record::RecordError;
+use dbl_record::fields::{read_number64, read_text, read_truth};
 use dbl_value::{PgType, Val, ValueError, read_owned};
 use std::alloc::Global;
 
@@ -25,41 +27,41 @@ fn holds_integer(ty: PgType, number: i64) -> bool
 }
 
 #[tactic(auto, unfolding(crate::specs::Reading::integer_at))]
-fn read_integer(ty: PgType, bytes: &[u8]) -> Result<(Val, &[u8]), Refusal>
+fn read_integer(ty: PgType, bytes: &[u8]) -> Result<(Val, &[u8]), RecordError>
     ensures { Gives (λ x. (x.0, x.1.now)) result (integer_at ty bytes.now) }
 {
-    let (number, rest) = number64(bytes)?;
+    let (number, rest) = read_number64(0, bytes)?;
     let number = number.cast_signed();
     if !holds_integer(ty, number) {
-        return Err(Refusal::NoOffset);
+        return Err(NO_OFFSET);
     }
     Ok((Val::Int(number), rest))
 }
 
 #[tactic(auto, unfolding(crate::specs::Reading::word_at))]
-fn read_word(alloc: Global, ty: PgType, bytes: &[u8]) -> Result<(Val, &[u8]), Refusal>
+fn read_word(alloc: Global, ty: PgType, bytes: &[u8]) -> Result<(Val, &[u8]), RecordError>
     ensures { Gives (λ x. (x.0, x.1.now)) result (word_at ty bytes.now) }
 {
-    let (text, rest) = text(alloc, bytes)?;
+    let (text, rest) = read_text(alloc, 0, bytes)?;
     if !matches!(ty, PgType::Text | PgType::Varchar | PgType::Uuid) {
-        return Err(Refusal::NoOffset);
+        return Err(NO_OFFSET);
     }
     match read_owned(alloc, ty, text) {
         Ok(value) => Ok((value, rest)),
-        Err(ValueError::Memory) => Err(Refusal::Memory),
-        Err(_) => Err(Refusal::NoOffset),
+        Err(ValueError::Memory) => Err(RecordError::Memory),
+        Err(_) => Err(NO_OFFSET),
     }
 }
 
 #[tactic(auto, unfolding(crate::specs::Reading::cell_at))]
-fn read_cell(alloc: Global, ty: PgType, bytes: &[u8]) -> Result<(Val, &[u8]), Refusal>
+fn read_cell(alloc: Global, ty: PgType, bytes: &[u8]) -> Result<(Val, &[u8]), RecordError>
     ensures { Gives (λ x. (x.0, x.1.now)) result (cell_at ty bytes.now) }
 {
     let (kind, rest) = byte(bytes)?;
     match kind {
         1 => read_integer(ty, rest),
         2 => read_word(alloc, ty, rest),
-        _ => Err(Refusal::NoOffset),
+        _ => Err(NO_OFFSET),
     }
 }
 
@@ -77,7 +79,7 @@ fn read_cells<'a>(
     columns: &[Column],
     key: &[u32],
     bytes: &'a [u8],
-) -> Result<(Vec<Val>, &'a [u8]), Refusal>
+) -> Result<(Vec<Val>, &'a [u8]), RecordError>
     ensures { Gives (λ x. (x.0.items, x.1.now)) result (cells_at (map (type_at columns.now) key.now) bytes.now) }
 {
     let mut cells = Vec::with_capacity(alloc, key.len())?;
@@ -96,7 +98,7 @@ fn read_key<'a>(
     alloc: Global,
     info: &TableInfo,
     bytes: &'a [u8],
-) -> Result<(Key, &'a [u8]), Refusal>
+) -> Result<(Key, &'a [u8]), RecordError>
     ensures { Gives (λ x. (x.0, x.1.now)) result (key_at (key_types info.now) bytes.now) }
 {
     let columns = info.columns.items().as_slice();
@@ -114,10 +116,10 @@ fn read_last<'a>(
     alloc: Global,
     info: &TableInfo,
     bytes: &'a [u8],
-) -> Result<(Option<Key>, &'a [u8]), Refusal>
+) -> Result<(Option<Key>, &'a [u8]), RecordError>
     ensures { Gives (λ x. (x.0, x.1.now)) result (last_at (key_types info.now) bytes.now) }
 {
-    let (there, rest) = truth(bytes)?;
+    let (there, rest) = read_truth(0, bytes)?;
     if !there {
         return Ok((None, rest));
     }
@@ -130,17 +132,20 @@ fn read_cursor<'a>(
     alloc: Global,
     info: &TableInfo,
     bytes: &'a [u8],
-) -> Result<(Cursor, &'a [u8]), Refusal>
+) -> Result<(Cursor, &'a [u8]), RecordError>
     ensures { Gives (λ x. (x.0, x.1.now)) result (cursor_at info.now bytes.now) }
 {
-    let (done, rest) = truth(bytes)?;
+    let (done, rest) = read_truth(0, bytes)?;
     let (last, rest) = read_last(alloc, info, rest)?;
     Ok((Cursor { last, done }, rest))
 }
 
 /// A table, and how far its snapshot has come.
 #[tactic(auto, unfolding(crate::specs::Reading::entry_at))]
-pub(crate) fn read_entry(alloc: Global, bytes: &[u8]) -> Result<(TableInfo, Cursor, &[u8]), Refusal>
+pub(crate) fn read_entry(
+    alloc: Global,
+    bytes: &[u8],
+) -> Result<(TableInfo, Cursor, &[u8]), RecordError>
     ensures { Gives (λ x. ((x.0, x.1), x.2.now)) result (entry_at bytes.now) }
 {
     let (info, rest) = read_table(alloc, bytes)?;

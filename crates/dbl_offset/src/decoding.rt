@@ -1,18 +1,20 @@
 //! From an entry's bytes to its offset.
 
-ghost use Rattle.std.specs.Prelude.{◌≡◌, ◌⊎◌, ◌^◌, ◌<◌, ◌≤◌, Err, Ok, IfOk, length, map};
+ghost use Rattle.std.specs.Prelude.{◌≡◌, ◌⊎◌, ℕ, ◌^◌, ◌<◌, ◌≤◌, Err, Ok, IfOk, length, map};
 ghost use Rattle.std.specs.List.{list_any, zip};
+ghost use Rattle.dbl_record.specs.GroupReading.{Gives, many_at};
 ghost use Rattle.dbl_model.specs.Tables.{are_distinct, same_name};
 ghost use Rattle.dbl_offset.specs.declared.offset.Offset.{Offset};
 ghost use Rattle.dbl_offset.specs.Offsets.{IsEntry, Spells};
-ghost use Rattle.dbl_offset.specs.Reading.{Gives, entry_at, identity_at, many_at, numbers_at, offset_at, tables_at, version_at, whole};
+ghost use Rattle.dbl_offset.specs.Reading.{entry_at, identity_at, numbers_at, offset_at, tables_at, version_at, whole};
 
 use crate::cursors::read_entry;
 use crate::offset::Offset;
-use crate::reading::{byte, number32, number64, text};
-use crate::refusal::Refusal;
+use crate::reading::{NO_OFFSET, byte};
 use dbl_base::{Lsn, Seq};
 use dbl_model::{Cursor, Identity, TableInfo};
+use dbl_record::RecordError;
+use dbl_record::fields::{read_number32, read_number64, read_text};
 use std::alloc::Global;
 
 /// The most tables of an offset.
@@ -22,30 +24,30 @@ const TABLES: u32 = 64;
 pub(crate) const VERSION: u8 = 1;
 
 #[tactic(auto, unfolding(crate::specs::Reading::version_at))]
-fn read_version(bytes: &[u8]) -> Result<&[u8], Refusal>
+fn read_version(bytes: &[u8]) -> Result<&[u8], RecordError>
     ensures { Gives (λ x. x.now) result (version_at bytes.now) }
 {
     let (version, rest) = byte(bytes)?;
     if version != VERSION {
-        return Err(Refusal::NoOffset);
+        return Err(NO_OFFSET);
     }
     Ok(rest)
 }
 
 #[tactic(auto, unfolding(crate::specs::Reading::identity_at))]
-fn read_identity(alloc: Global, bytes: &[u8]) -> Result<(Identity, &[u8]), Refusal>
+fn read_identity(alloc: Global, bytes: &[u8]) -> Result<(Identity, &[u8]), RecordError>
     ensures { Gives (λ x. (x.0, x.1.now)) result (identity_at bytes.now) }
 {
-    let (prefix, rest) = text(alloc, bytes)?;
-    let (db, rest) = text(alloc, rest)?;
-    let (placeholder, rest) = text(alloc, rest)?;
+    let (prefix, rest) = read_text(alloc, 0, bytes)?;
+    let (db, rest) = read_text(alloc, 0, rest)?;
+    let (placeholder, rest) = read_text(alloc, 0, rest)?;
     let identity = Identity {
         prefix,
         db,
         placeholder,
     };
     if !identity.is_good() {
-        return Err(Refusal::NoOffset);
+        return Err(NO_OFFSET);
     }
     Ok((identity, rest))
 }
@@ -60,15 +62,15 @@ struct Numbers {
 }
 
 #[tactic(auto, unfolding(crate::specs::Reading::numbers_at))]
-fn read_numbers(bytes: &[u8]) -> Result<(Numbers, &[u8]), Refusal>
+fn read_numbers(bytes: &[u8]) -> Result<(Numbers, &[u8]), RecordError>
     ensures { Gives (λ x. ((x.0.incarnation, x.0.start, x.0.lsn, x.0.end_lsn), x.1.now)) result (numbers_at bytes.now) }
 {
-    let (incarnation, rest) = number64(bytes)?;
-    let (start, rest) = number64(rest)?;
-    let (lsn, rest) = number64(rest)?;
-    let (end_lsn, rest) = number64(rest)?;
+    let (incarnation, rest) = read_number64(0, bytes)?;
+    let (start, rest) = read_number64(0, rest)?;
+    let (lsn, rest) = read_number64(0, rest)?;
+    let (end_lsn, rest) = read_number64(0, rest)?;
     if incarnation == 0 || incarnation > 1 << 63 || start > lsn {
-        return Err(Refusal::NoOffset);
+        return Err(NO_OFFSET);
     }
     let numbers = Numbers {
         incarnation,
@@ -86,7 +88,11 @@ struct Tables {
     cursors: Vec<Cursor>,
 }
 
-fn read_each_table(alloc: Global, count: usize, bytes: &[u8]) -> Result<(Tables, &[u8]), Refusal>
+fn read_each_table(
+    alloc: Global,
+    count: usize,
+    bytes: &[u8],
+) -> Result<(Tables, &[u8]), RecordError>
     ensures read { Gives (λ x. (zip x.0.infos.items x.0.cursors.items, x.1.now)) result (many_at entry_at count bytes.now) }
     ensures long { IfOk result (λ x. length x.0.cursors.items ≡ length x.0.infos.items) }
 {
@@ -121,23 +127,23 @@ fn have_distinct_names(infos: &[TableInfo]) -> bool
 }
 
 #[tactic(auto, unfolding(crate::specs::Reading::tables_at))]
-fn read_tables(alloc: Global, bytes: &[u8]) -> Result<(Tables, &[u8]), Refusal>
+fn read_tables(alloc: Global, bytes: &[u8]) -> Result<(Tables, &[u8]), RecordError>
     ensures read { Gives (λ x. (zip x.0.infos.items x.0.cursors.items, x.1.now)) result (tables_at bytes.now) }
     ensures long { IfOk result (λ x. length x.0.cursors.items ≡ length x.0.infos.items) }
 {
-    let (count, rest) = number32(bytes)?;
+    let (count, rest) = read_number32(0, bytes)?;
     if count == 0 || count > TABLES {
-        return Err(Refusal::NoOffset);
+        return Err(NO_OFFSET);
     }
     let (tables, rest) = read_each_table(alloc, count as usize, rest)?;
     if !have_distinct_names(tables.infos.as_slice()) {
-        return Err(Refusal::NoOffset);
+        return Err(NO_OFFSET);
     }
     Ok((tables, rest))
 }
 
 #[tactic(auto, unfolding(crate::specs::Reading::offset_at))]
-fn read_offset(alloc: Global, bytes: &[u8]) -> Result<(Offset, &[u8]), Refusal>
+fn read_offset(alloc: Global, bytes: &[u8]) -> Result<(Offset, &[u8]), RecordError>
     ensures { Gives (λ x. (x.0, x.1.now)) result (offset_at bytes.now) }
 {
     let rest = read_version(bytes)?;
@@ -158,20 +164,20 @@ fn read_offset(alloc: Global, bytes: &[u8]) -> Result<(Offset, &[u8]), Refusal>
 }
 
 #[tactic(auto, unfolding(crate::specs::Reading::whole, crate::specs::Reading::ended))]
-fn read_whole(alloc: Global, bytes: &[u8]) -> Result<Offset, Refusal>
+fn read_whole(alloc: Global, bytes: &[u8]) -> Result<Offset, RecordError>
     ensures { Gives (λ o. o) result (whole bytes.now) }
 {
     let (offset, rest) = read_offset(alloc, bytes)?;
     if !rest.is_empty() {
-        return Err(Refusal::NoOffset);
+        return Err(NO_OFFSET);
     }
     Ok(offset)
 }
 
 /// The offset that the bytes spell.
-pub(crate) fn decode(alloc: Global, bytes: &[u8]) -> Result<Offset, Refusal>
+pub(crate) fn decode(alloc: Global, bytes: &[u8]) -> Result<Offset, RecordError>
     ensures read { IfOk result (λ offset. Spells bytes.now offset) }
-    ensures refused { result ≡ Err Refusal.NoOffset → ¬ IsEntry bytes.now }
+    ensures refused { (at : ℕ) → result ≡ Err (RecordError.BadRecord at) → ¬ IsEntry bytes.now }
 {
     read_whole(alloc, bytes)
 }

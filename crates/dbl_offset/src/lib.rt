@@ -8,7 +8,6 @@ mod laws;
 mod measuring;
 mod offset;
 mod reading;
-mod refusal;
 mod store;
 mod tables;
 mod writing;

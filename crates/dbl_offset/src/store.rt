@@ -12,11 +12,11 @@ ghost use Rattle.dbl_offset.specs.Stores.{HasBadOffset, Holds, IsLastOf, IsLive,
 
 use crate::decoding::decode;
 use crate::measuring::measure;
-use crate::refusal::Refusal;
 use crate::writing::encode;
 use crate::{Offset, OffsetError};
 use dbl_disk::{Disk, Refused};
 use dbl_journal::{ENTRY_LIMIT, Journal};
+use dbl_record::RecordError;
 use std::alloc::Global;
 use std::marker::Model;
 
@@ -48,8 +48,8 @@ fn read_entry(alloc: Global, index: u64, bytes: &[u8]) -> Result<Offset, OffsetE
 {
     match decode(alloc, bytes) {
         Ok(offset) => Ok(offset),
-        Err(Refusal::NoOffset) => Err(OffsetError::BadOffset { index }),
-        Err(Refusal::Memory) => Err(OffsetError::Memory),
+        Err(RecordError::BadRecord { at: _ }) => Err(OffsetError::BadOffset { index }),
+        Err(RecordError::Memory) => Err(OffsetError::Memory),
     }
 }
 

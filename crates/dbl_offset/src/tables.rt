@@ -2,12 +2,14 @@
 
 ghost use Rattle.std.specs.Prelude.{◌≡◌, length};
 ghost use Rattle.std.specs.Int.{w32};
-ghost use Rattle.dbl_offset.specs.Reading.{Gives, column_at, counted_at, many_at, number_at, table_at};
+ghost use Rattle.dbl_record.specs.GroupReading.{Gives, many_at, number_at};
+ghost use Rattle.dbl_offset.specs.Reading.{column_at, counted_at, table_at};
 
-use crate::reading::{number32, text};
-use crate::refusal::Refusal;
+use crate::reading::NO_OFFSET;
 use dbl_base::Seq;
 use dbl_model::{Column, TableInfo, TableName};
+use dbl_record::RecordError;
+use dbl_record::fields::{read_number32, read_text};
 use std::alloc::Global;
 
 /// The fewest bytes that a column has.
@@ -17,13 +19,13 @@ const COLUMN_BYTES: usize = 8;
 const PLACE_BYTES: usize = 4;
 
 #[tactic(auto, unfolding(crate::specs::Reading::column_at))]
-fn read_column(alloc: Global, bytes: &[u8]) -> Result<(Column, &[u8]), Refusal>
+fn read_column(alloc: Global, bytes: &[u8]) -> Result<(Column, &[u8]), RecordError>
     ensures { Gives (λ x. (x.0, x.1.now)) result (column_at bytes.now) }
 {
-    let (name, rest) = text(alloc, bytes)?;
-    let (oid, rest) = number32(rest)?;
+    let (name, rest) = read_text(alloc, 0, bytes)?;
+    let (oid, rest) = read_number32(0, rest)?;
     let Ok(ty) = dbl_value::of(oid) else {
-        return Err(Refusal::NoOffset);
+        return Err(NO_OFFSET);
     };
     Ok((Column { name, ty }, rest))
 }
@@ -33,7 +35,7 @@ fn read_each_column(
     alloc: Global,
     count: usize,
     bytes: &[u8],
-) -> Result<(Vec<Column>, &[u8]), Refusal>
+) -> Result<(Vec<Column>, &[u8]), RecordError>
     ensures { Gives (λ x. (x.0.items, x.1.now)) result (many_at column_at count bytes.now) }
 {
     let mut columns = Vec::with_capacity(alloc, count.min(bytes.len() / COLUMN_BYTES))?;
@@ -47,20 +49,24 @@ fn read_each_column(
 }
 
 #[tactic(auto, unfolding(crate::specs::Reading::counted_at))]
-fn read_columns(alloc: Global, bytes: &[u8]) -> Result<(Vec<Column>, &[u8]), Refusal>
+fn read_columns(alloc: Global, bytes: &[u8]) -> Result<(Vec<Column>, &[u8]), RecordError>
     ensures { Gives (λ x. (x.0.items, x.1.now)) result (counted_at column_at bytes.now) }
 {
-    let (count, rest) = number32(bytes)?;
+    let (count, rest) = read_number32(0, bytes)?;
     read_each_column(alloc, count as usize, rest)
 }
 
-fn read_each_place(alloc: Global, count: usize, bytes: &[u8]) -> Result<(Vec<u32>, &[u8]), Refusal>
-    ensures { Gives (λ x. (x.0.items, x.1.now)) result (many_at (number_at w32) count bytes.now) }
+fn read_each_place(
+    alloc: Global,
+    count: usize,
+    bytes: &[u8],
+) -> Result<(Vec<u32>, &[u8]), RecordError>
+    ensures { Gives (λ x. (x.0.items, x.1.now)) result (many_at (number_at w32 0) count bytes.now) }
 {
     let mut places = Vec::with_capacity(alloc, count.min(bytes.len() / PLACE_BYTES))?;
     let mut rest = bytes;
     for _ in 0..count {
-        let (place, after) = number32(rest)?;
+        let (place, after) = read_number32(0, rest)?;
         places.push(place)?;
         rest = after;
     }
@@ -68,25 +74,25 @@ fn read_each_place(alloc: Global, count: usize, bytes: &[u8]) -> Result<(Vec<u32
 }
 
 #[tactic(auto, unfolding(crate::specs::Reading::counted_at))]
-fn read_places(alloc: Global, bytes: &[u8]) -> Result<(Vec<u32>, &[u8]), Refusal>
-    ensures { Gives (λ x. (x.0.items, x.1.now)) result (counted_at (number_at w32) bytes.now) }
+fn read_places(alloc: Global, bytes: &[u8]) -> Result<(Vec<u32>, &[u8]), RecordError>
+    ensures { Gives (λ x. (x.0.items, x.1.now)) result (counted_at (number_at w32 0) bytes.now) }
 {
-    let (count, rest) = number32(bytes)?;
+    let (count, rest) = read_number32(0, bytes)?;
     read_each_place(alloc, count as usize, rest)
 }
 
 /// A table that can be captured.
 #[tactic(auto, unfolding(crate::specs::Reading::table_at))]
-pub(crate) fn read_table(alloc: Global, bytes: &[u8]) -> Result<(TableInfo, &[u8]), Refusal>
+pub(crate) fn read_table(alloc: Global, bytes: &[u8]) -> Result<(TableInfo, &[u8]), RecordError>
     ensures { Gives (λ x. (x.0, x.1.now)) result (table_at bytes.now) }
 {
-    let (schema, rest) = text(alloc, bytes)?;
-    let (name, rest) = text(alloc, rest)?;
+    let (schema, rest) = read_text(alloc, 0, bytes)?;
+    let (name, rest) = read_text(alloc, 0, rest)?;
     let (columns, rest) = read_columns(alloc, rest)?;
     let (key, rest) = read_places(alloc, rest)?;
     let name = TableName { schema, name };
     match TableInfo::of_parts(alloc, name, Seq::make(columns), Seq::make(key))? {
         Some(info) => Ok((info, rest)),
-        None => Err(Refusal::NoOffset),
+        None => Err(NO_OFFSET),
     }
 }

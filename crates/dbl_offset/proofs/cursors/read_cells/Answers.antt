@@ -1,8 +1,9 @@
-use Rattle.std.proofs.Common.{◌≡◌, Some, map, get_or, refl, ap, sym, subst, ◌∙◌}
+use Rattle.std.proofs.Common.{◌≡◌, Ok, map, get_or, refl, ap, sym, subst, ◌∙◌}
 use Rattle.std.proofs.lemmas.Result.{err_from_is_err_and}
 use Rattle.dbl_value.specs.declared.column_type.PgType.{PgType}
 use Rattle.dbl_model.specs.Tables.{type_at}
-use Rattle.dbl_offset.specs.Reading.{Fails, cell_at, cells_at}
+use Rattle.dbl_record.specs.GroupReading.{Fails}
+use Rattle.dbl_offset.specs.Reading.{cell_at, cells_at}
 use Rattle.dbl_offset.proofs.Many.{cells_go_on, cells_end, cells_done}
 use Rattle.dbl_offset.proofs.cursors.read_cells.Goals as goal
 
@@ -16,7 +17,7 @@ returns-in_err-cell c =
 pub loop-place-preserved : goal.loop-place-preserved
 loop-place-preserved c =
     let place = get_or c.args.key.now c.loop-place.place-index 0 in
-    let read : cell_at (type_at c.args.columns.now place) c.loop-place.rest.now ≡ Some (c.in_ok-cell.cell, c.in_ok-cell.after.now) = ap (λ (ty : PgType). cell_at ty c.loop-place.rest.now) (sym c.type_of_column-ty.ensures) ∙ c.in_ok-cell.ensures in
+    let read : cell_at (type_at c.args.columns.now place) c.loop-place.rest.now ≡ Ok (c.in_ok-cell.cell, c.in_ok-cell.after.now) = ap (λ (ty : PgType). cell_at ty c.loop-place.rest.now) (sym c.type_of_column-ty.ensures) ∙ c.in_ok-cell.ensures in
     rw c.in_ok-push.ensures.items (cells_go_on (type_at c.args.columns.now) c.args.key.now c.loop-place.cells.items c.loop-place.place-index place c.loop-place.rest.now c.in_ok-cell.cell c.in_ok-cell.after.now (cells_at (map (type_at c.args.columns.now) c.args.key.now) c.args.bytes.now) c.loop-place-test.true refl read c.loop-place.invariant)
 
 pub returns : goal.returns

@@ -2,8 +2,9 @@ use Rattle.std.proofs.Common.{◌∷◌, [], arith}
 use Rattle.std.specs.List.{zip}
 use Rattle.std.proofs.lemmas.List.{length-append}
 use Rattle.std.proofs.lemmas.Result.{err_from_is_err_and}
-use Rattle.dbl_offset.specs.Reading.{entry_at, many_at}
-use Rattle.dbl_offset.proofs.Many.{goes_on, ends, is_done}
+use Rattle.dbl_record.specs.GroupReading.{many_at}
+use Rattle.dbl_offset.specs.Reading.{entry_at}
+use Rattle.dbl_record.proofs.Many.{goes_on, ends, is_done}
 use Rattle.dbl_offset.proofs.OffsetLaws.{zip_push}
 use Rattle.dbl_offset.proofs.decoding.read_each_table.Goals as goal
 

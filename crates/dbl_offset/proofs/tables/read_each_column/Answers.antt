@@ -1,11 +1,12 @@
 use Rattle.std.proofs.Math.Nat.{sub-zero}
 use Rattle.std.proofs.lemmas.Result.{err_from_is_err_and}
-use Rattle.dbl_offset.specs.Reading.{column_at, many_at}
-use Rattle.dbl_offset.proofs.Many.{starts, goes_on, ends, is_done}
+use Rattle.dbl_record.specs.GroupReading.{many_at}
+use Rattle.dbl_offset.specs.Reading.{column_at}
+use Rattle.dbl_record.proofs.Many.{starts, goes_on, ends, is_done}
 use Rattle.dbl_offset.proofs.tables.read_each_column.Goals as goal
 
 pub loop-init : goal.loop-init
-loop-init c = rw (c.in_ok-columns.ensures.items, sub-zero) (starts (many_at column_at c.args.count c.args.bytes.now))
+loop-init c = rw (c.in_ok-columns.ensures.items, sub-zero) (starts column_at c.args.count c.args.bytes.now)
 
 pub returns-in_err-column : goal.returns-in_err-column
 returns-in_err-column c =

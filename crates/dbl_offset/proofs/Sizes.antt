@@ -162,8 +162,8 @@ offset_measured a b c o of_names of_numbers of_tables =
 pub held_at : {A : Type 0} (P : A → Type 0) (xs : List A) (i : ℕ) (x : A) → AllByRecursion P xs → i < length xs → x ≡ get_or xs i x → P x
 held_at P xs i x all lt is = subst P (sym is) (All-get_or P xs i x lt (All-from_recursion P xs all))
 
--- the parts of an offset, each written behind the others
-pub written_whole : (offset : Offset) (a b c d e f g h : List ℕ) → a ≡ 1 ∷ [] → b ≡ a ++ names offset.identity → c ≡ b ++ number64 offset.incarnation → d ≡ c ++ number64 offset.start.0 → e ≡ d ++ number64 offset.lsn.0 → f ≡ e ++ number64 offset.end_lsn.0
-    → g ≡ f ++ number32 (length (tables_of offset)) → h ≡ g ++ flat_map entry (tables_of offset) → h ≡ spelling offset
+-- the parts of an offset, each written behind the others and what stood there
+pub written_whole : (offset : Offset) (old a b c d e f g h : List ℕ) → a ≡ old ++ 1 ∷ [] → b ≡ a ++ names offset.identity → c ≡ b ++ number64 offset.incarnation → d ≡ c ++ number64 offset.start.0 → e ≡ d ++ number64 offset.lsn.0 → f ≡ e ++ number64 offset.end_lsn.0
+    → g ≡ f ++ number32 (length (tables_of offset)) → h ≡ g ++ flat_map entry (tables_of offset) → h ≡ old ++ spelling offset
 unfolding spelling counted
-written_whole offset a b c d e f g h of_a of_b of_c of_d of_e of_f of_g of_h = rw (of_h, of_g, of_f, of_e, of_d, of_c, of_b, of_a) (simp append_assoc refl)
+written_whole offset old a b c d e f g h of_a of_b of_c of_d of_e of_f of_g of_h = rw (of_h, of_g, of_f, of_e, of_d, of_c, of_b, of_a) (simp append_assoc refl)

@@ -168,7 +168,7 @@ impl<D: Disk> OffsetStore<D> {
             return Err(OffsetError::TooLong { len: count });
         }
         let bytes = encode(alloc, count as usize, &offset)?;
-        self.journal.append(alloc, &bytes)?;
+        self.journal.append_built(bytes)?;
         self.offset = Some(offset);
         Ok(())
     }

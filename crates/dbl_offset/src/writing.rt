@@ -1,12 +1,13 @@
 //! From an offset to its entry's bytes. Each writer appends to what was written before.
 
-ghost use Rattle.std.specs.Prelude.{◌≡◌, ◌<◌, ◌^◌, length, IfOk, OnOk};
+ghost use Rattle.std.specs.Prelude.{◌≡◌, ◌<◌, ◌≤◌, ◌^◌, length, drop, IfOk, OnOk};
 ghost use Rattle.std.specs.List.{AllByRecursion, flat_map, zip};
 ghost use Rattle.dbl_record.specs.Fields.{Extends, number32};
 ghost use Rattle.dbl_offset.specs.Entries.{Fits, FitsCell, FitsColumn, FitsCursor, FitsEntry, FitsNames, FitsTable, cell, column, counted, cursor, entry, last_key, names, spelling, table};
 
 use crate::decoding::VERSION;
 use crate::offset::Offset;
+use dbl_journal::ENTRY_ROOM;
 use dbl_model::{Column, Cursor, Identity, TableInfo};
 use dbl_record::fields::{append_number32, append_number64, append_text, append_truth};
 use dbl_value::Val;
@@ -146,22 +147,35 @@ fn write_entries(
     Ok(())
 }
 
-/// The offset's bytes, of which there are so many.
 #[tactic(auto, unfolding(crate::specs::Entries::spelling, crate::specs::Entries::counted))]
-pub(crate) fn encode(alloc: Global, count: usize, offset: &Offset) -> Result<Vec<u8>, AllocError>
+fn write_offset(out: &mut Vec<u8>, offset: &Offset) -> Result<(), AllocError>
     requires long { length offset.now.cursors ≡ length offset.now.infos }
     requires few { length offset.now.infos < 2 ^ 32 }
     requires fit { Fits offset.now }
-    ensures { IfOk result (λ bytes. bytes.items ≡ spelling offset.now) }
+    ensures { OnOk result (Extends out.old.items (spelling offset.now) out.new.items) }
 {
-    let mut out = Vec::with_capacity(alloc, count)?;
     out.push(VERSION)?;
-    write_names(&mut out, &offset.identity)?;
-    append_number64(&mut out, offset.incarnation)?;
-    append_number64(&mut out, offset.start.0)?;
-    append_number64(&mut out, offset.lsn.0)?;
-    append_number64(&mut out, offset.end_lsn.0)?;
-    append_number32(&mut out, offset.infos.items().len() as u32)?;
-    write_entries(&mut out, offset.infos.items(), offset.cursors.items())?;
+    write_names(out, &offset.identity)?;
+    append_number64(out, offset.incarnation)?;
+    append_number64(out, offset.start.0)?;
+    append_number64(out, offset.lsn.0)?;
+    append_number64(out, offset.end_lsn.0)?;
+    append_number32(out, offset.infos.items().len() as u32)?;
+    write_entries(out, offset.infos.items(), offset.cursors.items())?;
+    Ok(())
+}
+
+/// The offset's bytes, of which there are so many, behind room for their length, in a buffer that the journal needn't grow.
+pub(crate) fn encode(alloc: Global, count: usize, offset: &Offset) -> Result<Vec<u8>, AllocError>
+    requires short { count ≤ 2 ^ 28 }
+    requires long { length offset.now.cursors ≡ length offset.now.infos }
+    requires few { length offset.now.infos < 2 ^ 32 }
+    requires fit { Fits offset.now }
+    ensures room { IfOk result (λ bytes. 4 ≤ length bytes.items) }
+    ensures entry { IfOk result (λ bytes. drop 4 bytes.items ≡ spelling offset.now) }
+{
+    let mut out = Vec::with_capacity(alloc, ENTRY_ROOM + count + 1)?;
+    out.extend_from_slice(&[0; ENTRY_ROOM])?;
+    write_offset(&mut out, offset)?;
     Ok(out)
 }

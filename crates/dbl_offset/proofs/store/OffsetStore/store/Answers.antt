@@ -1,4 +1,4 @@
-use Rattle.std.proofs.Common.{◌≡◌, ◌≤◌, ◌^◌, ◌∙◌, ◌++◌, ◌∷◌, [], List, ℕ, Err, length, refl, sym, ap, subst, arith}
+use Rattle.std.proofs.Common.{◌≡◌, ◌≤◌, ◌^◌, ◌∙◌, ◌++◌, ◌∷◌, [], List, ℕ, Err, length, drop, refl, sym, ap, subst, arith}
 use Rattle.std.proofs.lemmas.List.Elements.{All-push}
 use Rattle.std.proofs.lemmas.Result.{err_from_is_err_and}
 use Rattle.dbl_journal.specs.declared.error.JournalError.TheVariants as journal_error
@@ -16,34 +16,34 @@ measure-count-requires g c = same_long c.args.offset.infos c.args.offset.cursors
 pub encode-requires-clause-long : goal.encode-requires-clause-long
 encode-requires-clause-long g c = same_long c.args.offset.infos c.args.offset.cursors c.requires.offset.cursors
 
-pub returns-in_err-append-clause-left : goal.returns-in_err-append-clause-left
-returns-in_err-append-clause-left g c old holds =
+pub returns-in_err-append_built-clause-left : goal.returns-in_err-append_built-clause-left
+returns-in_err-append_built-clause-left g c old holds =
     let held = subst (λ (s : OnJournal _). Holds g.D.Disk.seen g.D.Disk.may_leave s old) (sym c.self.view_is) holds in
-    let spells : Spells c.deref.result.now c.args.offset = record { asked = c.requires.offset; fits = c.measure-count.ensures.fits c.if-count.false; spelled = c.deref.ensures.value ∙ c.in_ok-bytes.ensures } in
-    leaves g.D.Disk.may_leave c.append.new.self.disk held.entries c.deref.result.now old c.args.offset held.each held.last spells (c.append.ensures.left held.entries held.lists)
+    let spells : Spells (drop 4 c.in_ok-bytes.bytes.items) c.args.offset = record { asked = c.requires.offset; fits = c.measure-count.ensures.fits c.if-count.false; spelled = c.in_ok-bytes.ensures.entry } in
+    leaves g.D.Disk.may_leave c.append_built.new.self.disk held.entries (drop 4 c.in_ok-bytes.bytes.items) old c.args.offset held.each held.last spells (c.append_built.ensures.left held.entries held.lists)
 
-pub returns-in_err-append-clause-too_long : goal.returns-in_err-append-clause-too_long
-returns-in_err-append-clause-too_long g c len =
-    let p = err_from_is_err_and c.from_residual-in_err-append.result c.from_residual-in_err-append.ensures.1 in
-    let long : length c.deref.result.now ≡ length (spelling c.args.offset) = ap (λ (l : List ℕ). length l) (c.deref.ensures.value ∙ c.in_ok-bytes.ensures) in
+pub returns-in_err-append_built-clause-too_long : goal.returns-in_err-append_built-clause-too_long
+returns-in_err-append_built-clause-too_long g c len =
+    let p = err_from_is_err_and c.from_residual-in_err-append_built.result c.from_residual-in_err-append_built.ensures.1 in
+    let long : length (drop 4 c.in_ok-bytes.bytes.items) ≡ length (spelling c.args.offset) = ap (λ (l : List ℕ). length l) c.in_ok-bytes.ensures.entry in
     let below : length (spelling c.args.offset) ≤ 2 ^ 28 = omega (arith, c.measure-count.ensures.long, c.if-count.false) in
-    let short : (n : ℕ) → c.in_err-append.field-0.0 ≡ journal_error.EntryTooLong n → ⊥ = λ n is. (let over = (c.append.ensures.too_long n).0 (c.in_err-append.was ∙ ap (λ e. Err e) is) in omega (arith, over.0, long, below)) in
-    (λ is. absurd (not_long c.in_err-append.field-0.0 p.0 len short p.2 (err_one p.0 (error.TooLong len) (sym p.1 ∙ is))), λ over. absurd (omega (arith, over.0, below)))
+    let short : (n : ℕ) → c.in_err-append_built.field-0.0 ≡ journal_error.EntryTooLong n → ⊥ = λ n is. (let over = (c.append_built.ensures.too_long n).0 (c.in_err-append_built.was ∙ ap (λ e. Err e) is) in omega (arith, over.0, long, below)) in
+    (λ is. absurd (not_long c.in_err-append_built.field-0.0 p.0 len short p.2 (err_one p.0 (error.TooLong len) (sym p.1 ∙ is))), λ over. absurd (omega (arith, over.0, below)))
 
 pub returns-clause-stored : goal.returns-clause-stored
 returns-clause-stored g c old holds =
     let held = subst (λ (s : OnJournal _). Holds g.D.Disk.seen g.D.Disk.may_leave s old) (sym c.self.view_is) holds in
-    let spells : Spells c.deref.result.now c.args.offset = record { asked = c.requires.offset; fits = c.measure-count.ensures.fits c.if-count.false; spelled = c.deref.ensures.value ∙ c.in_ok-bytes.ensures } in
+    let spells : Spells (drop 4 c.in_ok-bytes.bytes.items) c.args.offset = record { asked = c.requires.offset; fits = c.measure-count.ensures.fits c.if-count.false; spelled = c.in_ok-bytes.ensures.entry } in
     record {
-      entries = held.entries ++ c.deref.result.now ∷ [];
-      lists = c.in_ok-append.ensures.added held.entries held.lists;
-      each = All-push IsEntry held.entries c.deref.result.now held.each (c.args.offset, spells);
-      last = record { before = held.entries; entry = c.deref.result.now; last = refl; spelled = spells };
+      entries = held.entries ++ drop 4 c.in_ok-bytes.bytes.items ∷ [];
+      lists = c.in_ok-append_built.ensures.added held.entries held.lists;
+      each = All-push IsEntry held.entries (drop 4 c.in_ok-bytes.bytes.items) held.each (c.args.offset, spells);
+      last = record { before = held.entries; entry = drop 4 c.in_ok-bytes.bytes.items; last = refl; spelled = spells };
       offset_is = refl;
     }
 
 pub returns-clause-left : goal.returns-clause-left
 returns-clause-left g c old holds =
     let held = subst (λ (s : OnJournal _). Holds g.D.Disk.seen g.D.Disk.may_leave s old) (sym c.self.view_is) holds in
-    let spells : Spells c.deref.result.now c.args.offset = record { asked = c.requires.offset; fits = c.measure-count.ensures.fits c.if-count.false; spelled = c.deref.ensures.value ∙ c.in_ok-bytes.ensures } in
-    leaves g.D.Disk.may_leave c.append.new.self.disk held.entries c.deref.result.now old c.args.offset held.each held.last spells (c.append.ensures.left held.entries held.lists)
+    let spells : Spells (drop 4 c.in_ok-bytes.bytes.items) c.args.offset = record { asked = c.requires.offset; fits = c.measure-count.ensures.fits c.if-count.false; spelled = c.in_ok-bytes.ensures.entry } in
+    leaves g.D.Disk.may_leave c.append_built.new.self.disk held.entries (drop 4 c.in_ok-bytes.bytes.items) old c.args.offset held.each held.last spells (c.append_built.ensures.left held.entries held.lists)

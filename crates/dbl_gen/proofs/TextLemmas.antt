@@ -8,6 +8,9 @@ use Rattle.dbl_gen.specs.Draws.{next_state, drawn}
 use Rattle.dbl_gen.specs.Workload.{row_line, row_lines, insert_line, balance_line, delete_line, note_line, change, begin_line, lines_before, tick_line, group_lines, groups_from, table_lines, last_lines, workload_lines}
 
 -- what is written of a line in pieces
+pub joined_one : (old p d q e end : List ℕ) → old ++ (p ++ (d ++ (q ++ (e ++ end)))) ≡ old ++ ((p ++ (d ++ (q ++ e))) ++ end)
+joined_one old p d q e end = simp append_assoc
+
 pub joined_two : (old p d q e t end : List ℕ) → old ++ (p ++ (d ++ (q ++ (e ++ (t ++ end))))) ≡ old ++ ((p ++ (d ++ (q ++ (e ++ t)))) ++ end)
 joined_two old p d q e t end = simp append_assoc
 

@@ -14,6 +14,15 @@ const TABLES: &str =
 table public.empty default toast 64 id:int4:key name:text
 ";
 
+const SESSIONS: u32 = 3;
+
+// The number of the session of a group: they take turns.
+fn session_of(group: u32) -> u32
+    ensures { result ≡ group % 3 }
+{
+    group % SESSIONS
+}
+
 #[tactic(auto, unfolding(crate::specs::Workload::row_line))]
 fn write_row(text: &mut String, key: u32) -> Result<(), AllocError>
     ensures { OnOk result (string_bytes text.new ≡ string_bytes text.old ++ lines_text (row_line key ∷ [])) }
@@ -27,7 +36,7 @@ fn write_row(text: &mut String, key: u32) -> Result<(), AllocError>
 fn write_insert(text: &mut String, group: u32, key: u64) -> Result<(), AllocError>
     ensures { OnOk result (string_bytes text.new ≡ string_bytes text.old ++ lines_text (insert_line group key ∷ [])) }
 {
-    let session = group % 3;
+    let session = session_of(group);
     writeln!(
         text,
         "s{session} insert public.accounts id={key} owner=u{key} balance=0 note=new"
@@ -37,7 +46,7 @@ fn write_insert(text: &mut String, group: u32, key: u64) -> Result<(), AllocErro
 fn write_balance(text: &mut String, group: u32, key: u64, balance: u64) -> Result<(), AllocError>
     ensures { OnOk result (string_bytes text.new ≡ string_bytes text.old ++ lines_text (balance_line group key balance ∷ [])) }
 {
-    let session = group % 3;
+    let session = session_of(group);
     writeln!(
         text,
         "s{session} update public.accounts id={key} set balance={balance}"
@@ -47,14 +56,14 @@ fn write_balance(text: &mut String, group: u32, key: u64, balance: u64) -> Resul
 fn write_delete(text: &mut String, group: u32, key: u64) -> Result<(), AllocError>
     ensures { OnOk result (string_bytes text.new ≡ string_bytes text.old ++ lines_text (delete_line group key ∷ [])) }
 {
-    let session = group % 3;
+    let session = session_of(group);
     writeln!(text, "s{session} delete public.accounts id={key}")
 }
 
 fn write_note(text: &mut String, group: u32, key: u64) -> Result<(), AllocError>
     ensures { OnOk result (string_bytes text.new ≡ string_bytes text.old ++ lines_text (note_line group key ∷ [])) }
 {
-    let session = group % 3;
+    let session = session_of(group);
     writeln!(
         text,
         "s{session} update public.accounts id={key} set note=g{group}"
@@ -93,7 +102,7 @@ fn write_change(
 fn write_commit(text: &mut String, group: u32) -> Result<(), AllocError>
     ensures { OnOk result (string_bytes text.new ≡ string_bytes text.old ++ lines_text (commit_line group ∷ [])) }
 {
-    let session = group % 3;
+    let session = session_of(group);
     writeln!(text, "s{session} commit")
 }
 
@@ -110,7 +119,7 @@ fn write_commit_before(text: &mut String, group: u32) -> Result<(), AllocError>
 fn write_begin(text: &mut String, group: u32) -> Result<(), AllocError>
     ensures { OnOk result (string_bytes text.new ≡ string_bytes text.old ++ lines_text (begin_line group ∷ [])) }
 {
-    let session = group % 3;
+    let session = session_of(group);
     writeln!(text, "s{session} begin")
 }
 

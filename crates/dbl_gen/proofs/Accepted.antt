@@ -2,6 +2,7 @@
 use Rattle.std.proofs.Common.{◌≡◌, ◌∙◌, ◌⊎◌, inl, inr, ℕ, zero, suc, ◌+◌, ◌-◌, ◌*◌, ◌<◌, ◌≤◌, ◌^◌, ◌%◌, ◌==◌, nat_lt, not, if◌then◌else◌, Bool, true, false, List, [], ◌∷◌, ◌++◌, append_assoc, length, length-append, Option, Some, None, codes, refl, ap, sym, subst, arith}
 use Rattle.std.specs.List.{list_all}
 use Rattle.std.specs.Str.Parse.{digits_value}
+use Rattle.std.proofs.lemmas.List.{append-nil}
 use Rattle.std.proofs.lemmas.List.Folds.{list_all-append}
 use Rattle.dbl_base.specs.Lines.{lines_of, lines_text}
 use Rattle.dbl_model.specs.declared.table.TableName.{TableName}
@@ -17,6 +18,7 @@ use Rattle.dbl_script.specs.Scripts.{script_of, is_empty, may_follow, follows, i
 use Rattle.dbl_script.specs.Building.{with_line, with_said}
 use Rattle.dbl_script.proofs.ScriptLemmas.{script_more}
 use Rattle.dbl_gen.specs.Draws.{next_state, drawn}
+use Rattle.dbl_gen.specs.Laws.{accounts_table, empty_table, WorkloadsAreRead}
 use Rattle.dbl_gen.specs.Workload.{line_of, accounts, numbered, id_cell, owner_cell, table_lines, row_line, row_lines, session, insert_line, balance_line, delete_line, note_line, change, begin_line, commit_line, tick_line, lines_before, group_lines, groups_from, last_lines, workload_lines, workload}
 use Rattle.dbl_gen.proofs.Plain.{free, is_plain, and_both, lines_back}
 use Rattle.dbl_gen.proofs.Steps.{IsStep, IsRow, accounts_named, utf8_plain, said_by_words, session_cases, tick_steps, begin_steps, commit_steps, delete_steps, insert_steps, balance_steps, note_steps, row_is}
@@ -144,6 +146,24 @@ rows_follow (line ∷ rows) steps before all later some none =
     let still : is_empty (script_of (before ++ line ∷ [])).steps ≡ true = ap (λ (s : Script). is_empty s.steps) more ∙ none in
     good_step before line (rows ++ steps) good ∙ rows_follow rows steps (before ++ line ∷ []) all.1 later next still
 
+-- ---- rows and steps add no table
+
+steps_add_none : (lines before : List (List ℕ)) → AllSteps lines → (script_of (before ++ lines)).tables ≡ (script_of before).tables
+steps_add_none [] before all = ap (λ ls. (script_of ls).tables) (append-nil before)
+steps_add_none (line ∷ lines) before all =
+    let said : line_at (length before + 1) line ≡ Some (Act all.0.step) = all.0.says (length before + 1) in
+    ap (λ ls. (script_of ls).tables) (sym (append_assoc before (line ∷ []) lines))
+    ∙ steps_add_none lines (before ++ line ∷ []) all.1
+    ∙ ap (λ (s : Script). s.tables) (script_more before line ∙ ap (with_said (script_of before)) said)
+
+rows_add_none : (rows steps before : List (List ℕ)) → AllRows rows → AllSteps steps → (script_of (before ++ (rows ++ steps))).tables ≡ (script_of before).tables
+rows_add_none [] steps before all later = steps_add_none steps before later
+rows_add_none (line ∷ rows) steps before all later =
+    let said : line_at (length before + 1) line ≡ Some (Row (all.0.row (length before + 1))) = all.0.says (length before + 1) in
+    ap (λ ls. (script_of ls).tables) (sym (append_assoc before (line ∷ []) (rows ++ steps)))
+    ∙ rows_add_none rows steps (before ++ line ∷ []) all.1 later
+    ∙ ap (λ (s : Script). s.tables) (script_more before line ∙ ap (with_said (script_of before)) said)
+
 -- ---- the tables
 
 empty_name : TableName
@@ -153,8 +173,8 @@ empty_named : text.table_name_of (codes "public.empty") ≡ Some (record { schem
 unfolding text.table_name_of text.name_of
 empty_named = rw (utf8_plain (codes "public") refl, utf8_plain (codes "empty") refl) refl
 
-abbrev accounts_table : ℕ → ScriptTable
-accounts_table number = record {
+abbrev accounts_at : ℕ → ScriptTable
+accounts_at number = record {
   raw = record {
     name = record { schema = codes "public"; name = codes "accounts" };
     columns = record { name = codes "id"; oid = 20 } ∷ record { name = codes "owner"; oid = 25 } ∷ record { name = codes "balance"; oid = 20 } ∷ record { name = codes "note"; oid = 25 } ∷ [];
@@ -165,8 +185,8 @@ accounts_table number = record {
   line = number;
 }
 
-abbrev empty_table : ℕ → ScriptTable
-empty_table number = record {
+abbrev empty_at : ℕ → ScriptTable
+empty_at number = record {
   raw = record {
     name = record { schema = codes "public"; name = codes "empty" };
     columns = record { name = codes "id"; oid = 23 } ∷ record { name = codes "name"; oid = 25 } ∷ [];
@@ -183,13 +203,13 @@ accounts_words = accounts ∷ codes "default" ∷ codes "toast" ∷ codes "64" �
 abbrev empty_words : List (List ℕ)
 empty_words = codes "public.empty" ∷ codes "default" ∷ codes "toast" ∷ codes "64" ∷ codes "id:int4:key" ∷ codes "name:text" ∷ []
 
-accounts_said : (number : ℕ) → line_at number (line_of (codes "table" ∷ accounts_words)) ≡ Some (Table (accounts_table number))
+accounts_said : (number : ℕ) → line_at number (line_of (codes "table" ∷ accounts_words)) ≡ Some (Table (accounts_at number))
 unfolding worded table_in identity_of toast_of columns_of column_of named_column typed_column some_of all_of text.number_of text.column_name_of text.oid_of text.listed_oid_of text.measured_oid_of
-accounts_said number = said_by_words number (codes "table") accounts_words (Table (accounts_table number)) refl refl (rw accounts_named refl)
+accounts_said number = said_by_words number (codes "table") accounts_words (Table (accounts_at number)) refl refl (rw accounts_named refl)
 
-empty_said : (number : ℕ) → line_at number (line_of (codes "table" ∷ empty_words)) ≡ Some (Table (empty_table number))
+empty_said : (number : ℕ) → line_at number (line_of (codes "table" ∷ empty_words)) ≡ Some (Table (empty_at number))
 unfolding worded table_in identity_of toast_of columns_of column_of named_column typed_column some_of all_of text.number_of text.column_name_of text.oid_of text.listed_oid_of text.measured_oid_of
-empty_said number = said_by_words number (codes "table") empty_words (Table (empty_table number)) refl refl (rw empty_named refl)
+empty_said number = said_by_words number (codes "table") empty_words (Table (empty_at number)) refl refl (rw empty_named refl)
 
 first_line : List ℕ
 first_line = line_of (codes "table" ∷ accounts_words)
@@ -201,7 +221,7 @@ tables_are : table_lines ≡ first_line ∷ second_line ∷ []
 unfolding first_line second_line
 tables_are = refl
 
-one_table : script_of (first_line ∷ []) ≡ record { tables = accounts_table 1 ∷ []; rows = []; steps = [] }
+one_table : script_of (first_line ∷ []) ≡ record { tables = accounts_at 1 ∷ []; rows = []; steps = [] }
 unfolding first_line
 one_table = rw (accounts_said 1) refl
 
@@ -213,7 +233,7 @@ second_good : is_good (first_line ∷ []) second_line ≡ true
 unfolding may_follow second_line
 second_good = rw (one_table, empty_said 2) refl
 
-two_tables : script_of (first_line ∷ second_line ∷ []) ≡ record { tables = accounts_table 1 ∷ empty_table 2 ∷ []; rows = []; steps = [] }
+two_tables : script_of (first_line ∷ second_line ∷ []) ≡ record { tables = accounts_at 1 ∷ empty_at 2 ∷ []; rows = []; steps = [] }
 unfolding second_line
 two_tables = script_more (first_line ∷ []) second_line ∙ rw (one_table, empty_said 2) refl
 
@@ -250,6 +270,13 @@ module _ (number rows groups : ℕ) (few_rows : rows ≤ 400000) (few_groups : g
       ∙ good_step [] first_line (second_line ∷ rest) first_good
       ∙ good_step (first_line ∷ []) second_line rest second_good
       ∙ rows_follow (row_lines 1 rows) (groups_from rows 1 groups number ++ last_lines groups) (first_line ∷ second_line ∷ []) accounts_are later some none
+
+  -- the tables are the two
+  pub tables_read : (script_of (lines_of (workload number rows groups))).tables ≡ accounts_table ∷ empty_table ∷ []
+  tables_read =
+      ap (λ ls. (script_of ls).tables) lines_are
+      ∙ rows_add_none (row_lines 1 rows) (groups_from rows 1 groups number ++ last_lines groups) (first_line ∷ second_line ∷ []) accounts_are later
+      ∙ ap (λ (s : Script). s.tables) two_tables
 
 -- ---- how many lines
 
@@ -294,3 +321,10 @@ few_lines number rows groups few_rows few_groups =
     let size = length-append (row_lines 1 rows) (groups_from rows 1 groups number ++ last_lines groups) in
     let later_size = length-append (groups_from rows 1 groups number) (last_lines groups) in
     omega arith
+
+pub workload_read : WorkloadsAreRead
+workload_read number rows groups few_rows few_groups = record {
+  good = no_bad_line number rows groups few_rows few_groups;
+  few = few_lines number rows groups few_rows few_groups;
+  tables = tables_read number rows groups few_rows few_groups;
+}

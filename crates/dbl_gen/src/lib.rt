@@ -2,8 +2,10 @@
 #![tactic(auto)]
 
 mod draws;
+mod laws;
 #[cfg(test)]
 mod tests;
 mod writing;
 
+pub use laws::workloads_are_read;
 pub use writing::script;

@@ -1,7 +1,6 @@
-ghost use Rattle.std.specs.Prelude.{◌≡◌, ◌≤◌, ◌<◌, ◌++◌, ◌+◌, ◌%◌, ◌∷◌, [], None, length, IfOk, OnOk};
-ghost use Rattle.dbl_script.specs.Scripts.{first_bad};
+ghost use Rattle.std.specs.Prelude.{◌≡◌, ◌≤◌, ◌++◌, ◌%◌, ◌∷◌, [], IfOk, OnOk};
 ghost use Rattle.std.specs.String.{string_bytes};
-ghost use Rattle.dbl_base.specs.Lines.{lines_of, lines_text};
+ghost use Rattle.dbl_base.specs.Lines.{lines_text};
 ghost use Rattle.dbl_gen.specs.Workload.{row_line, row_lines, insert_line, balance_line, delete_line, note_line, tick_line, change, begin_line, commit_line, lines_before, group_lines, groups_from, last_lines, workload};
 
 use crate::draws::Draws;
@@ -185,10 +184,6 @@ pub fn script(alloc: Global, number: u64, rows: u32, groups: u32) -> Result<Text
     requires rows { rows ≤ 400_000 }
     requires groups { groups ≤ 90_000 }
     ensures text { IfOk result (λ text. text ≡ workload number rows groups) }
-
-    // So `dbl_script::parse` reads it, unless memory runs out.
-    ensures good { IfOk result (λ text. first_bad (lines_of text) ≡ None) }
-    ensures few { IfOk result (λ text. length (lines_of text) ≤ 1_000_000) }
 {
     let mut text = String::from_str(alloc, TABLES)?;
     write_rows(&mut text, rows)?;

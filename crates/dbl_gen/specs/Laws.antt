@@ -1,0 +1,42 @@
+-- What holds of the workloads. Source: own.
+use Rattle.std.specs.Prelude.{◌≡◌, ◌≤◌, ℕ, false, None, List, [], ◌∷◌, length, codes}
+use Rattle.dbl_base.specs.Lines.{lines_of}
+use Rattle.dbl_script.specs.declared.script.ScriptTable.{ScriptTable}
+use Rattle.dbl_script.specs.Scripts.{script_of, first_bad}
+use Rattle.dbl_gen.specs.Workload.{workload}
+
+-- the accounts, with the OIDs of int8 and text (PostgreSQL's catalog `pg_type`)
+abbrev pub accounts_table : ScriptTable
+accounts_table = record {
+  raw = record {
+    name = record { schema = codes "public"; name = codes "accounts" };
+    columns = record { name = codes "id"; oid = 20 } ∷ record { name = codes "owner"; oid = 25 } ∷ record { name = codes "balance"; oid = 20 } ∷ record { name = codes "note"; oid = 25 } ∷ [];
+    key = codes "id" ∷ [];
+  };
+  full = false;
+  toast = 64;
+  line = 1;
+}
+
+-- the table that stays empty, with the OIDs of int4 and text
+abbrev pub empty_table : ScriptTable
+empty_table = record {
+  raw = record {
+    name = record { schema = codes "public"; name = codes "empty" };
+    columns = record { name = codes "id"; oid = 23 } ∷ record { name = codes "name"; oid = 25 } ∷ [];
+    key = codes "id" ∷ [];
+  };
+  full = false;
+  toast = 64;
+  line = 2;
+}
+
+-- the text is read as a script of the two tables
+pub record IsRead (text : List ℕ) : Type 0 where
+  pub good : first_bad (lines_of text) ≡ None
+  pub few : length (lines_of text) ≤ 1000000
+  pub tables : (script_of (lines_of text)).tables ≡ accounts_table ∷ empty_table ∷ []
+
+-- each workload within the limits of rows and groups is
+abbrev pub WorkloadsAreRead : Type 0
+WorkloadsAreRead = (number rows groups : ℕ) → rows ≤ 400000 → groups ≤ 90000 → IsRead (workload number rows groups)

@@ -3,7 +3,7 @@ ghost use Rattle.std.specs.List.{All};
 ghost use Rattle.dbl_base.specs.Streams.{Rose};
 ghost use Rattle.dbl_disk.specs.Disks.{Follows, Torn};
 ghost use Rattle.dbl_journal.specs.Form.{IsFaultAt};
-ghost use Rattle.dbl_journal.specs.Stored.{Lists};
+ghost use Rattle.dbl_journal.specs.Stored.{Lists, size};
 ghost use Rattle.dbl_offset.specs.declared.offset.Offset.{Offset};
 ghost use Rattle.dbl_offset.specs.Entries.{spelling};
 ghost use Rattle.dbl_offset.specs.Measures.{capped};
@@ -88,6 +88,7 @@ impl<D: Disk> OffsetStore<D> {
         ensures made { D.seen disk ≡ Some [] → IfOk result (λ store. Holds D.seen D.may_leave store None) }
         ensures live { IfOk result IsLive }
         ensures empty { IfOk result (λ store. store.offset ≡ None) }
+        ensures small { (bytes : List ℕ) → D.seen disk ≡ Some [] → MatchResult result (λ store. D.seen (disk_of store) ≡ Some bytes → length bytes ≤ size []) (λ refused. D.seen refused.disk ≡ Some bytes → length bytes ≤ size []) }
         ensures refused { IfErr result (λ refused. refused.error ≡ OffsetError.Failed) }
         ensures failed { IfErr result (λ refused. Rose (D.faults disk) (D.faults refused.disk)) }
         ensures left { IfErr result (λ refused. Follows (Torn 0 9) (D.may_leave disk) (D.may_leave refused.disk)) }

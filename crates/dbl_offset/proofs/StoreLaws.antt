@@ -1,13 +1,14 @@
 -- Stores: what their bytes are read as, and what a stop leaves of them.
 use Rattle.std.proofs.Common.{◌≡◌, ◌⊎◌, ◌∙◌, ℕ, ◌+◌, ◌<◌, ◌≤◌, Option, Some, None, Result, Err, List, [], ◌∷◌, ◌++◌, length, take, refl, sym, ap, subst, arith, inl, inr}
-use Rattle.std.specs.Prelude.{slice_get}
+use Rattle.std.specs.Prelude.{max, slice_get}
 use Rattle.std.specs.List.{All}
 use Rattle.std.proofs.lemmas.List.{length-take, get_or-take, take_more, take_all}
 use Rattle.std.proofs.lemmas.List.Elements.{All-get_or, All-push}
 use Rattle.std.proofs.lemmas.Bool.{cases_lt}
 use Rattle.std.proofs.lemmas.Option.{slice_get_within, get_or_from_slice_get}
-use Rattle.dbl_journal.specs.Form.{IsJournal, IsFaultAt}
-use Rattle.dbl_journal.specs.Stored.{LeavesEntries}
+use Rattle.dbl_journal.specs.Form.{IsJournal, IsFaultAt, front}
+use Rattle.dbl_journal.specs.Stored.{LeavesEntries, Lists, OnDisk, size}
+use Rattle.dbl_journal.proofs.Appends.{gate_is_there, length-front-push}
 use Rattle.dbl_journal.proofs.Reading.{one_journal, journal_or_fault}
 use Rattle.dbl_journal.specs.declared.error.JournalError.{JournalError}
 use Rattle.dbl_journal.specs.declared.error.JournalError.TheVariants as journal_error
@@ -98,6 +99,14 @@ leaves may_leave disk entries entry old offset each last spells left image may =
         inr refl,
       )
     ]
+
+-- the bytes up to the closed gate, and with it, are among those of the disk
+pub grown : {D : Type 0} (seen : D → Option (List ℕ)) (may_leave : D → List ℕ → Type 0) (journal : OnDisk D) (entries : List (List ℕ)) (entry before after : List ℕ) → Lists seen may_leave journal entries → seen journal.disk ≡ Some before
+    → length after ≤ max (length before) (size (entries ++ entry ∷ [])) → length after ≤ length before + 5 + length entry
+grown seen may_leave journal entries entry before after lists told most =
+    let is : Some lists.bytes ≡ Some before = sym lists.told ∙ told in
+    let same : lists.bytes ≡ before = cc in
+    omega (arith, most, gate_is_there entries (length (front entries)) refl before (subst (λ (l : List ℕ). IsJournal l entries) same lists.spelled), length-front-push entries entry)
 
 -- ---- entries as they are read, one behind the other
 

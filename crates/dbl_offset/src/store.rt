@@ -1,4 +1,4 @@
-ghost use Rattle.std.specs.Prelude.{◌≡◌, ◌≢◌, ◌⊎◌, ◌↔◌, ℕ, ◌^◌, ◌<◌, ◌≤◌, List, [], length, option_map, Option, Some, None, Ok, Err, IfOk, IfErr, IfSome, OnOk, OnErr, MatchResult, IsTrue, take, slice_get};
+ghost use Rattle.std.specs.Prelude.{◌≡◌, ◌≢◌, ◌⊎◌, ◌↔◌, ℕ, ◌+◌, ◌^◌, ◌<◌, ◌≤◌, List, [], length, option_map, Option, Some, None, Ok, Err, IfOk, IfErr, IfSome, OnOk, OnErr, MatchResult, IsTrue, take, slice_get};
 ghost use Rattle.std.specs.List.{All};
 ghost use Rattle.dbl_base.specs.Streams.{Rose};
 ghost use Rattle.dbl_disk.specs.Disks.{Follows, Torn};
@@ -154,6 +154,7 @@ impl<D: Disk> OffsetStore<D> {
         requires offset { IsOffset offset }
         ensures stored { (old : Option Offset) → Holds D.seen D.may_leave self.old old → OnOk result (Holds D.seen D.may_leave self.new (Some offset)) }
         ensures left { (old : Option Offset) → Holds D.seen D.may_leave self.old old → LeavesOffset D.may_leave (disk_of self.new) (λ left. (left ≡ old) ⊎ (left ≡ Some offset)) }
+        ensures grows { (old : Option Offset) (before after : List ℕ) → Holds D.seen D.may_leave self.old old → D.seen (disk_of self.old) ≡ Some before → D.seen (disk_of self.new) ≡ Some after → length after ≤ length before + 5 + length (spelling offset) }
         ensures loads { OnOk result (self.new.offset ≡ Some offset) }
         ensures live { OnOk result (IsLive self.new) }
         ensures too_long { (len : ℕ) → (result ≡ Err (OffsetError.TooLong len)) ↔ ((2 ^ 28 < length (spelling offset)) × (len ≡ capped (length (spelling offset)))) }

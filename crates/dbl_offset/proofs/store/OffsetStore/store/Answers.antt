@@ -1,4 +1,4 @@
-use Rattle.std.proofs.Common.{◌≡◌, ◌≤◌, ◌^◌, ◌∙◌, ◌++◌, ◌∷◌, [], List, ℕ, Err, length, drop, refl, sym, ap, subst, arith}
+use Rattle.std.proofs.Common.{◌≡◌, ◌+◌, ◌≤◌, ◌^◌, ◌∙◌, ◌++◌, ◌∷◌, [], List, ℕ, Err, length, drop, refl, sym, ap, subst, arith}
 use Rattle.std.proofs.lemmas.List.Elements.{All-push}
 use Rattle.std.proofs.lemmas.Result.{err_from_is_err_and}
 use Rattle.dbl_journal.specs.declared.error.JournalError.TheVariants as journal_error
@@ -7,7 +7,7 @@ use Rattle.dbl_offset.specs.Entries.{spelling}
 use Rattle.dbl_offset.specs.Offsets.{Spells, IsEntry}
 use Rattle.dbl_offset.specs.Stores.{OnJournal, Holds}
 use Rattle.dbl_offset.proofs.OffsetLaws.{same_long}
-use Rattle.dbl_offset.proofs.StoreLaws.{err_one, leaves, not_long}
+use Rattle.dbl_offset.proofs.StoreLaws.{err_one, grown, leaves, not_long}
 use Rattle.dbl_offset.proofs.store.OffsetStore.store.Goals as goal
 
 pub measure-count-requires : goal.measure-count-requires
@@ -21,6 +21,14 @@ returns-in_err-append_built-clause-left g c old holds =
     let held = subst (λ (s : OnJournal _). Holds g.D.Disk.seen g.D.Disk.may_leave s old) (sym c.self.view_is) holds in
     let spells : Spells (drop 4 c.in_ok-bytes.bytes.items) c.args.offset = record { asked = c.requires.offset; fits = c.measure-count.ensures.fits c.if-count.false; spelled = c.in_ok-bytes.ensures.entry } in
     leaves g.D.Disk.may_leave c.append_built.new.self.disk held.entries (drop 4 c.in_ok-bytes.bytes.items) old c.args.offset held.each held.last spells (c.append_built.ensures.left held.entries held.lists)
+
+pub returns-in_err-append_built-clause-grows : goal.returns-in_err-append_built-clause-grows
+returns-in_err-append_built-clause-grows g c old before after holds told_before told_after =
+    let held = subst (λ (s : OnJournal _). Holds g.D.Disk.seen g.D.Disk.may_leave s old) (sym c.self.view_is) holds in
+    let told = ap (λ (s : OnJournal _). g.D.Disk.seen s.journal.disk) c.self.view_is ∙ told_before in
+    let entry : List ℕ = drop 4 c.in_ok-bytes.bytes.items in
+    subst (λ (l : List ℕ). length after ≤ length before + 5 + length l) c.in_ok-bytes.ensures.entry
+    (grown g.D.Disk.seen g.D.Disk.may_leave c.self.inside.journal held.entries entry before after held.lists told (c.append_built.ensures.grows held.entries before after held.lists told told_after))
 
 pub returns-in_err-append_built-clause-too_long : goal.returns-in_err-append_built-clause-too_long
 returns-in_err-append_built-clause-too_long g c len =
@@ -47,3 +55,11 @@ returns-clause-left g c old holds =
     let held = subst (λ (s : OnJournal _). Holds g.D.Disk.seen g.D.Disk.may_leave s old) (sym c.self.view_is) holds in
     let spells : Spells (drop 4 c.in_ok-bytes.bytes.items) c.args.offset = record { asked = c.requires.offset; fits = c.measure-count.ensures.fits c.if-count.false; spelled = c.in_ok-bytes.ensures.entry } in
     leaves g.D.Disk.may_leave c.append_built.new.self.disk held.entries (drop 4 c.in_ok-bytes.bytes.items) old c.args.offset held.each held.last spells (c.append_built.ensures.left held.entries held.lists)
+
+pub returns-clause-grows : goal.returns-clause-grows
+returns-clause-grows g c old before after holds told_before told_after =
+    let held = subst (λ (s : OnJournal _). Holds g.D.Disk.seen g.D.Disk.may_leave s old) (sym c.self.view_is) holds in
+    let told = ap (λ (s : OnJournal _). g.D.Disk.seen s.journal.disk) c.self.view_is ∙ told_before in
+    let entry : List ℕ = drop 4 c.in_ok-bytes.bytes.items in
+    subst (λ (l : List ℕ). length after ≤ length before + 5 + length l) c.in_ok-bytes.ensures.entry
+    (grown g.D.Disk.seen g.D.Disk.may_leave c.self.inside.journal held.entries entry before after held.lists told (c.append_built.ensures.grows held.entries before after held.lists told told_after))

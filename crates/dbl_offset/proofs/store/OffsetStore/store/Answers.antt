@@ -19,7 +19,7 @@ encode-requires-clause-long g c = same_long c.args.offset.infos c.args.offset.cu
 pub returns-in_err-append_built-clause-left : goal.returns-in_err-append_built-clause-left
 returns-in_err-append_built-clause-left g c old holds =
     let held = subst (λ (s : OnJournal _). Holds g.D.Disk.seen g.D.Disk.may_leave s old) (sym c.self.view_is) holds in
-    let spells : Spells (drop 4 c.in_ok-bytes.bytes.items) c.args.offset = record { asked = c.requires.offset; fits = c.measure-count.ensures.fits c.if-count.false; spelled = c.in_ok-bytes.ensures.entry } in
+    let spells : Spells (drop 4 c.in_ok-bytes.bytes.items) c.args.offset = record { asked = c.requires.offset; fits = c.measure-count.ensures.fits (omega (arith, c.if-count.false)); spelled = c.in_ok-bytes.ensures.entry } in
     leaves g.D.Disk.may_leave c.append_built.new.self.disk held.entries (drop 4 c.in_ok-bytes.bytes.items) old c.args.offset held.each held.last spells (c.append_built.ensures.left held.entries held.lists)
 
 pub returns-in_err-append_built-clause-grows : goal.returns-in_err-append_built-clause-grows
@@ -41,7 +41,7 @@ returns-in_err-append_built-clause-too_long g c len =
 pub returns-clause-stored : goal.returns-clause-stored
 returns-clause-stored g c old holds =
     let held = subst (λ (s : OnJournal _). Holds g.D.Disk.seen g.D.Disk.may_leave s old) (sym c.self.view_is) holds in
-    let spells : Spells (drop 4 c.in_ok-bytes.bytes.items) c.args.offset = record { asked = c.requires.offset; fits = c.measure-count.ensures.fits c.if-count.false; spelled = c.in_ok-bytes.ensures.entry } in
+    let spells : Spells (drop 4 c.in_ok-bytes.bytes.items) c.args.offset = record { asked = c.requires.offset; fits = c.measure-count.ensures.fits (omega (arith, c.if-count.false)); spelled = c.in_ok-bytes.ensures.entry } in
     record {
       entries = held.entries ++ drop 4 c.in_ok-bytes.bytes.items ∷ [];
       lists = c.in_ok-append_built.ensures.added held.entries held.lists;
@@ -53,7 +53,7 @@ returns-clause-stored g c old holds =
 pub returns-clause-left : goal.returns-clause-left
 returns-clause-left g c old holds =
     let held = subst (λ (s : OnJournal _). Holds g.D.Disk.seen g.D.Disk.may_leave s old) (sym c.self.view_is) holds in
-    let spells : Spells (drop 4 c.in_ok-bytes.bytes.items) c.args.offset = record { asked = c.requires.offset; fits = c.measure-count.ensures.fits c.if-count.false; spelled = c.in_ok-bytes.ensures.entry } in
+    let spells : Spells (drop 4 c.in_ok-bytes.bytes.items) c.args.offset = record { asked = c.requires.offset; fits = c.measure-count.ensures.fits (omega (arith, c.if-count.false)); spelled = c.in_ok-bytes.ensures.entry } in
     leaves g.D.Disk.may_leave c.append_built.new.self.disk held.entries (drop 4 c.in_ok-bytes.bytes.items) old c.args.offset held.each held.last spells (c.append_built.ensures.left held.entries held.lists)
 
 pub returns-clause-grows : goal.returns-clause-grows

@@ -27,6 +27,31 @@ const FULL: &[u8; 343] =
     \0\0\0$00112233-4455-6677-8899-aabbccddeeff\0\0\0\x01s\0\0\0\x01u\0\0\0\x01\0\0\0\x02id\0\0\0\x17\0\0\0\x01\0\
     \0\0\0\0\0";
 
+// For each field of the small entry, in their order, what becomes of the entry where a byte of the field is one more, 128 more
+// or one less, a letter a byte: `r`, it is read as another offset, or `x`, it is refused. A text stands behind its length.
+const OUTCOMES: [[&str; 4]; 20] = [
+    ["version", "x", "x", "x"],
+    ["prefix", "xxxxr", "xxxxx", "xxxxr"],
+    ["database", "xxxxr", "xxxxx", "xxxxr"],
+    ["placeholder", "xxxxr", "xxxxx", "xxxxr"],
+    ["incarnation", "rrrrrrrr", "xrrrrrrr", "xrrrrrrx"],
+    ["start", "xxxxxxxr", "xxxxxxxx", "xxxxxxxx"],
+    ["LSN", "rrrrrrrr", "rrrrrrrr", "rrrrrrrr"],
+    ["end LSN", "rrrrrrrr", "rrrrrrrr", "rrrrrrrr"],
+    ["tables", "xxxx", "xxxx", "xxxx"],
+    ["schema", "xxxxr", "xxxxx", "xxxxr"],
+    ["table", "xxxxr", "xxxxx", "xxxxr"],
+    ["columns", "xxxx", "xxxx", "xxxx"],
+    ["column", "xxxxr", "xxxxx", "xxxxr"],
+    ["OID", "xxxx", "xxxx", "xxxx"],
+    ["key columns", "xxxx", "xxxx", "xxxx"],
+    ["place", "xxxx", "xxxx", "xxxx"],
+    ["done", "x", "x", "r"],
+    ["last key", "x", "x", "x"],
+    ["kind of cell", "x", "x", "x"],
+    ["cell", "xxxxr", "xxxxx", "xxxxr"],
+];
+
 fn empty_disk(rt: &HostRuntime) -> MemDisk
     ensures { result.current ≡ [] }
 {
@@ -88,17 +113,24 @@ fn is_entry(rt: &HostRuntime, bytes: &[u8]) -> Result<bool, Fail> {
     Ok(true)
 }
 
-// How many of the small entry's bytes can be changed by this, so that the bytes still spell an offset.
-fn changes(rt: &HostRuntime, change: u8) -> Result<usize, Fail> {
-    let mut count: usize = 0;
+// The outcomes of this column, a letter for each byte of the small entry.
+fn outcomes(rt: &HostRuntime, column: usize) -> Result<String, Fail> {
+    let mut letters = String::new(rt.alloc());
+    for row in &OUTCOMES {
+        letters.push_str(row.get(column).ok_or("no column")?)?;
+    }
+    Ok(letters)
+}
+
+// What becomes of the small entry where this is added to a byte, a letter for each of its bytes.
+fn changes(rt: &HostRuntime, change: u8) -> Result<String, Fail> {
+    let mut letters = String::new(rt.alloc());
     for at in 0..SMALL.len() {
         let mut bytes = SMALL.to_vec(rt.alloc())?;
         bytes[at] = bytes[at].wrapping_add(change);
-        if is_entry(rt, &bytes)? {
-            count = count.saturating_add(1);
-        }
+        letters.push(if is_entry(rt, &bytes)? { 'r' } else { 'x' })?;
     }
-    Ok(count)
+    Ok(letters)
 }
 
 // The disk after another offset is stored, and whether it was. Six calls open the store, and four more store.
@@ -110,13 +142,26 @@ fn stopped(rt: &HostRuntime, calls: u64) -> Result<(MemDisk, bool), Fail> {
     Ok((store.into_disk().into_inner(), done))
 }
 
-// The LSN of the offset that is found then.
-fn found(rt: &HostRuntime, disk: &MemDisk, choice: Choice) -> Result<u64, Fail> {
-    Ok(loaded(rt, disk.crash(choice)?)?.lsn.0)
+// The offset of a disk, with each of its fields.
+fn printed(rt: &HostRuntime, disk: MemDisk) -> Result<String, Fail> {
+    let offset = loaded(rt, disk)?;
+    Ok(format!(in rt.alloc(); "{offset:?}")?)
+}
+
+// Which offset is found then: `o`, the small entry's, `n`, the full one's, or `x`, one that differs from both in some field.
+fn found(rt: &HostRuntime, disk: &MemDisk, choice: Choice) -> Result<char, Fail> {
+    let offset = printed(rt, disk.crash(choice)?)?;
+    if offset == printed(rt, disk_of(rt, &[SMALL])?)? {
+        return Ok('o');
+    }
+    if offset == printed(rt, disk_of(rt, &[FULL])?)? {
+        return Ok('n');
+    }
+    Ok('x')
 }
 
 // After a stop with the old bytes, the new ones, and other bytes than 1 and 1 wherever any may be left.
-fn positions(rt: &HostRuntime, calls: u64) -> Result<[u64; 4], Fail> {
+fn offsets(rt: &HostRuntime, calls: u64) -> Result<[char; 4], Fail> {
     let (disk, _) = stopped(rt, calls)?;
     let old = found(rt, &disk, Choice::Old)?;
     let new = found(rt, &disk, Choice::New)?;
@@ -147,6 +192,12 @@ fn six_cells(rt: &HostRuntime) -> Result<Key, Fail> {
 fn offsets_are_read_and_written_again(rt: HostRuntime) -> Result<(), Fail> {
     assert!(rt; is_entry(&rt, SMALL)?);
     assert!(rt; is_entry(&rt, FULL)?);
+    let offset = loaded(&rt, disk_of(&rt, &[SMALL])?)?;
+    assert_eq!(rt; offset.incarnation, 1);
+    assert_eq!(rt;
+        (offset.start.0, offset.lsn.0, offset.end_lsn.0),
+        (0, 9, 10)
+    );
     let offset = loaded(&rt, disk_of(&rt, &[FULL])?)?;
     assert_eq!(rt; offset.incarnation, 7);
     assert_eq!(rt;
@@ -163,9 +214,9 @@ fn offsets_are_read_and_written_again(rt: HostRuntime) -> Result<(), Fail> {
 
 #[test]
 fn changed_bytes_are_another_offset_or_a_bad_one(rt: HostRuntime) -> Result<(), Fail> {
-    assert_eq!(rt; changes(&rt, 1)?, 32);
-    assert_eq!(rt; changes(&rt, 128)?, 23);
-    assert_eq!(rt; changes(&rt, 255)?, 30);
+    assert_eq!(rt; changes(&rt, 1)?, outcomes(&rt, 1)?);
+    assert_eq!(rt; changes(&rt, 128)?, outcomes(&rt, 2)?);
+    assert_eq!(rt; changes(&rt, 255)?, outcomes(&rt, 3)?);
     Ok(())
 }
 
@@ -183,14 +234,30 @@ fn cut_and_longer_entries_are_bad(rt: HostRuntime) -> Result<(), Fail> {
 #[test]
 fn a_stop_leaves_the_old_offset_or_the_new_one(rt: HostRuntime) -> Result<(), Fail> {
     for calls in 6..9 {
-        assert_eq!(rt; positions(&rt, calls)?, [9, 9, 9, 9]);
+        assert_eq!(rt; offsets(&rt, calls)?, ['o', 'o', 'o', 'o']);
     }
-    assert_eq!(rt; positions(&rt, 9)?, [9, 512, 9, 512]);
-    assert_eq!(rt; positions(&rt, 10)?, [512, 512, 512, 512]);
+    assert_eq!(rt; offsets(&rt, 9)?, ['o', 'n', 'o', 'n']);
+    assert_eq!(rt; offsets(&rt, 10)?, ['n', 'n', 'n', 'n']);
     for calls in 6..11 {
         let (_, done) = stopped(&rt, calls)?;
         assert_eq!(rt; done, calls == 10);
     }
+    Ok(())
+}
+
+// Why no store was made on a disk that stops behind so many calls.
+fn unmade(rt: &HostRuntime, calls: u64) -> Option<OffsetError> {
+    match OffsetStore::make(rt.alloc(), FuseDisk::make(empty_disk(rt), calls)) {
+        Ok(_) => None,
+        Err(refused) => Some(refused.error),
+    }
+}
+
+#[test]
+fn a_store_is_made_by_two_calls(rt: HostRuntime) -> Result<(), Fail> {
+    assert_eq!(rt; unmade(&rt, 0), Some(OffsetError::Failed));
+    assert_eq!(rt; unmade(&rt, 1), Some(OffsetError::Failed));
+    assert_eq!(rt; unmade(&rt, 2), None);
     Ok(())
 }
 

@@ -40,6 +40,7 @@ table_in word = record { schema = before_first is_dot word; name = after_first i
 abbrev pub is_named : TableName → Bool
 is_named table = is_name table.schema && is_name table.name
 
+-- where the dot is missing, the name behind it is empty, and no name is
 abbrev pub is_table : List ℕ → Bool
 is_table word = is_named (table_in word)
 
@@ -54,6 +55,7 @@ key_in word = record { table = table_in (before_first is_colon word); columns = 
 abbrev pub is_column : List ℕ → Bool
 is_column text = nat_lt 0 (length text)
 
+-- where the colon is missing, the one column behind it is empty, and no column is
 abbrev pub is_key : List ℕ → Bool
 is_key word = is_table (before_first is_colon word) && list_all is_column (key_in word).columns
 

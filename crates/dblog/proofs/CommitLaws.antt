@@ -32,7 +32,7 @@ use Rattle.dblog.specs.declared.log_fault.LogFault.{LogFault}
 use Rattle.dblog.specs.declared.options.ReplayOptions.{ReplayOptions}
 use Rattle.dblog.specs.declared.log_fault.LogFault.TheVariants as log
 use Rattle.dblog.specs.Captures.{table_told, tables_in, AreCaptured}
-use Rattle.dblog.specs.Laws.{AreSpelled, EndsLog, IsReplayed}
+use Rattle.dblog.specs.Laws.{AreSpelled, HaveNoFault, EndsLog, IsReplayed}
 use Rattle.dblog.specs.Log.{lines_in, log_start, commit_fault, IsTaken, LogWrites}
 use Rattle.dblog.proofs.CaptureLemmas.{infos_one, told_has_none}
 
@@ -107,6 +107,7 @@ accepted_learnt infos info (m ∷ ms) none accepted =
 -- messages that were read, with what they state so far
 record IsSoFar (options : ReplayOptions) (now : ℤ) (ms : List Message) (infos : List TableInfo) (lines : List (List ℕ)) : Type 0 where
   pub captured : AreCaptured options.keys ms infos
+  pub clean : HaveNoFault options ms
   pub accepted : IsAccepted infos log_start ms
   pub fields : AllByRecursion FitsFields ms
   pub commits : lines ≡ lines_in options.identity infos (commits_of infos ms) now
@@ -162,6 +163,7 @@ so_far_next options now ms b m infos more lines taken so_far =
     let then = so_far_then options now ms m infos more lines (table_told options.keys (tables_in options.keys ms) m) refl taken.read.captured so_far in
     record {
       captured = taken.read.captured;
+      clean = (record { infos = more; captured = taken.read.captured; capturable = taken.read.capturable; clean = taken.clean }, so_far.clean);
       accepted = (no_place_fault (length ms + 1) (transaction_fault more log_start m ms) (option_and_then (commit_fault options.identity more) (ended more m ms)) taken.clean, then.0);
       fields = (taken.read.spells.fits.fields, so_far.fields);
       commits = ap (λ (l : List (List ℕ)). l ++ lines_in options.identity more (list_of (ended more m ms)) now) then.1 ∙ sym (lines_more options.identity more (commits_of more ms) (list_of (ended more m ms)) now);
@@ -216,7 +218,7 @@ whole_from options now ms infos before (b ∷ bs) lines end so_far (inr (m, more
 
 pub commits_written : (options : ReplayOptions) (now : ℤ) (bs lines : List (List ℕ)) (end : Option LogFault) → LogWrites options now [] bs lines end → IsReplayed options now bs lines end
 commits_written options now bs lines end writes =
-    let whole = whole_from options now [] [] [] bs lines end (record { captured = refl; accepted = tt; fields = tt; commits = refl }) writes in
+    let whole = whole_from options now [] [] [] bs lines end (record { captured = refl; clean = tt; accepted = tt; fields = tt; commits = refl }) writes in
     record {
       messages = whole.messages;
       front = whole.front;
@@ -225,6 +227,7 @@ commits_written options now bs lines end writes =
       parts = whole.parts;
       spelled = whole.spelled;
       captured = whole.so_far.captured;
+      clean = whole.so_far.clean;
       accepted = whole.so_far.accepted;
       commits = whole.so_far.commits;
       ends = whole.ends;

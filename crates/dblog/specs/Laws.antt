@@ -1,5 +1,5 @@
 -- What the definitions of the program's answers determine, and what they come to.
-use Rattle.std.specs.Prelude.{◌≡◌, ℕ, ℤ, Option, Some, is_some, List, [], ◌∷◌, ◌++◌}
+use Rattle.std.specs.Prelude.{◌≡◌, ℕ, ℤ, Option, Some, None, is_some, List, [], ◌∷◌, ◌++◌}
 use Rattle.dbl_pgmsg.specs.declared.messages.Message.{Message}
 use Rattle.dbl_pgmsg.specs.Grammar.{Spells}
 use Rattle.dbl_model.specs.declared.table.TableInfo.{TableInfo}
@@ -8,8 +8,8 @@ use Rattle.dbl_model.specs.Stated.{commits_of}
 use Rattle.dbl_model.specs.Blocks.{onto, IsAccepted}
 use Rattle.dblog.specs.declared.log_fault.LogFault.{LogFault}
 use Rattle.dblog.specs.declared.options.ReplayOptions.{ReplayOptions}
-use Rattle.dblog.specs.Captures.{AreCaptured}
-use Rattle.dblog.specs.Log.{lines_in, log_start, IsLogFault, end_fault, LogWrites}
+use Rattle.dblog.specs.Captures.{tables_in, AreCaptured, told_fault}
+use Rattle.dblog.specs.Log.{lines_in, log_start, read_fault, IsLogFault, end_fault, LogWrites}
 use Rattle.dblog.specs.Run.{Answer}
 use Rattle.dblog.specs.Means.{Means}
 
@@ -24,13 +24,27 @@ AreSpelled [] (m ∷ ms) = ⊥
 AreSpelled (b ∷ bs) [] = ⊥
 AreSpelled (b ∷ bs) (m ∷ ms) = Spells b m × AreSpelled bs ms
 
+-- A message behind these has no fault: the table that it is the first to describe can be captured, and with the tables that are
+-- captured then it may stand there, and the records of the commit that it ends are made.
+pub record HasNoFault (options : ReplayOptions) (m : Message) (ms : List Message) : Type 0 where
+  pub infos : List TableInfo
+  pub captured : AreCaptured options.keys (m ∷ ms) infos
+  pub capturable : told_fault options.keys (tables_in options.keys ms) m ≡ None
+  pub clean : read_fault options.identity infos m ms ≡ None
+
+-- none of these messages has a fault where it stands
+abbrev pub HaveNoFault : ReplayOptions → List Message → Type 0
+HaveNoFault options [] = Unit {0}
+HaveNoFault options (m ∷ ms) = HasNoFault options m ms × HaveNoFault options ms
+
 -- behind these messages nothing is left, or bytes with the fault that ends the log
 abbrev pub EndsLog : ReplayOptions → List Message → List (List ℕ) → Option LogFault → Type 0
 EndsLog options ms [] end = end ≡ end_fault (is_some (begin_of ms))
 EndsLog options ms (b ∷ bs) end = (fault : LogFault) × IsLogFault options ms b fault × (end ≡ Some fault)
 
 -- The messages of byte strings up to the first fault: what is captured of their tables, none of them has a fault where it
--- stands, the lines are those of all commits that they state, and the fault is that of the next bytes, or of the log's end.
+-- stands, each may stand there also with all of these tables captured, the lines are those of all commits that they state, and
+-- the fault is that of the next bytes, or of the log's end.
 pub record IsReplayed (options : ReplayOptions) (now : ℤ) (bs : List (List ℕ)) (lines : List (List ℕ)) (end : Option LogFault) : Type 0 where
   pub messages : List Message
   pub front : List (List ℕ)
@@ -39,6 +53,7 @@ pub record IsReplayed (options : ReplayOptions) (now : ℤ) (bs : List (List ℕ
   pub parts : bs ≡ front ++ rest
   pub spelled : AreSpelled front messages
   pub captured : AreCaptured options.keys (onto [] messages) infos
+  pub clean : HaveNoFault options (onto [] messages)
   pub accepted : IsAccepted infos log_start (onto [] messages)
   pub commits : lines ≡ lines_in options.identity infos (commits_of infos (onto [] messages)) now
   pub ends : EndsLog options (onto [] messages) rest end

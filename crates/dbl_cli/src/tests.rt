@@ -1,6 +1,7 @@
 use crate::{CliError, Command, command};
 use dbl_base::Text;
 use std::alloc::{AllocError, Global};
+use std::fmt::Write;
 use std::test::Fail;
 
 // What the words of a line, with a space between two, are read as.
@@ -69,7 +70,7 @@ fn text_of(alloc: Global, command: &Command) -> Result<String, AllocError> {
     }
 }
 
-static ROWS: [(&str, &str); 58] = [
+static ROWS: [(&str, &str); 69] = [
     ("init", "init"),
     ("topics", "topics"),
     ("offsets", "offsets"),
@@ -134,6 +135,7 @@ static ROWS: [(&str, &str); 58] = [
     ("capture --chunk 0", "usage"),
     ("capture --chunk 100001", "usage"),
     ("capture --every 10001", "usage"),
+    ("capture --every 0", "usage"),
     ("capture --messages 0", "usage"),
     ("capture --chunk 1 --chunk 2", "usage"),
     ("capture --chunk=1 --chunk=1", "usage"),
@@ -145,25 +147,91 @@ static ROWS: [(&str, &str); 58] = [
     ("capture -c 1", "usage"),
     ("capture --prefix -p", "usage"),
     ("capture --prefix a.b", "usage"),
+    (
+        "capture --prefix aaaaaaaaaaaaaaaaaaaaaaaaaaaaaaaaaaaaaaaaaaaaaaaaaaaaaaaaaaaaaaaa",
+        "usage",
+    ),
     ("capture --placeholder=", "usage"),
+    ("capture --prefix  --db d", "usage"),
     ("capture a.b --chunk 1 c.d", "usage"),
     ("capture a.b a.b", "usage"),
     ("capture a.b.c", "usage"),
     ("capture a", "usage"),
     ("resume a.b", "usage"),
     ("apply --placeholder x", "usage"),
+    ("apply x", "usage"),
+    ("apply --lines --placeholder ", "usage"),
     ("apply --lines=", "usage"),
     ("apply --lines --lines", "usage"),
     ("replay a.b:", "usage"),
+    ("replay a.b", "usage"),
+    ("replay a.b:x,,y", "usage"),
     ("replay a.b:x a.b:y", "usage"),
     ("gen", "usage"),
     ("gen 1 2", "usage"),
+    ("gen x", "usage"),
+    ("gen 7 --rows 400001", "usage"),
+    ("gen 7 --groups 90001", "usage"),
+    ("gen 7 --run=", "usage"),
 ];
 
 #[test]
 fn words_spell_commands(rt: HostRuntime) -> Result<(), Fail> {
     for (line, want) in ROWS.iter() {
         assert_eq!(rt; shown(rt.alloc(), line)?.as_str(), *want, "{line}");
+    }
+    let none = Vec::new(rt.alloc());
+    assert!(rt; matches!(command(rt.alloc(), &none), Err(CliError::Usage)));
+    Ok(())
+}
+
+// The words, and so many tables with these bytes behind each.
+fn with_tables(alloc: Global, words: &str, count: u32, behind: &str) -> Result<String, AllocError> {
+    let mut line = String::from_str(alloc, words)?;
+    for number in 0..count {
+        write!(&mut line, " a.t{number}{behind}")?;
+    }
+    Ok(line)
+}
+
+// The words, and so many letters behind them.
+fn with_letters(alloc: Global, words: &str, count: usize) -> Result<String, AllocError> {
+    let letters = "p".repeat(alloc, count)?;
+    format!(in alloc; "{words}{letters}")
+}
+
+#[test]
+fn words_have_their_limits(rt: HostRuntime) -> Result<(), Fail> {
+    let alloc = rt.alloc();
+    let captured = "capture demo demo __debezium_unavailable_value 1000 100 999999999";
+    let replayed = "replay demo demo __debezium_unavailable_value";
+    for (line, want) in [
+        (
+            with_tables(alloc, "capture", 64, "")?,
+            with_tables(alloc, captured, 64, "")?,
+        ),
+        (
+            with_tables(alloc, "capture", 65, "")?,
+            format!(in alloc; "usage")?,
+        ),
+        (
+            with_tables(alloc, "replay", 64, ":x")?,
+            with_tables(alloc, replayed, 64, "/x")?,
+        ),
+        (
+            with_tables(alloc, "replay", 65, ":x")?,
+            format!(in alloc; "usage")?,
+        ),
+        (
+            with_letters(alloc, "apply --lines --placeholder=", 255)?,
+            with_letters(alloc, "apply true ", 255)?,
+        ),
+        (
+            with_letters(alloc, "apply --lines --placeholder=", 256)?,
+            format!(in alloc; "usage")?,
+        ),
+    ] {
+        assert_eq!(rt; shown(alloc, line.as_str())?.as_str(), want.as_str());
     }
     Ok(())
 }

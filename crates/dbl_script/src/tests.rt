@@ -1,5 +1,6 @@
 use crate::{ScriptError, parse};
 use std::alloc::{AllocError, Global};
+use std::fmt::Write;
 use std::test::Fail;
 
 // What the lines of a text are read as, or the error's text.
@@ -10,7 +11,7 @@ fn shown(alloc: Global, text: &str) -> Result<String, AllocError> {
     }
 }
 
-// The number of the first bad line, or 0 where none is bad.
+// The number of the first bad line, or 0 where none is bad; none where there are too many lines.
 fn first_bad(alloc: Global, text: &[u8]) -> Option<u32> {
     match parse(alloc, text) {
         Ok(_) => Some(0),
@@ -63,6 +64,40 @@ fn each_form_of_a_line_is_read(rt: HostRuntime) -> Result<(), Fail> {
     Ok(())
 }
 
+// So many tables of one column each.
+fn tables(alloc: Global, count: u32) -> Result<String, AllocError> {
+    let mut text = String::new(alloc);
+    for number in 0..count {
+        writeln!(&mut text, "table s.t{number} full toast 1 a:int4")?;
+    }
+    Ok(text)
+}
+
+// A table of so many columns.
+fn columns(alloc: Global, count: u32) -> Result<String, AllocError> {
+    let mut text = format!(in alloc; "table s.t full toast 1")?;
+    for number in 0..count {
+        write!(&mut text, " a{number}:int4")?;
+    }
+    Ok(text)
+}
+
+#[test]
+fn tables_columns_and_lines_are_counted(rt: HostRuntime) -> Result<(), Fail> {
+    let alloc = rt.alloc();
+    for (number, text) in [
+        (Some(0), tables(alloc, 64)?),
+        (Some(65), tables(alloc, 65)?),
+        (Some(0), columns(alloc, 1600)?),
+        (Some(1), columns(alloc, 1601)?),
+        (Some(1_000_001), "\n".repeat(alloc, 1_000_000)?),
+        (None, "\n".repeat(alloc, 1_000_001)?),
+    ] {
+        assert_eq!(rt; first_bad(alloc, text.as_bytes()), number);
+    }
+    Ok(())
+}
+
 #[test]
 fn the_first_bad_line_has_its_number(rt: HostRuntime) -> Result<(), Fail> {
     for (number, text) in [
@@ -82,6 +117,12 @@ fn the_first_bad_line_has_its_number(rt: HostRuntime) -> Result<(), Fail> {
         (1, b"table s.t default toast 1 A:int4"),
         (1, b"table s.t default toast 1 a:int"),
         (1, b"table s.t default toast 1 a:oid"),
+        (1, b"table s.t default toast 1 a:oid1234567890"),
+        (
+            1,
+            b"table s.t default toast 1 aaaaaaaaaaaaaaaaaaaaaaaaaaaaaaaaaaaaaaaaaaaaaaaaaaaaaaaaaaaaaaaa:int4",
+        ),
+        (1, b"table s.t default toast 1 a:int4\r"),
         (1, b"table s.t default toast 1 a:int4:keys"),
         (1, b"row s.t a=1\ntable s.t default toast 1 a:int4"),
         (1, b"tick"),
@@ -94,6 +135,11 @@ fn the_first_bad_line_has_its_number(rt: HostRuntime) -> Result<(), Fail> {
             b"table s.t full toast 1 a:int4\nrow s.t a=1\ntable s.u full toast 1 a:int4",
         ),
         (3, b"table s.t full toast 1 a:int4\ntick\nrow s.t a=1"),
+        (
+            3,
+            b"table s.t full toast 1 a:int4\ntick\ntable s.u full toast 1 a:int4",
+        ),
+        (2, b"table s.t full toast 1 a:int4\ntable begin"),
         (2, b"table s.t full toast 1 a:int4\nrow s.t"),
         (2, b"table s.t full toast 1 a:int4\nrow s.t a"),
         (2, b"table s.t full toast 1 a:int4\nrow s.t a~1"),
@@ -105,15 +151,22 @@ fn the_first_bad_line_has_its_number(rt: HostRuntime) -> Result<(), Fail> {
         (2, b"table s.t full toast 1 a:int4\nabcdefghijklmnopq begin"),
         (2, b"table s.t full toast 1 a:int4\na start"),
         (2, b"table s.t full toast 1 a:int4\na begin now"),
+        (2, b"table s.t full toast 1 a:int4\na commit now"),
+        (2, b"table s.t full toast 1 a:int4\na rollback now"),
+        (2, b"table s.t full toast 1 a:int4\na insert s.t"),
+        (2, b"table s.t full toast 1 a:int4\na delete s.t"),
         (2, b"table s.t full toast 1 a:int4\na update s.t a=1"),
+        (2, b"table s.t full toast 1 a:int4\na update s.t a=1 set"),
         (2, b"table s.t full toast 1 a:int4\na update s.t set a=1"),
         (2, b"table s.t full toast 1 a:int4\na truncate"),
+        (2, b"table s.t full toast 1 a:int4\na truncate s.t t"),
         (2, b"table s.t full toast 1 a:int4\ntick tick"),
         (2, b"table s.t full toast 1 a:int4\n tick"),
         (
             0,
             b"table s.t full toast 1 a:int4\nrow s.t a=\xc3%a9\n#\xff",
         ),
+        (0, b"table s.t full toast 1 a:int4\nrow s.t a=%C3%A9"),
     ] {
         assert_eq!(rt; first_bad(rt.alloc(), text), Some(number));
     }

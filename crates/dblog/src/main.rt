@@ -15,15 +15,23 @@ mod replay;
 mod tests;
 
 use dbl_base::{StdInput, StdOutput, Text};
+use halt::Halt;
+use std::alloc::AllocError;
+use std::env;
+use std::io::{self, ErrorKind};
 use std::process::ExitCode;
 use std::rt::{Clock, Env};
 use std::time::{SystemTime, UNIX_EPOCH};
-use std::{env, io};
 
-// The words behind the program's name.
-fn words(rt: &(impl Env + AllocGlobal)) -> io::Result<Vec<Text>> {
+// The words behind the program's name, or none where one isn't UTF-8: none spell no command either.
+fn words(rt: &(impl Env + AllocGlobal)) -> Result<Vec<Text>, AllocError> {
     let mut words = Vec::new(rt.alloc());
-    for word in env::args(rt)?.skip(1) {
+    let args = match env::args(rt) {
+        Ok(args) => args,
+        Err(error) if error.kind() == ErrorKind::InvalidData => return Ok(words),
+        Err(_) => return Err(AllocError),
+    };
+    for word in args.skip(1) {
         words.push(Text::make(word))?;
     }
     Ok(words)
@@ -40,14 +48,17 @@ fn now_ms(rt: &impl Clock) -> i64 {
     }
 }
 
-fn main(rt: HostRuntime) -> io::Result<ExitCode> {
-    let words = words(&rt)?;
-    let status = program::run(
-        rt.alloc(),
-        &words,
-        now_ms(&rt),
-        &mut StdInput::make(rt.reader()),
-        &mut StdOutput::make(io::writer(&rt)),
-    );
-    Ok(ExitCode::from(status))
+fn main(rt: HostRuntime) -> ExitCode {
+    let mut output = StdOutput::make(io::writer(&rt));
+    let status = match words(&rt) {
+        Ok(words) => program::run(
+            rt.alloc(),
+            &words,
+            now_ms(&rt),
+            &mut StdInput::make(rt.reader()),
+            &mut output,
+        ),
+        Err(AllocError) => program::say(rt.alloc(), Halt::Memory, &mut output),
+    };
+    ExitCode::from(status)
 }

@@ -171,8 +171,8 @@ fn say_not_built<O: Output>(output: &mut O) -> u8
     write_text("dblog: not built\n", NOT_BUILT, output)
 }
 
-// Writes the fault's line, and answers its status.
-fn say<O: Output>(alloc: Global, halt: Halt, output: &mut O) -> u8
+/// Writes the fault's line, and answers its status.
+pub fn say<O: Output>(alloc: Global, halt: Halt, output: &mut O) -> u8
     ensures says { Says halt result (O.written output.old) (O.written output.new) }
     ensures output_failed { result ≡ output_failed_status → Rose (O.faults output.old) (O.faults output.new) }
     ensures later { O.faults output.old ≤ O.faults output.new }

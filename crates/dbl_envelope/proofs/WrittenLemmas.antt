@@ -50,7 +50,7 @@ other_end instant text other =
     let clock : List ℕ = codes "T" ++ seconds_text (clock_of_stamp instant / 1000000) ++ codes "." ++ six_digits (clock_of_stamp instant % 1000000) in
     let parts : zulu_text instant ≡ (date ++ clock) ++ codes "Z" = sym (append_assoc date clock (codes "Z")) in
     is_false (bytes_eq (zulu_text instant) text) (λ e.
-      other (subst (λ (t : List ℕ). slice_get t (length t - 1) ≡ Some 90) (sym parts ∙ (bytes_eq-Decides (zulu_text instant) text).0 e) (last_is (date ++ clock))))
+    other (subst (λ (t : List ℕ). slice_get t (length t - 1) ≡ Some 90) (sym parts ∙ (bytes_eq-Decides (zulu_text instant) text).0 e) (last_is (date ++ clock))))
 
 pub other_instant : (instant : ℤ) (text : List ℕ) → (slice_get text (length text - 1) ≡ Some 90 → ⊥) → is_clash text (Given (val.StampTz instant)) ≡ false
 other_instant instant text other = go (is_instant instant)

@@ -30,7 +30,7 @@ row_is (c ∷ cs) = ap (λ t. 123 ∷ t) (sym (joined c cs))
 pub wrote_then : (before middle after : Option (List ℕ)) (first second : List ℕ) → Wrote before middle first → Wrote middle after second → Wrote before after (first ++ second)
 wrote_then before middle after first second one two bytes is = two (bytes ++ first) (one bytes is) ∙ ap Some (append_assoc bytes first second)
 
-front_then : (before middle after : Option (List ℕ)) (first second : List ℕ) → Wrote before middle first → WroteFront middle after second → WroteFront before after (first ++ second)
+pub front_then : (before middle after : Option (List ℕ)) (first second : List ℕ) → Wrote before middle first → WroteFront middle after second → WroteFront before after (first ++ second)
 front_then before middle after first second one two bytes is =
     let part = two (bytes ++ first) (one bytes is) in
     (length first + part.0, part.1 ∙ ap Some (append_assoc bytes first (take part.0 second) ∙ ap (λ t. bytes ++ t) (sym (take-append-add first second part.0))))
@@ -41,7 +41,7 @@ take_of n xs ys =
     sym (ap (take (length (take n xs))) split ∙ take-append_seam (take n xs) (drop n xs ++ ys))
 
 -- a front of a front
-front_more : (before after : Option (List ℕ)) (first second : List ℕ) → WroteFront before after first → WroteFront before after (first ++ second)
+pub front_more : (before after : Option (List ℕ)) (first second : List ℕ) → WroteFront before after first → WroteFront before after (first ++ second)
 front_more before after first second front bytes is =
     let part = front bytes is in
     (length (take part.0 first), part.1 ∙ ap (λ t. Some (bytes ++ t)) (take_of part.0 first second))

@@ -1,6 +1,6 @@
 -- The first clash, change by change and row by row.
 use Rattle.std.proofs.Common.{◌≡◌, ◌∙◌, ◌⊎◌, inl, inr, ℕ, suc, zero, ◌+◌, ◌<◌, ◌≤◌, Bool, true, false, List, [], ◌∷◌, ◌++◌, length, drop, map, flat_map, slice_get, Option, Some, None, refl, sym, ap, ap₂, subst, arith, min}
-use Rattle.std.specs.Prelude.{IsSomeAnd, IsSome, option_map, unwrap_or, if◌then◌else◌}
+use Rattle.std.specs.Prelude.{IsSome, option_map, unwrap_or, if◌then◌else◌}
 use Rattle.std.specs.Option.{option_or}
 use Rattle.dbl_value.specs.declared.value.Val.{Val}
 use Rattle.dbl_model.specs.declared.table.TableInfo.{TableInfo}
@@ -13,10 +13,10 @@ use Rattle.dbl_model.specs.declared.change.Change.TheVariants.{Insert, Update, D
 use Rattle.dbl_model.specs.Tables.{column_names}
 use Rattle.dbl_model.specs.Keys.{new_key_of, same_key, given_or_null}
 use Rattle.dbl_model.specs.Rows.{all_given, table_of}
-use Rattle.dbl_model.specs.Events.{Notice, Updated, notice, move_notices, notices, change_notices}
+use Rattle.dbl_model.specs.Events.{Updated, notice, move_notices, notices, change_notices}
 use Rattle.dbl_model.specs.Clashes.{Clash, is_clash, clash_among, old_cells, clash_at, notice_clash, first_found, rows_clash}
 use Rattle.dbl_model.proofs.KeyLemmas.{same_key-itself}
-use Rattle.dbl_envelope.specs.Suits.{SuitsUpdate, SuitsTable, Suits}
+use Rattle.dbl_envelope.specs.Suits.{SuitsUpdate, SuitsTable}
 use Rattle.dbl_envelope.specs.Clashing.{clash_error, IsClash, change_clash, notices_clash, row_clash}
 use Rattle.dbl_envelope.specs.declared.error.EnvelopeError.{EnvelopeError}
 use Rattle.dbl_envelope.proofs.LayoutLemmas.{drop_here}

@@ -10,7 +10,7 @@ use Rattle.dbl_model.specs.declared.change.Change.{Change}
 use Rattle.dbl_model.specs.declared.change.Change.TheVariants.{Insert, Update, Delete, Clear}
 use Rattle.dbl_model.specs.declared.change.Commit.{Commit}
 use Rattle.dbl_model.specs.Keys.{new_key_of, same_key, given_or_null}
-use Rattle.dbl_model.specs.Events.{Notice, Event, Updated, notice, move_notices, notices, change_notices, numbered, is_nil}
+use Rattle.dbl_model.specs.Events.{Notice, Updated, notice, move_notices, notices, change_notices, numbered, is_nil}
 use Rattle.dbl_model.specs.EventJson.{print, envelopes}
 use Rattle.dbl_model.specs.Rows.{changes_of, table_of}
 use Rattle.dbl_envelope.specs.Frames.{events_from, print_as, told, tail_text}

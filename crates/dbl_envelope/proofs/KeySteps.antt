@@ -1,5 +1,5 @@
 -- The test of a key against an update's cells, cell by cell.
-use Rattle.std.proofs.Common.{◌≡◌, ◌∙◌, ◌+◌, ℕ, zero, suc, Bool, true, false, List, [], ◌∷◌, Some, length, map, drop, slice_get, refl, sym, ap, ap₂, arith, Ordering, Less, Equal, Greater}
+use Rattle.std.proofs.Common.{◌≡◌, ◌∙◌, ℕ, zero, suc, Bool, true, false, List, [], ◌∷◌, Some, length, map, drop, slice_get, refl, ap, ap₂, arith, Ordering, Less, Equal, Greater}
 use Rattle.std.specs.Prelude.{unwrap_or}
 use Rattle.std.specs.Ordering.{is_eq, ordering_then}
 use Rattle.std.specs.Cmp.Lexicographic.{slice_cmp}
@@ -9,7 +9,7 @@ use Rattle.dbl_value.specs.Order.{val_cmp}
 use Rattle.dbl_model.specs.declared.row.Key.{Key}
 use Rattle.dbl_model.specs.declared.change.Cell.{Cell}
 use Rattle.dbl_model.specs.declared.table.TableInfo.{TableInfo}
-use Rattle.dbl_model.specs.Keys.{new_key_of, given_or_null, cell_or_null, same_key}
+use Rattle.dbl_model.specs.Keys.{new_key_of, given_or_null, cell_or_null}
 use Rattle.dbl_envelope.proofs.LayoutLemmas.{drop_here}
 use Rattle.dbl_envelope.proofs.TokenLemmas.{map_get}
 

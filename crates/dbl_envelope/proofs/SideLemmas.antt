@@ -1,5 +1,5 @@
 -- What stands in `before` and `after`, by places and by columns, and the texts of keys.
-use Rattle.std.proofs.Common.{◌≡◌, ◌∙◌, ◌<◌, ℕ, List, Some, None, Option, length, map, refl, sym, ap}
+use Rattle.std.proofs.Common.{◌≡◌, ◌∙◌, ℕ, List, Some, None, Option, length, map, refl, ap}
 use Rattle.std.specs.Prelude.{IsSome, option_map, [], ◌∷◌}
 use Rattle.std.proofs.lemmas.List.{length-map}
 use Rattle.serde_json.specs.Data.{object}
@@ -10,7 +10,6 @@ use Rattle.dbl_model.specs.declared.table.TableInfo.{TableInfo}
 use Rattle.dbl_model.specs.declared.row.Key.{Key}
 use Rattle.dbl_model.specs.declared.change.Cell.{Cell}
 use Rattle.dbl_model.specs.declared.change.Cell.TheVariants.{Given, Unchanged}
-use Rattle.dbl_model.specs.Infos.{width}
 use Rattle.dbl_model.specs.Keys.{key_of, given_or_null}
 use Rattle.dbl_model.specs.Rows.{all_given}
 use Rattle.dbl_model.specs.Image.{key_text}

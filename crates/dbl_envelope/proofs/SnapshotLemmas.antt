@@ -1,5 +1,5 @@
 -- The records of a snapshot, one after the other.
-use Rattle.std.proofs.Common.{◌≡◌, ◌∙◌, ◌+◌, ◌<◌, ℕ, ℤ, Bool, Option, Some, None, List, [], ◌∷◌, ◌++◌, suc, length, length-append, slice_get, refl, sym, ap, ap₂, subst, arith, append_assoc, codes}
+use Rattle.std.proofs.Common.{◌≡◌, ◌∙◌, ◌+◌, ◌<◌, ℕ, ℤ, Bool, Option, Some, None, List, [], ◌∷◌, ◌++◌, suc, length, length-append, slice_get, refl, sym, ap, ap₂, subst, arith, append_assoc}
 use Rattle.std.specs.List.{All}
 use Rattle.std.specs.Prelude.{IfSome, IsSomeAnd, option_map, unwrap_or}
 use Rattle.json.specs.Token as t

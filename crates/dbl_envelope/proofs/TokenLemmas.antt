@@ -1,7 +1,7 @@
 -- What is written, token by token.
 use Rattle.std.proofs.Common.{◌≡◌, ◌∙◌, ℕ, ℤ, pos, negsuc, Bool, true, false, List, [], ◌∷◌, ◌++◌, Some, refl, append_assoc, slice_get, subst, codes, sym, ap, map, zero, suc}
 use Rattle.std.specs.Fmt.{signed_decimal}
-use Rattle.std.specs.Prelude.{fold, option_map}
+use Rattle.std.specs.Prelude.{fold}
 use Rattle.json.specs.Token.{Token, key}
 use Rattle.json.specs.Token as t
 use Rattle.json.specs.Print.{print, print_from, ends}

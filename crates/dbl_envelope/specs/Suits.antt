@@ -1,6 +1,6 @@
 -- What a writer asks of what it writes: rows as wide as their table, keys as long as its key. It doesn't ask for the cells'
 -- types. All that fits what is captured suits a writer (law FittingSuits).
-use Rattle.std.specs.Prelude.{◌≡◌, ◌⊎◌, ℕ, Option, IfSome, IsSome, IsSomeAnd, List, length, slice_get}
+use Rattle.std.specs.Prelude.{◌≡◌, ◌⊎◌, Option, IfSome, IsSome, IsSomeAnd, List, length, slice_get}
 use Rattle.std.specs.List.{AllByRecursion}
 use Rattle.dbl_model.specs.declared.row.Key.{Key}
 use Rattle.dbl_model.specs.declared.row.Row.{Row}

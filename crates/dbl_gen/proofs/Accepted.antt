@@ -1,5 +1,5 @@
 -- Every line of a workload that is made from a number is good.
-use Rattle.std.proofs.Common.{◌≡◌, ◌∙◌, ◌⊎◌, inl, inr, ℕ, zero, suc, ◌+◌, ◌-◌, ◌*◌, ◌<◌, ◌≤◌, ◌^◌, ◌%◌, ◌==◌, nat_lt, not, if◌then◌else◌, Bool, true, false, List, [], ◌∷◌, ◌++◌, append_assoc, length, length-append, Option, Some, None, codes, refl, ap, sym, subst, arith}
+use Rattle.std.proofs.Common.{◌≡◌, ◌∙◌, inl, inr, ℕ, zero, suc, ◌+◌, ◌-◌, ◌*◌, ◌<◌, ◌≤◌, ◌^◌, ◌%◌, ◌==◌, nat_lt, if◌then◌else◌, Bool, true, false, List, [], ◌∷◌, ◌++◌, append_assoc, length, length-append, Some, None, codes, refl, ap, sym, subst, arith}
 use Rattle.std.specs.List.{list_all}
 use Rattle.std.specs.Str.Parse.{digits_value}
 use Rattle.std.proofs.lemmas.List.{append-nil}
@@ -8,18 +8,17 @@ use Rattle.dbl_base.specs.Lines.{lines_of, lines_text}
 use Rattle.dbl_model.specs.declared.table.TableName.{TableName}
 use Rattle.dbl_script.specs.declared.script.Script.{Script}
 use Rattle.dbl_script.specs.declared.script.ScriptTable.{ScriptTable}
-use Rattle.dbl_script.specs.declared.line.Line.{Line}
 use Rattle.dbl_script.specs.declared.line.Line.TheVariants.{Table, Row, Act}
 use Rattle.dbl_script.specs.Reads.{all_of, some_of}
 use Rattle.dbl_script.specs.Texts as text
 use Rattle.dbl_script.specs.Columns.{column_of, named_column, typed_column, columns_of}
 use Rattle.dbl_script.specs.Grammar.{identity_of, toast_of, table_in, worded, line_at}
 use Rattle.dbl_script.specs.Scripts.{script_of, is_empty, may_follow, follows, is_good, first_bad_behind, first_bad}
-use Rattle.dbl_script.specs.Building.{with_line, with_said}
+use Rattle.dbl_script.specs.Building.{with_said}
 use Rattle.dbl_script.proofs.ScriptLemmas.{script_more}
 use Rattle.dbl_gen.specs.Draws.{next_state, drawn}
 use Rattle.dbl_gen.specs.Laws.{accounts_table, empty_table, WorkloadsAreRead}
-use Rattle.dbl_gen.specs.Workload.{line_of, accounts, numbered, id_cell, owner_cell, table_lines, row_line, row_lines, session, insert_line, balance_line, delete_line, note_line, change, begin_line, commit_line, tick_line, lines_before, group_lines, groups_from, last_lines, workload_lines, workload}
+use Rattle.dbl_gen.specs.Workload.{line_of, accounts, numbered, id_cell, owner_cell, table_lines, row_lines, session, insert_line, balance_line, delete_line, note_line, change, begin_line, commit_line, tick_line, lines_before, group_lines, groups_from, last_lines, workload_lines, workload}
 use Rattle.dbl_gen.proofs.Plain.{free, is_plain, and_both, lines_back}
 use Rattle.dbl_gen.proofs.Steps.{IsStep, IsRow, accounts_named, utf8_plain, said_by_words, session_cases, tick_steps, begin_steps, commit_steps, delete_steps, insert_steps, balance_steps, note_steps, row_is}
 

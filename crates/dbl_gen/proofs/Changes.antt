@@ -1,6 +1,6 @@
 -- What a change is, by its kind.
-use Rattle.std.proofs.Common.{◌≡◌, ◌∙◌, ℕ, ◌+◌, ◌%◌, ◌==◌, ◌≢◌, if◌then◌else◌, Bool, true, false, List, refl, ap, sym}
-use Rattle.std.proofs.lemmas.Bool.{eq-eqb, ne_eqb}
+use Rattle.std.proofs.Common.{◌≡◌, ℕ, ◌+◌, ◌%◌, ◌==◌, ◌≢◌, if◌then◌else◌, List, refl}
+use Rattle.std.proofs.lemmas.Bool.{ne_eqb}
 use Rattle.dbl_gen.specs.Draws.{next_state, drawn}
 use Rattle.dbl_gen.specs.Workload.{insert_line, balance_line, delete_line, note_line, change}
 

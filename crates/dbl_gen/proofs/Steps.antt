@@ -1,5 +1,5 @@
 -- What the lines of a workload say.
-use Rattle.std.proofs.Common.{◌≡◌, ◌∙◌, ◌⊎◌, inl, inr, ℕ, zero, suc, ◌+◌, ◌-◌, ◌<◌, ◌≤◌, ◌^◌, ◌%◌, ◌&&◌, Bool, true, false, List, [], ◌∷◌, ◌++◌, length, get_or, Option, Some, None, codes, refl, ap, sym, arith}
+use Rattle.std.proofs.Common.{◌≡◌, ◌⊎◌, inl, inr, ℕ, zero, suc, ◌-◌, ◌<◌, ◌^◌, ◌%◌, true, false, List, [], ◌∷◌, get_or, Some, codes, refl, ap, arith}
 use Rattle.std.specs.Fmt.{decimal}
 use Rattle.std.specs.List.{list_all}
 use Rattle.std.specs.Str.{IsUtf8, is_utf8}
@@ -15,12 +15,11 @@ use Rattle.dbl_script.specs.declared.script.Step.{Step}
 use Rattle.dbl_script.specs.declared.script.Step.TheVariants.{Begin, Commit, Insert, Update, Delete, Tick}
 use Rattle.dbl_script.specs.declared.line.Line.{Line}
 use Rattle.dbl_script.specs.declared.line.Line.TheVariants.{Row, Act}
-use Rattle.dbl_script.specs.Words.{parts_at, words_of}
 use Rattle.dbl_script.specs.Reads.{all_of, some_of}
 use Rattle.dbl_script.specs.Texts as text
 use Rattle.dbl_script.specs.Grammar.{value_cell_of, cell_in, cell_of, row_in, insert_in, update_in, delete_in, verb_in, step_in, worded, line_at}
 use Rattle.dbl_gen.specs.Workload.{line_of, accounts, numbered, id_cell, owner_cell, row_line, session}
-use Rattle.dbl_gen.proofs.Plain.{free, is_plain, plain_words, plain_line, plain_ascii, and_both, plain_decimal, free_percent, parts_last, and_first, and_second}
+use Rattle.dbl_gen.proofs.Plain.{free, is_plain, plain_words, plain_line, and_both, plain_decimal, free_percent, parts_last, and_first, and_second}
 
 ascii_at : (bytes : List ℕ) → is_plain bytes ≡ true → (i : ℕ) → get_or bytes i 0 < 128
 ascii_at [] is i = omega arith

@@ -1,11 +1,9 @@
 -- Lines that are written one behind the other.
-use Rattle.std.proofs.Common.{◌≡◌, ◌∙◌, ℕ, suc, ◌+◌, ◌-◌, ◌<◌, ◌*◌, ◌/◌, ◌%◌, ◌==◌, ◌≤◌, true, false, zero, List, [], ◌∷◌, ◌++◌, append_assoc, refl, ap, sym, arith, add-one}
+use Rattle.std.proofs.Common.{◌≡◌, ◌∙◌, ℕ, suc, ◌+◌, ◌-◌, ◌<◌, ◌≤◌, List, [], ◌∷◌, ◌++◌, append_assoc, refl, ap, sym, arith}
 use Rattle.std.proofs.lemmas.List.{append-nil}
-use Rattle.std.proofs.lemmas.Bool.{eq-eqb, ne_eqb}
 use Rattle.dbl_base.specs.Lines.{lines_text}
 use Rattle.dbl_base.proofs.LineLemmas.{lines_text-append}
-use Rattle.dbl_gen.specs.Draws.{next_state, drawn}
-use Rattle.dbl_gen.specs.Workload.{row_line, row_lines, insert_line, balance_line, delete_line, note_line, change, begin_line, lines_before, tick_line, group_lines, groups_from, table_lines, last_lines, workload_lines}
+use Rattle.dbl_gen.specs.Workload.{row_line, row_lines, change, begin_line, lines_before, tick_line, group_lines, groups_from, table_lines, last_lines, workload_lines}
 
 -- what is written of a line in pieces
 pub joined_one : (old p d q e end : List ℕ) → old ++ (p ++ (d ++ (q ++ (e ++ end)))) ≡ old ++ ((p ++ (d ++ (q ++ e))) ++ end)

@@ -4,7 +4,6 @@ use Rattle.dbl_base.specs.Lines.{lines_of}
 use Rattle.dbl_record.specs.Consumers.{consumer_of}
 use Rattle.dbl_consume.specs.Printing.{row_line}
 use Rattle.dbl_consume.proofs.RowLemmas.{rows_are_one}
-use Rattle.dblog.specs.declared.apply.FaultAt.{FaultAt}
 use Rattle.dblog.specs.Apply.{readings_of}
 use Rattle.dblog.specs.Run.{Answer, done, line_fault, Applies, long_input, refused, applied}
 

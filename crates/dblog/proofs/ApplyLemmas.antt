@@ -11,7 +11,6 @@ use Rattle.dbl_record.specs.Acts.{Reading}
 use Rattle.dbl_record.specs.Reading.{reading_in}
 use Rattle.dbl_consume.specs.declared.consumer.Consumer.{Consumer}
 use Rattle.dbl_consume.specs.Holdings.{Took, placeholder_of}
-use Rattle.dblog.specs.declared.apply.FaultAt.{FaultAt}
 use Rattle.dblog.specs.declared.apply.LineFault.{LineFault}
 use Rattle.dblog.specs.Apply.{reading_of_line, readings_of, fault_in, fault_of, or_later, first_fault, first_fault_from}
 

@@ -1,5 +1,5 @@
 -- How a run of `apply --lines` ends.
-use Rattle.std.proofs.Common.{◌≡◌, ◌≢◌, ◌⊎◌, inl, inr, ◌∙◌, ℕ, ℤ, ◌≤◌, Option, Some, None, List, [], ◌∷◌, ◌++◌, Bool, true, bytes_eq, Result, Ok, Err, codes, get_or, length, take, map, refl, sym, ap, subst, arith}
+use Rattle.std.proofs.Common.{◌≡◌, ◌≢◌, ◌⊎◌, inl, inr, ◌∙◌, ℕ, ◌≤◌, Option, Some, None, List, [], ◌∷◌, ◌++◌, Ok, Err, length, take, map, refl, sym, ap, subst}
 use Rattle.dbl_base.specs.Lines.{lines_of, lines_text}
 use Rattle.dbl_base.specs.declared.input.TheConstants.{INPUT_LIMIT}
 use Rattle.dbl_record.specs.declared.acts.ConsumeError.{ConsumeError}
@@ -8,7 +8,7 @@ use Rattle.dbl_record.specs.Consumers.{HeldCells, consumer_of}
 use Rattle.dbl_consume.specs.declared.consumer.Consumer.{Consumer}
 use Rattle.dbl_consume.specs.declared.error.PrintError.TheVariants as print_error
 use Rattle.dbl_consume.specs.Holdings.{Took, placeholder_of}
-use Rattle.dbl_consume.specs.Printing.{row_line, PrintsRows}
+use Rattle.dbl_consume.specs.Printing.{row_line, PrintsRows, Wrote, WroteFront}
 use Rattle.dblog.specs.declared.apply.FaultAt.{FaultAt}
 use Rattle.dblog.specs.declared.apply.LineFault.{LineFault}
 use Rattle.dblog.specs.declared.apply.LineFault.TheVariants as line
@@ -16,7 +16,7 @@ use Rattle.dblog.specs.declared.halt.Halt.{Halt}
 use Rattle.dblog.specs.declared.halt.Halt.TheVariants.{Usage, BadLine, InputTooLong, InputFailed, Memory}
 use Rattle.dblog.specs.Faults.{status_of, fault_line, output_failed_status}
 use Rattle.dblog.specs.Apply.{first_fault, fault_text, readings_of}
-use Rattle.dblog.specs.Run.{Answer, fault, done, line_fault, Applies, long_input, refused, applied, Wrote, WroteFront, whole, out_of_memory, Writes, Ends, IsOutside, Says, IsApplyStatus, HaltsApplying, RunsApplying, EndsAs, PrintedAs}
+use Rattle.dblog.specs.Run.{Answer, fault, done, line_fault, Applies, refused, applied, whole, out_of_memory, Writes, Ends, IsOutside, Says, IsApplyStatus, HaltsApplying, RunsApplying, EndsAs, PrintedAs}
 use Rattle.dblog.proofs.ApplyLaws.{applies_one, applies_reads}
 use Rattle.dblog.proofs.RunLemmas.{says_ends, memory_ends, input_ends, input_is_outside, written_or_outside, memory_is_outside, writes_then}
 

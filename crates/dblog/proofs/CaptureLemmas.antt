@@ -15,7 +15,7 @@ use Rattle.dbl_model.specs.declared.table.TableKey.{TableKey}
 use Rattle.dbl_model.specs.declared.table.TableName.{TableName}
 use Rattle.dbl_model.specs.Tables.{same_name, is_watermark}
 use Rattle.dbl_model.specs.Infos.{catalogue_of, IsInfoOf}
-use Rattle.dbl_model.specs.Past.{named, schema_of, HasNoRelation}
+use Rattle.dbl_model.specs.Past.{named, HasNoRelation}
 use Rattle.dbl_model.specs.Stated.{list_of}
 use Rattle.dbl_model.proofs.InfoLemmas.{one_info}
 use Rattle.dbl_model.specs.declared.error.ModelError.{ModelError}

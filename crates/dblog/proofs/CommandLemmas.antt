@@ -1,17 +1,16 @@
 -- How a run of a command ends, and one over words.
-use Rattle.std.proofs.Common.{◌≡◌, ◌≢◌, ◌⊎◌, inl, inr, ◌∙◌, ℕ, ℤ, Bool, true, false, Option, List, [], ◌∷◌, ◌++◌, refl, sym, ap, subst}
+use Rattle.std.proofs.Common.{◌≡◌, ◌⊎◌, inl, inr, ◌∙◌, ℕ, ℤ, true, false, Option, List, refl, sym, subst}
 use Rattle.dbl_base.specs.Lines.{lines_text}
 use Rattle.dbl_model.specs.declared.table.TableKey.{TableKey}
 use Rattle.dblog.specs.declared.options.ReplayOptions.{ReplayOptions}
-use Rattle.dbl_gen.specs.Workload.{workload, workload_lines}
 use Rattle.dbl_cli.specs.declared.commands.Command.{Command}
 use Rattle.dbl_cli.specs.declared.commands.Command.TheVariants as command
 use Rattle.dbl_cli.specs.Commands.{Spells}
 use Rattle.dbl_cli.proofs.SayLemmas.{one_command}
-use Rattle.dblog.specs.declared.halt.Halt.TheVariants.{Usage, InputFailed, Memory}
+use Rattle.dblog.specs.declared.halt.Halt.TheVariants.{Usage, Memory}
 use Rattle.dblog.specs.Faults.{status_of, output_failed_status}
-use Rattle.dblog.specs.Run.{Answer, fault, MayEnd, whole, input_failed, out_of_memory, Writes, Ends, IsOutside, Says, EndsAs, RunsReplaying, RunsApplying}
-use Rattle.dblog.specs.Means.{made, not_built, options_of, Answers, Means, usage, spelled, Runs, RunsCommand, TellsInput, IsCutShort, IsStatusOf}
+use Rattle.dblog.specs.Run.{Answer, fault, MayEnd, whole, input_failed, out_of_memory, Writes, Ends, Says, EndsAs, RunsReplaying, RunsApplying}
+use Rattle.dblog.specs.Means.{options_of, Answers, Means, usage, spelled, Runs, RunsCommand, TellsInput, IsCutShort, IsStatusOf}
 use Rattle.dblog.proofs.ApplyLaws.{applies_one}
 use Rattle.dblog.proofs.ApplyRunLemmas.{memory_outside, memory_written, says_is}
 use Rattle.dblog.proofs.ReplayRunLemmas.{outside_no_answer}

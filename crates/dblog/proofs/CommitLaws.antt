@@ -1,12 +1,12 @@
 -- The lines of a log are those of all commits that its messages state up to the first fault.
-use Rattle.std.proofs.Common.{◌≡◌, ◌≢◌, ◌⊎◌, inl, inr, ◌∙◌, ℕ, zero, suc, ◌<◌, ℤ, ◌+◌, Option, Some, None, IsSome, IsSomeAnd, List, [], ◌∷◌, ◌++◌, map, flat_map, length, slice_get, refl, sym, ap, ap₂, subst, append_assoc, arith}
+use Rattle.std.proofs.Common.{◌≡◌, inl, inr, ◌∙◌, ℕ, zero, suc, ℤ, ◌+◌, Option, Some, None, IsSome, IsSomeAnd, List, [], ◌∷◌, ◌++◌, map, flat_map, length, slice_get, refl, sym, ap, ap₂, subst, append_assoc}
 use Rattle.std.specs.Prelude.{option_map, unwrap_or}
 use Rattle.std.specs.Option.{option_and_then, option_or}
 use Rattle.std.specs.List.{AllByRecursion}
 use Rattle.std.proofs.lemmas.List.{append-nil, map-append}
 use Rattle.dbl_pgmsg.specs.declared.messages.Message.{Message}
 use Rattle.dbl_pgmsg.specs.declared.messages.Message.TheVariants as says
-use Rattle.dbl_pgmsg.specs.Grammar.{FitsFields, Spells}
+use Rattle.dbl_pgmsg.specs.Grammar.{FitsFields}
 use Rattle.dbl_record.specs.declared.record.Record.{Record}
 use Rattle.dbl_record.specs.Line.{line_of}
 use Rattle.dbl_model.specs.declared.identity.Identity.{Identity}

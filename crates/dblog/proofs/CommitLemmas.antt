@@ -1,6 +1,6 @@
 -- What became of a commit whose records were to be put.
-use Rattle.std.proofs.Common.{◌≡◌, ◌≢◌, ◌∙◌, ℕ, ℤ, Option, Some, None, List, [], ◌∷◌, ◌++◌, map, refl, sym, ap, subst, append-nil}
-use Rattle.std.specs.Prelude.{option_map, Result, Ok, Err}
+use Rattle.std.proofs.Common.{◌≡◌, ◌≢◌, ℕ, ℤ, Option, Some, None, List, [], ◌∷◌, map, sym, ap, subst, append-nil}
+use Rattle.std.specs.Prelude.{option_map, Result}
 use Rattle.std.specs.Option.{option_and_then}
 use Rattle.dbl_record.specs.declared.record.Record.{Record}
 use Rattle.dbl_record.specs.Line.{line_of}
@@ -15,14 +15,12 @@ use Rattle.dbl_envelope.specs.declared.error.EnvelopeError.{EnvelopeError}
 use Rattle.dbl_envelope.specs.declared.error.EnvelopeError.TheVariants.{PlaceholderClash}
 use Rattle.dbl_envelope.specs.declared.error.EnvelopeError.TheVariants as envelope
 use Rattle.dbl_envelope.specs.Clashing.{clash_error, IsClash}
-use Rattle.dblog.specs.declared.log_fault.LogFault.{LogFault}
 use Rattle.dblog.specs.declared.log_fault.LogFault.TheVariants as log
-use Rattle.dblog.specs.declared.printing.LogPut.{LogPut}
 use Rattle.dblog.specs.declared.printing.PrintError.{PrintError}
 use Rattle.dblog.specs.declared.printing.Step.{Step}
 use Rattle.dblog.specs.Log.{lines_in, placeholder_fault, commit_fault}
 use Rattle.dblog.specs.Printing.{Puts, LinesFail}
-use Rattle.dblog.specs.LogPrinting.{IsHalted, cut, CommitFails, PutsCommit}
+use Rattle.dblog.specs.LogPrinting.{PutsCommit}
 
 -- the fault of a clash
 clash_found : (o : Option Clash) (table : TableName) (column : List ℕ) → option_map clash_error o ≡ Some (PlaceholderClash table column) → option_map placeholder_fault o ≡ Some (log.Placeholder table column)

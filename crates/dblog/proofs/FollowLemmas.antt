@@ -1,14 +1,12 @@
 -- The messages that were taken, one by one, and what their bytes write.
-use Rattle.std.proofs.Common.{◌≡◌, ◌≢◌, ◌⊎◌, inl, inr, ◌∙◌, ℕ, ℤ, suc, ◌+◌, Option, Some, None, Result, Ok, Err, map, flat_map, List, [], ◌∷◌, ◌++◌, length, refl, sym, ap, ap₂, subst, append_assoc, append-nil, arith, add-one}
+use Rattle.std.proofs.Common.{◌≡◌, ◌≢◌, ◌⊎◌, inl, inr, ◌∙◌, ℕ, ℤ, ◌+◌, Option, Some, None, Result, Ok, Err, List, [], ◌∷◌, ◌++◌, length, refl, sym, ap, ap₂, subst, append_assoc, append-nil, arith}
 use Rattle.std.specs.Prelude.{option_map, is_some, Bool, true, false, not, ◌||◌}
 use Rattle.std.specs.Option.{option_and_then, option_or}
 use Rattle.std.specs.List.{AllByRecursion, list_any}
-use Rattle.dbl_pgmsg.specs.declared.error.MsgError.{MsgError}
 use Rattle.dbl_pgmsg.specs.declared.messages.Message.{Message}
 use Rattle.dbl_pgmsg.specs.declared.messages.Message.TheVariants as says
 use Rattle.dbl_pgmsg.specs.declared.messages.RelationColumn.{RelationColumn}
 use Rattle.dbl_pgmsg.specs.Grammar.{FitsFields, Spells}
-use Rattle.dbl_record.specs.Line.{line_of}
 use Rattle.dbl_model.specs.declared.identity.Identity.{Identity}
 use Rattle.dbl_model.specs.declared.table.RawTable.{RawTable}
 use Rattle.dbl_model.specs.declared.table.TableInfo.{TableInfo}
@@ -18,7 +16,6 @@ use Rattle.dbl_model.specs.Tables.{same_name, is_watermark}
 use Rattle.dbl_model.specs.Infos.{IsInfoOf}
 use Rattle.dbl_model.specs.declared.change.Commit.{Commit}
 use Rattle.dbl_model.specs.declared.txn_error.TxnError.{TxnError}
-use Rattle.dbl_model.specs.EventJson.{envelopes}
 use Rattle.dbl_model.specs.Past.{begin_of, named, schema_of, HasNoRelation}
 use Rattle.dbl_model.specs.Stated.{list_of, ended, transaction_fault}
 use Rattle.dblog.specs.declared.log_fault.LogFault.{LogFault}
@@ -28,17 +25,17 @@ use Rattle.dblog.specs.declared.printing.LogPut.{LogPut}
 use Rattle.dblog.specs.declared.printing.Step.{Step}
 use Rattle.dblog.specs.declared.printing.Step.TheVariants as step
 use Rattle.dblog.specs.declared.printing.PrintError.{PrintError}
-use Rattle.dblog.specs.declared.printing.PrintError.TheVariants.{OutputFailed, Memory}
+use Rattle.dblog.specs.declared.printing.PrintError.TheVariants.{Memory}
 use Rattle.dblog.specs.declared.replay.Replayer.{Replayer}
-use Rattle.dblog.specs.Captures.{entry_of, capture_fault, tables_in, AreCaptured, told_fault}
-use Rattle.dblog.specs.Log.{log_start, lines_in, commit_fault, IsRead, read_fault, IsLogFault, no_message, no_table, no_place, IsTaken, IsStopped, end_fault, LogWrites, end_lines}
+use Rattle.dblog.specs.Captures.{entry_of, capture_fault, tables_in, told_fault}
+use Rattle.dblog.specs.Log.{log_start, lines_in, commit_fault, IsRead, read_fault, IsLogFault, no_message, no_table, no_place, IsTaken, end_fault, LogWrites}
 use Rattle.dblog.specs.Following.{IsBehind, Follows, ReadFails, IsReady, IsPut, Puts, IsNext, Takes}
 use Rattle.dblog.specs.Printing as printing
-use Rattle.dblog.specs.Printing.{LinesFail, PutsLines}
+use Rattle.dblog.specs.Printing.{LinesFail}
 use Rattle.dblog.specs.LogPrinting.{IsHalted, starved, cut, PutsCommit, IsStepped, StepFails, step_starved, step_cut, Steps, IsLogPut}
 use Rattle.dblog.proofs.CaptureLemmas.{count_is, captured_still, captured_more, is_known, is_new, new_has_none}
-use Rattle.dblog.proofs.LogLemmas.{Goes, goes}
-use Rattle.dblog.proofs.PrintLemmas.{IsPutting, putting_more, putting_ends, putting_fails, putting_starves}
+use Rattle.dblog.proofs.LogLemmas.{goes}
+use Rattle.dblog.proofs.PrintLemmas.{putting_more, putting_ends, putting_fails, putting_starves}
 
 -- ---- the table of a Relation
 

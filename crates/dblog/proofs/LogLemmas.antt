@@ -1,8 +1,6 @@
 -- Byte strings write one list of lines, with one end.
-use Rattle.std.proofs.Common.{◌≡◌, ◌⊎◌, inl, inr, ◌∙◌, ℕ, ℤ, ◌+◌, Option, Some, None, List, [], ◌∷◌, ◌++◌, length, refl, sym, ap, ap₂, subst}
-use Rattle.dbl_pgmsg.specs.declared.error.MsgError.{MsgError}
+use Rattle.std.proofs.Common.{◌≡◌, inl, inr, ◌∙◌, ℕ, ℤ, ◌+◌, Option, Some, None, List, [], ◌∷◌, ◌++◌, length, sym, ap, ap₂, subst}
 use Rattle.dbl_pgmsg.specs.declared.messages.Message.{Message}
-use Rattle.dbl_pgmsg.specs.Grammar.{Spells}
 use Rattle.dbl_pgmsg.proofs.FaultLaws.{not_both, one_fault}
 use Rattle.dbl_pgmsg.proofs.MessageLaws.{one_message}
 use Rattle.dbl_model.specs.declared.table.TableInfo.{TableInfo}
@@ -11,7 +9,7 @@ use Rattle.dblog.specs.declared.log_fault.LogFault.{LogFault}
 use Rattle.dblog.specs.declared.options.ReplayOptions.{ReplayOptions}
 use Rattle.dblog.specs.declared.log_fault.LogFault.TheVariants as log
 use Rattle.dblog.specs.Captures.{tables_in, told_fault}
-use Rattle.dblog.specs.Log.{lines_in, IsRead, read_fault, IsLogFault, no_message, no_table, no_place, IsTaken, IsStopped, LogWrites}
+use Rattle.dblog.specs.Log.{lines_in, IsRead, read_fault, IsLogFault, no_message, no_table, no_place, IsTaken, LogWrites}
 use Rattle.dblog.proofs.CaptureLemmas.{infos_one}
 
 some_one : {A : Type 0} (x y : A) → Some x ≡ Some y → x ≡ y

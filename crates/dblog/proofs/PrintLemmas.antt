@@ -1,34 +1,16 @@
 -- Lines that are gathered before they are written.
-use Rattle.std.proofs.Common.{◌≡◌, ◌∙◌, inl, inr, ℕ, ◌+◌, ◌<◌, Option, Some, Result, Ok, Err, OnOk, IfErr, map, flat_map, List, [], ◌∷◌, ◌++◌, length, take, drop, refl, sym, ap, subst, append_assoc, append-nil, arith, ◌==◌, true, false}
+use Rattle.std.proofs.Common.{◌≡◌, ◌∙◌, inl, inr, ℕ, ◌+◌, ◌<◌, Option, Some, Result, Ok, Err, OnOk, IfErr, map, List, [], ◌∷◌, ◌++◌, length, take, drop, refl, sym, ap, subst, append_assoc, append-nil, arith, ◌==◌, true, false}
 use Rattle.std.specs.List.{slice_index_or}
-use Rattle.std.proofs.lemmas.List.{drop_more, drop_all, take-append-drop, map-append}
+use Rattle.std.proofs.lemmas.List.{drop_more, drop_all}
 use Rattle.std.proofs.lemmas.Bool.Decides.{Decides-eqb}
-use Rattle.std.proofs.Math.Seq.{take-append-add, take-append_seam}
+use Rattle.std.proofs.Math.Seq.{take-append_seam}
 use Rattle.dbl_base.specs.Lines.{lines_text}
 use Rattle.dbl_base.proofs.LineLemmas.{lines_text-append}
 use Rattle.dblog.specs.declared.printing.PrintError.{PrintError}
 use Rattle.dblog.specs.declared.printing.PrintError.TheVariants.{OutputFailed, Memory}
-use Rattle.dblog.specs.Run.{Wrote, WroteFront}
+use Rattle.dbl_consume.specs.Printing.{Wrote, WroteFront}
+use Rattle.dbl_consume.proofs.PrintingLemmas.{wrote_then, front_then, front_more}
 use Rattle.dblog.specs.Printing.{Gathers, LineFails, Puts, kept, passed, LinesFail}
-
-pub wrote_then : (before middle after : Option (List ℕ)) (first second : List ℕ) → Wrote before middle first → Wrote middle after second → Wrote before after (first ++ second)
-wrote_then before middle after first second one two bytes is = two (bytes ++ first) (one bytes is) ∙ ap Some (append_assoc bytes first second)
-
-pub front_then : (before middle after : Option (List ℕ)) (first second : List ℕ) → Wrote before middle first → WroteFront middle after second → WroteFront before after (first ++ second)
-front_then before middle after first second one two bytes is =
-    let part = two (bytes ++ first) (one bytes is) in
-    (length first + part.0, part.1 ∙ ap Some (append_assoc bytes first (take part.0 second) ∙ ap (λ t. bytes ++ t) (sym (take-append-add first second part.0))))
-
-pub take_of : (n : ℕ) (xs ys : List ℕ) → take n xs ≡ take (length (take n xs)) (xs ++ ys)
-take_of n xs ys =
-    let split : xs ++ ys ≡ take n xs ++ (drop n xs ++ ys) = ap (λ l. l ++ ys) (sym (take-append-drop n xs)) ∙ append_assoc (take n xs) (drop n xs) ys in
-    sym (ap (take (length (take n xs))) split ∙ take-append_seam (take n xs) (drop n xs ++ ys))
-
--- a front of a front
-pub front_more : (before after : Option (List ℕ)) (first second : List ℕ) → WroteFront before after first → WroteFront before after (first ++ second)
-front_more before after first second front bytes is =
-    let part = front bytes is in
-    (length (take part.0 first), part.1 ∙ ap (λ t. Some (bytes ++ t)) (take_of part.0 first second))
 
 -- ---- lines that are put one after the other
 

@@ -1,5 +1,5 @@
 -- How a run of `replay` ends.
-use Rattle.std.proofs.Common.{◌≡◌, ◌≢◌, ◌⊎◌, inl, inr, ◌∙◌, ℕ, ℤ, ◌≤◌, Option, Some, None, List, [], ◌∷◌, ◌++◌, true, Result, Ok, Err, length, take, refl, sym, ap, ap₂, subst, arith}
+use Rattle.std.proofs.Common.{◌≡◌, ◌≢◌, ◌⊎◌, inl, inr, ◌∙◌, ℕ, ℤ, ◌≤◌, Option, Some, None, List, [], ◌∷◌, ◌++◌, Result, Ok, Err, length, take, refl, sym, ap, ap₂, subst, arith}
 use Rattle.dbl_base.specs.Lines.{lines_of, lines_text}
 use Rattle.dbl_base.proofs.LineLemmas.{lines_text-append}
 use Rattle.dbl_base.specs.declared.input.TheConstants.{INPUT_LIMIT}
@@ -17,12 +17,14 @@ use Rattle.dblog.specs.Faults.{status_of, fault_line, output_failed_status}
 use Rattle.dblog.specs.Lines.{messages_in, first_bad}
 use Rattle.dblog.specs.Log.{LogWrites, end_status, end_lines}
 use Rattle.dblog.specs.LogFaults.{transaction_status}
-use Rattle.dblog.specs.Printing.{Puts, LinesFail}
-use Rattle.dblog.specs.LogPrinting.{IsLogPut, PutsLog, IsLogPrinted, LogFails, PrintsLog, EndsLog, RunsLog}
-use Rattle.dblog.specs.Run.{Answer, fault, log_answer, Replays, too_long, bad_line, replayed, Wrote, WroteFront, whole, out_of_memory, Writes, Ends, IsOutside, Says, HaltsReplaying, RunsReplaying, IsReplayAnswer, IsReplayStatus}
+use Rattle.dblog.specs.Printing.{LinesFail}
+use Rattle.dblog.specs.LogPrinting.{IsLogPut, IsLogPrinted, LogFails, PrintsLog, EndsLog, RunsLog}
+use Rattle.dbl_consume.specs.Printing.{Wrote, WroteFront}
+use Rattle.dbl_consume.proofs.PrintingLemmas.{front_more}
+use Rattle.dblog.specs.Run.{Answer, fault, log_answer, Replays, too_long, bad_line, replayed, whole, out_of_memory, Ends, Says, HaltsReplaying, RunsReplaying, IsReplayAnswer, IsReplayStatus}
 use Rattle.dblog.proofs.ApplyRunLemmas.{memory_outside, memory_written, says_is, outside_of}
 use Rattle.dblog.proofs.LogLemmas.{log_one}
-use Rattle.dblog.proofs.PrintLemmas.{Prints, PrintFails, front_more, puts_text, put_prints, put_fails_prints, putting_starves}
+use Rattle.dblog.proofs.PrintLemmas.{puts_text, put_prints, put_fails_prints}
 use Rattle.dblog.proofs.RunLemmas.{replays_one, replay_reads, says_ends, memory_ends, input_ends, input_is_outside, written_or_outside, memory_is_outside, writes_then}
 
 -- ---- the lines of a log

@@ -1,15 +1,16 @@
 -- How a run ends, from what it read and what it wrote.
-use Rattle.std.proofs.Common.{◌≡◌, ◌⊎◌, inl, inr, ◌∙◌, ℕ, ℤ, Option, Some, List, [], ◌∷◌, ◌++◌, Bool, true, bytes_eq, codes, get_or, length, take, map, flat_map, append-nil, refl, sym, ap, ap₂, subst, arith}
+use Rattle.std.proofs.Common.{◌≡◌, ◌⊎◌, inl, inr, ◌∙◌, ℕ, ℤ, Option, List, [], ◌∷◌, ◌++◌, true, refl, sym, ap, ap₂, arith}
 use Rattle.dbl_base.specs.Lines.{lines_of, lines_text}
 use Rattle.dblog.specs.declared.halt.Halt.{Halt}
-use Rattle.dblog.specs.declared.halt.Halt.TheVariants.{Usage, BadLine, InputTooLong, InputFailed, Memory}
+use Rattle.dblog.specs.declared.halt.Halt.TheVariants.{BadLine, InputFailed, Memory}
 use Rattle.dblog.specs.declared.log_fault.LogFault.{LogFault}
 use Rattle.dblog.specs.declared.options.ReplayOptions.{ReplayOptions}
-use Rattle.dblog.specs.Faults.{status_of, fault_line, output_failed_status}
-use Rattle.dblog.specs.Run.{Answer, fault, done, log_answer, Replays, too_long, bad_line, replayed, Wrote, WroteFront, whole, input_failed, out_of_memory, Writes, Ends, IsOutside, Says}
+use Rattle.dblog.specs.Faults.{status_of, fault_line}
+use Rattle.dbl_consume.specs.Printing.{Wrote}
+use Rattle.dbl_consume.proofs.PrintingLemmas.{wrote_then, front_then}
+use Rattle.dblog.specs.Run.{Answer, fault, log_answer, Replays, too_long, bad_line, replayed, whole, input_failed, out_of_memory, Writes, Ends, IsOutside, Says}
 use Rattle.dblog.specs.Lines.{messages_in}
 use Rattle.dblog.proofs.LogLemmas.{log_one}
-use Rattle.dblog.proofs.PrintLemmas.{wrote_then, front_then}
 
 -- bytes have one answer
 pub replays_one : (options : ReplayOptions) (now : ℤ) (bytes : List ℕ) (a b : Answer) → Replays options now bytes a → Replays options now bytes b → a ≡ b

@@ -1,8 +1,7 @@
 -- What `apply --lines` makes of the lines of its input.
-use Rattle.std.specs.Prelude.{◌≡◌, ℕ, ◌+◌, ◌<◌, ◌≤◌, List, [], ◌∷◌, ◌++◌, if◌then◌else◌, Option, Some, None, Result, Ok, Err, length, map, codes, decimal}
+use Rattle.std.specs.Prelude.{ℕ, ◌+◌, List, [], ◌∷◌, ◌++◌, if◌then◌else◌, Option, Some, None, Result, Ok, Err, codes, decimal}
 use Rattle.std.specs.List.{filter_map}
 use Rattle.std.specs.Str.{is_utf8}
-use Rattle.dbl_base.specs.declared.input.TheConstants.{INPUT_LIMIT}
 use Rattle.dbl_record.specs.declared.acts.Act.{Act}
 use Rattle.dbl_record.specs.declared.acts.ConsumeError.{ConsumeError}
 use Rattle.dbl_record.specs.declared.acts.ConsumeError.TheVariants as consume

@@ -15,7 +15,6 @@ use Rattle.dblog.specs.declared.options.ReplayOptions.{ReplayOptions}
 use Rattle.dblog.specs.declared.replay.Replayer.{Replayer}
 use Rattle.dblog.specs.Captures.{tables_in, AreCaptured, told_fault}
 use Rattle.dblog.specs.Log.{log_start, IsRead, IsLogFault}
-use Rattle.dblog.specs.Judged.{Judges}
 
 -- behind these messages, with these tables captured
 pub record IsBehind (options : ReplayOptions) (infos : List TableInfo) (ms : List Message) (r : Replayer) : Type 0 where

@@ -15,7 +15,8 @@ use Rattle.dblog.specs.declared.replay.Replayer.{Replayer}
 use Rattle.dblog.specs.Following.{Follows}
 use Rattle.dblog.specs.Log.{lines_in, IsLogFault, IsTaken, LogWrites, end_status, end_lines}
 use Rattle.dblog.specs.Printing.{Puts, LinesFail}
-use Rattle.dblog.specs.Run.{Wrote, WroteFront, log_answer, Ends, IsOutside}
+use Rattle.dbl_consume.specs.Printing.{Wrote, WroteFront}
+use Rattle.dblog.specs.Run.{log_answer, Ends, IsOutside}
 
 -- a fault, and no line was put
 pub record IsHalted (fault : LogFault) (gathered : List ℕ) (put : LogPut) (before after : Option (List ℕ)) : Type 0 where

@@ -3,7 +3,7 @@ use Rattle.std.specs.Prelude.{◌≡◌, ◌⊎◌, List, [], ◌++◌, ℕ, Opt
 use Rattle.dbl_base.specs.Lines.{lines_text}
 use Rattle.dblog.specs.declared.printing.PrintError.{PrintError}
 use Rattle.dblog.specs.declared.printing.PrintError.TheVariants.{OutputFailed, Memory}
-use Rattle.dblog.specs.Run.{Wrote, WroteFront}
+use Rattle.dbl_consume.specs.Printing.{Wrote, WroteFront}
 
 -- the text was gathered, or it was written and nothing is gathered
 abbrev pub Gathers : List ℕ → List ℕ → Option (List ℕ) → Option (List ℕ) → Type 0

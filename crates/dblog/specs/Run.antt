@@ -1,14 +1,13 @@
 -- What a run of the program writes and answers.
-use Rattle.std.specs.Prelude.{◌≡◌, ◌⊎◌, ℕ, ℤ, ◌<◌, ◌≤◌, Bool, true, Option, Some, None, List, [], ◌∷◌, ◌++◌, take, length, map, codes, Result, Ok, Err}
+use Rattle.std.specs.Prelude.{◌≡◌, ◌⊎◌, ℕ, ℤ, ◌<◌, ◌≤◌, Bool, true, Option, Some, None, List, [], ◌∷◌, ◌++◌, take, length, map}
 use Rattle.dbl_base.specs.Lines.{lines_of, lines_text}
 use Rattle.dbl_base.specs.declared.input.TheConstants.{INPUT_LIMIT}
 use Rattle.dblog.specs.declared.halt.Halt.{Halt}
 use Rattle.dblog.specs.declared.halt.Halt.TheVariants.{Usage, BadLine, InputTooLong, InputFailed, Memory}
-use Rattle.dblog.specs.declared.printing.PrintError.{PrintError}
 use Rattle.dblog.specs.declared.printing.PrintError.TheVariants as print_error
 use Rattle.dblog.specs.Faults.{status_of, fault_line, reads_input, output_failed_status}
 use Rattle.dbl_record.specs.Consumers.{HeldCells, consumer_of}
-use Rattle.dbl_consume.specs.Printing.{HeldRow, AreRowsOf, row_line}
+use Rattle.dbl_consume.specs.Printing.{HeldRow, AreRowsOf, row_line, Wrote, WroteFront}
 use Rattle.dblog.specs.declared.apply.FaultAt.{FaultAt}
 use Rattle.dblog.specs.Apply.{first_fault, fault_text, readings_of}
 use Rattle.dblog.specs.Lines.{messages_in, first_bad}
@@ -51,14 +50,6 @@ pub data Applies (placeholder bytes : List ℕ) (answer : Answer) : Type 0 where
   refused : (at : FaultAt) → length bytes ≤ INPUT_LIMIT → first_fault placeholder (lines_of bytes) ≡ Some at → answer ≡ line_fault at → Applies placeholder bytes answer
   applied : (rows : List HeldRow) → length bytes ≤ INPUT_LIMIT → first_fault placeholder (lines_of bytes) ≡ None
       → AreRowsOf (consumer_of placeholder (readings_of (lines_of bytes))) rows → answer ≡ done (map row_line rows) → Applies placeholder bytes answer
-
--- the text was appended
-abbrev pub Wrote : Option (List ℕ) → Option (List ℕ) → List ℕ → Type 0
-Wrote before after text = (bytes : List ℕ) → before ≡ Some bytes → after ≡ Some (bytes ++ text)
-
--- a front of the text was appended
-abbrev pub WroteFront : Option (List ℕ) → Option (List ℕ) → List ℕ → Type 0
-WroteFront before after text = (bytes : List ℕ) → before ≡ Some bytes → (n : ℕ) × (after ≡ Some (bytes ++ take n text))
 
 -- a run of this answer may be about to write this text and answer this status: the answer's own, or where an input
 -- that is read fails or memory is wanting that fault's, the latter behind some first ones of the lines that come one by one

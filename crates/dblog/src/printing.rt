@@ -12,7 +12,7 @@ ghost use Rattle.dbl_envelope.specs.Suits.{Suits};
 ghost use Rattle.dblog.specs.declared.options.ReplayOptions.{ReplayOptions};
 ghost use Rattle.dblog.specs.Following.{Follows, IsFollowing};
 ghost use Rattle.dblog.specs.Log.{lines_in, commit_fault, end_fault, end_status, end_lines};
-ghost use Rattle.dblog.specs.Run.{Wrote, WroteFront};
+ghost use Rattle.dbl_consume.specs.Printing.{Wrote, WroteFront};
 ghost use Rattle.dblog.specs.Printing.{PutsLine, PutsLines};
 ghost use Rattle.dblog.specs.LogPrinting.{PutsCommit, Steps, PutsLog, PrintsLog, EndsLog};
 

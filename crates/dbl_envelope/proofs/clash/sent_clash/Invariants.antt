@@ -1,5 +1,4 @@
-use Rattle.std.proofs.Common.{◌≡◌, drop, map}
-use Rattle.dbl_model.specs.declared.change.Cell.TheVariants.{Given}
+use Rattle.std.proofs.Common.{◌≡◌, drop}
 use Rattle.dbl_model.specs.Tables.{column_names}
 use Rattle.dbl_model.specs.Clashes.{clash_among}
 use Rattle.dbl_envelope.proofs.clash.sent_clash.Given as goal

@@ -1,4 +1,4 @@
-use Rattle.std.proofs.Common.{◌≡◌, ◌∙◌, List, ℕ, None, ap}
+use Rattle.std.proofs.Common.{◌∙◌, List, ℕ, None, ap}
 use Rattle.dbl_envelope.specs.declared.layout.Layout.{Layout}
 use Rattle.dbl_envelope.proofs.LayoutLemmas.{topic_is}
 use Rattle.dbl_envelope.proofs.event.plain_record.Goals as goal

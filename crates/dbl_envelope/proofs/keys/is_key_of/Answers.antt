@@ -1,7 +1,5 @@
-use Rattle.std.proofs.Common.{◌≡◌, ◌∙◌, ◌+◌, ◌<◌, suc, length, map, slice_get, Some, Bool, true, false, refl, sym, ap, arith, rules}
-use Rattle.std.specs.Ordering.{is_eq}
+use Rattle.std.proofs.Common.{◌≡◌, ◌∙◌, ◌+◌, ◌<◌, suc, length, slice_get, Some, true, false, refl, sym, ap, arith, rules}
 use Rattle.std.proofs.lemmas.Option.{slice_get_read}
-use Rattle.dbl_value.specs.Order.{val_cmp}
 use Rattle.dbl_model.specs.Keys.{new_key_of, given_or_null}
 use Rattle.dbl_envelope.proofs.LayoutLemmas.{key_place}
 use Rattle.dbl_envelope.proofs.KeySteps.{new_cell, same_from, same_more, same_not}

@@ -1,4 +1,4 @@
-use Rattle.std.proofs.Common.{◌≡◌, ◌∙◌, Option, List, ℕ, sym, ap, subst}
+use Rattle.std.proofs.Common.{◌∙◌, Option, List, ℕ, sym, subst}
 use Rattle.std.proofs.lemmas.Result.{on_ok_weaker, IfErr-weaker}
 use Rattle.dbl_model.specs.Clashes.{clash_at}
 use Rattle.dbl_envelope.specs.Clashing.{IsClash}

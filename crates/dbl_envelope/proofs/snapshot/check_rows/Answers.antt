@@ -1,4 +1,4 @@
-use Rattle.std.proofs.Common.{◌≡◌, ◌∙◌, Option, sym, ap, subst}
+use Rattle.std.proofs.Common.{◌∙◌, Option, sym, ap, subst}
 use Rattle.dbl_model.specs.Clashes.{Clash, rows_clash}
 use Rattle.dbl_envelope.specs.Clashing.{IsClash}
 use Rattle.dbl_envelope.proofs.ClashLemmas.{row_more, row_stop}

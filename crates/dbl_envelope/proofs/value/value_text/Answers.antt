@@ -1,4 +1,4 @@
-use Rattle.std.proofs.Common.{◌≡◌, ◌∙◌, ◌++◌, sym, ap, ap₂, subst, codes}
+use Rattle.std.proofs.Common.{◌∙◌, ◌++◌, sym, ap₂, subst}
 use Rattle.std.specs.String.{string_bytes}
 use Rattle.dbl_envelope.specs.declared.layout.Layout.{Layout}
 use Rattle.dbl_envelope.specs.Frames.{FitsPlaces}

@@ -1,11 +1,9 @@
-use Rattle.std.proofs.Common.{◌≡◌, ◌∙◌, ◌<◌, ◌++◌, ◌∷◌, [], Some, None, length, ap, sym, subst, OnOk, IfErr}
-use Rattle.std.proofs.lemmas.Grind.{common_steps}
+use Rattle.std.proofs.Common.{◌≡◌, ◌∙◌, ◌<◌, ◌++◌, Some, length, ap, sym, subst, OnOk, IfErr}
 use Rattle.std.proofs.lemmas.Result.{on_ok_weaker, IfErr-weaker}
 use Rattle.std.specs.Option.{option_to_list}
-use Rattle.dbl_record.specs.Acts.{Reading}
 use Rattle.dbl_record.specs.Reading.{parsed_as}
 use Rattle.dbl_consume.specs.Holdings.{Took, placeholder_of}
-use Rattle.dblog.specs.Apply.{fault_of, fault_in, reading_of_line}
+use Rattle.dblog.specs.Apply.{fault_of, reading_of_line}
 use Rattle.dblog.proofs.ApplyLemmas.{reading_of_no_text, fault_of_line, line_tells, some_bytes}
 use Rattle.dblog.proofs.apply.take_line.Goals as goal
 

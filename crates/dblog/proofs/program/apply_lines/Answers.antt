@@ -1,5 +1,3 @@
-use Rattle.std.proofs.Common.{subst}
-use Rattle.dblog.specs.Run.{RunsApplying}
 use Rattle.dblog.proofs.ApplyRunLemmas.{halt_applies, apply_said}
 use Rattle.dblog.proofs.program.apply_lines.Goals as goal
 

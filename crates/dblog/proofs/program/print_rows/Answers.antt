@@ -1,5 +1,4 @@
 use Rattle.std.proofs.Common.{refl}
-use Rattle.dblog.specs.Run.{done}
 use Rattle.dblog.proofs.ApplyRunLemmas.{rows_printed, rows_cut, rows_starved}
 use Rattle.dblog.proofs.program.print_rows.Goals as goal
 

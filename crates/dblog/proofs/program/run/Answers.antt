@@ -1,4 +1,4 @@
-use Rattle.std.proofs.Common.{Err, ℤ, ap, refl, subst}
+use Rattle.std.proofs.Common.{Err, ℤ, ap, subst}
 use Rattle.std.proofs.Math.Facts.{to_z-of_z}
 use Rattle.dbl_cli.specs.declared.commands.Command.{Command}
 use Rattle.dblog.specs.Means.{RunsCommand, StandsAlone, IsStatusOf}

@@ -1,4 +1,3 @@
-use Rattle.std.proofs.Common.{◌∙◌}
 use Rattle.dblog.proofs.ApplyRunLemmas.{starved, says_memory}
 use Rattle.dblog.proofs.program.say_fault.Goals as goal
 

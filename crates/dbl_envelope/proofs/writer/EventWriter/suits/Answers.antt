@@ -1,4 +1,4 @@
-use Rattle.std.proofs.Common.{◌≡◌, ◌∙◌, List, All, refl, sym, subst, arith, rules}
+use Rattle.std.proofs.Common.{◌∙◌, List, All, refl, subst, arith, rules}
 use Rattle.std.proofs.lemmas.List.{take_all}
 use Rattle.std.proofs.lemmas.List.Elements.{All-more}
 use Rattle.dbl_model.specs.declared.change.Change.{Change}

@@ -1,4 +1,4 @@
-use Rattle.std.proofs.Common.{◌≡◌, ◌∙◌, length, arith}
+use Rattle.std.proofs.Common.{◌≡◌, length, arith}
 use Rattle.std.proofs.lemmas.Result.{err_from_is_err_and}
 use Rattle.dblog.specs.Log.{log_start}
 use Rattle.dblog.proofs.FollowLemmas.{given_entry, learn_known, learn_fails, learn_none, learn_more}

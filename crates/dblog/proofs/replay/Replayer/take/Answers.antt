@@ -1,7 +1,4 @@
-use Rattle.std.proofs.Common.{inl, inr}
-use Rattle.std.specs.Prelude.{Ok, Err, Option, Result}
 use Rattle.std.proofs.lemmas.Result.{err_from_is_err_and}
-use Rattle.dbl_model.specs.declared.change.Commit.{Commit}
 use Rattle.dblog.proofs.FollowLemmas.{read_fails, prepare_fails, put_takes}
 use Rattle.dblog.proofs.replay.Replayer.take.Goals as goal
 

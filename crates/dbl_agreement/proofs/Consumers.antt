@@ -8,25 +8,25 @@ use Rattle.dbl_record.specs.declared.reading.Line.{Line}
 use Rattle.dbl_record.specs.Acts.{reading_of}
 use Rattle.dbl_record.specs.Reading.{as_line}
 use Rattle.dbl_record.specs.Consumers.{HeldCells, consumer, row_after as reading_after}
-use Rattle.dbl_model.specs.declared.identity.Identity.{Identity}
-use Rattle.dbl_model.specs.declared.row.Key.{Key}
-use Rattle.dbl_model.specs.declared.table.TableInfo.{TableInfo}
-use Rattle.dbl_model.specs.declared.change.Change.{Change}
-use Rattle.dbl_model.specs.declared.change.Body.{Body}
-use Rattle.dbl_model.specs.declared.change.Body.TheVariants.{Changes, Mark}
-use Rattle.dbl_model.specs.declared.change.Commit.{Commit}
-use Rattle.dbl_model.specs.Infos.{columns_of, topic_of}
-use Rattle.dbl_model.specs.Rows.{Rows, no_rows, rows_after, rows_from, changes_of, all_changes}
-use Rattle.dbl_model.specs.History.{History}
-use Rattle.dbl_model.specs.Typed.{typed}
-use Rattle.dbl_model.specs.Ranges.{IsChangeInRange, IsBodyInRange, IsCommitInRange, IsMomentInRange}
-use Rattle.dbl_model.specs.Fit.{IsKeyOf, AreFit}
-use Rattle.dbl_model.specs.Image.{key_text, texts_of, image_row, Names}
-use Rattle.dbl_model.specs.Events.{Notice, notices, numbered}
-use Rattle.dbl_model.specs.EventJson.{print, envelopes}
-use Rattle.dbl_model.specs.Laws.{AreDistinctTables}
-use Rattle.dbl_model.proofs.RowKeys.{AreKeyed, keyed_after, keyed_from, keyed-none}
-use Rattle.dbl_model.proofs.RangeLemmas.{typed_in_range}
+use Rattle.dbl_table.specs.declared.identity.Identity.{Identity}
+use Rattle.dbl_table.specs.declared.row.Key.{Key}
+use Rattle.dbl_table.specs.declared.table.TableInfo.{TableInfo}
+use Rattle.dbl_table.specs.declared.change.Change.{Change}
+use Rattle.dbl_table.specs.declared.change.Body.{Body}
+use Rattle.dbl_table.specs.declared.change.Body.TheVariants.{Changes, Mark}
+use Rattle.dbl_table.specs.declared.change.Commit.{Commit}
+use Rattle.dbl_table.specs.Infos.{columns_of, topic_of}
+use Rattle.dbl_table.specs.Rows.{Rows, no_rows, rows_after, rows_from, changes_of, all_changes}
+use Rattle.dbl_history.specs.History.{History}
+use Rattle.dbl_history.specs.Typed.{typed}
+use Rattle.dbl_history.specs.Ranges.{IsChangeInRange, IsBodyInRange, IsCommitInRange, IsMomentInRange}
+use Rattle.dbl_history.specs.Fit.{IsKeyOf, AreFit}
+use Rattle.dbl_history.specs.Image.{key_text, texts_of, image_row, Names}
+use Rattle.dbl_event.specs.Events.{Notice, notices, numbered}
+use Rattle.dbl_event.specs.EventJson.{print, envelopes}
+use Rattle.dbl_history.specs.Laws.{AreDistinctTables}
+use Rattle.dbl_history.proofs.RowKeys.{AreKeyed, keyed_after, keyed_from, keyed-none}
+use Rattle.dbl_history.proofs.RangeLemmas.{typed_in_range}
 use Rattle.dbl_agreement.specs.Laws.{LacksPlaceholder, Holds, lines_of, held_of, last_rows, IsToldWhole}
 use Rattle.dbl_agreement.proofs.Steps.{held_after, line_of_notice, step}
 
@@ -36,11 +36,11 @@ pub fold_append : {A B : Type 0} (f : B → A → B) (b : B) (xs ys : List A) �
 fold_append f b [] ys = refl
 fold_append f b (x ∷ xs) ys = fold_append f (f b x) xs ys
 
-all_left : {X : Type 0} (P : X → Type 0) (xs ys : List X) → AllByRecursion P (xs ++ ys) → AllByRecursion P xs
+pub all_left : {X : Type 0} (P : X → Type 0) (xs ys : List X) → AllByRecursion P (xs ++ ys) → AllByRecursion P xs
 all_left P [] ys h = tt
 all_left P (x ∷ xs) ys h = (h.0, all_left P xs ys h.1)
 
-all_right : {X : Type 0} (P : X → Type 0) (xs ys : List X) → AllByRecursion P (xs ++ ys) → AllByRecursion P ys
+pub all_right : {X : Type 0} (P : X → Type 0) (xs ys : List X) → AllByRecursion P (xs ++ ys) → AllByRecursion P ys
 all_right P [] ys h = h
 all_right P (x ∷ xs) ys h = all_right P xs ys h.1
 

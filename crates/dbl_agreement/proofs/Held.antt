@@ -23,20 +23,20 @@ use Rattle.dbl_record.specs.declared.acts.HeldCell.TheVariants.{Known, Unknown}
 use Rattle.dbl_record.specs.Whole.{IsBelow, MembersAreWhole}
 use Rattle.dbl_record.specs.Acts.{sent_text, cells_of}
 use Rattle.dbl_record.specs.Consumers.{HeldCells, held_at, held_now, row_of}
-use Rattle.dbl_model.specs.declared.table.Column.{Column}
-use Rattle.dbl_model.specs.declared.change.Cell.{Cell}
-use Rattle.dbl_model.specs.declared.change.Cell.TheVariants.{Given, Unchanged}
-use Rattle.dbl_model.specs.Tables.{column_names}
-use Rattle.dbl_model.specs.Infos.{column_of}
-use Rattle.dbl_model.specs.Rows.{overlay}
-use Rattle.dbl_model.specs.Image.{members_of, texts_of}
-use Rattle.dbl_model.specs.EventJson.{sent}
-use Rattle.dbl_model.proofs.Lists.{bool_case, text_itself}
+use Rattle.dbl_table.specs.declared.table.Column.{Column}
+use Rattle.dbl_table.specs.declared.change.Cell.{Cell}
+use Rattle.dbl_table.specs.declared.change.Cell.TheVariants.{Given, Unchanged}
+use Rattle.dbl_table.specs.Tables.{column_names}
+use Rattle.dbl_table.specs.Infos.{column_of}
+use Rattle.dbl_table.specs.Rows.{overlay}
+use Rattle.dbl_history.specs.Image.{members_of, texts_of}
+use Rattle.dbl_event.specs.EventJson.{sent}
+use Rattle.dbl_table.proofs.Lists.{bool_case, text_itself}
 use Rattle.dbl_agreement.specs.Laws.{IsNotPlaceholder, IsNoPlaceholderCell, HoldsTexts}
 
 -- ---- an act's row is its members' cells, each at its column
 
-abbrev set_cell : Option HeldCells → HeldCells → GivenCell → HeldCells
+abbrev pub set_cell : Option HeldCells → HeldCells → GivenCell → HeldCells
 set_cell row made cell = insert_entry text_cmp made cell.column (held_now row cell.column cell.text)
 
 -- cells of later columns go behind
@@ -49,21 +49,21 @@ cells_below placeholder row (member other d ms) name cell made h =
     ap (λ o. fold (set_cell row) (match_ordering o ((other, now) ∷ (name, cell) ∷ made) ((name, now) ∷ made) ((name, cell) ∷ insert_entry text_cmp made other now)) (cells_of placeholder ms)) above
     ∙ cells_below placeholder row ms name cell (insert_entry text_cmp made other now) h.1
 
-abbrev cells_set : List ℕ → Option HeldCells → Members → HeldCells
+abbrev pub cells_set : List ℕ → Option HeldCells → Members → HeldCells
 cells_set placeholder row no_members = []
 cells_set placeholder row (member name d ms) = (name, held_now row name (sent_text placeholder d)) ∷ cells_set placeholder row ms
 
-row_set : (placeholder : List ℕ) (row : Option HeldCells) (ms : Members) → MembersAreWhole ms → row_of row (cells_of placeholder ms) ≡ cells_set placeholder row ms
+pub row_set : (placeholder : List ℕ) (row : Option HeldCells) (ms : Members) → MembersAreWhole ms → row_of row (cells_of placeholder ms) ≡ cells_set placeholder row ms
 row_set placeholder row no_members h = refl
 row_set placeholder row (member name d ms) h =
     let now = held_now row name (sent_text placeholder d) in
     cells_below placeholder row ms name now [] h.1 ∙ ap (λ es. (name, now) ∷ es) (row_set placeholder row ms h.2)
 
-equal_names : (a b : List ℕ) → slice_cmp nat_cmp a b ≡ Equal → a ≡ b
+pub equal_names : (a b : List ℕ) → slice_cmp nat_cmp a b ≡ Equal → a ≡ b
 equal_names a b e = (bytes_eq-Decides a b).0 (sym (is_eq-slice_cmp a b) ∙ ap is_eq e)
 
 -- what was set at a column is looked up there
-looked_up : (placeholder : List ℕ) (row : Option HeldCells) (ms : Members) (column : List ℕ)
+pub looked_up : (placeholder : List ℕ) (row : Option HeldCells) (ms : Members) (column : List ℕ)
     → lookup (is_at (text_cmp column)) (cells_set placeholder row ms) ≡ option_map (λ d. held_now row column (sent_text placeholder d)) (get_member column ms)
 looked_up placeholder row no_members column = refl
 looked_up placeholder row (member name d ms) column = step (slice_cmp nat_cmp column name) refl (looked_up placeholder row ms column)
@@ -98,7 +98,7 @@ item_later names x items column = ap (option_and_then (slice_get (x ∷ items)))
     step (Some i) = refl
 
 -- the item of the first name, where that is the column's, and else of the later ones
-item_first : {X : Type 0} (name : List ℕ) (names : List (List ℕ)) (x : X) (items : List X) (column : List ℕ) → item_at (name ∷ names) (x ∷ items) column ≡ cond (bytes_eq column name) (Some x) (item_at names items column)
+pub item_first : {X : Type 0} (name : List ℕ) (names : List (List ℕ)) (x : X) (items : List X) (column : List ℕ) → item_at (name ∷ names) (x ∷ items) column ≡ cond (bytes_eq column name) (Some x) (item_at names items column)
 item_first name names x items column = step (bytes_eq column name) (item_later names x items column)
   where
     step : (b : Bool) → option_and_then (slice_get (x ∷ items)) (position_from (bytes_eq column) 1 names) ≡ item_at names items column
@@ -106,11 +106,11 @@ item_first name names x items column = step (bytes_eq column name) (item_later n
     step true h = refl
     step false h = h
 
-no_item : {X : Type 0} (o : Option ℕ) → option_and_then (slice_get {X = X} []) o ≡ None
+pub no_item : {X : Type 0} (o : Option ℕ) → option_and_then (slice_get {X = X} []) o ≡ None
 no_item None = refl
 no_item (Some i) = refl
 
-member_at : (names : List (List ℕ)) (values : List Val) (column : List ℕ) → get_member column (members_of names values) ≡ option_map json_data (item_at names values column)
+pub member_at : (names : List (List ℕ)) (values : List Val) (column : List ℕ) → get_member column (members_of names values) ≡ option_map json_data (item_at names values column)
 member_at [] values column = refl
 member_at (name ∷ names) [] column = ap (option_map json_data) (sym (no_item (position_from (bytes_eq column) 0 (name ∷ names))))
 member_at (name ∷ names) (v ∷ values) column = elim (bool_case (bytes_eq column name)) [
@@ -128,7 +128,7 @@ member_at (name ∷ names) (v ∷ values) column = elim (bool_case (bytes_eq col
 -- ---- rows that are set
 
 -- data that aren't the placeholder are sent as their text
-told : (placeholder : List ℕ) (d : Data) → d ≢ string placeholder → sent_text placeholder d ≡ Some (compact_text d)
+pub told : (placeholder : List ℕ) (d : Data) → d ≢ string placeholder → sent_text placeholder d ≡ Some (compact_text d)
 told placeholder null other = refl
 told placeholder (boolean b) other = refl
 told placeholder (number n) other = refl
@@ -139,10 +139,10 @@ told placeholder (string s) other = elim (bool_case (bytes_eq s placeholder)) [
 told placeholder (array ds) other = refl
 told placeholder (object ms) other = refl
 
-untold : (placeholder : List ℕ) → sent_text placeholder (string placeholder) ≡ None
+pub untold : (placeholder : List ℕ) → sent_text placeholder (string placeholder) ≡ None
 untold placeholder = rw (text_itself placeholder) refl
 
-at_place : {X : Type 0} (P : X → Type 0) (items : List X) (i : ℕ) → AllByRecursion P items → IfSome (slice_get items i) P
+pub at_place : {X : Type 0} (P : X → Type 0) (items : List X) (i : ℕ) → AllByRecursion P items → IfSome (slice_get items i) P
 at_place P [] i h = tt
 at_place P (x ∷ items) zero h = h.0
 at_place P (x ∷ items) (suc i) h = at_place P items i h.1

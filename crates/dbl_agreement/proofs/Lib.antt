@@ -1,10 +1,17 @@
-mod Wholes
-mod Notices
-mod Lines
-mod SnapshotLines
-mod Topics
-mod Acts
-mod Held
-mod Steps
-mod Consumers
-mod Named
+pub mod Wholes
+pub mod Notices
+pub mod Lines
+pub mod SnapshotLines
+pub mod Topics
+pub mod Acts
+pub mod Held
+pub mod Steps
+pub mod Consumers
+pub mod Named
+pub mod Cells
+pub mod CellEvents
+pub mod ReadRows
+pub mod Clashes
+pub mod Prints
+pub mod Letters
+pub mod CellEffects

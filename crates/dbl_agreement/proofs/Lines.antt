@@ -16,20 +16,20 @@ use Rattle.dbl_record.specs.Reading.{part_in, Retells, IsReadFrom, as_line}
 use Rattle.dbl_record.proofs.Back.{read-compact_text}
 use Rattle.dbl_record.proofs.Lines.{lines_read_back}
 use Rattle.dbl_record.proofs.ReadingLemmas.{lines_read_once}
-use Rattle.dbl_model.specs.declared.identity.Identity.{Identity}
-use Rattle.dbl_model.specs.declared.row.Key.{Key}
-use Rattle.dbl_model.specs.declared.row.Row.{Row}
-use Rattle.dbl_model.specs.declared.table.TableInfo.{TableInfo}
-use Rattle.dbl_model.specs.declared.change.Cell.{Cell}
-use Rattle.dbl_model.specs.declared.change.Cell.TheVariants.{Given, Unchanged}
-use Rattle.dbl_model.specs.declared.change.Commit.{Commit}
-use Rattle.dbl_model.specs.Tables.{column_names}
-use Rattle.dbl_model.specs.Infos.{key_names}
-use Rattle.dbl_model.specs.Image.{members_of, key_data, key_text}
-use Rattle.dbl_model.specs.Rows.{changes_of}
-use Rattle.dbl_model.specs.Ranges.{IsCommitInRange, IsMomentInRange}
-use Rattle.dbl_model.specs.Events.{Content, Created, Updated, Deleted, Tombstone, Truncated, Notice, Event, notices, numbered}
-use Rattle.dbl_model.specs.EventJson.{row_data, old_data, sent, source_data, event_data, content_data, print}
+use Rattle.dbl_table.specs.declared.identity.Identity.{Identity}
+use Rattle.dbl_table.specs.declared.row.Key.{Key}
+use Rattle.dbl_table.specs.declared.row.Row.{Row}
+use Rattle.dbl_table.specs.declared.table.TableInfo.{TableInfo}
+use Rattle.dbl_table.specs.declared.change.Cell.{Cell}
+use Rattle.dbl_table.specs.declared.change.Cell.TheVariants.{Given, Unchanged}
+use Rattle.dbl_table.specs.declared.change.Commit.{Commit}
+use Rattle.dbl_table.specs.Tables.{column_names}
+use Rattle.dbl_table.specs.Infos.{key_names}
+use Rattle.dbl_history.specs.Image.{members_of, key_data, key_text}
+use Rattle.dbl_table.specs.Rows.{changes_of}
+use Rattle.dbl_history.specs.Ranges.{IsCommitInRange, IsMomentInRange}
+use Rattle.dbl_event.specs.Events.{Content, Created, Updated, Deleted, Tombstone, Truncated, Notice, Event, notices, numbered}
+use Rattle.dbl_event.specs.EventJson.{row_data, old_data, sent, source_data, event_data, content_data, print}
 use Rattle.dbl_agreement.specs.Laws.{IsReadBack, LinesAreRead}
 use Rattle.dbl_agreement.proofs.Wholes.{IsRow, AllFit, row_of_values, row_shallow, event_whole, event_shallow, whole_plain}
 use Rattle.dbl_agreement.proofs.Notices.{KeyFits, CellFits, ContentFits, NoticeFits, commit_tells}

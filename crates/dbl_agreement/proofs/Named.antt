@@ -11,26 +11,26 @@ use Rattle.dbl_record.specs.declared.acts.GivenCell.{GivenCell}
 use Rattle.dbl_record.specs.declared.reading.Line.{Line}
 use Rattle.dbl_record.specs.Acts.{act}
 use Rattle.dbl_record.specs.Consumers.{HeldCells, row_of, row_after_act, row_after_result}
-use Rattle.dbl_model.specs.declared.identity.Identity.{Identity}
-use Rattle.dbl_model.specs.declared.row.Key.{Key}
-use Rattle.dbl_model.specs.declared.row.Row.{Row}
-use Rattle.dbl_model.specs.declared.table.Column.{Column}
-use Rattle.dbl_model.specs.declared.table.TableInfo.{TableInfo}
-use Rattle.dbl_model.specs.declared.change.Cell.{Cell}
-use Rattle.dbl_model.specs.declared.change.Change.{Change}
-use Rattle.dbl_model.specs.declared.change.Change.TheVariants.{Insert, Update, Delete, Clear}
-use Rattle.dbl_model.specs.declared.change.Commit.{Commit}
-use Rattle.dbl_model.specs.Infos.{columns_of, topic_of}
-use Rattle.dbl_model.specs.Keys.{key_of, new_key_of, given_or_null, same_key}
-use Rattle.dbl_model.specs.Rows.{Rows, no_rows, rows_after, rows_from, table_of, changes_of, all_changes}
-use Rattle.dbl_model.specs.Typed.{typed}
-use Rattle.dbl_model.specs.Ranges.{IsChangeInRange, IsCommitInRange, IsMomentInRange}
-use Rattle.dbl_model.specs.Fit.{IsKeyOf, IsFitInsert, IsFitUpdate, IsFitDelete, IsFit, AreFit}
-use Rattle.dbl_model.specs.Image.{key_text, texts_of, image_row, Names, IsImage}
-use Rattle.dbl_model.specs.Events.{Created, Updated, Deleted, Tombstone, Truncated, Notice, move_notices, change_notices, notices}
-use Rattle.dbl_model.proofs.Lists.{same_text}
-use Rattle.dbl_model.proofs.RowKeys.{some_and, is_some_value}
-use Rattle.dbl_model.proofs.RangeLemmas.{typed_in_range}
+use Rattle.dbl_table.specs.declared.identity.Identity.{Identity}
+use Rattle.dbl_table.specs.declared.row.Key.{Key}
+use Rattle.dbl_table.specs.declared.row.Row.{Row}
+use Rattle.dbl_table.specs.declared.table.Column.{Column}
+use Rattle.dbl_table.specs.declared.table.TableInfo.{TableInfo}
+use Rattle.dbl_table.specs.declared.change.Cell.{Cell}
+use Rattle.dbl_table.specs.declared.change.Change.{Change}
+use Rattle.dbl_table.specs.declared.change.Change.TheVariants.{Insert, Update, Delete, Clear}
+use Rattle.dbl_table.specs.declared.change.Commit.{Commit}
+use Rattle.dbl_table.specs.Infos.{columns_of, topic_of}
+use Rattle.dbl_table.specs.Keys.{key_of, new_key_of, given_or_null, same_key}
+use Rattle.dbl_table.specs.Rows.{Rows, no_rows, rows_after, rows_from, table_of, changes_of, all_changes}
+use Rattle.dbl_history.specs.Typed.{typed}
+use Rattle.dbl_history.specs.Ranges.{IsChangeInRange, IsCommitInRange, IsMomentInRange}
+use Rattle.dbl_history.specs.Fit.{IsKeyOf, IsFitInsert, IsFitUpdate, IsFitDelete, IsFit, AreFit}
+use Rattle.dbl_history.specs.Image.{key_text, texts_of, image_row, Names, IsImage}
+use Rattle.dbl_event.specs.Events.{Created, Updated, Deleted, Tombstone, Truncated, Notice, move_notices, change_notices, notices}
+use Rattle.dbl_table.proofs.Lists.{same_text}
+use Rattle.dbl_history.proofs.RowKeys.{some_and, is_some_value}
+use Rattle.dbl_history.proofs.RangeLemmas.{typed_in_range}
 use Rattle.dbl_agreement.specs.Laws.{Holds, last_rows, lines_of, held_of, ConsumersHoldImages, ImagesStand, ConsumersHoldNoOtherRows}
 use Rattle.dbl_agreement.proofs.Wholes.{AllFit, all_fit_in_range}
 use Rattle.dbl_agreement.proofs.Notices.{key_fits, cells_in_range, given_fit, old_fits}
@@ -39,11 +39,11 @@ use Rattle.dbl_agreement.proofs.Steps.{held_after, line_of_notice}
 use Rattle.dbl_agreement.proofs.Consumers.{by_lines, fold_append, first_lines, changes_in_range, fit_left, fit_right, named_holds}
 
 module _ (identity : Identity) (infos : List TableInfo) (topic text : List ℕ) where
-  abbrev Found : Type 0
+  abbrev pub Found : Type 0
   Found = (table : ℕ) × (key : Key) × Names identity infos topic text table key
 
   -- a row that is held here is named
-  abbrev IsNamed : Option HeldCells → Type 0
+  abbrev pub IsNamed : Option HeldCells → Type 0
   IsNamed held = (cells : HeldCells) → held ≡ Some cells → Found
 
   abbrev after : Option HeldCells → Line → Option HeldCells
@@ -54,7 +54,7 @@ module _ (identity : Identity) (infos : List TableInfo) (topic text : List ℕ) 
 
   -- ---- one line
 
-  after_set : (held : Option HeldCells) (line : Line) (t : ℕ) (info : TableInfo) (key : Key) (cells : List GivenCell) → slice_get infos t ≡ Some info → IsKeyOf info key → line.topic ≡ topic_of identity info
+  pub after_set : (held : Option HeldCells) (line : Line) (t : ℕ) (info : TableInfo) (key : Key) (cells : List GivenCell) → slice_get infos t ≡ Some info → IsKeyOf info key → line.topic ≡ topic_of identity info
       → act identity.placeholder line ≡ Ok (Set (key_text info key) cells) → IsNamed held → IsNamed (after held line)
   after_set held line t info key cells captured is_key is_topic does was =
       let left : after held line ≡ cond (bytes_eq (topic_of identity info) topic) (cond (bytes_eq (key_text info key) text) (Some (row_of held cells)) held) held =
@@ -67,7 +67,7 @@ module _ (identity : Identity) (infos : List TableInfo) (topic text : List ℕ) 
       by false of_topic d of_text = was
 
   -- acts that set no row
-  abbrev SetsNone : Act → Type 0
+  abbrev pub SetsNone : Act → Type 0
   SetsNone Nothing = Unit {0}
   SetsNone (Set key cells) = ⊥
   SetsNone (Remove key) = Unit {0}
@@ -83,7 +83,7 @@ module _ (identity : Identity) (infos : List TableInfo) (topic text : List ℕ) 
       by false = was
   act_named Wipe held sets was = none_named
 
-  after_less : (held : Option HeldCells) (line : Line) (done : Act) → SetsNone done → act identity.placeholder line ≡ Ok done → IsNamed held → IsNamed (after held line)
+  pub after_less : (held : Option HeldCells) (line : Line) (done : Act) → SetsNone done → act identity.placeholder line ≡ Ok done → IsNamed held → IsNamed (after held line)
   after_less held line done sets does was =
       subst IsNamed (sym (ap (λ r. cond (bytes_eq line.topic topic) (row_after_result r text held) held) does)) (by (bytes_eq line.topic topic))
     where

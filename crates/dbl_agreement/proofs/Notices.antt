@@ -4,20 +4,20 @@ use Rattle.std.specs.Prelude.{IfSome, option_map, unwrap_or, slice_get}
 use Rattle.std.specs.List.{AllByRecursion}
 use Rattle.std.proofs.lemmas.List.{length-append}
 use Rattle.dbl_value.specs.declared.value.Val.{Val}
-use Rattle.dbl_model.specs.declared.row.Key.{Key}
-use Rattle.dbl_model.specs.declared.row.Row.{Row}
-use Rattle.dbl_model.specs.declared.table.TableInfo.{TableInfo}
-use Rattle.dbl_model.specs.declared.change.Cell.{Cell}
-use Rattle.dbl_model.specs.declared.change.Cell.TheVariants.{Given, Unchanged}
-use Rattle.dbl_model.specs.declared.change.Change.{Change}
-use Rattle.dbl_model.specs.declared.change.Change.TheVariants.{Insert, Update, Delete, Clear}
-use Rattle.dbl_model.specs.declared.change.Body.{Body}
-use Rattle.dbl_model.specs.declared.change.Body.TheVariants.{Changes, Mark}
-use Rattle.dbl_model.specs.declared.change.Commit.{Commit}
-use Rattle.dbl_model.specs.Keys.{cell_or_null, key_of, new_key_of, given_or_null, same_key}
-use Rattle.dbl_model.specs.Rows.{table_of, changes_of}
-use Rattle.dbl_model.specs.Ranges.{AreValuesInRange, IsCellInRange, IsChangeInRange, IsBodyInRange, IsCommitInRange}
-use Rattle.dbl_model.specs.Events.{Content, Created, Updated, Deleted, Tombstone, Truncated, Notice, move_notices, change_notices, notices}
+use Rattle.dbl_table.specs.declared.row.Key.{Key}
+use Rattle.dbl_table.specs.declared.row.Row.{Row}
+use Rattle.dbl_table.specs.declared.table.TableInfo.{TableInfo}
+use Rattle.dbl_table.specs.declared.change.Cell.{Cell}
+use Rattle.dbl_table.specs.declared.change.Cell.TheVariants.{Given, Unchanged}
+use Rattle.dbl_table.specs.declared.change.Change.{Change}
+use Rattle.dbl_table.specs.declared.change.Change.TheVariants.{Insert, Update, Delete, Clear}
+use Rattle.dbl_table.specs.declared.change.Body.{Body}
+use Rattle.dbl_table.specs.declared.change.Body.TheVariants.{Changes, Mark}
+use Rattle.dbl_table.specs.declared.change.Commit.{Commit}
+use Rattle.dbl_table.specs.Keys.{cell_or_null, key_of, new_key_of, given_or_null, same_key}
+use Rattle.dbl_table.specs.Rows.{table_of, changes_of}
+use Rattle.dbl_history.specs.Ranges.{AreValuesInRange, IsCellInRange, IsChangeInRange, IsBodyInRange, IsCommitInRange}
+use Rattle.dbl_event.specs.Events.{Content, Created, Updated, Deleted, Tombstone, Truncated, Notice, move_notices, change_notices, notices}
 use Rattle.dbl_agreement.proofs.Wholes.{Fits, AllFit, fits_in_range, all_fit_in_range}
 
 -- ---- what a notice tells fits
@@ -92,7 +92,7 @@ notices_fit infos c h = step (slice_get infos (table_of c))
     step None = tt
     step (Some info) = change_fits (table_of c) info c h
 
-all_append : {X : Type 0} (P : X → Type 0) (xs ys : List X) → AllByRecursion P xs → AllByRecursion P ys → AllByRecursion P (xs ++ ys)
+pub all_append : {X : Type 0} (P : X → Type 0) (xs ys : List X) → AllByRecursion P xs → AllByRecursion P ys → AllByRecursion P (xs ++ ys)
 all_append P [] ys h k = k
 all_append P (x ∷ xs) ys h k = (h.0, all_append P xs ys h.1 k)
 

@@ -4,16 +4,16 @@ use Rattle.std.specs.Prelude.{IfSome, option_map, unwrap_or, slice_get}
 use Rattle.std.specs.List.{AllByRecursion}
 use Rattle.serde_json.specs.Data.{null}
 use Rattle.dbl_record.specs.Laws.{HoldsData}
-use Rattle.dbl_model.specs.declared.closed.Closed.{Closed}
-use Rattle.dbl_model.specs.declared.identity.Identity.{Identity}
-use Rattle.dbl_model.specs.declared.row.Key.{Key}
-use Rattle.dbl_model.specs.declared.row.Row.{Row}
-use Rattle.dbl_model.specs.declared.table.TableInfo.{TableInfo}
-use Rattle.dbl_model.specs.declared.change.Commit.{Commit}
-use Rattle.dbl_model.specs.Image.{key_data}
-use Rattle.dbl_model.specs.Ranges.{AreValuesInRange, IsCommitInRange, IsMomentInRange}
-use Rattle.dbl_model.specs.EventJson.{row_data, source_data, event_data}
-use Rattle.dbl_model.specs.Snapshots.{read_record, read_records, progress_key, last_data, progress_data, progress_record, chunk_records}
+use Rattle.dbl_event.specs.declared.closed.Closed.{Closed}
+use Rattle.dbl_table.specs.declared.identity.Identity.{Identity}
+use Rattle.dbl_table.specs.declared.row.Key.{Key}
+use Rattle.dbl_table.specs.declared.row.Row.{Row}
+use Rattle.dbl_table.specs.declared.table.TableInfo.{TableInfo}
+use Rattle.dbl_table.specs.declared.change.Commit.{Commit}
+use Rattle.dbl_history.specs.Image.{key_data}
+use Rattle.dbl_history.specs.Ranges.{AreValuesInRange, IsCommitInRange, IsMomentInRange}
+use Rattle.dbl_event.specs.EventJson.{row_data, source_data, event_data}
+use Rattle.dbl_event.specs.Snapshots.{read_record, read_records, progress_key, last_data, progress_data, progress_record, chunk_records}
 use Rattle.dbl_agreement.specs.Laws.{IsReadBack, IsWindowInRange, SnapshotLinesAreRead}
 use Rattle.dbl_agreement.proofs.Wholes.{all_fit_in_range, event_whole, event_shallow, progress_whole, progress_shallow, progress_key_whole, progress_key_shallow}
 use Rattle.dbl_agreement.proofs.Lines.{IsPart, key_is, key_part, null_part, row_part, read_back}
@@ -21,7 +21,7 @@ use Rattle.dbl_agreement.proofs.Lines.{IsPart, key_is, key_part, null_part, row_
 abbrev InRange : List (Key × Row) → Type 0
 InRange rows = AllByRecursion (λ e. AreValuesInRange e.0.cells × AreValuesInRange e.1.cells) rows
 
-last_part : (info : TableInfo) (through : Option Key) → IfSome through (λ key. AreValuesInRange key.cells) → IsPart (last_data info through)
+pub last_part : (info : TableInfo) (through : Option Key) → IfSome through (λ key. AreValuesInRange key.cells) → IsPart (last_data info through)
 last_part info None h = null_part
 last_part info (Some key) h = key_part info key (all_fit_in_range key.cells h)
 

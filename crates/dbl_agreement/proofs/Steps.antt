@@ -8,32 +8,32 @@ use Rattle.dbl_value.specs.declared.value.Val.{Val}
 use Rattle.dbl_record.specs.declared.reading.Line.{Line}
 use Rattle.dbl_record.specs.Acts.{reading_of, cells_of}
 use Rattle.dbl_record.specs.Consumers.{HeldCells, row_of, row_after as reading_after}
-use Rattle.dbl_model.specs.declared.identity.Identity.{Identity}
-use Rattle.dbl_model.specs.declared.row.Key.{Key}
-use Rattle.dbl_model.specs.declared.row.Row.{Row}
-use Rattle.dbl_model.specs.declared.table.TableInfo.{TableInfo}
-use Rattle.dbl_model.specs.declared.change.Cell.{Cell}
-use Rattle.dbl_model.specs.declared.change.Cell.TheVariants.{Given, Unchanged}
-use Rattle.dbl_model.specs.declared.change.Change.{Change}
-use Rattle.dbl_model.specs.declared.change.Change.TheVariants.{Insert, Update, Delete, Clear}
-use Rattle.dbl_model.specs.declared.change.Commit.{Commit}
-use Rattle.dbl_model.specs.Tables.{column_names}
-use Rattle.dbl_model.specs.Infos.{key_places, topic_of, width}
-use Rattle.dbl_model.specs.Keys.{key_at, key_of, new_key_of, given_or_null, same_key}
-use Rattle.dbl_model.specs.Rows.{Effect, all_given, updated, at_key, at_keys, effect_of, overlay, row_after, Rows, rows_after, table_of}
-use Rattle.dbl_model.specs.Rows.Effect.{Whole, Ends}
-use Rattle.dbl_model.specs.Fit.{IsKeyOf, IsFitInsert, IsFitUpdate, IsFitDelete, IsFit}
-use Rattle.dbl_model.specs.Ranges.{IsChangeInRange, IsCommitInRange, IsMomentInRange}
-use Rattle.dbl_model.specs.Image.{members_of, key_text, texts_of}
-use Rattle.dbl_model.specs.Events.{Created, Updated, Deleted, Tombstone, Truncated, Notice, move_notices, change_notices, notices}
-use Rattle.dbl_model.specs.EventJson.{sent}
-use Rattle.dbl_model.specs.Laws.{AreDistinctTables}
-use Rattle.dbl_model.proofs.Lists.{bool_case, text_itself, same_text}
-use Rattle.dbl_model.proofs.InfoLemmas.{topic_one}
-use Rattle.dbl_model.proofs.ImageLemmas.{key_one, table_one}
-use Rattle.dbl_model.proofs.KeyLemmas.{same_key-is, same_key-itself}
-use Rattle.dbl_model.proofs.RowKeys.{AreKeyed, is_some_value, given_row}
-use Rattle.dbl_model.proofs.RowLemmas.{effect_of-other_table}
+use Rattle.dbl_table.specs.declared.identity.Identity.{Identity}
+use Rattle.dbl_table.specs.declared.row.Key.{Key}
+use Rattle.dbl_table.specs.declared.row.Row.{Row}
+use Rattle.dbl_table.specs.declared.table.TableInfo.{TableInfo}
+use Rattle.dbl_table.specs.declared.change.Cell.{Cell}
+use Rattle.dbl_table.specs.declared.change.Cell.TheVariants.{Given, Unchanged}
+use Rattle.dbl_table.specs.declared.change.Change.{Change}
+use Rattle.dbl_table.specs.declared.change.Change.TheVariants.{Insert, Update, Delete, Clear}
+use Rattle.dbl_table.specs.declared.change.Commit.{Commit}
+use Rattle.dbl_table.specs.Tables.{column_names}
+use Rattle.dbl_table.specs.Infos.{key_places, topic_of, width}
+use Rattle.dbl_table.specs.Keys.{key_at, key_of, new_key_of, given_or_null, same_key}
+use Rattle.dbl_table.specs.Rows.{Effect, all_given, updated, at_key, at_keys, effect_of, overlay, row_after, Rows, rows_after, table_of}
+use Rattle.dbl_table.specs.Rows.Effect.{Whole, Ends}
+use Rattle.dbl_history.specs.Fit.{IsKeyOf, IsFitInsert, IsFitUpdate, IsFitDelete, IsFit}
+use Rattle.dbl_history.specs.Ranges.{IsChangeInRange, IsCommitInRange, IsMomentInRange}
+use Rattle.dbl_history.specs.Image.{members_of, key_text, texts_of}
+use Rattle.dbl_event.specs.Events.{Created, Updated, Deleted, Tombstone, Truncated, Notice, move_notices, change_notices, notices}
+use Rattle.dbl_event.specs.EventJson.{sent}
+use Rattle.dbl_history.specs.Laws.{AreDistinctTables}
+use Rattle.dbl_table.proofs.Lists.{bool_case, text_itself, same_text}
+use Rattle.dbl_table.proofs.InfoLemmas.{topic_one}
+use Rattle.dbl_history.proofs.ImageLemmas.{key_one, table_one}
+use Rattle.dbl_table.proofs.KeyLemmas.{same_key-is, same_key-itself}
+use Rattle.dbl_history.proofs.RowKeys.{AreKeyed, is_some_value, given_row}
+use Rattle.dbl_history.proofs.RowLemmas.{effect_of-other_table}
 use Rattle.dbl_agreement.specs.Laws.{IsNotPlaceholder, IsNoPlaceholderCell, LacksPlaceholder, HoldsTexts, Holds}
 use Rattle.dbl_agreement.proofs.Wholes.{AllFit, row_of_values, all_fit_in_range}
 use Rattle.dbl_agreement.proofs.Notices.{CellFits, key_fits, cells_in_range, given_fit, old_fits}
@@ -50,7 +50,7 @@ line_of_notice identity commit now n = line_of_event identity commit now n.info 
 
 -- ---- texts of keys, cells that are all given
 
-keys_by_text : (info : TableInfo) (a b : Key) → IsKeyOf info a → IsKeyOf info b → bytes_eq (key_text info a) (key_text info b) ≡ same_key a b
+pub keys_by_text : (info : TableInfo) (a b : Key) → IsKeyOf info a → IsKeyOf info b → bytes_eq (key_text info a) (key_text info b) ≡ same_key a b
 keys_by_text info a b of_a of_b = elim (bool_case (same_key a b)) [
   | inl same ↦ (ap (bytes_eq (key_text info a)) (ap (key_text info) (sym (same_key-is a b same))) ∙ text_itself (key_text info a)) ∙ sym same
   | inr other ↦ elim (bool_case (bytes_eq (key_text info a) (key_text info b))) [
@@ -99,7 +99,7 @@ module _ (identity : Identity) (infos : List TableInfo) (commit : Commit) (now :
 
   -- ---- changes of other tables
 
-  abbrev AreOf : TableInfo → List Notice → Type 0
+  abbrev pub AreOf : TableInfo → List Notice → Type 0
   AreOf other ns = AllByRecursion (λ n. n.info ≡ other) ns
 
   of_update : (other : TableInfo) (t : ℕ) (from to : Key) (old : Option Row) (cells : List Cell) (stays : Bool)
@@ -113,13 +113,13 @@ module _ (identity : Identity) (infos : List TableInfo) (commit : Commit) (now :
   of_change other t (Delete u from old) = (refl, (refl, tt))
   of_change other t (Clear u) = (refl, tt)
 
-  other_topic : (other : TableInfo) → bytes_eq (topic_of identity other) (topic_of identity info) ≡ false → (ns : List Notice) → AreOf other ns → (held : Option HeldCells) → after_all held ns ≡ held
+  pub other_topic : (other : TableInfo) → bytes_eq (topic_of identity other) (topic_of identity info) ≡ false → (ns : List Notice) → AreOf other ns → (held : Option HeldCells) → after_all held ns ≡ held
   other_topic other differs [] are held = refl
   other_topic other differs (n ∷ ns) are held =
       let passed : after held (line_of_notice identity commit now n) ≡ held = rw (ap (λ (i : TableInfo). bytes_eq (topic_of identity i) (topic_of identity info)) are.0 ∙ differs) refl in
       ap (λ h. after_all h ns) passed ∙ other_topic other differs ns are.1 held
 
-  elsewhere : (t : ℕ) (other : TableInfo) → slice_get infos t ≡ Some other → t ≢ table → bytes_eq (topic_of identity other) (topic_of identity info) ≡ false
+  pub elsewhere : (t : ℕ) (other : TableInfo) → slice_get infos t ≡ Some other → t ≢ table → bytes_eq (topic_of identity other) (topic_of identity info) ≡ false
   elsewhere t other at differs = elim (bool_case (bytes_eq (topic_of identity other) (topic_of identity info))) [
     | inl same ↦ absurd (differs (table_one infos t table other info apart at captured (topic_one identity other info (same_text (topic_of identity other) (topic_of identity info) same))))
     | inr not ↦ not
@@ -137,28 +137,28 @@ module _ (identity : Identity) (infos : List TableInfo) (commit : Commit) (now :
   same_topic : bytes_eq (topic_of identity info) (topic_of identity info) ≡ true
   same_topic = text_itself (topic_of identity info)
 
-  after_created : (to : Key) (row : Row) (held : Option HeldCells) → IsKeyOf info to → AllFit to.cells → AllFit row.cells
+  pub after_created : (to : Key) (row : Row) (held : Option HeldCells) → IsKeyOf info to → AllFit to.cells → AllFit row.cells
       → after held (line_of_event identity commit now info (Some to) (Created row)) ≡ cond (same_key to key) (Some (row_of held (cells_of placeholder (members_of (column_names info.columns) row.cells)))) held
   after_created to row held of_to k r =
       rw (same_topic, act_created identity commit now range moment info to row k r)
       (ap (λ b. cond b (Some (row_of held (cells_of placeholder (members_of (column_names info.columns) row.cells)))) held) (keys_by_text info to key of_to is_key))
 
-  after_updated : (from : Key) (old : Option Row) (cells : List Cell) (held : Option HeldCells) → IsKeyOf info from → AllFit from.cells → IfSome old (λ row. AllFit row.cells) → AllByRecursion CellFits cells
+  pub after_updated : (from : Key) (old : Option Row) (cells : List Cell) (held : Option HeldCells) → IsKeyOf info from → AllFit from.cells → IfSome old (λ row. AllFit row.cells) → AllByRecursion CellFits cells
       → after held (line_of_event identity commit now info (Some from) (Updated old cells))
       ≡ cond (same_key from key) (Some (row_of held (cells_of placeholder (members_of (column_names info.columns) (map (sent placeholder) cells))))) held
   after_updated from old cells held of_from k o c =
       rw (same_topic, act_updated identity commit now range moment info from old cells k o c)
       (ap (λ b. cond b (Some (row_of held (cells_of placeholder (members_of (column_names info.columns) (map (sent placeholder) cells))))) held) (keys_by_text info from key of_from is_key))
 
-  after_deleted : (from : Key) (old : Option Row) (held : Option HeldCells) → IsKeyOf info from → AllFit from.cells → IfSome old (λ row. AllFit row.cells)
+  pub after_deleted : (from : Key) (old : Option Row) (held : Option HeldCells) → IsKeyOf info from → AllFit from.cells → IfSome old (λ row. AllFit row.cells)
       → after held (line_of_event identity commit now info (Some from) (Deleted old)) ≡ cond (same_key from key) None held
   after_deleted from old held of_from k o =
       rw (same_topic, act_deleted identity commit now range moment info from old k o) (ap (λ b. cond b None held) (keys_by_text info from key of_from is_key))
 
-  after_tombstone : (from : Key) (held : Option HeldCells) → AllFit from.cells → after held (line_of_event identity commit now info (Some from) Tombstone) ≡ held
+  pub after_tombstone : (from : Key) (held : Option HeldCells) → AllFit from.cells → after held (line_of_event identity commit now info (Some from) Tombstone) ≡ held
   after_tombstone from held k = rw (same_topic, act_tombstone identity commit now range moment info from k) refl
 
-  after_truncated : (held : Option HeldCells) → after held (line_of_event identity commit now info None Truncated) ≡ None
+  pub after_truncated : (held : Option HeldCells) → after held (line_of_event identity commit now info None Truncated) ≡ None
   after_truncated held = rw (same_topic, act_truncated identity commit now range moment info) refl
 
   -- ---- changes of this table
@@ -173,17 +173,17 @@ module _ (identity : Identity) (infos : List TableInfo) (commit : Commit) (now :
   tells c e =
       ap (λ t. unwrap_or (option_map (λ i. change_notices t i c) (slice_get infos t)) []) e ∙ ap (λ o. unwrap_or (option_map (λ i. change_notices table i c) o) []) captured
 
-  insert_effect : (row : Row) → effect_of infos (Insert table row) table key ≡ at_key true (same_key (key_of info row.cells) key) (Whole row.cells)
+  pub insert_effect : (row : Row) → effect_of infos (Insert table row) table key ≡ at_key true (same_key (key_of info row.cells) key) (Whole row.cells)
   insert_effect row = ap₂ (λ b ps. at_key b (same_key (key_at ps row.cells) key) (Whole row.cells)) here places
 
-  update_effect : (from : Key) (old : Option Row) (cells : List Cell)
+  pub update_effect : (from : Key) (old : Option Row) (cells : List Cell)
       → effect_of infos (Update table from old cells) table key ≡ at_keys true (same_key (new_key_of info cells) key) (same_key from key) (updated (all_given cells) cells)
   update_effect from old cells = ap₂ (λ b ps. at_keys b (same_key (key_at ps (map given_or_null cells)) key) (same_key from key) (updated (all_given cells) cells)) here places
 
-  delete_effect : (from : Key) (old : Row) → effect_of infos (Delete table from old) table key ≡ at_key true (same_key from key) Ends
+  pub delete_effect : (from : Key) (old : Row) → effect_of infos (Delete table from old) table key ≡ at_key true (same_key from key) Ends
   delete_effect from old = ap (λ b. at_key b (same_key from key) Ends) here
 
-  clear_effect : effect_of infos (Clear table) table key ≡ Ends
+  pub clear_effect : effect_of infos (Clear table) table key ≡ Ends
   clear_effect = ap (λ b. at_key b true Ends) here
 
   module _ (held : Option HeldCells) (row : Option (List Val)) (was : Holds held (texts row)) where

@@ -1,16 +1,18 @@
--- The topic of a captured table isn't one of progress records.
-use Rattle.std.proofs.Common.{◌≡◌, ◌∙◌, ℕ, List, [], ◌∷◌, ◌++◌, Bool, true, false, not, ◌&&◌, length, take, drop, refl, sym, ap, subst, append_assoc}
+-- The topic of a captured table isn't one of progress records, and that of the progress records is.
+use Rattle.std.proofs.Common.{◌≡◌, ◌∙◌, ℕ, List, [], ◌∷◌, ◌++◌, Bool, true, false, not, ◌&&◌, length, take, drop, refl, sym, ap, subst, append_assoc, arith}
 use Rattle.std.specs.Prelude.{codes, nat_lt, nat_le, ◌-◌}
 use Rattle.std.specs.List.{list_all}
 use Rattle.std.specs.Str.{bytes_eq}
-use Rattle.std.proofs.lemmas.List.{take-append-drop}
+use Rattle.std.proofs.lemmas.List.{length-append, take-append-drop}
+use Rattle.std.proofs.Math.Seq.{drop-append_seam}
 use Rattle.dbl_record.specs.Acts.{is_progress}
-use Rattle.dbl_model.specs.declared.identity.Identity.{Identity}
-use Rattle.dbl_model.specs.declared.table.TableInfo.{TableInfo}
-use Rattle.dbl_model.specs.Tables.{is_name_byte, is_name}
-use Rattle.dbl_model.specs.Infos.{topic_of}
-use Rattle.dbl_model.proofs.Lists.{and_left, and_right, same_text, text_itself}
-use Rattle.dbl_model.proofs.InfoLemmas.{good_name}
+use Rattle.dbl_table.specs.declared.identity.Identity.{Identity}
+use Rattle.dbl_table.specs.declared.table.TableInfo.{TableInfo}
+use Rattle.dbl_table.specs.Tables.{is_name_byte, is_name}
+use Rattle.dbl_table.specs.Infos.{topic_of}
+use Rattle.dbl_event.specs.Snapshots.{progress_topic}
+use Rattle.dbl_table.proofs.Lists.{and_left, and_right, same_text, text_itself}
+use Rattle.dbl_table.proofs.InfoLemmas.{good_name}
 
 no_dot : (xs ys : List ℕ) → list_all is_name_byte (xs ++ 46 ∷ ys) ≡ true → ⊥
 no_dot [] ys h = let contra : true ≡ false = sym (and_left (is_name_byte 46) (list_all is_name_byte ys) h) in cc
@@ -49,3 +51,12 @@ not_progress identity info = step (is_progress topic) refl
         let name : codes "dblog-progress" ≡ info.name.name = last_parts (take (length topic - 15) topic) (identity.prefix ++ codes "." ++ info.name.schema) (codes "dblog-progress") info.name.name refl (name_bytes info) (whole ∙ named) in
         absurd (let same : bytes_eq info.name.name (codes "dblog-progress") ≡ true = ap (bytes_eq info.name.name) name ∙ text_itself info.name.name in let contra : true ≡ false = sym same ∙ other_name info in cc)
     step false e = refl
+
+-- what stands before the last part of a text ends where that part begins
+last_part : (xs ys : List ℕ) → drop (length (xs ++ ys) - length ys) (xs ++ ys) ≡ ys
+last_part xs ys =
+    let before : length (xs ++ ys) - length ys ≡ length xs = omega (arith, length-append xs ys) in
+    ap (λ n. drop n (xs ++ ys)) before ∙ drop-append_seam xs ys
+
+pub is_progress_topic : (identity : Identity) → is_progress (progress_topic identity) ≡ true
+is_progress_topic identity = ap (bytes_eq (codes ".dblog-progress")) (last_part identity.prefix (codes ".dblog-progress")) ∙ text_itself (codes ".dblog-progress")

@@ -17,16 +17,16 @@ use Rattle.dbl_value.specs.Stamps.{is_instant, zulu_text}
 use Rattle.dbl_record.specs.declared.acts.ConsumeError.{ConsumeError}
 use Rattle.dbl_record.specs.Whole.{IsInteger, IsWhole, ItemsAreWhole, IsBelow, MembersAreWhole}
 use Rattle.dbl_record.specs.Acts.{cell_error, or_later, first_error, unwrapped}
-use Rattle.dbl_model.specs.declared.identity.Identity.{Identity}
-use Rattle.dbl_model.specs.declared.row.Key.{Key}
-use Rattle.dbl_model.specs.declared.table.TableName.{TableName}
-use Rattle.dbl_model.specs.declared.table.TableInfo.{TableInfo}
-use Rattle.dbl_model.specs.declared.change.Commit.{Commit}
-use Rattle.dbl_model.specs.Ranges.{IsValueInRange, AreValuesInRange, IsCommitInRange, IsMomentInRange}
-use Rattle.dbl_model.specs.Image.{members_of}
-use Rattle.dbl_model.specs.EventJson.{milliseconds_of, source_data, event_data}
-use Rattle.dbl_model.specs.Snapshots.{last_data, progress_key, progress_data}
-use Rattle.dbl_model.proofs.ImageLemmas.{put_whole}
+use Rattle.dbl_table.specs.declared.identity.Identity.{Identity}
+use Rattle.dbl_table.specs.declared.row.Key.{Key}
+use Rattle.dbl_table.specs.declared.table.TableName.{TableName}
+use Rattle.dbl_table.specs.declared.table.TableInfo.{TableInfo}
+use Rattle.dbl_table.specs.declared.change.Commit.{Commit}
+use Rattle.dbl_history.specs.Ranges.{IsValueInRange, AreValuesInRange, IsCommitInRange, IsMomentInRange}
+use Rattle.dbl_history.specs.Image.{members_of}
+use Rattle.dbl_event.specs.EventJson.{milliseconds_of, source_data, event_data}
+use Rattle.dbl_event.specs.Snapshots.{last_data, progress_key, progress_data}
+use Rattle.dbl_history.proofs.ImageLemmas.{put_whole}
 
 -- members that are whole, none of them an array, an object or a float
 pub record IsRow (ms : Members) : Type 0 where

@@ -10,23 +10,23 @@ use Rattle.dbl_record.specs.declared.record.Record.{Record}
 use Rattle.dbl_record.specs.Line.{line_of}
 use Rattle.dbl_record.specs.Reading.{IsReadFrom, as_line}
 use Rattle.dbl_record.specs.Consumers.{HeldCells, held_at, consumer}
-use Rattle.dbl_model.specs.declared.row.Key.{Key}
-use Rattle.dbl_model.specs.declared.table.TableInfo.{TableInfo}
-use Rattle.dbl_model.specs.declared.identity.Identity.{Identity}
-use Rattle.dbl_model.specs.declared.change.Cell.{Cell}
-use Rattle.dbl_model.specs.declared.change.Cell.TheVariants.{Given, Unchanged}
-use Rattle.dbl_model.specs.declared.change.Change.{Change}
-use Rattle.dbl_model.specs.declared.change.Change.TheVariants.{Insert, Update, Delete, Clear}
-use Rattle.dbl_model.specs.declared.change.Commit.{Commit}
-use Rattle.dbl_model.specs.declared.closed.Closed.{Closed}
-use Rattle.dbl_model.specs.Rows.{Rows, rows, all_changes}
-use Rattle.dbl_model.specs.History.{History}
-use Rattle.dbl_model.specs.Typed.{typed}
-use Rattle.dbl_model.specs.Ranges.{AreValuesInRange, IsCommitInRange, IsMomentInRange}
-use Rattle.dbl_model.specs.Fit.{AreInfosOf, IsFitHistory}
-use Rattle.dbl_model.specs.Image.{Names, IsImage}
-use Rattle.dbl_model.specs.EventJson.{envelopes}
-use Rattle.dbl_model.specs.Snapshots.{snapshot}
+use Rattle.dbl_table.specs.declared.row.Key.{Key}
+use Rattle.dbl_table.specs.declared.table.TableInfo.{TableInfo}
+use Rattle.dbl_table.specs.declared.identity.Identity.{Identity}
+use Rattle.dbl_table.specs.declared.change.Cell.{Cell}
+use Rattle.dbl_table.specs.declared.change.Cell.TheVariants.{Given, Unchanged}
+use Rattle.dbl_table.specs.declared.change.Change.{Change}
+use Rattle.dbl_table.specs.declared.change.Change.TheVariants.{Insert, Update, Delete, Clear}
+use Rattle.dbl_table.specs.declared.change.Commit.{Commit}
+use Rattle.dbl_event.specs.declared.closed.Closed.{Closed}
+use Rattle.dbl_table.specs.Rows.{Rows, rows, all_changes}
+use Rattle.dbl_history.specs.History.{History}
+use Rattle.dbl_history.specs.Typed.{typed}
+use Rattle.dbl_history.specs.Ranges.{AreValuesInRange, IsCommitInRange, IsMomentInRange}
+use Rattle.dbl_history.specs.Fit.{AreInfosOf, IsFitHistory}
+use Rattle.dbl_history.specs.Image.{Names, IsImage}
+use Rattle.dbl_event.specs.EventJson.{envelopes}
+use Rattle.dbl_event.specs.Snapshots.{snapshot}
 
 -- the line of the record is read as its topic, key and value, and as nothing else
 pub record IsReadBack (item : Record) : Type 0 where

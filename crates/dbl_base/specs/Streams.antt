@@ -13,3 +13,7 @@ Rose before now = raised before ≤ now
 pub record MovesFront (n : ℕ) (bytes buffer : List ℕ) (left : Option (List ℕ)) : Type 0 where
   pub moved : take n buffer ≡ take n bytes
   pub left_are : left ≡ Some (drop n bytes)
+
+-- the most bytes that one run takes from its input: 2^26, which is 64 MiB
+abbrev pub input_limit : ℕ
+input_limit = 67108864

@@ -1,6 +1,5 @@
 ghost use Rattle.std.specs.Prelude.{◌≡◌, ◌≢◌, ℕ, ◌+◌, ◌<◌, ◌≤◌, ◌++◌, List, [], length, take, drop, Option, Some, Ok, Err, IfOk, OnOk, OnErr};
-ghost use Rattle.dbl_base.specs.Streams.{Rose, MovesFront};
-ghost use Rattle.dbl_base.specs.declared.input.TheConstants.{INPUT_LIMIT};
+ghost use Rattle.dbl_base.specs.Streams.{Rose, MovesFront, input_limit};
 
 use crate::{Bytes, Failed};
 use std::alloc::{AllocError, AllocFailed, Global};
@@ -20,14 +19,17 @@ pub trait Input {
     ghost faults: { Self → ℕ };
 
     /// Moves as many of the bytes left as it likes into the front of the buffer, and answers how many. 0 in a buffer
-    /// that isn't empty means that nothing is left.
+    /// that isn't empty means that nothing is left. After `Failed` the buffer may hold any bytes.
+    ///
+    /// An input that tells its bytes counts a fault only where it answers one. Others may count one and try again.
     fn read(&mut self, buffer: &mut [u8]) -> Result<usize, Failed>
         ensures bound { IfOk result (λ n. n ≤ length buffer.old) }
         ensures moves { (bytes : List ℕ) → left self.old ≡ Some bytes → IfOk result (λ n. MovesFront n bytes buffer.new (left self.new)) }
         ensures end { (bytes : List ℕ) → left self.old ≡ Some bytes → 0 < length buffer.old → result ≡ Ok 0 → bytes ≡ [] }
         ensures kept { (bytes : List ℕ) → left self.old ≡ Some bytes → OnErr result (left self.new ≡ Some bytes) }
         ensures later { faults self.old ≤ faults self.new }
-        ensures cause { OnErr result (Rose (faults self.old) (faults self.new)) };
+        ensures cause { OnErr result (Rose (faults self.old) (faults self.new)) }
+        ensures steady { (bytes : List ℕ) → left self.old ≡ Some bytes → OnOk result (faults self.new ≡ faults self.old) };
 }
 
 /// Why an input wasn't read.
@@ -77,20 +79,22 @@ fn read_piece<I: Input>(
     ensures failed { result ≡ Err InputError.Failed → Rose (I.faults input.old) (I.faults input.new) }
     ensures short { result ≢ Err InputError.TooLong }
     ensures later { I.faults input.old ≤ I.faults input.new }
+    ensures steady { (rest : List ℕ) → I.left input.old ≡ Some rest → result ≢ Err InputError.Failed → I.faults input.new ≡ I.faults input.old }
 {
     let count = input.read(buffer)?;
     bytes.extend_from_slice(&buffer[..count])?;
     Ok(count)
 }
 
-/// Reads all bytes left. After an error the bytes that were read are gone.
+/// Reads all bytes left. After an error the bytes that were read are gone. The first read that fails is the last one.
 pub fn read_all<I: Input>(alloc: Global, input: &mut I) -> Result<Bytes, InputError>
     ensures all { (bytes : List ℕ) → I.left input.old ≡ Some bytes → IfOk result (λ read. read ≡ bytes) }
     ensures end { (bytes : List ℕ) → I.left input.old ≡ Some bytes → OnOk result (I.left input.new ≡ Some []) }
-    ensures within { IfOk result (λ read. length read ≤ INPUT_LIMIT) }
-    ensures too_long { (bytes : List ℕ) → I.left input.old ≡ Some bytes → result ≡ Err InputError.TooLong → INPUT_LIMIT < length bytes }
+    ensures within { IfOk result (λ read. length read ≤ input_limit) }
+    ensures too_long { (bytes : List ℕ) → I.left input.old ≡ Some bytes → result ≡ Err InputError.TooLong → input_limit < length bytes }
     ensures failed { result ≡ Err InputError.Failed → Rose (I.faults input.old) (I.faults input.new) }
     ensures later { I.faults input.old ≤ I.faults input.new }
+    ensures steady { (bytes : List ℕ) → I.left input.old ≡ Some bytes → result ≢ Err InputError.Failed → I.faults input.new ≡ I.faults input.old }
 {
     let mut buffer = [0u8; BUFFER_LENGTH];
     let mut bytes = Vec::new(alloc);

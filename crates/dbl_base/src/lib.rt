@@ -10,8 +10,6 @@ mod memory;
 mod output;
 mod seq;
 mod standard;
-#[cfg(test)]
-mod tests;
 mod text;
 
 pub use failed::Failed;

@@ -52,11 +52,15 @@ impl Input for MemInput {
         ensures kept { (bytes : List ℕ) → Some self.old.left ≡ Some bytes → OnErr result (Some self.new.left ≡ Some bytes) }
         ensures later { self.old.plan.faults ≤ self.new.plan.faults }
         ensures cause { OnErr result (Rose self.old.plan.faults self.new.plan.faults) }
+        ensures steady { (bytes : List ℕ) → Some self.old.left ≡ Some bytes → OnOk result (self.new.plan.faults ≡ self.old.plan.faults) }
 
-        // A call fails exactly where it is planned to.
+        // A call fails exactly where it is planned to, and then counts one fault and leaves the buffer as it was.
         ensures planned { IsErr result ↔ Contains self.old.plan.planned (raised self.old.plan.calls) }
         ensures calls { self.new.plan.calls ≡ raised self.old.plan.calls }
         ensures plan { self.new.plan.planned ≡ self.old.plan.planned }
+        ensures counted { OnErr result (self.new.plan.faults ≡ raised self.old.plan.faults) }
+        ensures uncounted { OnOk result (self.new.plan.faults ≡ self.old.plan.faults) }
+        ensures untouched { OnErr result (buffer.new ≡ buffer.old) }
     {
         self.plan.call()?;
         let rest = &self.bytes[self.place..];
@@ -114,11 +118,14 @@ impl Output for MemOutput {
         ensures later { self.old.plan.faults ≤ self.new.plan.faults }
         ensures cause { OnErr result (Rose self.old.plan.faults self.new.plan.faults) }
 
-        // A call that is planned to fail does. Where there is no room another one fails too.
+        // A call that is planned to fail does. Where there is no room another one fails too. One that fails
+        // counts one fault.
         ensures planned { Contains self.old.plan.planned (raised self.old.plan.calls) → IsErr result }
         ensures calls { self.new.plan.calls ≡ raised self.old.plan.calls }
         ensures plan { self.new.plan.planned ≡ self.old.plan.planned }
         ensures unchanged { OnErr result (self.new.written ≡ self.old.written) }
+        ensures counted { OnErr result (self.new.plan.faults ≡ raised self.old.plan.faults) }
+        ensures uncounted { OnOk result (self.new.plan.faults ≡ self.old.plan.faults) }
     {
         self.plan.call()?;
         if self.bytes.extend_from_slice(piece).is_err() {

@@ -6,7 +6,7 @@ use Rattle.std.proofs.lemmas.Bool.{and_parts, and_from, or_parts, or_from, false
 use Rattle.std.proofs.lemmas.Slice.Eq.{bytes_eq-Decides}
 use Rattle.clap.specs.Kinds.{Kinds, or_else}
 use Rattle.clap.specs.Walk.{Row, Text, has_row}
-use Rattle.dbl_model.specs.Tables.{are_distinct}
+use Rattle.dbl_table.specs.Tables.{are_distinct}
 use Rattle.dbl_cli.specs.Items.{Setting, Flag, Joined, Apart, Named, name_in, has_value, is_option, is_known, is_dashed}
 use Rattle.dbl_cli.proofs.ClapRules.{place}
 use Rattle.dbl_cli.proofs.ClapSteps.{or_else-nil}

@@ -6,7 +6,7 @@ use Rattle.clap.specs.Faults.{fault_of}
 use Rattle.clap.specs.Values.{bool_text}
 use Rattle.clap.specs.Walk.{Text, with_default, first_of, one_of, all_of}
 use Rattle.clap.specs.Simple.{matches_of}
-use Rattle.dbl_model.specs.Tables.{are_distinct}
+use Rattle.dbl_table.specs.Tables.{are_distinct}
 use Rattle.dbl_cli.specs.Items.{Setting, Named, name_in, words_of, has_value, is_known, is_dashed, value_of, is_given}
 use Rattle.dbl_cli.proofs.ClapRules.{place, app, all_rules}
 use Rattle.dbl_cli.proofs.ClapRuns.{AreNames, fault_of_items, rows_of_items, items_run}

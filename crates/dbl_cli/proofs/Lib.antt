@@ -11,4 +11,5 @@ pub mod CheckLemmas
 pub mod ValueLemmas
 pub mod ItemLaws
 pub mod SayLemmas
+pub mod SpelledLemmas
 pub mod LimitLemmas

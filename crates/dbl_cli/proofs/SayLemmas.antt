@@ -154,7 +154,7 @@ read_said v words found (Err Usage) reads rows items = inr (λ command says.
 
 -- ---- names of commands
 
-abbrev verb_by : List ℕ → Option Verb
+abbrev pub verb_by : List ℕ → Option Verb
 verb_by name =
     if bytes_eq name (codes "init") then Some verb.Init
     else (if bytes_eq name (codes "topics") then Some verb.Topics
@@ -165,7 +165,7 @@ verb_by name =
     else (if bytes_eq name (codes "replay") then Some verb.Replay
     else (if bytes_eq name (codes "gen") then Some verb.Gen else None)))))))
 
-verb_named : (v : Verb) → verb_by (name_of v) ≡ Some v
+pub verb_named : (v : Verb) → verb_by (name_of v) ≡ Some v
 verb_named verb.Init = refl
 verb_named verb.Topics = refl
 verb_named verb.Offsets = refl
@@ -201,13 +201,13 @@ not_spelled words rest v (Err e) parts reads is command spells =
 
 -- ---- at most one command
 
-same_flag : (a b : Bool) → Some (bool_text a) ≡ Some (bool_text b) → a ≡ b
+pub same_flag : (a b : Bool) → Some (bool_text a) ≡ Some (bool_text b) → a ≡ b
 same_flag true true h = refl
 same_flag true false h = cc
 same_flag false true h = cc
 same_flag false false h = refl
 
-same_texts : (a b : List Text) → some_texts a ≡ some_texts b → a ≡ b
+pub same_texts : (a b : List Text) → some_texts a ≡ some_texts b → a ≡ b
 same_texts [] [] h = refl
 same_texts [] (y ∷ ys) h = cc
 same_texts (x ∷ xs) [] h = cc

@@ -2,8 +2,8 @@
 use Rattle.std.specs.Prelude.{◌≡◌, ℕ, ◌&&◌, ◌||◌, not, Bool, true, false, Option, is_some, List, [], ◌∷◌, ◌++◌, map, unwrap_or, codes}
 use Rattle.std.specs.List.{list_all}
 use Rattle.std.specs.Str.Parse.{digits_value}
-use Rattle.dbl_model.specs.Tables.{is_name}
-use Rattle.dbl_model.specs.Identities.{default_placeholder}
+use Rattle.dbl_table.specs.Tables.{is_name}
+use Rattle.dbl_table.specs.Identities.{default_placeholder}
 use Rattle.dbl_cli.specs.declared.verbs.Verb.{Verb}
 use Rattle.dbl_cli.specs.declared.verbs.Verb.TheVariants as verb
 use Rattle.dbl_cli.specs.declared.commands.Command.{Command}

@@ -2,7 +2,7 @@
 use Rattle.std.specs.Prelude.{◌≡◌, ℕ, ◌==◌, ◌&&◌, not, nat_le, Bool, true, false, Option, Some, None, option_map, List, [], ◌∷◌, ◌++◌, length, map, find, bytes_eq, codes}
 use Rattle.std.specs.List.{list_all, flat_map}
 use Rattle.std.specs.Option.{option_map_or}
-use Rattle.dbl_model.specs.Tables.{are_distinct}
+use Rattle.dbl_table.specs.Tables.{are_distinct}
 
 -- the name of a flag or of an option, which has a value
 pub record Named : Type 0 where

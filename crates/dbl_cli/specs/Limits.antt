@@ -1,9 +1,9 @@
 -- The limits of what a command holds. Source: own.
 use Rattle.std.specs.Prelude.{◌≡◌, ℕ, ◌≤◌, ◌&&◌, nat_lt, Bool, true, List, length}
 use Rattle.std.specs.List.{list_all}
-use Rattle.dbl_model.specs.declared.table.TableKey.{TableKey}
-use Rattle.dbl_model.specs.declared.table.TableName.{TableName}
-use Rattle.dbl_model.specs.Tables.{is_name, same_name, are_distinct}
+use Rattle.dbl_table.specs.declared.table.TableKey.{TableKey}
+use Rattle.dbl_table.specs.declared.table.TableName.{TableName}
+use Rattle.dbl_table.specs.Tables.{is_name, same_name, are_distinct}
 use Rattle.dbl_cli.specs.declared.commands.Command.{Command}
 use Rattle.dbl_cli.specs.declared.commands.Command.TheVariants.{Init, Topics, Offsets, Capture, Resume, Apply, Replay, Gen}
 use Rattle.dbl_cli.specs.Values.{is_placeholder, is_named, is_column, tables_in}

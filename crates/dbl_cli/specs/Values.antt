@@ -4,9 +4,9 @@ use Rattle.std.specs.Char.{is_ascii_digit}
 use Rattle.std.specs.List.{list_all, before_first, after_first, slice_split}
 use Rattle.std.specs.Option.{option_map_or}
 use Rattle.std.specs.Str.Parse.{digits_value}
-use Rattle.dbl_model.specs.declared.table.TableName.{TableName}
-use Rattle.dbl_model.specs.Tables.{is_name, same_name, are_distinct}
-use Rattle.dbl_model.specs.declared.table.TableKey.{TableKey}
+use Rattle.dbl_table.specs.declared.table.TableName.{TableName}
+use Rattle.dbl_table.specs.Tables.{is_name, same_name, are_distinct}
+use Rattle.dbl_table.specs.declared.table.TableKey.{TableKey}
 
 -- 1 to 9 decimal digits, whose number is within bounds
 abbrev pub is_number : ℕ → ℕ → List ℕ → Bool

@@ -1,5 +1,5 @@
 use dbl_base::{Seq, Text};
-use dbl_model::{TableKey, TableName};
+use dbl_table::{TableKey, TableName};
 
 /// What the words of a command line ask for. An option that isn't given has its default.
 #[derive(Debug, Drop)]

@@ -9,12 +9,10 @@ mod names;
 mod parser;
 mod reading;
 mod spelling;
-#[cfg(test)]
-mod tests;
 mod values;
 mod verbs;
 
 pub use commands::Command;
 pub use error::CliError;
-pub use laws::words_spell_one_command;
+pub use laws::{words_spell_one_command, words_spell_or_not};
 pub use spelling::command;

@@ -16,7 +16,7 @@ use crate::verbs::Verb;
 use crate::{CliError, Command};
 use clap::ArgMatches;
 use dbl_base::{Seq, Text};
-use dbl_model::{TableKey, TableName};
+use dbl_table::{TableKey, TableName};
 use std::alloc::Global;
 
 #[derive(Drop)]

@@ -4,15 +4,15 @@ ghost use Rattle.std.specs.Prelude.{◌≡◌, ◌<◌, ◌≤◌, ◌&&◌, tru
 ghost use Rattle.std.specs.List.{list_all, list_any, slice_split};
 ghost use Rattle.std.specs.Char.{is_ascii_digit};
 ghost use Rattle.std.specs.Str.Parse.{digits_value};
-ghost use Rattle.dbl_model.specs.Tables.{is_name_byte, is_name, are_distinct, same_name};
-ghost use Rattle.dbl_model.specs.Identities.{default_placeholder};
+ghost use Rattle.dbl_table.specs.Tables.{is_name_byte, is_name, are_distinct, same_name};
+ghost use Rattle.dbl_table.specs.Identities.{default_placeholder};
 ghost use Rattle.dbl_cli.specs.Names.{texts};
 ghost use Rattle.dbl_cli.specs.Values.{is_number, number_or, passes, is_placeholder, is_comma, table_in, is_table, are_tables, key_in, is_column, is_key, tables_in, are_keys};
 ghost use Rattle.dbl_cli.specs.Reads.{Reads, ReadsBy};
 
 use crate::CliError;
 use dbl_base::{Seq, Text};
-use dbl_model::{TableKey, TableName};
+use dbl_table::{TableKey, TableName};
 use std::alloc::{AllocError, Global};
 
 fn are_digits(text: &str) -> bool

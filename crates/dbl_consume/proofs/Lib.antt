@@ -2,3 +2,4 @@ pub mod FlatLemmas
 pub mod TableLemmas
 pub mod PrintingLemmas
 pub mod RowLemmas
+pub mod StandLemmas

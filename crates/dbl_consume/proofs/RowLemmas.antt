@@ -31,7 +31,7 @@ same_text a b e = (bytes_eq-Decides a b).0 (sym (is_eq-slice_cmp a b) ∙ ap is_
 itself : (a : List ℕ) → text_cmp a a ≡ Equal
 itself = tied_itself nat_list_cmp_total
 
-spot_total : IsTotalOrder spot_cmp
+pub spot_total : IsTotalOrder spot_cmp
 spot_total = then_total (on_total (λ spot. spot.0) nat_list_cmp_total) (on_total (λ spot. spot.1) nat_list_cmp_total)
 
 both : (o p : Ordering) → ordering_then o p ≡ Equal → (o ≡ Equal) × (p ≡ Equal)
@@ -39,7 +39,7 @@ both Less p e = absurd (cc)
 both Equal p e = (refl, e)
 both Greater p e = absurd (cc)
 
-same_spot : (a b : Spot) → spot_cmp a b ≡ Equal → a ≡ b
+pub same_spot : (a b : Spot) → spot_cmp a b ≡ Equal → a ≡ b
 same_spot a b e =
     let parts = both (text_cmp a.0 b.0) (text_cmp a.1 b.1) e in
     let topics = same_text a.0 b.0 parts.0 in

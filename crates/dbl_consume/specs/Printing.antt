@@ -9,7 +9,8 @@ use Rattle.dbl_base.specs.Lines.{lines_text}
 use Rattle.dbl_base.specs.Texts.{text_cmp}
 use Rattle.dbl_record.specs.declared.acts.HeldCell.{HeldCell}
 use Rattle.dbl_record.specs.declared.acts.HeldCell.TheVariants.{Known, Unknown}
-use Rattle.dbl_record.specs.Consumers.{HeldCells}
+use Rattle.dbl_record.specs.Acts.{Reading}
+use Rattle.dbl_record.specs.Consumers.{HeldCells, consumer_of}
 use Rattle.dbl_record.specs.Line.{Part, object_text}
 use Rattle.dbl_consume.specs.declared.error.PrintError.{PrintError}
 use Rattle.dbl_consume.specs.declared.error.PrintError.TheVariants.{Failed, Memory}
@@ -34,6 +35,10 @@ pub record AreRowsOf (held : List ℕ → List ℕ → Option HeldCells) (rows :
 -- the rows that are held are one list at most
 abbrev pub RowsAreOne : Type 0
 RowsAreOne = (held : List ℕ → List ℕ → Option HeldCells) (a b : List HeldRow) → AreRowsOf held a → AreRowsOf held b → a ≡ b
+
+-- the rows that a consumer of records holds stand in a list
+abbrev pub RowsStand : Type 0
+RowsStand = (placeholder : List ℕ) (readings : List Reading) → (rows : List HeldRow) × AreRowsOf (consumer_of placeholder readings) rows
 
 -- an unknown cell is an empty object, which no cell is that can be held
 abbrev pub cell_text : HeldCell → List ℕ

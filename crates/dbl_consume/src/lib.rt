@@ -11,8 +11,5 @@ mod tables;
 pub use consumer::Consumer;
 pub use dbl_record::{ConsumeError, HeldCell};
 pub use error::PrintError;
-pub use laws::rows_are_one;
+pub use laws::{rows_are_one, rows_stand};
 pub use tables::{Row, Table, Tables};
-
-#[cfg(test)]
-mod tests;

@@ -1,7 +1,8 @@
 -- Disks, as bytes: what a write does, and what a stop may leave between two syncs. Nothing is assumed of the order in
 -- which a device keeps what it was told to write, nor of its parts.
-use Rattle.std.specs.Prelude.{◌≡◌, ◌⊎◌, ℕ, ◌+◌, ◌-◌, ◌<◌, ◌≤◌, max, List, [], ◌∷◌, ◌++◌, length, take, drop, replicate, slice_index}
+use Rattle.std.specs.Prelude.{◌≡◌, ◌⊎◌, ℕ, ◌+◌, ◌-◌, ◌<◌, ◌≤◌, max, List, [], ◌∷◌, ◌++◌, length, take, drop, replicate, slice_index, Option, Some}
 use Rattle.std.specs.List.{All}
+use Rattle.dbl_base.specs.Streams.{raised}
 use Rattle.dbl_disk.specs.declared.extent.Extent.{Extent}
 
 -- the extent does not have the place
@@ -36,6 +37,10 @@ written old at bytes = take at (old ++ replicate (at - length old) 0) ++ bytes +
 -- each of the new images is one of the old images after the step
 abbrev pub Follows : (List ℕ → List ℕ → Type 0) → (List ℕ → Type 0) → (List ℕ → Type 0) → Type 0
 Follows step old new = (image : List ℕ) → new image → (before : List ℕ) × old before × step before image
+
+-- a count of calls, where it is told, is one higher
+abbrev pub IsCalled : Option ℕ → Option ℕ → Type 0
+IsCalled old new = (count : ℕ) → old ≡ Some count → new ≡ Some (raised count)
 
 -- there is no image but these bytes
 abbrev pub IsOnly : List ℕ → (List ℕ → Type 0) → Type 0

@@ -1,6 +1,6 @@
 ghost use Rattle.std.specs.Prelude.{◌≡◌, ◌↔◌, ℕ, ◌+◌, ◌-◌, ◌^◌, ◌<◌, ◌≤◌, List, length, take, drop, min, Option, Some, None, IsErr, IfOk, OnOk, OnErr};
 ghost use Rattle.dbl_base.specs.Streams.{Rose};
-ghost use Rattle.dbl_disk.specs.Disks.{Follows, IsOnly, Torn, written};
+ghost use Rattle.dbl_disk.specs.Disks.{Follows, IsCalled, IsOnly, Torn, written};
 
 use dbl_base::Failed;
 
@@ -8,6 +8,8 @@ use dbl_base::Failed;
 pub const DISK_LIMIT: u64 = 1 << 40;
 
 /// A device of bytes, which may stop at any call.
+///
+/// One that tells its bytes counts a fault only where it answers one. Others may count one and try again.
 pub trait Disk {
     /// The bytes that a read gives, where they are told.
     ghost seen: { Self → Option (List ℕ) };
@@ -18,6 +20,9 @@ pub trait Disk {
     /// How often the disk has failed. A count that stands at 2^64 - 1 stays there.
     ghost faults: { Self → ℕ };
 
+    /// How many calls were made of the disk, where it is told. A count that stands at 2^64 - 1 stays there.
+    ghost calls: { Self → Option ℕ };
+
     /// The number of bytes.
     fn len(&mut self) -> Result<u64, Failed>
         ensures below { IfOk result (λ n. n < 2 ^ 40) }
@@ -25,10 +30,12 @@ pub trait Disk {
         ensures seen { seen self.new ≡ seen self.old }
         ensures images { (image : List ℕ) → may_leave self.new image ↔ may_leave self.old image }
         ensures later { faults self.old ≤ faults self.new }
-        ensures cause { OnErr result (Rose (faults self.old) (faults self.new)) };
+        ensures cause { OnErr result (Rose (faults self.old) (faults self.new)) }
+        ensures steady { (bytes : List ℕ) → seen self.old ≡ Some bytes → OnOk result (faults self.new ≡ faults self.old) }
+        ensures called { IsCalled (calls self.old) (calls self.new) };
 
     /// Moves the bytes from the place on into the front of the buffer, as many as it takes or as there are, and answers how
-    /// many.
+    /// many. After `Failed` the buffer may hold any bytes.
     fn read_at(&mut self, at: u64, buffer: &mut [u8]) -> Result<usize, Failed>
         ensures bound { IfOk result (λ n. n ≤ length buffer.old) }
         ensures told { (bytes : List ℕ) → seen self.old ≡ Some bytes → IfOk result (λ n. n ≡ min (length buffer.old) (length bytes - at)) }
@@ -36,7 +43,9 @@ pub trait Disk {
         ensures seen { seen self.new ≡ seen self.old }
         ensures images { (image : List ℕ) → may_leave self.new image ↔ may_leave self.old image }
         ensures later { faults self.old ≤ faults self.new }
-        ensures cause { OnErr result (Rose (faults self.old) (faults self.new)) };
+        ensures cause { OnErr result (Rose (faults self.old) (faults self.new)) }
+        ensures steady { (bytes : List ℕ) → seen self.old ≡ Some bytes → OnOk result (faults self.new ≡ faults self.old) }
+        ensures called { IsCalled (calls self.old) (calls self.new) };
 
     /// Puts the bytes at the place. A gap before them reads as zeros. Until a sync a stop may leave any bytes there, and
     /// past the old end. After `Failed` this part alone may have changed.
@@ -52,7 +61,9 @@ pub trait Disk {
         ensures silent { seen self.old ≡ None → seen self.new ≡ None }
         ensures untried { 2 ^ 40 ≤ at + length bytes.now → (image : List ℕ) → may_leave self.new image ↔ may_leave self.old image }
         ensures later { faults self.old ≤ faults self.new }
-        ensures cause { OnErr result (Rose (faults self.old) (faults self.new)) };
+        ensures cause { OnErr result (Rose (faults self.old) (faults self.new)) }
+        ensures steady { (bytes : List ℕ) → seen self.old ≡ Some bytes → OnOk result (faults self.new ≡ faults self.old) }
+        ensures called { IsCalled (calls self.old) (calls self.new) };
 
     /// Makes the bytes stable: after `Ok` a stop leaves what a read gives, and nothing else.
     fn sync(&mut self) -> Result<(), Failed>
@@ -60,7 +71,9 @@ pub trait Disk {
         ensures seen { seen self.new ≡ seen self.old }
         ensures images { (image : List ℕ) → may_leave self.new image → may_leave self.old image }
         ensures later { faults self.old ≤ faults self.new }
-        ensures cause { OnErr result (Rose (faults self.old) (faults self.new)) };
+        ensures cause { OnErr result (Rose (faults self.old) (faults self.new)) }
+        ensures steady { (bytes : List ℕ) → seen self.old ≡ Some bytes → OnOk result (faults self.new ≡ faults self.old) }
+        ensures called { IsCalled (calls self.old) (calls self.new) };
 
     /// What a read gives is one of the images.
     ghost seen_is_image: { (disk : Self) (bytes : List ℕ) → seen disk ≡ Some bytes → may_leave disk bytes };

@@ -140,6 +140,8 @@ impl<'a, R: Files> Disk for FileDisk<'a, R> {
 
     ghost faults = { λ d. d };
 
+    ghost calls = { λ _. None };
+
     ghost seen_is_image = { λ d bytes told. tt };
 
     fn len(&mut self) -> Result<u64, Failed> {

@@ -1,7 +1,7 @@
 ghost use Rattle.std.specs.Prelude.{◌≡◌, ◌↔◌, ℕ, ◌+◌, ◌-◌, ◌^◌, ◌<◌, ◌≤◌, List, length, take, drop, min, Some, None, IfOk, OnOk, OnErr};
 ghost use Rattle.dbl_base.specs.Streams.{Rose, raised};
-ghost use Rattle.dbl_disk.specs.Disks.{Follows, IsOnly, Torn, written};
-ghost use Rattle.dbl_disk.specs.Fuse.{Burns, fuse_faults};
+ghost use Rattle.dbl_disk.specs.Disks.{Follows, IsCalled, IsOnly, Torn, written};
+ghost use Rattle.dbl_disk.specs.Fuse.{Burns, fuse_calls, fuse_faults};
 
 use crate::Disk;
 use dbl_base::Failed;
@@ -65,13 +65,15 @@ fn take_call(left: &mut u64, refused: &mut u64) -> Result<(), Failed>
 }
 
 impl<D: Disk> Disk for FuseDisk<D> {
-    ghost use Rattle.dbl_disk.specs.Fuse.{fuse_faults};
+    ghost use Rattle.dbl_disk.specs.Fuse.{fuse_calls, fuse_faults};
 
     ghost seen = { λ f. D.seen f.inner };
 
     ghost may_leave = { λ f image. D.may_leave f.inner image };
 
     ghost faults = { λ f. fuse_faults D.faults f };
+
+    ghost calls = { λ f. fuse_calls D.calls f };
 
     ghost seen_is_image = { λ f bytes told. D.seen_is_image f.inner bytes told };
 
@@ -82,7 +84,9 @@ impl<D: Disk> Disk for FuseDisk<D> {
         ensures images { (image : List ℕ) → D.may_leave self.new.inner image ↔ D.may_leave self.old.inner image }
         ensures later { fuse_faults D.faults self.old ≤ fuse_faults D.faults self.new }
         ensures cause { OnErr result (Rose (fuse_faults D.faults self.old) (fuse_faults D.faults self.new)) }
-        ensures fuse { Burns D.faults self.old self.new result }
+        ensures steady { (bytes : List ℕ) → D.seen self.old.inner ≡ Some bytes → OnOk result (fuse_faults D.faults self.new ≡ fuse_faults D.faults self.old) }
+        ensures called { IsCalled (fuse_calls D.calls self.old) (fuse_calls D.calls self.new) }
+        ensures fuse { Burns D.faults D.calls self.old self.new result }
     {
         take_call(&mut self.left, &mut self.refused)?;
         self.inner.len()
@@ -96,7 +100,9 @@ impl<D: Disk> Disk for FuseDisk<D> {
         ensures images { (image : List ℕ) → D.may_leave self.new.inner image ↔ D.may_leave self.old.inner image }
         ensures later { fuse_faults D.faults self.old ≤ fuse_faults D.faults self.new }
         ensures cause { OnErr result (Rose (fuse_faults D.faults self.old) (fuse_faults D.faults self.new)) }
-        ensures fuse { Burns D.faults self.old self.new result }
+        ensures steady { (bytes : List ℕ) → D.seen self.old.inner ≡ Some bytes → OnOk result (fuse_faults D.faults self.new ≡ fuse_faults D.faults self.old) }
+        ensures called { IsCalled (fuse_calls D.calls self.old) (fuse_calls D.calls self.new) }
+        ensures fuse { Burns D.faults D.calls self.old self.new result }
     {
         take_call(&mut self.left, &mut self.refused)?;
         self.inner.read_at(at, buffer)
@@ -113,7 +119,9 @@ impl<D: Disk> Disk for FuseDisk<D> {
         ensures untried { 2 ^ 40 ≤ at + length bytes.now → (image : List ℕ) → D.may_leave self.new.inner image ↔ D.may_leave self.old.inner image }
         ensures later { fuse_faults D.faults self.old ≤ fuse_faults D.faults self.new }
         ensures cause { OnErr result (Rose (fuse_faults D.faults self.old) (fuse_faults D.faults self.new)) }
-        ensures fuse { Burns D.faults self.old self.new result }
+        ensures steady { (bytes : List ℕ) → D.seen self.old.inner ≡ Some bytes → OnOk result (fuse_faults D.faults self.new ≡ fuse_faults D.faults self.old) }
+        ensures called { IsCalled (fuse_calls D.calls self.old) (fuse_calls D.calls self.new) }
+        ensures fuse { Burns D.faults D.calls self.old self.new result }
     {
         take_call(&mut self.left, &mut self.refused)?;
         self.inner.write_at(at, bytes)
@@ -125,7 +133,9 @@ impl<D: Disk> Disk for FuseDisk<D> {
         ensures images { (image : List ℕ) → D.may_leave self.new.inner image → D.may_leave self.old.inner image }
         ensures later { fuse_faults D.faults self.old ≤ fuse_faults D.faults self.new }
         ensures cause { OnErr result (Rose (fuse_faults D.faults self.old) (fuse_faults D.faults self.new)) }
-        ensures fuse { Burns D.faults self.old self.new result }
+        ensures steady { (bytes : List ℕ) → D.seen self.old.inner ≡ Some bytes → OnOk result (fuse_faults D.faults self.new ≡ fuse_faults D.faults self.old) }
+        ensures called { IsCalled (fuse_calls D.calls self.old) (fuse_calls D.calls self.new) }
+        ensures fuse { Burns D.faults D.calls self.old self.new result }
     {
         take_call(&mut self.left, &mut self.refused)?;
         self.inner.sync()

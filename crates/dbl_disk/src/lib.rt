@@ -8,8 +8,6 @@ mod fuse;
 mod laws;
 mod memory;
 mod refused;
-#[cfg(test)]
-mod tests;
 
 pub use disk::{DISK_LIMIT, Disk};
 pub use extent::Extent;

@@ -2,7 +2,7 @@ ghost use Rattle.std.specs.Prelude.{◌≡◌, ◌↔◌, ◌⊎◌, ℕ, ◌+�
 ghost use Rattle.std.specs.List.{All};
 ghost use Rattle.dbl_base.specs.Streams.{Rose, raised};
 ghost use Rattle.dbl_base.specs.Memory.{new_plan};
-ghost use Rattle.dbl_disk.specs.Disks.{Follows, IsAside, IsOnly, MayLeave, Torn, written};
+ghost use Rattle.dbl_disk.specs.Disks.{Follows, IsAside, IsCalled, IsOnly, MayLeave, Torn, written};
 ghost use Rattle.dbl_disk.specs.Memory.{AreFilled, DiffersInside, IsImage, IsFilled, IsKept, synced};
 
 use crate::{DISK_LIMIT, Disk, Extent};
@@ -232,6 +232,8 @@ impl Disk for MemDisk {
 
     ghost faults = { λ d. d.plan.faults };
 
+    ghost calls = { λ d. Some d.plan.calls };
+
     ghost seen_is_image = { λ d bytes told. told_is_image d bytes told };
 
     fn len(&mut self) -> Result<u64, Failed>
@@ -241,10 +243,14 @@ impl Disk for MemDisk {
         ensures images { (image : List ℕ) → IsImage self.new image ↔ IsImage self.old image }
         ensures later { self.old.plan.faults ≤ self.new.plan.faults }
         ensures cause { OnErr result (Rose self.old.plan.faults self.new.plan.faults) }
+        ensures steady { (bytes : List ℕ) → Some self.old.current ≡ Some bytes → OnOk result (self.new.plan.faults ≡ self.old.plan.faults) }
+        ensures called { IsCalled (Some self.old.plan.calls) (Some self.new.plan.calls) }
 
         // A call fails exactly where it is planned to, and changes the plan alone.
         ensures planned { IsErr result ↔ Contains self.old.plan.planned (raised self.old.plan.calls) }
         ensures calls { self.new.plan.calls ≡ raised self.old.plan.calls }
+        ensures counted { OnErr result (self.new.plan.faults ≡ raised self.old.plan.faults) }
+        ensures uncounted { OnOk result (self.new.plan.faults ≡ self.old.plan.faults) }
         ensures same { self.new ≡ record self.old { plan = record self.old.plan { calls = self.new.plan.calls; faults = self.new.plan.faults } } }
     {
         self.plan.call()?;
@@ -259,11 +265,16 @@ impl Disk for MemDisk {
         ensures images { (image : List ℕ) → IsImage self.new image ↔ IsImage self.old image }
         ensures later { self.old.plan.faults ≤ self.new.plan.faults }
         ensures cause { OnErr result (Rose self.old.plan.faults self.new.plan.faults) }
+        ensures steady { (bytes : List ℕ) → Some self.old.current ≡ Some bytes → OnOk result (self.new.plan.faults ≡ self.old.plan.faults) }
+        ensures called { IsCalled (Some self.old.plan.calls) (Some self.new.plan.calls) }
 
         // A call fails exactly where it is planned to, and changes the plan alone.
         ensures planned { IsErr result ↔ Contains self.old.plan.planned (raised self.old.plan.calls) }
         ensures calls { self.new.plan.calls ≡ raised self.old.plan.calls }
+        ensures counted { OnErr result (self.new.plan.faults ≡ raised self.old.plan.faults) }
+        ensures uncounted { OnOk result (self.new.plan.faults ≡ self.old.plan.faults) }
         ensures same { self.new ≡ record self.old { plan = record self.old.plan { calls = self.new.plan.calls; faults = self.new.plan.faults } } }
+        ensures untouched { OnErr result (buffer.new ≡ buffer.old) }
     {
         self.plan.call()?;
         let length = self.current.len();
@@ -284,10 +295,14 @@ impl Disk for MemDisk {
         ensures untried { 2 ^ 40 ≤ at + length bytes.now → (image : List ℕ) → IsImage self.new image ↔ IsImage self.old image }
         ensures later { self.old.plan.faults ≤ self.new.plan.faults }
         ensures cause { OnErr result (Rose self.old.plan.faults self.new.plan.faults) }
+        ensures steady { (bytes : List ℕ) → Some self.old.current ≡ Some bytes → OnOk result (self.new.plan.faults ≡ self.old.plan.faults) }
+        ensures called { IsCalled (Some self.old.plan.calls) (Some self.new.plan.calls) }
 
         // A call that is planned to fail does, and one that fails changes the plan alone.
         ensures planned { Contains self.old.plan.planned (raised self.old.plan.calls) → IsErr result }
         ensures calls { self.new.plan.calls ≡ raised self.old.plan.calls }
+        ensures counted { OnErr result (self.new.plan.faults ≡ raised self.old.plan.faults) }
+        ensures uncounted { OnOk result (self.new.plan.faults ≡ self.old.plan.faults) }
         ensures plan { self.new.plan.planned ≡ self.old.plan.planned }
         ensures dirty { OnOk result (self.new.dirty ≡ self.old.dirty ++ record { at = at; length = length bytes.now } ∷ []) }
         ensures stable { self.new.stable ≡ self.old.stable }
@@ -309,10 +324,14 @@ impl Disk for MemDisk {
         ensures images { (image : List ℕ) → IsImage self.new image → IsImage self.old image }
         ensures later { self.old.plan.faults ≤ self.new.plan.faults }
         ensures cause { OnErr result (Rose self.old.plan.faults self.new.plan.faults) }
+        ensures steady { (bytes : List ℕ) → Some self.old.current ≡ Some bytes → OnOk result (self.new.plan.faults ≡ self.old.plan.faults) }
+        ensures called { IsCalled (Some self.old.plan.calls) (Some self.new.plan.calls) }
 
         // A call that is planned to fail does, and one that fails changes the plan alone.
         ensures planned { Contains self.old.plan.planned (raised self.old.plan.calls) → IsErr result }
         ensures calls { self.new.plan.calls ≡ raised self.old.plan.calls }
+        ensures counted { OnErr result (self.new.plan.faults ≡ raised self.old.plan.faults) }
+        ensures uncounted { OnOk result (self.new.plan.faults ≡ self.old.plan.faults) }
         ensures plan { self.new.plan.planned ≡ self.old.plan.planned }
         ensures synced { OnOk result (self.new ≡ record (synced self.old.current) { plan = self.new.plan }) }
         ensures unchanged { OnErr result (self.new ≡ record self.old { plan = self.new.plan }) }

@@ -5,17 +5,17 @@ use Rattle.std.specs.Prelude.{IsSomeAnd, option_map, unwrap_or, if◌then◌else
 use Rattle.std.proofs.lemmas.Grind.{common_steps}
 use Rattle.std.proofs.lemmas.List.{append-nil, drop_all, length-map}
 use Rattle.dbl_record.specs.declared.record.Record.{Record}
-use Rattle.dbl_model.specs.declared.table.TableInfo.{TableInfo}
-use Rattle.dbl_model.specs.declared.change.Change.{Change}
-use Rattle.dbl_model.specs.declared.change.Change.TheVariants.{Insert, Update, Delete, Clear}
-use Rattle.dbl_model.specs.declared.change.Commit.{Commit}
-use Rattle.dbl_model.specs.Keys.{new_key_of, same_key, given_or_null}
-use Rattle.dbl_model.specs.Events.{Notice, Updated, notice, move_notices, notices, change_notices, numbered, is_nil}
-use Rattle.dbl_model.specs.EventJson.{print, envelopes}
-use Rattle.dbl_model.specs.Rows.{changes_of, table_of}
+use Rattle.dbl_table.specs.declared.table.TableInfo.{TableInfo}
+use Rattle.dbl_table.specs.declared.change.Change.{Change}
+use Rattle.dbl_table.specs.declared.change.Change.TheVariants.{Insert, Update, Delete, Clear}
+use Rattle.dbl_table.specs.declared.change.Commit.{Commit}
+use Rattle.dbl_table.specs.Keys.{new_key_of, same_key, given_or_null}
+use Rattle.dbl_event.specs.Events.{Notice, Updated, notice, move_notices, notices, change_notices, numbered, is_nil}
+use Rattle.dbl_event.specs.EventJson.{print, envelopes}
+use Rattle.dbl_table.specs.Rows.{changes_of, table_of}
 use Rattle.dbl_envelope.specs.Frames.{events_from, print_as, told, tail_text}
 use Rattle.dbl_envelope.specs.declared.frame.Frame.{Frame}
-use Rattle.dbl_model.specs.declared.identity.Identity.{Identity}
+use Rattle.dbl_table.specs.declared.identity.Identity.{Identity}
 use Rattle.dbl_envelope.specs.Suits.{SuitsTable, Suits}
 use Rattle.dbl_envelope.specs.Writers.{Captured, records_from, change_records, tail_at}
 use Rattle.dbl_envelope.specs.Layouts.{layout_of}

@@ -10,14 +10,14 @@ use Rattle.serde_json.specs.Data.{member, put}
 use Rattle.dbl_value.specs.declared.value.Val.{Val}
 use Rattle.dbl_value.specs.declared.value.Val.TheVariants as val
 use Rattle.dbl_value.specs.Values.{json_data}
-use Rattle.dbl_model.specs.declared.identity.Identity.{Identity}
-use Rattle.dbl_model.specs.declared.table.Column.{Column}
-use Rattle.dbl_model.specs.declared.table.TableInfo.{TableInfo}
-use Rattle.dbl_model.specs.Tables.{column_names}
-use Rattle.dbl_model.specs.Infos.{name_at, key_names, width, topic_of}
-use Rattle.dbl_model.specs.Keys.{cell_or_null, key_of}
-use Rattle.dbl_model.specs.Image.{members_of}
-use Rattle.dbl_model.proofs.InfoLemmas.{places_within}
+use Rattle.dbl_table.specs.declared.identity.Identity.{Identity}
+use Rattle.dbl_table.specs.declared.table.Column.{Column}
+use Rattle.dbl_table.specs.declared.table.TableInfo.{TableInfo}
+use Rattle.dbl_table.specs.Tables.{column_names}
+use Rattle.dbl_table.specs.Infos.{name_at, key_names, width, topic_of}
+use Rattle.dbl_table.specs.Keys.{cell_or_null, key_of}
+use Rattle.dbl_history.specs.Image.{members_of}
+use Rattle.dbl_table.proofs.InfoLemmas.{places_within}
 use Rattle.dbl_envelope.specs.Layouts.{Named, sorted, column_names_from, column_names_at, key_names_from, places_of, layout_of, members_at}
 use Rattle.dbl_base.specs.Texts.{text_cmp}
 use Rattle.dbl_envelope.specs.declared.layout.Place.{Place}

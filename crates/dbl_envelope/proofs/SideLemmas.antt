@@ -5,15 +5,15 @@ use Rattle.std.proofs.lemmas.List.{length-map}
 use Rattle.serde_json.specs.Data.{object}
 use Rattle.serde_json.specs.Written.{compact_text}
 use Rattle.dbl_value.specs.declared.value.Val.{Val}
-use Rattle.dbl_model.specs.declared.identity.Identity.{Identity}
-use Rattle.dbl_model.specs.declared.table.TableInfo.{TableInfo}
-use Rattle.dbl_model.specs.declared.row.Key.{Key}
-use Rattle.dbl_model.specs.declared.change.Cell.{Cell}
-use Rattle.dbl_model.specs.declared.change.Cell.TheVariants.{Given, Unchanged}
-use Rattle.dbl_model.specs.Keys.{key_of, given_or_null}
-use Rattle.dbl_model.specs.Rows.{all_given}
-use Rattle.dbl_model.specs.Image.{key_text}
-use Rattle.dbl_model.specs.EventJson.{sent}
+use Rattle.dbl_table.specs.declared.identity.Identity.{Identity}
+use Rattle.dbl_table.specs.declared.table.TableInfo.{TableInfo}
+use Rattle.dbl_table.specs.declared.row.Key.{Key}
+use Rattle.dbl_table.specs.declared.change.Cell.{Cell}
+use Rattle.dbl_table.specs.declared.change.Cell.TheVariants.{Given, Unchanged}
+use Rattle.dbl_table.specs.Keys.{key_of, given_or_null}
+use Rattle.dbl_table.specs.Rows.{all_given}
+use Rattle.dbl_history.specs.Image.{key_text}
+use Rattle.dbl_event.specs.EventJson.{sent}
 use Rattle.dbl_envelope.specs.declared.side.Side.{Side}
 use Rattle.dbl_envelope.specs.declared.side.Side.TheVariants as side
 use Rattle.dbl_envelope.specs.Layouts.{layout_of, members_at}

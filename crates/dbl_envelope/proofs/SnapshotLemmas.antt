@@ -9,15 +9,15 @@ use Rattle.serde_json.specs.Data.{object}
 use Rattle.serde_json.specs.Written.{outline, compact_text}
 use Rattle.serde_json.proofs.Texts.{print-outline}
 use Rattle.dbl_record.specs.declared.record.Record.{Record}
-use Rattle.dbl_model.specs.declared.identity.Identity.{Identity}
-use Rattle.dbl_model.specs.declared.row.Key.{Key}
-use Rattle.dbl_model.specs.declared.row.Row.{Row}
-use Rattle.dbl_model.specs.declared.table.TableInfo.{TableInfo}
-use Rattle.dbl_model.specs.declared.change.Commit.{Commit}
-use Rattle.dbl_model.specs.Tables.{full_name}
-use Rattle.dbl_model.specs.declared.closed.Closed.{Closed}
-use Rattle.dbl_model.specs.Snapshots.{read_record, read_records, last_data, progress_data, progress_record, chunk_records, snapshot}
-use Rattle.dbl_model.specs.Clashes.{rows_clash, snapshot_clash}
+use Rattle.dbl_table.specs.declared.identity.Identity.{Identity}
+use Rattle.dbl_table.specs.declared.row.Key.{Key}
+use Rattle.dbl_table.specs.declared.row.Row.{Row}
+use Rattle.dbl_table.specs.declared.table.TableInfo.{TableInfo}
+use Rattle.dbl_table.specs.declared.change.Commit.{Commit}
+use Rattle.dbl_table.specs.Tables.{full_name}
+use Rattle.dbl_event.specs.declared.closed.Closed.{Closed}
+use Rattle.dbl_event.specs.Snapshots.{read_record, read_records, last_data, progress_data, progress_record, chunk_records, snapshot}
+use Rattle.dbl_event.specs.Clashes.{rows_clash, snapshot_clash}
 use Rattle.dbl_envelope.specs.declared.layout.Layout.{Layout}
 use Rattle.dbl_envelope.specs.Layouts.{layout_of}
 use Rattle.dbl_envelope.specs.Tokens.{progress_tokens}

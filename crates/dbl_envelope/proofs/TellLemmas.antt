@@ -1,11 +1,11 @@
 -- The three records of a row that moves.
 use Rattle.std.proofs.Common.{◌≡◌, ◌∙◌, ◌+◌, ℕ, List, [], ◌∷◌, ◌++◌, map, Option, Some, false, ap, ap₂, append_assoc, arith}
 use Rattle.dbl_record.specs.declared.record.Record.{Record}
-use Rattle.dbl_model.specs.declared.row.Key.{Key}
-use Rattle.dbl_model.specs.declared.row.Row.{Row}
-use Rattle.dbl_model.specs.declared.change.Cell.{Cell}
-use Rattle.dbl_model.specs.Keys.{new_key_of, given_or_null}
-use Rattle.dbl_model.specs.Events.{Created, Deleted, Tombstone, notice}
+use Rattle.dbl_table.specs.declared.row.Key.{Key}
+use Rattle.dbl_table.specs.declared.row.Row.{Row}
+use Rattle.dbl_table.specs.declared.change.Cell.{Cell}
+use Rattle.dbl_table.specs.Keys.{new_key_of, given_or_null}
+use Rattle.dbl_event.specs.Events.{Created, Deleted, Tombstone, notice}
 use Rattle.dbl_envelope.specs.declared.frame.Frame.{Frame}
 use Rattle.dbl_envelope.specs.declared.stamp.Stamp.{Stamp}
 use Rattle.dbl_envelope.specs.Frames.{TellsMove, printed}

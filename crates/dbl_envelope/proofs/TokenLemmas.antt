@@ -14,10 +14,10 @@ use Rattle.serde_json.specs.Written.{outline, members_outline, number_text, comp
 use Rattle.serde_json.proofs.Texts.{print-outline}
 use Rattle.dbl_value.specs.declared.value.Val.{Val}
 use Rattle.dbl_value.specs.Values.{json_data}
-use Rattle.dbl_model.specs.declared.identity.Identity.{Identity}
-use Rattle.dbl_model.specs.declared.table.TableName.{TableName}
-use Rattle.dbl_model.specs.declared.change.Commit.{Commit}
-use Rattle.dbl_model.specs.EventJson.{source_data, event_data}
+use Rattle.dbl_table.specs.declared.identity.Identity.{Identity}
+use Rattle.dbl_table.specs.declared.table.TableName.{TableName}
+use Rattle.dbl_table.specs.declared.change.Commit.{Commit}
+use Rattle.dbl_event.specs.EventJson.{source_data, event_data}
 use Rattle.dbl_envelope.specs.Tokens.{head_tokens, tail_tokens}
 use Rattle.dbl_envelope.specs.Frames.{tail_text}
 use Rattle.dbl_envelope.specs.declared.layout.Place.{Place}

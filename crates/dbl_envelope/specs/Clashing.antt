@@ -1,14 +1,14 @@
 -- The error of a clash, and the first clash of one change.
 use Rattle.std.specs.Prelude.{◌≡◌, ◌≢◌, ℕ, List, Option, Some, None, option_map, map}
 use Rattle.std.specs.Option.{option_or}
-use Rattle.dbl_model.specs.declared.row.Row.{Row}
-use Rattle.dbl_model.specs.declared.table.TableInfo.{TableInfo}
-use Rattle.dbl_model.specs.declared.change.Cell.TheVariants.{Given}
-use Rattle.dbl_model.specs.declared.change.Change.{Change}
-use Rattle.dbl_model.specs.declared.change.Change.TheVariants.{Insert, Update, Delete, Clear}
-use Rattle.dbl_model.specs.Tables.{column_names}
-use Rattle.dbl_model.specs.Clashes.{Clash, clash_among, old_cells, first_found, notice_clash}
-use Rattle.dbl_model.specs.Events.{notices}
+use Rattle.dbl_table.specs.declared.row.Row.{Row}
+use Rattle.dbl_table.specs.declared.table.TableInfo.{TableInfo}
+use Rattle.dbl_table.specs.declared.change.Cell.TheVariants.{Given}
+use Rattle.dbl_table.specs.declared.change.Change.{Change}
+use Rattle.dbl_table.specs.declared.change.Change.TheVariants.{Insert, Update, Delete, Clear}
+use Rattle.dbl_table.specs.Tables.{column_names}
+use Rattle.dbl_event.specs.Clashes.{Clash, clash_among, old_cells, first_found, notice_clash}
+use Rattle.dbl_event.specs.Events.{notices}
 use Rattle.dbl_envelope.specs.declared.error.EnvelopeError.{EnvelopeError}
 use Rattle.dbl_envelope.specs.declared.error.EnvelopeError.TheVariants.{PlaceholderClash, Memory}
 

@@ -4,20 +4,20 @@ use Rattle.json.specs.Print.{print as print_tokens}
 use Rattle.serde_json.specs.Data.{Data, null, string, object, no_members, member}
 use Rattle.serde_json.specs.Written.{compact_text}
 use Rattle.dbl_record.specs.declared.record.Record.{Record}
-use Rattle.dbl_model.specs.declared.identity.Identity.{Identity}
-use Rattle.dbl_model.specs.declared.table.TableName.{TableName}
-use Rattle.dbl_model.specs.declared.table.TableInfo.{TableInfo}
-use Rattle.dbl_model.specs.declared.change.Change.{Change}
-use Rattle.dbl_model.specs.declared.change.Commit.{Commit}
-use Rattle.dbl_model.specs.declared.row.Key.{Key}
-use Rattle.dbl_model.specs.declared.row.Row.{Row}
-use Rattle.dbl_model.specs.declared.change.Cell.{Cell}
-use Rattle.dbl_model.specs.Infos.{width, topic_of}
-use Rattle.dbl_model.specs.Image.{key_text}
-use Rattle.dbl_model.specs.Keys.{new_key_of, given_or_null}
-use Rattle.dbl_model.specs.Rows.{table_of}
-use Rattle.dbl_model.specs.Events.{Notice, Event, change_notices, move_notices}
-use Rattle.dbl_model.specs.EventJson.{sent, row_data, source_data, event_data, content_data}
+use Rattle.dbl_table.specs.declared.identity.Identity.{Identity}
+use Rattle.dbl_table.specs.declared.table.TableName.{TableName}
+use Rattle.dbl_table.specs.declared.table.TableInfo.{TableInfo}
+use Rattle.dbl_table.specs.declared.change.Change.{Change}
+use Rattle.dbl_table.specs.declared.change.Commit.{Commit}
+use Rattle.dbl_table.specs.declared.row.Key.{Key}
+use Rattle.dbl_table.specs.declared.row.Row.{Row}
+use Rattle.dbl_table.specs.declared.change.Cell.{Cell}
+use Rattle.dbl_table.specs.Infos.{width, topic_of}
+use Rattle.dbl_history.specs.Image.{key_text}
+use Rattle.dbl_table.specs.Keys.{new_key_of, given_or_null}
+use Rattle.dbl_table.specs.Rows.{table_of}
+use Rattle.dbl_event.specs.Events.{Notice, Event, change_notices, move_notices}
+use Rattle.dbl_event.specs.EventJson.{sent, row_data, source_data, event_data, content_data}
 use Rattle.dbl_envelope.specs.declared.layout.Place.{Place}
 use Rattle.dbl_envelope.specs.declared.frame.Frame.{Frame}
 use Rattle.dbl_envelope.specs.declared.side.Side.{Side}
@@ -58,11 +58,6 @@ abbrev pub side_row : Identity → TableInfo → Side → Data
 side_row identity info side.Nothing = null
 side_row identity info (side.Row cells) = row_data info cells.now
 side_row identity info (side.Sent cells) = row_data info (map (sent identity.placeholder) cells.now)
-
--- an old row that was sent
-abbrev pub old_side_row : TableInfo → Option Row → Data
-old_side_row info None = null
-old_side_row info (Some row) = row_data info row.cells
 
 -- a frame's value of these parts
 abbrev pub event_of : Frame → Data → List ℕ → Data → Data

@@ -5,11 +5,11 @@ use Rattle.dbl_base.specs.Texts.{text_cmp}
 use Rattle.serde_json.specs.Data.{Members, no_members, member}
 use Rattle.dbl_value.specs.declared.value.Val.{Val}
 use Rattle.dbl_value.specs.Values.{json_data}
-use Rattle.dbl_model.specs.declared.identity.Identity.{Identity}
-use Rattle.dbl_model.specs.declared.table.Column.{Column}
-use Rattle.dbl_model.specs.declared.table.TableInfo.{TableInfo}
-use Rattle.dbl_model.specs.Infos.{name_at, topic_of}
-use Rattle.dbl_model.specs.Keys.{cell_or_null}
+use Rattle.dbl_table.specs.declared.identity.Identity.{Identity}
+use Rattle.dbl_table.specs.declared.table.Column.{Column}
+use Rattle.dbl_table.specs.declared.table.TableInfo.{TableInfo}
+use Rattle.dbl_table.specs.Infos.{name_at, topic_of}
+use Rattle.dbl_table.specs.Keys.{cell_or_null}
 use Rattle.dbl_envelope.specs.declared.layout.Place.{Place}
 use Rattle.dbl_envelope.specs.declared.layout.Layout.{Layout}
 

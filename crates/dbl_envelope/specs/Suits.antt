@@ -2,18 +2,18 @@
 -- types. All that fits what is captured suits a writer (law FittingSuits).
 use Rattle.std.specs.Prelude.{◌≡◌, ◌⊎◌, Option, IfSome, IsSome, IsSomeAnd, List, length, slice_get}
 use Rattle.std.specs.List.{AllByRecursion}
-use Rattle.dbl_model.specs.declared.row.Key.{Key}
-use Rattle.dbl_model.specs.declared.row.Row.{Row}
-use Rattle.dbl_model.specs.declared.change.Cell.{Cell}
-use Rattle.dbl_model.specs.declared.change.Change.{Change}
-use Rattle.dbl_model.specs.declared.change.Change.TheVariants.{Insert, Update, Delete, Clear}
-use Rattle.dbl_model.specs.declared.closed.Closed.{Closed}
-use Rattle.dbl_model.specs.declared.table.TableInfo.{TableInfo}
-use Rattle.dbl_model.specs.Infos.{width}
-use Rattle.dbl_model.specs.Keys.{new_key_of}
-use Rattle.dbl_model.specs.Rows.{all_given, table_of}
-use Rattle.dbl_model.specs.FitsInfos.{FitsInfos}
-use Rattle.dbl_model.specs.Snapshots.{FitsSnapshot}
+use Rattle.dbl_table.specs.declared.row.Key.{Key}
+use Rattle.dbl_table.specs.declared.row.Row.{Row}
+use Rattle.dbl_table.specs.declared.change.Cell.{Cell}
+use Rattle.dbl_table.specs.declared.change.Change.{Change}
+use Rattle.dbl_table.specs.declared.change.Change.TheVariants.{Insert, Update, Delete, Clear}
+use Rattle.dbl_event.specs.declared.closed.Closed.{Closed}
+use Rattle.dbl_table.specs.declared.table.TableInfo.{TableInfo}
+use Rattle.dbl_table.specs.Infos.{width}
+use Rattle.dbl_table.specs.Keys.{new_key_of}
+use Rattle.dbl_table.specs.Rows.{all_given, table_of}
+use Rattle.dbl_history.specs.FitsInfos.{FitsInfos}
+use Rattle.dbl_event.specs.Snapshots.{FitsSnapshot}
 
 -- an update: one cell per column, and of the old row too where it was sent
 pub record SuitsUpdate (info : TableInfo) (from : Key) (old : Option Row) (cells : List Cell) : Type 0 where

@@ -1,13 +1,13 @@
 -- Whose events a writer makes, and which records of a commit are still to be made.
 use Rattle.std.specs.Prelude.{◌≡◌, ℕ, ℤ, Option, Some, option_map, unwrap_or, slice_get, List, [], map, flat_map, drop, codes}
 use Rattle.dbl_record.specs.declared.record.Record.{Record}
-use Rattle.dbl_model.specs.declared.identity.Identity.{Identity}
-use Rattle.dbl_model.specs.declared.table.TableInfo.{TableInfo}
-use Rattle.dbl_model.specs.declared.change.Change.{Change}
-use Rattle.dbl_model.specs.declared.change.Commit.{Commit}
-use Rattle.dbl_model.specs.Rows.{changes_of}
-use Rattle.dbl_model.specs.Events.{notices, numbered}
-use Rattle.dbl_model.specs.EventJson.{print}
+use Rattle.dbl_table.specs.declared.identity.Identity.{Identity}
+use Rattle.dbl_table.specs.declared.table.TableInfo.{TableInfo}
+use Rattle.dbl_table.specs.declared.change.Change.{Change}
+use Rattle.dbl_table.specs.declared.change.Commit.{Commit}
+use Rattle.dbl_table.specs.Rows.{changes_of}
+use Rattle.dbl_event.specs.Events.{notices, numbered}
+use Rattle.dbl_event.specs.EventJson.{print}
 use Rattle.dbl_envelope.specs.declared.stamp.Stamp.{Stamp}
 use Rattle.dbl_envelope.specs.Frames.{events_from, tail_text}
 

@@ -3,11 +3,11 @@
 ghost use Rattle.std.specs.Prelude.{◌≡◌, ◌≢◌, ◌==◌, ◌-◌, length, slice_get, true, false, Some, None, IfOk, IfErr, OnOk, All, map};
 ghost use Rattle.std.specs.Option.{option_or};
 ghost use Rattle.base64.specs.Rfc4648.{encoded_size};
-ghost use Rattle.dbl_model.specs.declared.change.Cell.TheVariants.{Given};
-ghost use Rattle.dbl_model.specs.Tables.{column_names};
-ghost use Rattle.dbl_model.specs.Rows.{changes_of};
+ghost use Rattle.dbl_table.specs.declared.change.Cell.TheVariants.{Given};
+ghost use Rattle.dbl_table.specs.Tables.{column_names};
+ghost use Rattle.dbl_table.specs.Rows.{changes_of};
 ghost use Rattle.dbl_envelope.specs.Suits.{Suits};
-ghost use Rattle.dbl_model.specs.Clashes.{is_clash, clash_among, clash_at, old_cells, clash_of};
+ghost use Rattle.dbl_event.specs.Clashes.{is_clash, clash_among, clash_at, old_cells, clash_of};
 ghost use Rattle.dbl_envelope.specs.Clashing.{IsClash, change_clash, notices_clash};
 
 use crate::changes::changes;
@@ -16,7 +16,7 @@ use crate::writer::EventWriter;
 use base64::encoded_len;
 use base64::engine::general_purpose::STANDARD;
 use dbl_base::{Bytes, Seq, Text};
-use dbl_model::{Cell, Change, Column, Commit, Row, TableInfo};
+use dbl_table::{Cell, Change, Column, Commit, Row, TableInfo};
 use dbl_value::{Val, json_tree};
 use serde_json::Value;
 use std::alloc::{AllocError, Global};

@@ -1,5 +1,5 @@
 use dbl_base::Text;
-use dbl_model::TableName;
+use dbl_table::TableName;
 use std::alloc::{AllocError, AllocFailed};
 use thiserror::Error;
 

@@ -1,12 +1,12 @@
 //! The record of each kind of event.
 
 ghost use Rattle.std.specs.Prelude.{◌≡◌, Some, None, IfOk, IfSome, IsSome, length, map};
-ghost use Rattle.dbl_model.specs.Infos.{width};
-ghost use Rattle.dbl_model.specs.Keys.{key_of, new_key_of, given_or_null};
-ghost use Rattle.dbl_model.specs.Rows.{all_given};
-ghost use Rattle.dbl_model.specs.Events.{Content, notice};
+ghost use Rattle.dbl_table.specs.Infos.{width};
+ghost use Rattle.dbl_table.specs.Keys.{key_of, new_key_of, given_or_null};
+ghost use Rattle.dbl_table.specs.Rows.{all_given};
+ghost use Rattle.dbl_event.specs.Events.{Content, notice};
 ghost use Rattle.dbl_envelope.specs.Frames.{Framed, IsWide, side_row, plain_record, deleted_record, printed};
-ghost use Rattle.dbl_model.specs.EventJson.{old_data};
+ghost use Rattle.dbl_event.specs.EventJson.{old_data};
 
 use crate::frame::Frame;
 use crate::keys::{key_text, row_key, sent_key};
@@ -14,8 +14,8 @@ use crate::side::Side;
 use crate::stamp::Stamp;
 use crate::value::value_text;
 use dbl_base::{Seq, Text};
-use dbl_model::{Cell, Key, Row};
 use dbl_record::Record;
+use dbl_table::{Cell, Key, Row};
 use std::alloc::{AllocError, Global};
 
 /// A record of these texts that isn't part of a moved key.

@@ -1,6 +1,6 @@
 use crate::layout::Layout;
 use dbl_base::Text;
-use dbl_model::{Commit, Identity, TableInfo};
+use dbl_table::{Commit, Identity, TableInfo};
 
 /// What the records of one table in a commit have in common.
 #[derive(Clone, Copy)]

@@ -3,10 +3,10 @@ ghost use Rattle.serde_json.specs.Data.{object};
 ghost use Rattle.serde_json.specs.Written.{compact_text};
 ghost use Rattle.std.specs.Ordering.{is_eq};
 ghost use Rattle.dbl_value.specs.Order.{val_cmp};
-ghost use Rattle.dbl_model.specs.EventJson.{sent};
-ghost use Rattle.dbl_model.specs.Image.{key_text};
-ghost use Rattle.dbl_model.specs.Infos.{width};
-ghost use Rattle.dbl_model.specs.Keys.{key_of, new_key_of, same_key, given_or_null};
+ghost use Rattle.dbl_event.specs.EventJson.{sent};
+ghost use Rattle.dbl_history.specs.Image.{key_text};
+ghost use Rattle.dbl_table.specs.Infos.{width};
+ghost use Rattle.dbl_table.specs.Keys.{key_of, new_key_of, same_key, given_or_null};
 ghost use Rattle.dbl_envelope.specs.Frames.{Framed};
 ghost use Rattle.dbl_envelope.specs.Layouts.{members_at};
 
@@ -14,7 +14,7 @@ use crate::frame::Frame;
 use crate::layout::Place;
 use crate::tokens::{write_cells, write_sent, written};
 use dbl_base::{Seq, Text};
-use dbl_model::{Cell, Key, TableInfo};
+use dbl_table::{Cell, Key, TableInfo};
 use dbl_value::Val;
 use json::Writer;
 use std::alloc::{AllocError, Global};
@@ -23,7 +23,12 @@ use std::cmp::Ordering;
 /// What a key is given at first; a longer one grows.
 const KEY_CAPACITY: usize = 64;
 
-fn cells_text(alloc: Global, places: &Seq<Place>, cells: &Seq<Val>) -> Result<Text, AllocError>
+/// The text of the object of the cells at these places.
+pub(crate) fn cells_text(
+    alloc: Global,
+    places: &Seq<Place>,
+    cells: &Seq<Val>,
+) -> Result<Text, AllocError>
     requires places { All (λ p. p.index < length cells.now) places.now }
     ensures { IfOk result (λ text. text ≡ compact_text (object (members_at cells.now places.now))) }
 {

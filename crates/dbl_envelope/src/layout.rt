@@ -2,7 +2,7 @@ ghost use Rattle.std.specs.Prelude.{◌≡◌, IfOk};
 ghost use Rattle.dbl_envelope.specs.Layouts.{sorted, column_names_from, column_names_at, key_names_from, places_of, layout_of};
 
 use dbl_base::{Seq, Text};
-use dbl_model::{Column, Identity, TableInfo};
+use dbl_table::{Column, Identity, TableInfo};
 use std::alloc::{AllocError, Global};
 use std::collections::BTreeMap;
 
@@ -60,7 +60,8 @@ fn key_in_order(alloc: Global, info: &TableInfo) -> Result<Seq<Place>, AllocErro
     places(alloc, order)
 }
 
-fn key_cells_in_order(alloc: Global, info: &TableInfo) -> Result<Seq<Place>, AllocError>
+/// The key columns in byte order of their names, with their places in a key.
+pub(crate) fn key_cells_in_order(alloc: Global, info: &TableInfo) -> Result<Seq<Place>, AllocError>
     ensures { IfOk result (λ places. places ≡ places_of (sorted (key_names_from info.now.columns 0 info.now.key))) }
 {
     let columns = info.columns.items();

@@ -1,9 +1,9 @@
 ghost use Rattle.std.specs.Prelude.{◌≡◌, ◌≤◌, ◌<◌, ◌+◌, ◌*◌, ◌^◌, ◌++◌, ℕ, [], None, Some, length, replicate, slice_get, All, IfOk, IfErr, OnOk, OnErr, codes};
-ghost use Rattle.dbl_model.specs.Rows.{changes_of, table_of};
-ghost use Rattle.dbl_model.specs.EventJson.{envelopes};
+ghost use Rattle.dbl_table.specs.Rows.{changes_of, table_of};
+ghost use Rattle.dbl_event.specs.EventJson.{envelopes};
 ghost use Rattle.dbl_envelope.specs.Suits.{Suits, SuitsTable};
 ghost use Rattle.dbl_envelope.specs.Frames.{Framed};
-ghost use Rattle.dbl_model.specs.Clashes.{clash_of};
+ghost use Rattle.dbl_event.specs.Clashes.{clash_of};
 ghost use Rattle.dbl_envelope.specs.Clashing.{IsClash};
 ghost use Rattle.dbl_envelope.specs.Writers.{records_from, change_records, tail_at, AreTails};
 ghost use Rattle.dbl_envelope.specs.declared.left.TheConstants.{CHANGES_AT_ONCE};
@@ -17,8 +17,8 @@ use crate::stamp::Stamp;
 use crate::tell::tell;
 use crate::writer::EventWriter;
 use dbl_base::Text;
-use dbl_model::{Change, Commit};
 use dbl_record::Record;
+use dbl_table::{Change, Commit};
 use std::alloc::{AllocError, Global};
 use std::marker::Model;
 
@@ -45,7 +45,7 @@ impl<'a> Model for RecordsLeft<'a> {
 
     ghost Value = { List SpecRecord };
 
-    ghost use Rattle.dbl_model.specs.Rows.{changes_of};
+    ghost use Rattle.dbl_table.specs.Rows.{changes_of};
     ghost use Rattle.dbl_envelope.specs.Suits.{Suits};
     ghost use Rattle.dbl_envelope.specs.Writers.{records_from, AreTails};
 
@@ -237,11 +237,11 @@ fn no_tails(alloc: Global, count: usize) -> Result<Vec<Option<Text>>, AllocError
 }
 
 impl<'a> RecordsLeft<'a> {
-    /// Makes the next records, those of up to 6 changes, each of which has at most 3. There are none only where none is left.
+    /// Makes the next records, those of up to 6 changes, each of which has at most 3: so 18 at most. There are none only where none is left.
     /// After an error the same records are left.
     pub fn next(&mut self, alloc: Global) -> Result<Vec<Record>, AllocError>
         ensures ok { IfOk result (λ made. self.old ≡ made.items ++ self.new) }
-        ensures few { IfOk result (λ made. length made.items ≤ 3 * CHANGES_AT_ONCE) }
+        ensures few { IfOk result (λ made. length made.items ≤ 18) }
         ensures end { IfOk result (λ made. made.items ≡ [] → self.old ≡ []) }
         ensures kept { OnErr result (self.new ≡ self.old) }
     {

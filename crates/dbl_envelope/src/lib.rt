@@ -1,4 +1,4 @@
-//! Change events as records: the fast writer of what `dbl_model` defines.
+//! Change events as records: the fast writer of what `dbl_event` defines.
 #![tactic(auto)]
 
 mod changes;
@@ -17,8 +17,7 @@ mod source;
 mod stamp;
 mod suits;
 mod tell;
-#[cfg(test)]
-mod tests;
+mod texts;
 mod tokens;
 mod value;
 mod writer;
@@ -26,4 +25,5 @@ mod writer;
 pub use error::EnvelopeError;
 pub use laws::fitting_suits;
 pub use left::{CHANGES_AT_ONCE, RecordsLeft};
+pub use texts::key_text;
 pub use writer::EventWriter;

@@ -5,8 +5,8 @@ ghost use Rattle.std.specs.String.{string_bytes};
 ghost use Rattle.json.specs.Token.{boolean};
 ghost use Rattle.json.specs.Tree.{json_tokens};
 ghost use Rattle.serde_json.specs.Written.{outline, compact_text};
-ghost use Rattle.dbl_model.specs.Tables.{full_name};
-ghost use Rattle.dbl_model.specs.Snapshots.{progress_topic, progress_data, progress_record};
+ghost use Rattle.dbl_table.specs.Tables.{full_name};
+ghost use Rattle.dbl_event.specs.Snapshots.{progress_topic, progress_data, progress_record};
 ghost use Rattle.dbl_envelope.specs.Tokens.{progress_tokens};
 ghost use Rattle.dbl_envelope.specs.Frames.{Framed, table_data, through_data};
 
@@ -14,8 +14,8 @@ use crate::frame::Frame;
 use crate::layout::Layout;
 use crate::tokens::{text_member, write_cells, written};
 use dbl_base::Text;
-use dbl_model::{Identity, Key, TableName};
 use dbl_record::Record;
+use dbl_table::{Identity, Key, TableName};
 use json::Writer;
 use std::alloc::{AllocError, Global};
 

@@ -1,5 +1,5 @@
 use dbl_base::Seq;
-use dbl_model::Cell;
+use dbl_table::Cell;
 use dbl_value::Val;
 
 /// What stands in the `before` or the `after` of an event.

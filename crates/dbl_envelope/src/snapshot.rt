@@ -1,9 +1,9 @@
 //! The records of a snapshot's closed window.
 
 ghost use Rattle.std.specs.Prelude.{◌≡◌, None, IfOk, IfErr, IfSome, OnOk, length, codes};
-ghost use Rattle.dbl_model.specs.Infos.{width};
-ghost use Rattle.dbl_model.specs.Clashes.{clash_at, rows_clash, snapshot_clash};
-ghost use Rattle.dbl_model.specs.Snapshots.{AreInKeyOrder, read_record, read_records, chunk_records, snapshot};
+ghost use Rattle.dbl_table.specs.Infos.{width};
+ghost use Rattle.dbl_event.specs.Clashes.{clash_at, rows_clash, snapshot_clash};
+ghost use Rattle.dbl_event.specs.Snapshots.{AreInKeyOrder, read_record, read_records, chunk_records, snapshot};
 ghost use Rattle.dbl_envelope.specs.Clashing.{IsClash, row_clash};
 ghost use Rattle.dbl_envelope.specs.Frames.{Framed};
 ghost use Rattle.dbl_envelope.specs.Suits.{SuitsRows, SuitsSnapshot};
@@ -20,8 +20,9 @@ use crate::stamp::Stamp;
 use crate::value::value_text;
 use crate::writer::EventWriter;
 use dbl_base::Text;
-use dbl_model::{Closed, Commit, Key, KeyedRows, Row, TableInfo};
+use dbl_event::{Closed, KeyedRows};
 use dbl_record::Record;
+use dbl_table::{Commit, Key, Row, TableInfo};
 use std::alloc::{AllocError, Global};
 
 /// Whether the row has no clash; else the first one.

@@ -3,13 +3,14 @@ ghost use Rattle.std.specs.Fmt.{signed_decimal};
 ghost use Rattle.json.specs.Token.{begin_object, key, number};
 ghost use Rattle.json.specs.Tree.{json_tokens};
 ghost use Rattle.serde_json.specs.Written.{outline};
-ghost use Rattle.dbl_model.specs.EventJson.{source_data, milliseconds_of};
+ghost use Rattle.dbl_event.specs.EventJson.{source_data, milliseconds_of};
 ghost use Rattle.dbl_envelope.specs.Tokens.{first_tokens, last_tokens, tail_tokens};
 ghost use Rattle.dbl_envelope.specs.Frames.{tail_text};
 
 use crate::tokens::{i64_member, null_member, text_member, u64_member, written};
 use dbl_base::Text;
-use dbl_model::{Commit, Identity, TableName, milliseconds};
+use dbl_event::milliseconds;
+use dbl_table::{Commit, Identity, TableName};
 use json::Writer;
 use std::alloc::{AllocError, Global};
 

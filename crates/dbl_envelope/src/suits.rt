@@ -3,17 +3,18 @@
 ghost use Rattle.std.specs.Prelude.{◌≡◌, ◌⊎◌, All, IfSome, IsSome, length};
 ghost use Rattle.std.specs.List.{list_all};
 ghost use Rattle.std.specs.Bool.{Decides};
-ghost use Rattle.dbl_model.specs.Infos.{width};
-ghost use Rattle.dbl_model.specs.Keys.{new_key_of};
-ghost use Rattle.dbl_model.specs.Rows.{changes_of, all_given};
-ghost use Rattle.dbl_model.specs.PlainRows.{is_sent};
+ghost use Rattle.dbl_table.specs.Infos.{width};
+ghost use Rattle.dbl_table.specs.Keys.{new_key_of};
+ghost use Rattle.dbl_table.specs.Rows.{changes_of, all_given};
+ghost use Rattle.dbl_history.specs.PlainRows.{is_sent};
 ghost use Rattle.dbl_envelope.specs.Suits.{Suits, SuitsTable, SuitsUpdate, SuitsDelete, SuitsRows, SuitsChunk, SuitsSnapshot};
 
 use crate::changes::changes;
 use crate::keys::is_key_of;
 use crate::writer::EventWriter;
 use dbl_base::Seq;
-use dbl_model::{Cell, Change, Closed, Commit, Key, KeyedRows, Row, TableInfo};
+use dbl_event::{Closed, KeyedRows};
+use dbl_table::{Cell, Change, Commit, Key, Row, TableInfo};
 use dbl_value::Val;
 
 fn is_wide(info: &TableInfo, cells: &Seq<Val>) -> bool

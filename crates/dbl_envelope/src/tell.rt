@@ -1,9 +1,9 @@
 //! The records of each kind of change.
 
 ghost use Rattle.std.specs.Prelude.{◌≡◌, ◌<◌, ◌≤◌, ◌+◌, ◌^◌, IfSome, IsSome, OnOk, length};
-ghost use Rattle.dbl_model.specs.declared.change.Change.TheVariants.{Insert, Update, Delete, Clear};
-ghost use Rattle.dbl_model.specs.Infos.{width};
-ghost use Rattle.dbl_model.specs.Rows.{all_given};
+ghost use Rattle.dbl_table.specs.declared.change.Change.TheVariants.{Insert, Update, Delete, Clear};
+ghost use Rattle.dbl_table.specs.Infos.{width};
+ghost use Rattle.dbl_table.specs.Rows.{all_given};
 ghost use Rattle.dbl_envelope.specs.Suits.{SuitsUpdate, SuitsDelete, SuitsTable};
 ghost use Rattle.dbl_envelope.specs.Frames.{Framed, Tells, TellsMove};
 
@@ -13,8 +13,8 @@ use crate::keys::is_key_of;
 use crate::side::Side;
 use crate::stamp::Stamp;
 use dbl_base::Seq;
-use dbl_model::{Cell, Change, Key, Row};
 use dbl_record::Record;
+use dbl_table::{Cell, Change, Key, Row};
 use std::alloc::{AllocError, Global};
 
 fn tell_insert(

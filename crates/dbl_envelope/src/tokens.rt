@@ -7,12 +7,12 @@ ghost use Rattle.serde_json.specs.Written.{outline};
 ghost use Rattle.std.specs.String.{string_bytes};
 ghost use Rattle.json.specs.Print.{print as print_tokens};
 ghost use Rattle.dbl_value.specs.Values.{json_data};
-ghost use Rattle.dbl_model.specs.EventJson.{sent};
+ghost use Rattle.dbl_event.specs.EventJson.{sent};
 ghost use Rattle.dbl_envelope.specs.Layouts.{members_at};
 
 use crate::layout::Place;
 use dbl_base::{Seq, Text};
-use dbl_model::Cell;
+use dbl_table::Cell;
 use dbl_value::{Val, write_json};
 use json::Writer;
 use std::alloc::{AllocError, Global};

@@ -1,11 +1,11 @@
 ghost use Rattle.std.specs.Prelude.{◌≡◌, ◌<◌, ◌++◌, ◌∷◌, [], Some, length, map, option_map, slice_get, IfOk, IfErr, OnOk, OnErr};
-ghost use Rattle.dbl_model.specs.Rows.{table_of};
+ghost use Rattle.dbl_table.specs.Rows.{table_of};
 ghost use Rattle.dbl_envelope.specs.Suits.{Suits, SuitsTable};
 ghost use Rattle.dbl_envelope.specs.Layouts.{layout_of};
 
 use crate::error::EnvelopeError;
 use crate::layout::Layout;
-use dbl_model::{Change, Identity, TableInfo};
+use dbl_table::{Change, Identity, TableInfo};
 use std::alloc::{AllocError, Global};
 use std::marker::Model;
 
@@ -76,7 +76,8 @@ impl EventWriter {
         self.infos.len()
     }
 
-    pub(crate) fn info_at(&self, table: usize) -> &TableInfo
+    /// A captured table, by its place among them.
+    pub fn info_at(&self, table: usize) -> &TableInfo
         requires captured { table < length self.now.infos }
         ensures { slice_get self.now.infos table ≡ Some result.now }
     {

@@ -5,7 +5,7 @@ use Rattle.std.specs.Str.Parse.{digits_value}
 use Rattle.std.proofs.lemmas.List.{append-nil}
 use Rattle.std.proofs.lemmas.List.Folds.{list_all-append}
 use Rattle.dbl_base.specs.Lines.{lines_of, lines_text}
-use Rattle.dbl_model.specs.declared.table.TableName.{TableName}
+use Rattle.dbl_table.specs.declared.table.TableName.{TableName}
 use Rattle.dbl_script.specs.declared.script.Script.{Script}
 use Rattle.dbl_script.specs.declared.script.ScriptTable.{ScriptTable}
 use Rattle.dbl_script.specs.declared.line.Line.TheVariants.{Table, Row, Act}

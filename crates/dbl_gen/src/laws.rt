@@ -2,7 +2,7 @@
 
 ghost use Rattle.dbl_gen.specs.Laws.{WorkloadsAreRead};
 
-/// `dbl_script::parse` reads each workload, unless memory runs out: as the two tables, and rows and steps of them.
+/// `dbl_script::parse` reads each workload, unless memory runs out: no line of it is bad, and its tables are the two.
 pub fn workloads_are_read()
     ensures { WorkloadsAreRead }
 {}

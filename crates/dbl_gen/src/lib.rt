@@ -3,8 +3,6 @@
 
 mod draws;
 mod laws;
-#[cfg(test)]
-mod tests;
 mod writing;
 
 pub use laws::workloads_are_read;

@@ -1,4 +1,5 @@
 pub mod Appends
+pub mod Growth
 pub mod Images
 pub mod Reading
 pub mod Scans

@@ -1,3 +1,4 @@
 pub mod Form
 pub mod Steps
 pub mod Stored
+pub mod Growth

@@ -1,5 +1,5 @@
 -- A journal on a disk.
-use Rattle.std.specs.Prelude.{◌≡◌, ℕ, ◌+◌, ◌^◌, ◌<◌, Bool, IsTrue, Option, Some, List, [], ◌∷◌, length}
+use Rattle.std.specs.Prelude.{◌≡◌, ℕ, ◌+◌, ◌^◌, ◌<◌, ◌≤◌, Bool, IsTrue, Option, Some, List, [], ◌∷◌, length}
 use Rattle.dbl_disk.specs.Disks.{IsOnly}
 use Rattle.dbl_disk.specs.declared.extent.Extent.{Extent}
 use Rattle.dbl_journal.specs.Form.{IsJournal, front}
@@ -35,6 +35,10 @@ pub record Lists {D : Type 0} (seen : D → Option (List ℕ)) (may_leave : D �
   pub gate : journal.gate ≡ length (front entries)
   pub places : journal.places ≡ places_from 8 entries
 
+-- A disk that tells its bytes has counted no fault since then: no call of it failed and was made again.
+abbrev pub IsSteady : {D : Type 0} → (D → Option (List ℕ)) → (D → ℕ) → D → D → Type 0
+IsSteady seen faults old new = (bytes : List ℕ) → seen old ≡ Some bytes → faults new ≡ faults old
+
 -- a stop may leave a journal of these entries
 abbrev pub MayLeaveEntries : {D : Type 0} → (D → List ℕ → Type 0) → D → List (List ℕ) → Type 0
 MayLeaveEntries may_leave disk entries = (image : List ℕ) × may_leave disk image × IsJournal image entries
@@ -43,8 +47,9 @@ MayLeaveEntries may_leave disk entries = (image : List ℕ) × may_leave disk im
 abbrev pub LeavesEntries : {D : Type 0} → (D → List ℕ → Type 0) → D → (List (List ℕ) → Type 0) → Type 0
 LeavesEntries may_leave disk P = (image : List ℕ) → may_leave disk image → (entries : List (List ℕ)) × IsJournal image entries × P entries
 
--- what holds of the parts of each journal: the place of the last gate is small, and where the journal can be used and its
--- disk tells its bytes, it is among them
-pub record IsPlaced {D : Type 0} (seen : D → Option (List ℕ)) (disk : D) (gate : ℕ) (live : Bool) : Type 0 where
+-- what holds of the parts of each journal: the place of the last gate is small, and where the journal can be used, it has no
+-- more entries than bytes before that gate, which is among the bytes that the disk tells, where it tells them
+pub record IsPlaced {D : Type 0} (seen : D → Option (List ℕ)) (disk : D) (gate : ℕ) (places : List Extent) (live : Bool) : Type 0 where
   pub small : gate < 2 ^ 40
+  pub few : IsTrue live → length places ≤ gate
   pub there : IsTrue live → (bytes : List ℕ) → seen disk ≡ Some bytes → gate < length bytes

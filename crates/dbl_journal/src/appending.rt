@@ -54,9 +54,11 @@ pub(crate) fn stage<D: Disk>(disk: &mut D, gate: u64, bytes: &[u8]) -> Result<()
     ensures staged { (old : List ℕ) (entries : List (List ℕ)) (entry : List ℕ) → D.seen disk.old ≡ Some old → IsOnly old (D.may_leave disk.old) → IsJournal old entries → gate ≡ length (front entries) → bytes.now ≡ body entry ++ 0 ∷ [] →
         OnOk result (Stages D.seen D.may_leave disk.new entries entry) }
     ensures reaches { (new : List ℕ) → D.seen disk.new ≡ Some new → OnOk result (gate + 1 + length bytes.now ≤ length new) }
+    ensures told { (old : List ℕ) → D.seen disk.old ≡ Some old → (new : List ℕ) × (D.seen disk.new ≡ Some new) }
     ensures longest { (old new : List ℕ) → D.seen disk.old ≡ Some old → D.seen disk.new ≡ Some new → length new ≤ max (length old) (gate + 1 + length bytes.now) }
     ensures later { D.faults disk.old ≤ D.faults disk.new }
     ensures cause { OnErr result (Rose (D.faults disk.old) (D.faults disk.new)) }
+    ensures steady { (old : List ℕ) → D.seen disk.old ≡ Some old → OnOk result (D.faults disk.new ≡ D.faults disk.old) }
 {
     disk.write_at(gate + 1, bytes)?;
     disk.sync()
@@ -70,10 +72,12 @@ pub(crate) fn open_gate<D: Disk>(disk: &mut D, gate: u64) -> Result<(), Failed>
         LeavesEntries D.may_leave disk.new (λ left. (left ≡ entries) ⊎ (left ≡ entries ++ entry ∷ [])) }
     ensures opened { (entries : List (List ℕ)) (entry : List ℕ) → Stages D.seen D.may_leave disk.old entries entry → gate ≡ length (front entries) → IsEntry entry →
         OnOk result ((new : List ℕ) × (D.seen disk.new ≡ Some new) × IsOnly new (D.may_leave disk.new) × IsJournal new (entries ++ entry ∷ [])) }
+    ensures told { (old : List ℕ) → D.seen disk.old ≡ Some old → (new : List ℕ) × (D.seen disk.new ≡ Some new) }
     ensures longest { (old new : List ℕ) → D.seen disk.old ≡ Some old → D.seen disk.new ≡ Some new → length new ≤ max (length old) (gate + 1) }
     ensures reaches { (new : List ℕ) → D.seen disk.new ≡ Some new → OnOk result ((old : List ℕ) × (D.seen disk.old ≡ Some old) × (length old ≤ length new)) }
     ensures later { D.faults disk.old ≤ D.faults disk.new }
     ensures cause { OnErr result (Rose (D.faults disk.old) (D.faults disk.new)) }
+    ensures steady { (old : List ℕ) → D.seen disk.old ≡ Some old → OnOk result (D.faults disk.new ≡ D.faults disk.old) }
 {
     disk.write_at(gate, &[1])?;
     disk.sync()
@@ -88,6 +92,7 @@ pub(crate) fn start<D: Disk>(disk: &mut D, bytes: &[u8]) -> Result<(), Failed>
     ensures longest { (new : List ℕ) → D.seen disk.old ≡ Some [] → D.seen disk.new ≡ Some new → length new ≤ 9 }
     ensures later { D.faults disk.old ≤ D.faults disk.new }
     ensures cause { OnErr result (Rose (D.faults disk.old) (D.faults disk.new)) }
+    ensures steady { (old : List ℕ) → D.seen disk.old ≡ Some old → OnOk result (D.faults disk.new ≡ D.faults disk.old) }
 {
     disk.write_at(0, bytes)?;
     disk.sync()

@@ -1,8 +1,9 @@
 ghost use Rattle.std.specs.Prelude.{◌≡◌, ◌≢◌, ◌⊎◌, ◌↔◌, ℕ, ◌+◌, ◌^◌, ◌<◌, ◌≤◌, ◌++◌, List, [], ◌∷◌, length, drop, max, false, Some, IsTrue, IfOk, IfErr, OnOk, OnErr, MatchResult, slice_get};
-ghost use Rattle.dbl_base.specs.Streams.{Rose};
-ghost use Rattle.dbl_disk.specs.Disks.{Follows, Torn};
+ghost use Rattle.dbl_base.specs.Streams.{Rose, raised};
+ghost use Rattle.dbl_disk.specs.Disks.{Follows, IsOnly, Torn};
 ghost use Rattle.dbl_journal.specs.Form.{IsFaultAt, IsJournal};
-ghost use Rattle.dbl_journal.specs.Stored.{LeavesEntries, Lists, count_of, size};
+ghost use Rattle.dbl_journal.specs.Growth.{ComesOf};
+ghost use Rattle.dbl_journal.specs.Stored.{IsSteady, LeavesEntries, Lists, count_of, size};
 
 use crate::JournalError;
 use crate::appending::{behind_room, open_gate, spell, stage, start};
@@ -39,7 +40,7 @@ impl<D: Disk> Model for Journal<D> {
 
     ghost view = { λ j. record { disk = j.disk; gate = j.gate; places = j.places.items; live = j.live } };
 
-    ghost invariant = { λ j. IsPlaced D.seen j.disk j.gate j.live };
+    ghost invariant = { λ j. IsPlaced D.seen j.disk j.gate j.places.items j.live };
 }
 
 impl<D: Disk> Journal<D> {
@@ -55,6 +56,7 @@ impl<D: Disk> Journal<D> {
         ensures failed { IfErr result (λ refused. Rose (D.faults disk) (D.faults refused.disk)) }
         ensures left { IfErr result (λ refused. Follows (Torn 0 9) (D.may_leave disk) (D.may_leave refused.disk)) }
         ensures later { MatchResult result (λ journal. D.faults disk ≤ D.faults journal.disk) (λ refused. D.faults disk ≤ D.faults refused.disk) }
+        ensures steady { IfOk result (λ journal. IsSteady D.seen D.faults disk journal.disk) }
     {
         match start(&mut disk, b"DBLJRNL1\0") {
             Ok(()) => Ok(Journal {
@@ -70,16 +72,21 @@ impl<D: Disk> Journal<D> {
         }
     }
 
-    /// The journal on the disk, as a stop may have left it: a sync, and then a few bytes are read of each entry.
+    /// The journal on the disk, as a stop may have left it: a sync, and then a few bytes are read of each entry. Whatever it
+    /// answers but `Failed`, a stop leaves what was read and nothing else; and so it does after `Failed`, where more than one
+    /// call was made. The first call that fails is the last one.
     pub fn open(alloc: Global, mut disk: D) -> Result<Journal<D>, Refused<D, JournalError>>
         ensures opened { (bytes : List ℕ) → D.seen disk ≡ Some bytes → IfOk result (λ journal. (entries : List (List ℕ)) × IsJournal bytes entries × Lists D.seen D.may_leave journal entries) }
         ensures refused { (bytes : List ℕ) → D.seen disk ≡ Some bytes → IfErr result (λ refused. (at : ℕ) → refused.error ≡ JournalError.NotAJournal at → IsFaultAt bytes at) }
+        ensures stable { (bytes : List ℕ) → D.seen disk ≡ Some bytes → IfErr result (λ refused. refused.error ≢ JournalError.Failed → IsOnly bytes (D.may_leave refused.disk)) }
+        ensures first { (bytes : List ℕ) (calls : ℕ) → D.seen disk ≡ Some bytes → D.calls disk ≡ Some calls → IfErr result (λ refused. D.calls refused.disk ≢ Some (raised calls) → IsOnly bytes (D.may_leave refused.disk)) }
         ensures live { IfOk result (λ journal. IsTrue journal.live) }
         ensures short { IfErr result (λ refused. (len : ℕ) → refused.error ≢ JournalError.EntryTooLong len) }
         ensures failed { IfErr result (λ refused. refused.error ≡ JournalError.Failed → Rose (D.faults disk) (D.faults refused.disk)) }
         ensures seen { MatchResult result (λ journal. D.seen journal.disk ≡ D.seen disk) (λ refused. D.seen refused.disk ≡ D.seen disk) }
         ensures images { (image : List ℕ) → MatchResult result (λ journal. D.may_leave journal.disk image → D.may_leave disk image) (λ refused. D.may_leave refused.disk image → D.may_leave disk image) }
         ensures later { MatchResult result (λ journal. D.faults disk ≤ D.faults journal.disk) (λ refused. D.faults disk ≤ D.faults refused.disk) }
+        ensures steady { (bytes : List ℕ) → D.seen disk ≡ Some bytes → MatchResult result (λ journal. D.faults journal.disk ≡ D.faults disk) (λ refused. refused.error ≢ JournalError.Failed → D.faults refused.disk ≡ D.faults disk) }
     {
         match scan(alloc, &mut disk) {
             Ok(found) => Ok(Journal {
@@ -93,12 +100,15 @@ impl<D: Disk> Journal<D> {
     }
 
     /// Adds an entry: a write and a sync behind the last gate, and a write and a sync of that gate. After `Failed` the
-    /// journal isn't live; the other errors come before the first of these calls.
+    /// journal isn't live; the other errors come before the first of these calls. A disk that tells its bytes tells them
+    /// after each answer.
     pub fn append(&mut self, alloc: Global, entry: &[u8]) -> Result<(), JournalError>
         requires { IsTrue self.old.live }
         ensures added { (entries : List (List ℕ)) → Lists D.seen D.may_leave self.old entries → OnOk result (Lists D.seen D.may_leave self.new (entries ++ entry.now ∷ [])) }
         ensures left { (entries : List (List ℕ)) → Lists D.seen D.may_leave self.old entries → LeavesEntries D.may_leave self.new.disk (λ left. (left ≡ entries) ⊎ (left ≡ entries ++ entry.now ∷ [])) }
         ensures grows { (entries : List (List ℕ)) (old new : List ℕ) → Lists D.seen D.may_leave self.old entries → D.seen self.old.disk ≡ Some old → D.seen self.new.disk ≡ Some new → length new ≤ max (length old) (size (entries ++ entry.now ∷ [])) }
+        ensures comes { ComesOf D.seen D.may_leave self.old self.new }
+        ensures told { (old : List ℕ) → D.seen self.old.disk ≡ Some old → (new : List ℕ) × (D.seen self.new.disk ≡ Some new) }
         ensures live { OnOk result (IsTrue self.new.live) }
         ensures count { OnOk result (count_of self.new ≡ count_of self.old + 1) }
         ensures too_long { (len : ℕ) → (result ≡ Err (JournalError.EntryTooLong len)) ↔ ((2 ^ 28 < length entry.now) × (len ≡ length entry.now)) }
@@ -107,6 +117,7 @@ impl<D: Disk> Journal<D> {
         ensures journal { (at : ℕ) → result ≢ Err (JournalError.NotAJournal at) }
         ensures unchanged { OnErr result (result ≢ Err JournalError.Failed → self.new ≡ self.old) }
         ensures later { D.faults self.old.disk ≤ D.faults self.new.disk }
+        ensures steady { result ≢ Err JournalError.Failed → IsSteady D.seen D.faults self.old.disk self.new.disk }
     {
         if entry.len() > ENTRY_LIMIT {
             return Err(JournalError::EntryTooLong {
@@ -125,6 +136,8 @@ impl<D: Disk> Journal<D> {
         ensures added { (entries : List (List ℕ)) → Lists D.seen D.may_leave self.old entries → OnOk result (Lists D.seen D.may_leave self.new (entries ++ drop 4 bytes.items ∷ [])) }
         ensures left { (entries : List (List ℕ)) → Lists D.seen D.may_leave self.old entries → LeavesEntries D.may_leave self.new.disk (λ left. (left ≡ entries) ⊎ (left ≡ entries ++ drop 4 bytes.items ∷ [])) }
         ensures grows { (entries : List (List ℕ)) (old new : List ℕ) → Lists D.seen D.may_leave self.old entries → D.seen self.old.disk ≡ Some old → D.seen self.new.disk ≡ Some new → length new ≤ max (length old) (size (entries ++ drop 4 bytes.items ∷ [])) }
+        ensures comes { ComesOf D.seen D.may_leave self.old self.new }
+        ensures told { (old : List ℕ) → D.seen self.old.disk ≡ Some old → (new : List ℕ) × (D.seen self.new.disk ≡ Some new) }
         ensures live { OnOk result (IsTrue self.new.live) }
         ensures count { OnOk result (count_of self.new ≡ count_of self.old + 1) }
         ensures too_long { (len : ℕ) → (result ≡ Err (JournalError.EntryTooLong len)) ↔ ((2 ^ 28 < length (drop 4 bytes.items)) × (len ≡ length (drop 4 bytes.items))) }
@@ -133,6 +146,7 @@ impl<D: Disk> Journal<D> {
         ensures journal { (at : ℕ) → result ≢ Err (JournalError.NotAJournal at) }
         ensures unchanged { OnErr result (result ≢ Err JournalError.Failed → self.new ≡ self.old) }
         ensures later { D.faults self.old.disk ≤ D.faults self.new.disk }
+        ensures steady { result ≢ Err JournalError.Failed → IsSteady D.seen D.faults self.old.disk self.new.disk }
     {
         let len = (bytes.len() - ENTRY_ROOM) as u64;
         if len > ENTRY_LIMIT as u64 {
@@ -164,6 +178,7 @@ impl<D: Disk> Journal<D> {
         ensures journal { (at : ℕ) → result ≢ Err (JournalError.NotAJournal at) }
         ensures short { (len : ℕ) → result ≢ Err (JournalError.EntryTooLong len) }
         ensures later { D.faults self.old.disk ≤ D.faults self.new.disk }
+        ensures steady { result ≢ Err JournalError.Failed → IsSteady D.seen D.faults self.old.disk self.new.disk }
     {
         let place = self.places[number as usize];
         let mut bytes = vec![in alloc; 0u8; place.length as usize]?;
@@ -174,7 +189,8 @@ impl<D: Disk> Journal<D> {
     /// The number of entries. Takes no memory.
     pub fn count(&self) -> u64
         requires { IsTrue self.now.live }
-        ensures { result ≡ count_of self.now }
+        ensures count { result ≡ count_of self.now }
+        ensures few { result < 2 ^ 40 }
     {
         self.places.len() as u64
     }

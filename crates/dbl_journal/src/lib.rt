@@ -6,8 +6,6 @@ mod error;
 mod journal;
 mod laws;
 mod scanning;
-#[cfg(test)]
-mod tests;
 
 pub use error::JournalError;
 pub use journal::{ENTRY_LIMIT, ENTRY_ROOM, Journal};

@@ -1,6 +1,6 @@
 ghost use Rattle.std.specs.Prelude.{◌≡◌, ◌≢◌, ◌↔◌, ℕ, ◌+◌, ◌^◌, ◌<◌, ◌≤◌, ◌++◌, List, [], ◌∷◌, length, take, drop, slice_index, Some, IfOk, IfSome, IfNone, OnOk, OnErr};
 ghost use Rattle.std.specs.Int.{to_be_bytes, w32};
-ghost use Rattle.dbl_base.specs.Streams.{Rose};
+ghost use Rattle.dbl_base.specs.Streams.{Rose, raised};
 ghost use Rattle.dbl_disk.specs.Disks.{IsOnly};
 ghost use Rattle.dbl_journal.specs.Form.{IsBroken, IsFaultAt, IsJournal, front, magic};
 ghost use Rattle.dbl_journal.specs.Steps.{AreRead, IsStep};
@@ -57,6 +57,7 @@ fn next_place<D: Disk>(disk: &mut D, gate: u64, total: u64) -> Result<Option<Ext
     ensures failed { result ≡ Err JournalError.Failed → Rose (D.faults disk.old) (D.faults disk.new) }
     ensures short { (len : ℕ) → result ≢ Err (JournalError.EntryTooLong len) }
     ensures later { D.faults disk.old ≤ D.faults disk.new }
+    ensures steady { (bytes : List ℕ) → D.seen disk.old ≡ Some bytes → result ≢ Err JournalError.Failed → D.faults disk.new ≡ D.faults disk.old }
 {
     let mut head = [0u8; 5];
     let got = disk.read_at(gate, &mut head)?;
@@ -85,6 +86,7 @@ fn read_magic<D: Disk>(disk: &mut D) -> Result<(), JournalError>
     ensures failed { result ≡ Err JournalError.Failed → Rose (D.faults disk.old) (D.faults disk.new) }
     ensures short { (len : ℕ) → result ≢ Err (JournalError.EntryTooLong len) }
     ensures later { D.faults disk.old ≤ D.faults disk.new }
+    ensures steady { (bytes : List ℕ) → D.seen disk.old ≡ Some bytes → result ≢ Err JournalError.Failed → D.faults disk.new ≡ D.faults disk.old }
 {
     let mut head = [0u8; 8];
     let got = disk.read_at(0, &mut head)?;
@@ -101,11 +103,13 @@ fn read_places<D: Disk>(alloc: Global, disk: &mut D, total: u64) -> Result<Found
     ensures read { (bytes : List ℕ) → D.seen disk.old ≡ Some bytes → total ≡ length bytes → bytes ≡ magic ++ drop 8 bytes → IfOk result (λ found. (entries : List (List ℕ)) × IsJournal bytes entries × (found.gate ≡ length (front entries)) × (found.places.items ≡ places_from 8 entries)) }
     ensures broken { (bytes : List ℕ) (at : ℕ) → D.seen disk.old ≡ Some bytes → total ≡ length bytes → bytes ≡ magic ++ drop 8 bytes → result ≡ Err (JournalError.NotAJournal at) → IsFaultAt bytes at }
     ensures inside { IfOk result (λ found. found.gate ≤ total) }
+    ensures few { IfOk result (λ found. length found.places.items ≤ found.gate) }
     ensures seen { D.seen disk.new ≡ D.seen disk.old }
     ensures images { (image : List ℕ) → D.may_leave disk.new image ↔ D.may_leave disk.old image }
     ensures failed { result ≡ Err JournalError.Failed → Rose (D.faults disk.old) (D.faults disk.new) }
     ensures short { (len : ℕ) → result ≢ Err (JournalError.EntryTooLong len) }
     ensures later { D.faults disk.old ≤ D.faults disk.new }
+    ensures steady { (bytes : List ℕ) → D.seen disk.old ≡ Some bytes → result ≢ Err JournalError.Failed → D.faults disk.new ≡ D.faults disk.old }
 {
     if total < 8 {
         return Err(JournalError::NotAJournal { at: total });
@@ -119,17 +123,21 @@ fn read_places<D: Disk>(alloc: Global, disk: &mut D, total: u64) -> Result<Found
     Ok(Found { gate, places })
 }
 
-// Finds the entries of what a stop may have left. It begins with a sync.
+// Finds the entries of what a stop may have left. It begins with a sync, so whatever it finds is what a stop leaves from
+// then on.
 pub(crate) fn scan<D: Disk>(alloc: Global, disk: &mut D) -> Result<Found, JournalError>
     ensures read { (bytes : List ℕ) → D.seen disk.old ≡ Some bytes → IfOk result (λ found. (entries : List (List ℕ)) × IsJournal bytes entries × (found.gate ≡ length (front entries)) × (found.places.items ≡ places_from 8 entries)) }
-    ensures only { (bytes : List ℕ) → D.seen disk.old ≡ Some bytes → OnOk result (IsOnly bytes (D.may_leave disk.new)) }
+    ensures only { (bytes : List ℕ) → D.seen disk.old ≡ Some bytes → result ≢ Err JournalError.Failed → IsOnly bytes (D.may_leave disk.new) }
+    ensures first { (bytes : List ℕ) (calls : ℕ) → D.seen disk.old ≡ Some bytes → D.calls disk.old ≡ Some calls → D.calls disk.new ≢ Some (raised calls) → IsOnly bytes (D.may_leave disk.new) }
     ensures broken { (bytes : List ℕ) (at : ℕ) → D.seen disk.old ≡ Some bytes → result ≡ Err (JournalError.NotAJournal at) → IsFaultAt bytes at }
     ensures small { IfOk result (λ found. found.gate < 2 ^ 40) }
+    ensures few { IfOk result (λ found. length found.places.items ≤ found.gate) }
     ensures seen { D.seen disk.new ≡ D.seen disk.old }
     ensures images { (image : List ℕ) → D.may_leave disk.new image → D.may_leave disk.old image }
     ensures failed { result ≡ Err JournalError.Failed → Rose (D.faults disk.old) (D.faults disk.new) }
     ensures short { (len : ℕ) → result ≢ Err (JournalError.EntryTooLong len) }
     ensures later { D.faults disk.old ≤ D.faults disk.new }
+    ensures steady { (bytes : List ℕ) → D.seen disk.old ≡ Some bytes → result ≢ Err JournalError.Failed → D.faults disk.new ≡ D.faults disk.old }
 {
     disk.sync()?;
     let total = disk.len()?;

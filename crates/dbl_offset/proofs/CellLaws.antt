@@ -23,13 +23,13 @@ use Rattle.dbl_value.proofs.KindLemmas.{kind_of, spelled_kind, text_spelled}
 use Rattle.dbl_record.specs.Fields.{number64, text_form, truth_form, IsStored}
 use Rattle.dbl_record.specs.GroupReading.{◌>>=◌, truth_at}
 use Rattle.dbl_record.proofs.FieldLaws.{IsBytes, ok_is, bind_ok, guard_held, chosen, Takes, Takes-then, Reads, took, number64_reads, text_reads, truth_reads}
-use Rattle.dbl_model.specs.declared.row.Key.{Key}
-use Rattle.dbl_model.specs.declared.cursor.Cursor.{Cursor}
-use Rattle.dbl_model.specs.declared.table.TableInfo.{TableInfo}
-use Rattle.dbl_model.specs.Tables.{is_key_type}
-use Rattle.dbl_model.specs.Infos.{key_types}
-use Rattle.dbl_model.specs.Fit.{AreOf}
-use Rattle.dbl_model.specs.Cursors.{IsCursorOf}
+use Rattle.dbl_table.specs.declared.row.Key.{Key}
+use Rattle.dbl_history.specs.declared.cursor.Cursor.{Cursor}
+use Rattle.dbl_table.specs.declared.table.TableInfo.{TableInfo}
+use Rattle.dbl_table.specs.Tables.{is_key_type}
+use Rattle.dbl_table.specs.Infos.{key_types}
+use Rattle.dbl_history.specs.Fit.{AreOf}
+use Rattle.dbl_history.specs.Cursors.{IsCursorOf}
 use Rattle.dbl_offset.specs.Entries.{cell, last_key, cursor, FitsCell, FitsCursor}
 use Rattle.dbl_offset.specs.Reading.{found, byte_at, is_integer_of, word_of, integer_at, word_at, cell_at, cells_at, key_at, last_at, cursor_at}
 use Rattle.dbl_offset.proofs.FieldLaws.{found_is, byte_reads}

@@ -11,14 +11,14 @@ use Rattle.dbl_record.specs.declared.error.RecordError.TheVariants.{BadRecord, M
 use Rattle.dbl_record.specs.Fields.{number32, number64, text_form}
 use Rattle.dbl_record.specs.GroupReading.{Gives, number_at, many_at}
 use Rattle.dbl_record.proofs.FieldLaws.{IsBytes, ok_is, bind_ok, guard_held, Takes, Takes-then, Reads, took, number32_reads, number64_reads, text_reads, many_again, many_takes}
-use Rattle.dbl_model.specs.declared.table.TableInfo.{TableInfo}
-use Rattle.dbl_model.specs.declared.table.TableName.{TableName}
-use Rattle.dbl_model.specs.declared.identity.Identity.{Identity}
-use Rattle.dbl_model.specs.declared.cursor.Cursor.{Cursor}
-use Rattle.dbl_model.specs.Tables.{same_name, are_distinct}
-use Rattle.dbl_model.specs.Identities.{is_good_identity}
-use Rattle.dbl_model.specs.Cursors.{IsCursorOf, AreCursorsOf}
-use Rattle.dbl_model.proofs.Lists.{and_left, and_right}
+use Rattle.dbl_table.specs.declared.table.TableInfo.{TableInfo}
+use Rattle.dbl_table.specs.declared.table.TableName.{TableName}
+use Rattle.dbl_table.specs.declared.identity.Identity.{Identity}
+use Rattle.dbl_history.specs.declared.cursor.Cursor.{Cursor}
+use Rattle.dbl_table.specs.Tables.{same_name, are_distinct}
+use Rattle.dbl_table.specs.Identities.{is_good_identity}
+use Rattle.dbl_history.specs.Cursors.{IsCursorOf, AreCursorsOf}
+use Rattle.dbl_table.proofs.Lists.{and_left, and_right}
 use Rattle.dbl_offset.specs.declared.offset.Offset.{Offset}
 use Rattle.dbl_offset.specs.Entries.{names, counted, entry, tables_of, spelling, FitsNames, FitsEntry, Fits}
 use Rattle.dbl_offset.specs.Offsets.{IsOffset, Spells, IsEntry}

@@ -1,5 +1,5 @@
 -- Stores: what their bytes are read as, and what a stop leaves of them.
-use Rattle.std.proofs.Common.{◌≡◌, ◌⊎◌, ◌∙◌, ℕ, ◌+◌, ◌<◌, ◌≤◌, Option, Some, None, Result, Err, List, [], ◌∷◌, ◌++◌, length, take, refl, sym, ap, subst, arith, inl, inr}
+use Rattle.std.proofs.Common.{◌≡◌, ◌⊎◌, ◌∙◌, ℕ, ◌+◌, ◌^◌, ◌<◌, ◌≤◌, Option, Some, None, Result, Err, List, [], ◌∷◌, ◌++◌, length, take, refl, sym, ap, subst, arith, inl, inr}
 use Rattle.std.specs.Prelude.{max, slice_get}
 use Rattle.std.specs.List.{All}
 use Rattle.std.proofs.lemmas.List.{length-take, get_or-take, take_more, take_all}
@@ -7,8 +7,9 @@ use Rattle.std.proofs.lemmas.List.Elements.{All-get_or, All-push}
 use Rattle.std.proofs.lemmas.Bool.{cases_lt}
 use Rattle.std.proofs.lemmas.Option.{slice_get_within, get_or_from_slice_get}
 use Rattle.dbl_journal.specs.Form.{IsJournal, IsFaultAt, front}
-use Rattle.dbl_journal.specs.Stored.{LeavesEntries, Lists, OnDisk, size}
-use Rattle.dbl_journal.proofs.Appends.{gate_is_there, length-front-push}
+use Rattle.dbl_journal.specs.Stored.{LeavesEntries, size}
+use Rattle.dbl_journal.proofs.Appends.{length-front-push}
+use Rattle.dbl_journal.proofs.Growth.{grown_from}
 use Rattle.dbl_journal.proofs.Reading.{one_journal, journal_or_fault}
 use Rattle.dbl_journal.specs.declared.error.JournalError.{JournalError}
 use Rattle.dbl_journal.specs.declared.error.JournalError.TheVariants as journal_error
@@ -16,7 +17,7 @@ use Rattle.dbl_offset.specs.declared.offset.Offset.{Offset}
 use Rattle.dbl_offset.specs.declared.error.OffsetError.{OffsetError}
 use Rattle.dbl_offset.specs.declared.error.OffsetError.TheVariants as error
 use Rattle.dbl_offset.specs.Offsets.{Spells, IsEntry}
-use Rattle.dbl_offset.specs.Stores.{IsLastOf, IsStore, HasBadOffset, LeavesOffset, as_offset_error}
+use Rattle.dbl_offset.specs.Stores.{ComesOf, Counts, HasBadOffset, Holds, IsLastOf, IsStore, LeavesOffset, StoreOn, as_offset_error}
 use Rattle.dbl_offset.proofs.OffsetLaws.{one_offset}
 
 -- ---- last entries
@@ -100,13 +101,27 @@ leaves may_leave disk entries entry old offset each last spells left image may =
       )
     ]
 
--- the bytes up to the closed gate, and with it, are among those of the disk
-pub grown : {D : Type 0} (seen : D → Option (List ℕ)) (may_leave : D → List ℕ → Type 0) (journal : OnDisk D) (entries : List (List ℕ)) (entry before after : List ℕ) → Lists seen may_leave journal entries → seen journal.disk ≡ Some before
-    → length after ≤ max (length before) (size (entries ++ entry ∷ [])) → length after ≤ length before + 5 + length entry
-grown seen may_leave journal entries entry before after lists told most =
-    let is : Some lists.bytes ≡ Some before = sym lists.told ∙ told in
-    let same : lists.bytes ≡ before = cc in
-    omega (arith, most, gate_is_there entries (length (front entries)) refl before (subst (λ (l : List ℕ). IsJournal l entries) same lists.spelled), length-front-push entries entry)
+-- how many bytes are taken where an offset is stored behind the entries
+pub roomy : (entries : List (List ℕ)) (entry spelled : List ℕ) (gate old new : ℕ) → gate ≡ length (front entries) → entry ≡ spelled → new ≤ max old (size (entries ++ entry ∷ [])) → new ≤ max old (gate + 6 + length spelled)
+roomy entries entry spelled gate old new gate_is is most = omega (arith, most, gate_is, ap length is, length-front-push entries entry)
+
+-- ---- stores that come of one another
+
+pub count_one : (bytes : List ℕ) (first second : ℕ) → Counts bytes first → Counts bytes second → first ≡ second
+count_one bytes first second a b = a.is ∙ ap size (one_journal bytes a.entries b.entries a.journal b.journal) ∙ sym b.is
+
+pub store_counts : (bytes : List ℕ) (offset : Option Offset) → IsStore bytes offset → (count : ℕ) × Counts bytes count
+store_counts bytes offset store = (size store.entries, record { entries = store.entries; journal = store.journal; is = refl })
+
+pub store_grown : {D : Type 0} (seen : D → Option (List ℕ)) (may_leave : D → List ℕ → Type 0) (old new : StoreOn D) (offset : Option Offset) (before after : List ℕ) (count : ℕ) → ComesOf seen may_leave old new → Holds seen may_leave old offset
+    → seen old.journal.disk ≡ Some before → seen new.journal.disk ≡ Some after → Counts before count → (more : ℕ) × Counts after more × (count ≤ more) × (length after + 1 ≤ max (length before + 1) (more + 2 ^ 30))
+store_grown seen may_leave old new offset before after count comes held was told counts =
+    let far = grown_from seen may_leave old.journal new.journal held.entries before after comes held.lists was told in
+    let is : Some held.lists.bytes ≡ Some before = sym held.lists.told ∙ was in
+    let same : held.lists.bytes ≡ before = cc in
+    let here : Counts before (size held.entries) = record { entries = held.entries; journal = subst (λ (b : List ℕ). IsJournal b held.entries) same held.lists.spelled; is = refl } in
+    let first = count_one before count (size held.entries) counts here in
+    (size far.entries, record { entries = far.entries; journal = far.journal; is = refl }, omega (arith, first, far.on), omega (arith, far.short))
 
 -- ---- entries as they are read, one behind the other
 

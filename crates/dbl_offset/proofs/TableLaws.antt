@@ -12,15 +12,15 @@ use Rattle.dbl_record.specs.declared.error.RecordError.{RecordError}
 use Rattle.dbl_record.specs.Fields.{number32, text_form, IsStored}
 use Rattle.dbl_record.specs.GroupReading.{Read, ◌>>=◌, text_at, number_at}
 use Rattle.dbl_record.proofs.FieldLaws.{IsBytes, ok_is, bind_ok, Takes, Reads, took, number32_reads, text_reads}
-use Rattle.dbl_model.specs.declared.table.TableName.{TableName}
-use Rattle.dbl_model.specs.declared.table.Column.{Column}
-use Rattle.dbl_model.specs.declared.table.TableInfo.{TableInfo}
-use Rattle.dbl_model.specs.declared.cursor.Cursor.{Cursor}
-use Rattle.dbl_model.specs.Tables.{type_at, is_key_type, are_distinct, are_typed, is_table}
-use Rattle.dbl_model.specs.Infos.{key_types}
-use Rattle.dbl_model.specs.Cursors.{IsCursorOf}
-use Rattle.dbl_model.proofs.Lists.{and_left, and_right, and_both}
-use Rattle.dbl_model.proofs.InfoLemmas.{typed_columns, sound_key}
+use Rattle.dbl_table.specs.declared.table.TableName.{TableName}
+use Rattle.dbl_table.specs.declared.table.Column.{Column}
+use Rattle.dbl_table.specs.declared.table.TableInfo.{TableInfo}
+use Rattle.dbl_history.specs.declared.cursor.Cursor.{Cursor}
+use Rattle.dbl_table.specs.Tables.{type_at, is_key_type, are_distinct, are_typed, is_table}
+use Rattle.dbl_table.specs.Infos.{key_types}
+use Rattle.dbl_history.specs.Cursors.{IsCursorOf}
+use Rattle.dbl_table.proofs.Lists.{and_left, and_right, and_both}
+use Rattle.dbl_table.proofs.InfoLemmas.{typed_columns, sound_key}
 use Rattle.dbl_offset.specs.Entries.{counted, column, table, cursor, entry, FitsColumn, FitsTable, FitsEntry}
 use Rattle.dbl_offset.specs.Reading.{no_offset, found, counted_at, column_at, made, info_of, table_at, entry_at}
 use Rattle.dbl_offset.proofs.FieldLaws.{found_is, counted_reads}

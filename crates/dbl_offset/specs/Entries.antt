@@ -6,11 +6,11 @@ use Rattle.dbl_value.specs.declared.value.Val.{Val}
 use Rattle.dbl_value.specs.declared.value.Val.TheVariants as val
 use Rattle.dbl_value.specs.Types.{oid_of}
 use Rattle.dbl_record.specs.Fields.{number32, number64, text_form, truth_form, IsStored}
-use Rattle.dbl_model.specs.declared.table.Column.{Column}
-use Rattle.dbl_model.specs.declared.table.TableInfo.{TableInfo}
-use Rattle.dbl_model.specs.declared.identity.Identity.{Identity}
-use Rattle.dbl_model.specs.declared.row.Key.{Key}
-use Rattle.dbl_model.specs.declared.cursor.Cursor.{Cursor}
+use Rattle.dbl_table.specs.declared.table.Column.{Column}
+use Rattle.dbl_table.specs.declared.table.TableInfo.{TableInfo}
+use Rattle.dbl_table.specs.declared.identity.Identity.{Identity}
+use Rattle.dbl_table.specs.declared.row.Key.{Key}
+use Rattle.dbl_history.specs.declared.cursor.Cursor.{Cursor}
 use Rattle.dbl_offset.specs.declared.offset.Offset.{Offset}
 
 -- ---- the form

@@ -1,8 +1,8 @@
 -- What an offset is, and which bytes spell one.
 use Rattle.std.specs.Prelude.{◌≡◌, ℕ, ◌≤◌, ◌^◌, IsTrue, List, length}
-use Rattle.dbl_model.specs.Identities.{is_good_identity}
-use Rattle.dbl_model.specs.Laws.{AreDistinctTables}
-use Rattle.dbl_model.specs.Cursors.{AreCursorsOf}
+use Rattle.dbl_table.specs.Identities.{is_good_identity}
+use Rattle.dbl_history.specs.Laws.{AreDistinctTables}
+use Rattle.dbl_history.specs.Cursors.{AreCursorsOf}
 use Rattle.dbl_offset.specs.declared.offset.Offset.{Offset}
 use Rattle.dbl_offset.specs.Entries.{Fits, spelling}
 

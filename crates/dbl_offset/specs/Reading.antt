@@ -12,15 +12,15 @@ use Rattle.dbl_value.specs.Values.{value_of}
 use Rattle.dbl_record.specs.declared.error.RecordError.{RecordError}
 use Rattle.dbl_record.specs.declared.error.RecordError.TheVariants.{BadRecord}
 use Rattle.dbl_record.specs.GroupReading.{Read, ◌>>=◌, number_at, text_at, truth_at, many_at}
-use Rattle.dbl_model.specs.declared.table.TableName.{TableName}
-use Rattle.dbl_model.specs.declared.table.Column.{Column}
-use Rattle.dbl_model.specs.declared.table.TableInfo.{TableInfo}
-use Rattle.dbl_model.specs.declared.identity.Identity.{Identity}
-use Rattle.dbl_model.specs.declared.row.Key.{Key}
-use Rattle.dbl_model.specs.declared.cursor.Cursor.{Cursor}
-use Rattle.dbl_model.specs.Tables.{same_name, are_distinct, is_table}
-use Rattle.dbl_model.specs.Infos.{key_types}
-use Rattle.dbl_model.specs.Identities.{is_good_identity}
+use Rattle.dbl_table.specs.declared.table.TableName.{TableName}
+use Rattle.dbl_table.specs.declared.table.Column.{Column}
+use Rattle.dbl_table.specs.declared.table.TableInfo.{TableInfo}
+use Rattle.dbl_table.specs.declared.identity.Identity.{Identity}
+use Rattle.dbl_table.specs.declared.row.Key.{Key}
+use Rattle.dbl_history.specs.declared.cursor.Cursor.{Cursor}
+use Rattle.dbl_table.specs.Tables.{same_name, are_distinct, is_table}
+use Rattle.dbl_table.specs.Infos.{key_types}
+use Rattle.dbl_table.specs.Identities.{is_good_identity}
 use Rattle.dbl_offset.specs.declared.offset.Offset.{Offset}
 
 -- the bytes spell no offset

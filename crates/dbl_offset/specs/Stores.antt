@@ -1,13 +1,16 @@
 -- Offset stores: on bytes, on disks, and what a stop leaves of them.
-use Rattle.std.specs.Prelude.{◌≡◌, ℕ, IsTrue, Option, Some, None, List, [], ◌∷◌, ◌++◌, slice_get, take}
+use Rattle.std.specs.Prelude.{◌≡◌, ℕ, ◌+◌, IsTrue, Option, Some, None, List, [], ◌∷◌, ◌++◌, length, slice_get, take}
 use Rattle.std.specs.List.{All}
-use Rattle.dbl_journal.specs.Form.{IsJournal}
-use Rattle.dbl_journal.specs.Stored.{OnDisk, Lists}
+use Rattle.dbl_disk.specs.Disks.{Torn}
+use Rattle.dbl_journal.specs.Form.{IsFaultAt, IsJournal}
+use Rattle.dbl_journal.specs.Growth as growth
+use Rattle.dbl_journal.specs.Stored.{OnDisk, Lists, size}
 use Rattle.dbl_journal.specs.declared.error.JournalError.{JournalError}
 use Rattle.dbl_journal.specs.declared.error.JournalError.TheVariants as journal_error
 use Rattle.dbl_offset.specs.declared.offset.Offset.{Offset}
 use Rattle.dbl_offset.specs.declared.error.OffsetError.{OffsetError}
 use Rattle.dbl_offset.specs.declared.error.OffsetError.TheVariants as error
+use Rattle.dbl_offset.specs.Entries.{spelling}
 use Rattle.dbl_offset.specs.Offsets.{Spells, IsEntry}
 
 -- a last entry, and the offset that it spells
@@ -38,21 +41,50 @@ pub record HasBadOffset (bytes : List ℕ) (index : ℕ) : Type 0 where
   pub there : slice_get entries index ≡ Some entry
   pub bad : ¬ IsEntry entry
 
--- the journal, and the offset of its last entry
-pub record OnJournal (D : Type 0) : Type 0 where
+-- The bytes are no store, and this place tells why. Today: they are no journal.
+abbrev pub IsNoStoreAt : List ℕ → ℕ → Type 0
+IsNoStoreAt bytes at = IsFaultAt bytes at
+
+-- So many first bytes of a store count: what stands behind them tells nothing, and the next offset takes their place. Today:
+-- those of the journal, up to its last gate and with it.
+pub record Counts (bytes : List ℕ) (count : ℕ) : Type 0 where
+  pub entries : List (List ℕ)
+  pub journal : IsJournal bytes entries
+  pub is : count ≡ size entries
+
+-- A store on a disk, as contracts see it: the offset that it answers, and how its bytes are laid out. Today: in a journal, the
+-- offset being that of its last entry.
+pub record StoreOn (D : Type 0) : Type 0 where
   pub journal : OnDisk D
   pub offset : Option Offset
 
 -- whether the store can be used
-abbrev pub IsLive : {D : Type 0} → OnJournal D → Type 0
+abbrev pub IsLive : {D : Type 0} → StoreOn D → Type 0
 IsLive store = IsTrue store.journal.live
 
-abbrev pub disk_of : {D : Type 0} → OnJournal D → D
+abbrev pub disk_of : {D : Type 0} → StoreOn D → D
 disk_of store = store.journal.disk
+
+-- how many bytes a store without an offset takes
+abbrev pub least_room : ℕ
+least_room = size []
+
+-- How many bytes a store takes once this offset stands in it. Today: those that count, those of the offset, and 5.
+abbrev pub room_of : {D : Type 0} → StoreOn D → Offset → ℕ
+room_of store offset = store.journal.gate + 6 + length (spelling offset)
+
+-- what the bytes may be after a store was made on a disk of these bytes, whether that was done or cut short
+abbrev pub BeginsTorn : List ℕ → List ℕ → Type 0
+BeginsTorn old new = Torn 0 9 old new
+
+-- The new store comes of the old one: what no call undoes, whatever it answers. The disk goes on telling its bytes, no fewer
+-- of them count, and they become fewer than 2^30 past those, unless they were more before.
+abbrev pub ComesOf : {D : Type 0} → (D → Option (List ℕ)) → (D → List ℕ → Type 0) → StoreOn D → StoreOn D → Type 0
+ComesOf seen may_leave old new = growth.ComesOf seen may_leave old.journal new.journal
 
 -- The store holds this offset: it can be used, its disk tells its bytes, which are a store of the offset, and a stop leaves
 -- nothing else.
-pub record Holds {D : Type 0} (seen : D → Option (List ℕ)) (may_leave : D → List ℕ → Type 0) (store : OnJournal D) (offset : Option Offset) : Type 0 where
+pub record Holds {D : Type 0} (seen : D → Option (List ℕ)) (may_leave : D → List ℕ → Type 0) (store : StoreOn D) (offset : Option Offset) : Type 0 where
   pub entries : List (List ℕ)
   pub lists : Lists seen may_leave store.journal entries
   pub each : All IsEntry entries

@@ -2,16 +2,17 @@
 
 ghost use Rattle.std.specs.Prelude.{◌≡◌, map};
 ghost use Rattle.dbl_record.specs.GroupReading.{Gives};
-ghost use Rattle.dbl_model.specs.Tables.{type_at};
-ghost use Rattle.dbl_model.specs.Infos.{key_types};
+ghost use Rattle.dbl_table.specs.Tables.{type_at};
+ghost use Rattle.dbl_table.specs.Infos.{key_types};
 ghost use Rattle.dbl_offset.specs.Reading.{cell_at, cells_at, cursor_at, entry_at, integer_at, is_integer_of, key_at, last_at, word_at};
 
 use crate::reading::{NO_OFFSET, byte};
 use crate::tables::read_table;
 use dbl_base::Seq;
-use dbl_model::{Column, Cursor, Key, TableInfo};
+use dbl_history::Cursor;
 use dbl_record::RecordError;
 use dbl_record::fields::{read_number64, read_text, read_truth};
+use dbl_table::{Column, Key, TableInfo};
 use dbl_value::{PgType, Val, ValueError, read_owned};
 use std::alloc::Global;
 

@@ -3,7 +3,7 @@
 ghost use Rattle.std.specs.Prelude.{◌≡◌, ◌⊎◌, ℕ, ◌^◌, ◌<◌, ◌≤◌, Err, Ok, IfOk, length, map};
 ghost use Rattle.std.specs.List.{list_any, zip};
 ghost use Rattle.dbl_record.specs.GroupReading.{Gives, many_at};
-ghost use Rattle.dbl_model.specs.Tables.{are_distinct, same_name};
+ghost use Rattle.dbl_table.specs.Tables.{are_distinct, same_name};
 ghost use Rattle.dbl_offset.specs.declared.offset.Offset.{Offset};
 ghost use Rattle.dbl_offset.specs.Offsets.{IsEntry, Spells};
 ghost use Rattle.dbl_offset.specs.Reading.{entry_at, identity_at, numbers_at, offset_at, tables_at, version_at, whole};
@@ -12,9 +12,10 @@ use crate::cursors::read_entry;
 use crate::offset::Offset;
 use crate::reading::{NO_OFFSET, byte};
 use dbl_base::{Lsn, Seq};
-use dbl_model::{Cursor, Identity, TableInfo};
+use dbl_history::Cursor;
 use dbl_record::RecordError;
 use dbl_record::fields::{read_number32, read_number64, read_text};
+use dbl_table::{Identity, TableInfo};
 use std::alloc::Global;
 
 /// The most tables of an offset.

@@ -14,10 +14,8 @@ mod writing;
 
 pub use error::OffsetError;
 pub use laws::{
-    offsets_are_spelled_once, stores_are_read_once, stores_hold_one_offset, stores_or_faults,
+    offsets_are_spelled_once, stores_are_read_once, stores_come_of_stores, stores_hold_one_offset,
+    stores_or_faults,
 };
 pub use offset::Offset;
 pub use store::OffsetStore;
-
-#[cfg(test)]
-mod tests;

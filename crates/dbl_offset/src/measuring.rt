@@ -9,7 +9,8 @@ ghost use Rattle.dbl_offset.specs.Measures.{Measures};
 
 use crate::offset::Offset;
 use dbl_base::Text;
-use dbl_model::{Column, Cursor, Identity, TableInfo};
+use dbl_history::Cursor;
+use dbl_table::{Column, Identity, TableInfo};
 use dbl_value::Val;
 
 fn add_text(before: u64, content: &Text) -> u64

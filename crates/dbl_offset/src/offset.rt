@@ -1,7 +1,8 @@
 ghost use Rattle.std.specs.Prelude.{◌≡◌, IfOk};
 
 use dbl_base::{Lsn, Seq};
-use dbl_model::{Cursor, Identity, TableInfo};
+use dbl_history::Cursor;
+use dbl_table::{Identity, TableInfo};
 use std::alloc::{AllocError, Global};
 
 /// How far a connector has come: what it captures, and from where it goes on after a stop (Debezium PostgreSQL connector,

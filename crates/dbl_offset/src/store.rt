@@ -1,14 +1,13 @@
-ghost use Rattle.std.specs.Prelude.{◌≡◌, ◌≢◌, ◌⊎◌, ◌↔◌, ℕ, ◌+◌, ◌^◌, ◌<◌, ◌≤◌, List, [], length, option_map, Option, Some, None, Ok, Err, IfOk, IfErr, IfSome, OnOk, OnErr, MatchResult, IsTrue, take, slice_get};
+ghost use Rattle.std.specs.Prelude.{◌≡◌, ◌≢◌, ◌⊎◌, ◌↔◌, ℕ, ◌^◌, ◌<◌, ◌≤◌, List, [], length, max, option_map, Option, Some, None, Ok, Err, IfOk, IfErr, IfSome, OnOk, OnErr, MatchResult, IsTrue, take, slice_get};
 ghost use Rattle.std.specs.List.{All};
 ghost use Rattle.dbl_base.specs.Streams.{Rose};
-ghost use Rattle.dbl_disk.specs.Disks.{Follows, Torn};
-ghost use Rattle.dbl_journal.specs.Form.{IsFaultAt};
-ghost use Rattle.dbl_journal.specs.Stored.{Lists, size};
+ghost use Rattle.dbl_disk.specs.Disks.{Follows, IsOnly};
+ghost use Rattle.dbl_journal.specs.Stored.{IsSteady, Lists};
 ghost use Rattle.dbl_offset.specs.declared.offset.Offset.{Offset};
 ghost use Rattle.dbl_offset.specs.Entries.{spelling};
 ghost use Rattle.dbl_offset.specs.Measures.{capped};
 ghost use Rattle.dbl_offset.specs.Offsets.{IsEntry, IsOffset, Spells};
-ghost use Rattle.dbl_offset.specs.Stores.{HasBadOffset, Holds, IsLastOf, IsLive, IsStore, LeavesOffset, disk_of};
+ghost use Rattle.dbl_offset.specs.Stores.{BeginsTorn, ComesOf, HasBadOffset, Holds, IsLastOf, IsLive, IsNoStoreAt, IsStore, LeavesOffset, disk_of, least_room, room_of};
 
 use crate::decoding::decode;
 use crate::measuring::measure;
@@ -32,9 +31,9 @@ pub struct OffsetStore<D: Disk> {
 impl<D: Disk> Model for OffsetStore<D> {
     ghost use Rattle.std.specs.Prelude.{IfSome};
     ghost use Rattle.dbl_offset.specs.Offsets.{IsOffset};
-    ghost use Rattle.dbl_offset.specs.Stores.{OnJournal};
+    ghost use Rattle.dbl_offset.specs.Stores.{StoreOn};
 
-    ghost Value = { OnJournal D };
+    ghost Value = { StoreOn D };
 
     ghost view = { λ s. record { journal = s.journal; offset = s.offset } };
 
@@ -72,6 +71,7 @@ fn read_last<D: Disk>(
     ensures store { (at : ℕ) → result ≢ Err (OffsetError.NotAStore at) }
     ensures short { (len : ℕ) → result ≢ Err (OffsetError.TooLong len) }
     ensures later { D.faults journal.old.disk ≤ D.faults journal.new.disk }
+    ensures steady { result ≢ Err OffsetError.Failed → IsSteady D.seen D.faults journal.old.disk journal.new.disk }
 {
     let mut last = None;
     for index in 0..journal.count() {
@@ -88,36 +88,42 @@ impl<D: Disk> OffsetStore<D> {
         ensures made { D.seen disk ≡ Some [] → IfOk result (λ store. Holds D.seen D.may_leave store None) }
         ensures live { IfOk result IsLive }
         ensures empty { IfOk result (λ store. store.offset ≡ None) }
-        ensures small { (bytes : List ℕ) → D.seen disk ≡ Some [] → MatchResult result (λ store. D.seen (disk_of store) ≡ Some bytes → length bytes ≤ size []) (λ refused. D.seen refused.disk ≡ Some bytes → length bytes ≤ size []) }
+        ensures small { (bytes : List ℕ) → D.seen disk ≡ Some [] → MatchResult result (λ store. D.seen (disk_of store) ≡ Some bytes → length bytes ≤ least_room) (λ refused. D.seen refused.disk ≡ Some bytes → length bytes ≤ least_room) }
         ensures refused { IfErr result (λ refused. refused.error ≡ OffsetError.Failed) }
         ensures failed { IfErr result (λ refused. Rose (D.faults disk) (D.faults refused.disk)) }
-        ensures left { IfErr result (λ refused. Follows (Torn 0 9) (D.may_leave disk) (D.may_leave refused.disk)) }
+        ensures left { IfErr result (λ refused. Follows BeginsTorn (D.may_leave disk) (D.may_leave refused.disk)) }
         ensures later { MatchResult result (λ store. D.faults disk ≤ D.faults (disk_of store)) (λ refused. D.faults disk ≤ D.faults refused.disk) }
+        ensures steady { IfOk result (λ store. IsSteady D.seen D.faults disk (disk_of store)) }
     {
-        match Journal::make(alloc, disk) {
-            Ok(journal) => Ok(OffsetStore {
-                journal,
-                offset: None,
-            }),
-            Err(Refused { disk, error }) => Err(Refused {
-                disk,
-                error: OffsetError::from(error),
-            }),
-        }
+        let journal = match Journal::make(alloc, disk) {
+            Ok(journal) => journal,
+            Err(Refused { disk, error }) => {
+                return Err(Refused {
+                    disk,
+                    error: OffsetError::from(error),
+                });
+            }
+        };
+        let offset = None;
+        Ok(OffsetStore { journal, offset })
     }
 
-    /// The store on the disk, as a stop may have left it. It begins with a sync, and reads each entry once.
+    /// The store on the disk, as a stop may have left it. It begins with a sync, and reads each entry once. Whatever it answers
+    /// but `Failed`, a stop leaves what was read and nothing else.
     pub fn open(alloc: Global, disk: D) -> Result<OffsetStore<D>, Refused<D, OffsetError>>
         ensures opened { (bytes : List ℕ) → D.seen disk ≡ Some bytes → IfOk result (λ store. IsStore bytes store.offset) }
         ensures holds { (bytes : List ℕ) → D.seen disk ≡ Some bytes → IfOk result (λ store. Holds D.seen D.may_leave store store.offset) }
-        ensures not_a_store { (bytes : List ℕ) (at : ℕ) → D.seen disk ≡ Some bytes → IfErr result (λ refused. refused.error ≡ OffsetError.NotAStore at → IsFaultAt bytes at) }
+        ensures not_a_store { (bytes : List ℕ) (at : ℕ) → D.seen disk ≡ Some bytes → IfErr result (λ refused. refused.error ≡ OffsetError.NotAStore at → IsNoStoreAt bytes at) }
         ensures bad_offset { (bytes : List ℕ) (index : ℕ) → D.seen disk ≡ Some bytes → IfErr result (λ refused. refused.error ≡ OffsetError.BadOffset index → HasBadOffset bytes index) }
         ensures short { IfErr result (λ refused. (len : ℕ) → refused.error ≢ OffsetError.TooLong len) }
         ensures live { IfOk result IsLive }
         ensures failed { IfErr result (λ refused. refused.error ≡ OffsetError.Failed → Rose (D.faults disk) (D.faults refused.disk)) }
         ensures seen { MatchResult result (λ store. D.seen (disk_of store) ≡ D.seen disk) (λ refused. D.seen refused.disk ≡ D.seen disk) }
         ensures images { (image : List ℕ) → MatchResult result (λ store. D.may_leave (disk_of store) image → D.may_leave disk image) (λ refused. D.may_leave refused.disk image → D.may_leave disk image) }
+        ensures stable { (bytes : List ℕ) → D.seen disk ≡ Some bytes → MatchResult result (λ store. IsOnly bytes (D.may_leave (disk_of store)))
+            (λ refused. refused.error ≢ OffsetError.Failed → IsOnly bytes (D.may_leave refused.disk)) }
         ensures later { MatchResult result (λ store. D.faults disk ≤ D.faults (disk_of store)) (λ refused. D.faults disk ≤ D.faults refused.disk) }
+        ensures steady { MatchResult result (λ store. IsSteady D.seen D.faults disk (disk_of store)) (λ refused. refused.error ≢ OffsetError.Failed → IsSteady D.seen D.faults disk refused.disk) }
     {
         let mut journal = match Journal::open(alloc, disk) {
             Ok(journal) => journal,
@@ -154,7 +160,9 @@ impl<D: Disk> OffsetStore<D> {
         requires offset { IsOffset offset }
         ensures stored { (old : Option Offset) → Holds D.seen D.may_leave self.old old → OnOk result (Holds D.seen D.may_leave self.new (Some offset)) }
         ensures left { (old : Option Offset) → Holds D.seen D.may_leave self.old old → LeavesOffset D.may_leave (disk_of self.new) (λ left. (left ≡ old) ⊎ (left ≡ Some offset)) }
-        ensures grows { (old : Option Offset) (before after : List ℕ) → Holds D.seen D.may_leave self.old old → D.seen (disk_of self.old) ≡ Some before → D.seen (disk_of self.new) ≡ Some after → length after ≤ length before + 5 + length (spelling offset) }
+        ensures grows { (old : Option Offset) (before after : List ℕ) → Holds D.seen D.may_leave self.old old → D.seen (disk_of self.old) ≡ Some before → D.seen (disk_of self.new) ≡ Some after → length after ≤ max (length before) (room_of self.old offset) }
+        ensures comes { ComesOf D.seen D.may_leave self.old self.new }
+        ensures told { (before : List ℕ) → D.seen (disk_of self.old) ≡ Some before → (after : List ℕ) × (D.seen (disk_of self.new) ≡ Some after) }
         ensures loads { OnOk result (self.new.offset ≡ Some offset) }
         ensures live { OnOk result (IsLive self.new) }
         ensures too_long { (len : ℕ) → (result ≡ Err (OffsetError.TooLong len)) ↔ ((2 ^ 28 < length (spelling offset)) × (len ≡ capped (length (spelling offset)))) }
@@ -164,6 +172,7 @@ impl<D: Disk> OffsetStore<D> {
         ensures a_store { (at : ℕ) → result ≢ Err (OffsetError.NotAStore at) }
         ensures no_bad_offset { (index : ℕ) → result ≢ Err (OffsetError.BadOffset index) }
         ensures later { D.faults (disk_of self.old) ≤ D.faults (disk_of self.new) }
+        ensures steady { result ≢ Err OffsetError.Failed → IsSteady D.seen D.faults (disk_of self.old) (disk_of self.new) }
     {
         let count = measure(&offset);
         if count > ENTRY_LIMIT as u64 {

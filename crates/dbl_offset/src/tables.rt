@@ -7,9 +7,9 @@ ghost use Rattle.dbl_offset.specs.Reading.{column_at, counted_at, table_at};
 
 use crate::reading::NO_OFFSET;
 use dbl_base::Seq;
-use dbl_model::{Column, TableInfo, TableName};
 use dbl_record::RecordError;
 use dbl_record::fields::{read_number32, read_text};
+use dbl_table::{Column, TableInfo, TableName};
 use std::alloc::Global;
 
 /// The fewest bytes that a column has.

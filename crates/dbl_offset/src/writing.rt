@@ -7,9 +7,10 @@ ghost use Rattle.dbl_offset.specs.Entries.{Fits, FitsCell, FitsColumn, FitsCurso
 
 use crate::decoding::VERSION;
 use crate::offset::Offset;
+use dbl_history::Cursor;
 use dbl_journal::ENTRY_ROOM;
-use dbl_model::{Column, Cursor, Identity, TableInfo};
 use dbl_record::fields::{append_number32, append_number64, append_text, append_truth};
+use dbl_table::{Column, Identity, TableInfo};
 use dbl_value::Val;
 use std::alloc::{AllocError, Global};
 

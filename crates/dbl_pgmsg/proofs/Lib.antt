@@ -9,3 +9,4 @@ pub mod FaultLaws
 pub mod PrefixLaws
 pub mod Sizes
 pub mod MessageSizes
+pub mod Fronts

@@ -9,3 +9,8 @@ Leaves room size Fits None = Fits → room < size
 -- these bytes were written behind those that stood there
 abbrev pub Appends : List ℕ → List ℕ → List ℕ → Type 0
 Appends old bytes new = new ≡ old ++ bytes
+
+-- what stood there is still the front of what stands there
+pub record Begins (old new : List ℕ) : Type 0 where
+  pub behind : List ℕ
+  pub parts : new ≡ old ++ behind

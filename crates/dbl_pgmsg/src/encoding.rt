@@ -1,11 +1,9 @@
 //! From messages to bytes.
 
-ghost use Rattle.std.specs.Prelude.{◌≡◌, List, OnOk, IfOk, IfErr};
-ghost use Rattle.dbl_pgmsg.specs.Grammar.{spelling, FitsFields, Fits, Spells};
-ghost use Rattle.dbl_pgmsg.specs.Room.{Appends};
+ghost use Rattle.std.specs.Prelude.{◌≡◌, ◌++◌, List, OnOk, OnErr, IfOk, IfErr};
+ghost use Rattle.dbl_pgmsg.specs.Grammar.{int32, string, spelling, FitsFields, Fits, Spells};
+ghost use Rattle.dbl_pgmsg.specs.Room.{Appends, Begins};
 
-use crate::decoding::LIMIT;
-use crate::fitting::message_room;
 use crate::writing::{
     int16, int32, int64, signed64, string, write_before, write_columns, write_oids, write_old,
     write_tuple,
@@ -14,10 +12,11 @@ use crate::{Message, MsgError, OldTuple, RelationColumn, Tuple};
 use dbl_base::{Bytes, Lsn, Text};
 use std::alloc::{AllocError, Global};
 
-#[tactic(auto, unfolding(crate::specs::Grammar::spelling))]
+#[tactic(auto, using(crate::proofs::Fronts::begins_same, crate::proofs::Fronts::begins_behind), unfolding(crate::specs::Grammar::spelling))]
 fn write_begin(out: &mut Vec<u8>, lsn: &Lsn, time: &i64, xid: &u32) -> Result<(), AllocError>
     requires { FitsFields (Message.Begin lsn.now time.now xid.now) }
-    ensures { OnOk result (Appends out.old.items (spelling (Message.Begin lsn.now time.now xid.now)) out.new.items) }
+    ensures written { OnOk result (Appends out.old.items (spelling (Message.Begin lsn.now time.now xid.now)) out.new.items) }
+    ensures kept { OnErr result (Begins out.old.items out.new.items) }
 {
     out.extend_from_slice(b"B")?;
     int64(out, lsn.0)?;
@@ -25,7 +24,7 @@ fn write_begin(out: &mut Vec<u8>, lsn: &Lsn, time: &i64, xid: &u32) -> Result<()
     int32(out, *xid)
 }
 
-#[tactic(auto, unfolding(crate::specs::Grammar::spelling))]
+#[tactic(auto, using(crate::proofs::Fronts::begins_same, crate::proofs::Fronts::begins_behind), unfolding(crate::specs::Grammar::spelling))]
 fn write_commit(
     out: &mut Vec<u8>,
     flags: &u8,
@@ -34,7 +33,8 @@ fn write_commit(
     time: &i64,
 ) -> Result<(), AllocError>
     requires { FitsFields (Message.Commit flags.now lsn.now end_lsn.now time.now) }
-    ensures { OnOk result (Appends out.old.items (spelling (Message.Commit flags.now lsn.now end_lsn.now time.now)) out.new.items) }
+    ensures written { OnOk result (Appends out.old.items (spelling (Message.Commit flags.now lsn.now end_lsn.now time.now)) out.new.items) }
+    ensures kept { OnErr result (Begins out.old.items out.new.items) }
 {
     out.extend_from_slice(&[b'C', *flags])?;
     int64(out, lsn.0)?;
@@ -42,28 +42,40 @@ fn write_commit(
     signed64(out, time)
 }
 
-#[tactic(auto, unfolding(crate::specs::Grammar::spelling))]
+#[tactic(auto, using(crate::proofs::Fronts::begins_same, crate::proofs::Fronts::begins_behind), unfolding(crate::specs::Grammar::spelling))]
 fn write_origin(out: &mut Vec<u8>, lsn: &Lsn, name: &Text) -> Result<(), AllocError>
     requires { FitsFields (Message.Origin lsn.now name.now) }
-    ensures { OnOk result (Appends out.old.items (spelling (Message.Origin lsn.now name.now)) out.new.items) }
+    ensures written { OnOk result (Appends out.old.items (spelling (Message.Origin lsn.now name.now)) out.new.items) }
+    ensures kept { OnErr result (Begins out.old.items out.new.items) }
 {
     out.extend_from_slice(b"O")?;
     int64(out, lsn.0)?;
     string(out, name)
 }
 
-#[tactic(auto, unfolding(crate::specs::Grammar::spelling))]
-fn write_type(out: &mut Vec<u8>, oid: &u32, namespace: &Text, name: &Text) -> Result<(), AllocError>
-    requires { FitsFields (Message.TypeName oid.now namespace.now name.now) }
-    ensures { OnOk result (Appends out.old.items (spelling (Message.TypeName oid.now namespace.now name.now)) out.new.items) }
+/// The OID of a table or a type, and its name.
+#[tactic(auto, using(crate::proofs::Fronts::begins_same, crate::proofs::Fronts::begins_behind))]
+fn write_name(out: &mut Vec<u8>, oid: &u32, namespace: &Text, name: &Text) -> Result<(), AllocError>
+    ensures written { OnOk result (Appends out.old.items
+        (int32 oid.now ++ string namespace.now ++ string name.now) out.new.items) }
+    ensures kept { OnErr result (Begins out.old.items out.new.items) }
 {
-    out.extend_from_slice(b"Y")?;
     int32(out, *oid)?;
     string(out, namespace)?;
     string(out, name)
 }
 
-#[tactic(auto, unfolding(crate::specs::Grammar::spelling))]
+#[tactic(auto, using(crate::proofs::Fronts::begins_same, crate::proofs::Fronts::begins_behind), unfolding(crate::specs::Grammar::spelling))]
+fn write_type(out: &mut Vec<u8>, oid: &u32, namespace: &Text, name: &Text) -> Result<(), AllocError>
+    requires { FitsFields (Message.TypeName oid.now namespace.now name.now) }
+    ensures written { OnOk result (Appends out.old.items (spelling (Message.TypeName oid.now namespace.now name.now)) out.new.items) }
+    ensures kept { OnErr result (Begins out.old.items out.new.items) }
+{
+    out.extend_from_slice(b"Y")?;
+    write_name(out, oid, namespace, name)
+}
+
+#[tactic(auto, using(crate::proofs::Fronts::begins_same, crate::proofs::Fronts::begins_behind), unfolding(crate::specs::Grammar::spelling))]
 fn write_relation(
     out: &mut Vec<u8>,
     oid: &u32,
@@ -73,21 +85,21 @@ fn write_relation(
     columns: &Vec<RelationColumn>,
 ) -> Result<(), AllocError>
     requires { FitsFields (Message.Relation oid.now namespace.now name.now identity.now columns.now.items) }
-    ensures { OnOk result (Appends out.old.items (spelling (Message.Relation oid.now namespace.now name.now identity.now columns.now.items)) out.new.items) }
+    ensures written { OnOk result (Appends out.old.items (spelling (Message.Relation oid.now namespace.now name.now identity.now columns.now.items)) out.new.items) }
+    ensures kept { OnErr result (Begins out.old.items out.new.items) }
 {
     out.extend_from_slice(b"R")?;
-    int32(out, *oid)?;
-    string(out, namespace)?;
-    string(out, name)?;
+    write_name(out, oid, namespace, name)?;
     out.extend_from_slice(&[*identity])?;
     int16(out, columns.len() as u16)?;
     write_columns(out, columns)
 }
 
-#[tactic(auto, unfolding(crate::specs::Grammar::spelling))]
+#[tactic(auto, using(crate::proofs::Fronts::begins_same, crate::proofs::Fronts::begins_behind), unfolding(crate::specs::Grammar::spelling))]
 fn write_insert(out: &mut Vec<u8>, oid: &u32, row: &Tuple) -> Result<(), AllocError>
     requires { FitsFields (Message.Insert oid.now row.now) }
-    ensures { OnOk result (Appends out.old.items (spelling (Message.Insert oid.now row.now)) out.new.items) }
+    ensures written { OnOk result (Appends out.old.items (spelling (Message.Insert oid.now row.now)) out.new.items) }
+    ensures kept { OnErr result (Begins out.old.items out.new.items) }
 {
     out.extend_from_slice(b"I")?;
     int32(out, *oid)?;
@@ -95,7 +107,7 @@ fn write_insert(out: &mut Vec<u8>, oid: &u32, row: &Tuple) -> Result<(), AllocEr
     write_tuple(out, row)
 }
 
-#[tactic(auto, unfolding(crate::specs::Grammar::spelling))]
+#[tactic(auto, using(crate::proofs::Fronts::begins_same, crate::proofs::Fronts::begins_behind), unfolding(crate::specs::Grammar::spelling))]
 fn write_update(
     out: &mut Vec<u8>,
     oid: &u32,
@@ -103,7 +115,8 @@ fn write_update(
     row: &Tuple,
 ) -> Result<(), AllocError>
     requires { FitsFields (Message.Update oid.now before.now row.now) }
-    ensures { OnOk result (Appends out.old.items (spelling (Message.Update oid.now before.now row.now)) out.new.items) }
+    ensures written { OnOk result (Appends out.old.items (spelling (Message.Update oid.now before.now row.now)) out.new.items) }
+    ensures kept { OnErr result (Begins out.old.items out.new.items) }
 {
     out.extend_from_slice(b"U")?;
     int32(out, *oid)?;
@@ -112,20 +125,22 @@ fn write_update(
     write_tuple(out, row)
 }
 
-#[tactic(auto, unfolding(crate::specs::Grammar::spelling))]
+#[tactic(auto, using(crate::proofs::Fronts::begins_same, crate::proofs::Fronts::begins_behind), unfolding(crate::specs::Grammar::spelling))]
 fn write_delete(out: &mut Vec<u8>, oid: &u32, before: &OldTuple) -> Result<(), AllocError>
     requires { FitsFields (Message.Delete oid.now before.now) }
-    ensures { OnOk result (Appends out.old.items (spelling (Message.Delete oid.now before.now)) out.new.items) }
+    ensures written { OnOk result (Appends out.old.items (spelling (Message.Delete oid.now before.now)) out.new.items) }
+    ensures kept { OnErr result (Begins out.old.items out.new.items) }
 {
     out.extend_from_slice(b"D")?;
     int32(out, *oid)?;
     write_old(out, before)
 }
 
-#[tactic(auto, unfolding(crate::specs::Grammar::spelling))]
+#[tactic(auto, using(crate::proofs::Fronts::begins_same, crate::proofs::Fronts::begins_behind), unfolding(crate::specs::Grammar::spelling))]
 fn write_truncate(out: &mut Vec<u8>, options: &u8, oids: &Vec<u32>) -> Result<(), AllocError>
     requires { FitsFields (Message.Truncate options.now oids.now.items) }
-    ensures { OnOk result (Appends out.old.items (spelling (Message.Truncate options.now oids.now.items)) out.new.items) }
+    ensures written { OnOk result (Appends out.old.items (spelling (Message.Truncate options.now oids.now.items)) out.new.items) }
+    ensures kept { OnErr result (Begins out.old.items out.new.items) }
 {
     out.extend_from_slice(b"T")?;
     int32(out, oids.len() as u32)?;
@@ -133,7 +148,7 @@ fn write_truncate(out: &mut Vec<u8>, options: &u8, oids: &Vec<u32>) -> Result<()
     write_oids(out, oids)
 }
 
-#[tactic(auto, unfolding(crate::specs::Grammar::spelling))]
+#[tactic(auto, using(crate::proofs::Fronts::begins_same, crate::proofs::Fronts::begins_behind), unfolding(crate::specs::Grammar::spelling))]
 fn write_logical(
     out: &mut Vec<u8>,
     flags: &u8,
@@ -142,7 +157,8 @@ fn write_logical(
     content: &Vec<u8>,
 ) -> Result<(), AllocError>
     requires { FitsFields (Message.Logical flags.now lsn.now prefix.now content.now.items) }
-    ensures { OnOk result (Appends out.old.items (spelling (Message.Logical flags.now lsn.now prefix.now content.now.items)) out.new.items) }
+    ensures written { OnOk result (Appends out.old.items (spelling (Message.Logical flags.now lsn.now prefix.now content.now.items)) out.new.items) }
+    ensures kept { OnErr result (Begins out.old.items out.new.items) }
 {
     out.extend_from_slice(&[b'M', *flags])?;
     int64(out, lsn.0)?;
@@ -151,9 +167,11 @@ fn write_logical(
     out.extend_from_slice(content)
 }
 
+#[tactic(auto, using(crate::proofs::Fronts::begins_same, crate::proofs::Fronts::begins_behind))]
 fn write_message(out: &mut Vec<u8>, message: &Message) -> Result<(), AllocError>
     requires { FitsFields message.now }
-    ensures { OnOk result (Appends out.old.items (spelling message.now) out.new.items) }
+    ensures written { OnOk result (Appends out.old.items (spelling message.now) out.new.items) }
+    ensures kept { OnErr result (Begins out.old.items out.new.items) }
 {
     match message {
         Message::Begin { lsn, time, xid } => write_begin(out, lsn, time, xid),
@@ -189,6 +207,24 @@ fn write_message(out: &mut Vec<u8>, message: &Message) -> Result<(), AllocError>
     }
 }
 
+#[tactic(auto, using(crate::proofs::Fronts::begins_cut))]
+/// Appends the spelling of the message to what the buffer holds, which `Message::fits` allows. Where memory is wanted, the
+/// buffer holds what it held before.
+pub fn append_message(out: &mut Vec<u8>, message: &Message) -> Result<(), MsgError>
+    requires { Fits message.now }
+    ensures spelled { OnOk result (Appends out.old.items (spelling message.now) out.new.items) }
+    ensures kept { OnErr result (out.new.items ≡ out.old.items) }
+    // Nothing but want of memory keeps it from being written.
+    ensures memory { IfErr result (λ error. error ≡ MsgError.Memory) }
+{
+    let before = out.len();
+    if write_message(out, message).is_err() {
+        out.truncate(before);
+        return Err(MsgError::Memory);
+    }
+    Ok(())
+}
+
 /// The one spelling of the message ("Logical Replication Message Formats", protocol version 1). `Message::fits` is the test
 /// for what is required. One buffer of the spelling's length is taken.
 pub fn encode(alloc: Global, message: &Message) -> Result<Bytes, MsgError>
@@ -197,8 +233,7 @@ pub fn encode(alloc: Global, message: &Message) -> Result<Bytes, MsgError>
     // Nothing but want of memory keeps it from being written.
     ensures memory { IfErr result (λ error. error ≡ MsgError.Memory) }
 {
-    let left = message_room(LIMIT, message).unwrap_or(0);
-    let mut out = Vec::with_capacity(alloc, LIMIT.saturating_sub(left))?;
-    write_message(&mut out, message)?;
+    let mut out = Vec::with_capacity(alloc, message.length().unwrap_or(0))?;
+    append_message(&mut out, message)?;
     Ok(Bytes::make(out))
 }

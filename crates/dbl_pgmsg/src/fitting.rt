@@ -2,6 +2,7 @@
 
 ghost use Rattle.std.specs.Prelude.{◌≡◌, ◌<◌, ◌≤◌, ◌↔◌, ◌+◌, ◌*◌, ◌^◌, List, IsTrue, length, flat_map};
 ghost use Rattle.std.specs.List.{AllByRecursion};
+ghost use Rattle.std.specs.Option.{SomeIff};
 ghost use Rattle.dbl_pgmsg.specs.Grammar.{string, cell, tuple, old_tuple, optional_tuple, column, spelling, is_identity, IsString, FitsCell, FitsTuple, FitsOld, FitsOptional, FitsColumn, FitsFields, Fits};
 ghost use Rattle.dbl_pgmsg.specs.Room.{Leaves};
 
@@ -316,5 +317,15 @@ impl Message {
         ensures { IsTrue result ↔ Fits self.now }
     {
         message_room(LIMIT, self).is_some()
+    }
+
+    /// How many bytes spell the message, where it fits. No memory is taken.
+    pub fn length(&self) -> Option<usize>
+        ensures { SomeIff result (Fits self.now) (length (spelling self.now)) }
+    {
+        match message_room(LIMIT, self) {
+            Some(left) => Some(LIMIT.saturating_sub(left)),
+            None => None,
+        }
     }
 }

@@ -13,12 +13,9 @@ mod rows;
 mod writing;
 
 pub use decoding::decode;
-pub use encoding::encode;
+pub use encoding::{append_message, encode};
 pub use error::MsgError;
 pub use laws::{
     one_message, one_spelling, round_trip, spelled_or_faulty, trailing_bytes, truncated_bytes,
 };
 pub use messages::{Message, OldTuple, RelationColumn, Tuple, TupleCell};
-
-#[cfg(test)]
-mod tests;

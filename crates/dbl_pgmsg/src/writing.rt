@@ -1,61 +1,70 @@
 //! Writers of the fields. Each appends to what was written before.
 
-ghost use Rattle.std.specs.Prelude.{◌≡◌, ◌≤◌, ◌++◌, List, length, flat_map, OnOk};
+ghost use Rattle.std.specs.Prelude.{◌≡◌, ◌≤◌, ◌++◌, List, length, flat_map, OnOk, OnErr};
 ghost use Rattle.std.specs.List.{AllByRecursion};
 ghost use Rattle.dbl_pgmsg.specs.Grammar.{int16, int32, int64, signed32, signed64, string, cell, tuple, old_tuple, optional_tuple, column, FitsCell, FitsTuple, FitsOld, FitsOptional};
-ghost use Rattle.dbl_pgmsg.specs.Room.{Appends};
+ghost use Rattle.dbl_pgmsg.specs.Room.{Appends, Begins};
 
 use crate::{OldTuple, RelationColumn, Tuple, TupleCell};
 use dbl_base::Text;
 use std::alloc::AllocError;
 
-#[tactic(auto, unfolding(crate::specs::Grammar::int16))]
+#[tactic(auto, using(crate::proofs::Fronts::begins_same, crate::proofs::Fronts::begins_behind), unfolding(crate::specs::Grammar::int16))]
 pub fn int16(out: &mut Vec<u8>, number: u16) -> Result<(), AllocError>
-    ensures { OnOk result (Appends out.old.items (int16 number) out.new.items) }
+    ensures written { OnOk result (Appends out.old.items (int16 number) out.new.items) }
+    ensures kept { OnErr result (Begins out.old.items out.new.items) }
 {
     out.extend_from_slice(&number.to_be_bytes())
 }
 
-#[tactic(auto, unfolding(crate::specs::Grammar::int32))]
+#[tactic(auto, using(crate::proofs::Fronts::begins_same, crate::proofs::Fronts::begins_behind), unfolding(crate::specs::Grammar::int32))]
 pub fn int32(out: &mut Vec<u8>, number: u32) -> Result<(), AllocError>
-    ensures { OnOk result (Appends out.old.items (int32 number) out.new.items) }
+    ensures written { OnOk result (Appends out.old.items (int32 number) out.new.items) }
+    ensures kept { OnErr result (Begins out.old.items out.new.items) }
 {
     out.extend_from_slice(&number.to_be_bytes())
 }
 
-#[tactic(auto, unfolding(crate::specs::Grammar::int64))]
+#[tactic(auto, using(crate::proofs::Fronts::begins_same, crate::proofs::Fronts::begins_behind), unfolding(crate::specs::Grammar::int64))]
 pub fn int64(out: &mut Vec<u8>, number: u64) -> Result<(), AllocError>
-    ensures { OnOk result (Appends out.old.items (int64 number) out.new.items) }
+    ensures written { OnOk result (Appends out.old.items (int64 number) out.new.items) }
+    ensures kept { OnErr result (Begins out.old.items out.new.items) }
 {
     out.extend_from_slice(&number.to_be_bytes())
 }
 
+#[tactic(auto, using(crate::proofs::Fronts::begins_same, crate::proofs::Fronts::begins_behind))]
 pub fn signed32(out: &mut Vec<u8>, number: &i32) -> Result<(), AllocError>
-    ensures { OnOk result (Appends out.old.items (signed32 number.now) out.new.items) }
+    ensures written { OnOk result (Appends out.old.items (signed32 number.now) out.new.items) }
+    ensures kept { OnErr result (Begins out.old.items out.new.items) }
 {
     int32(out, number.cast_unsigned())
 }
 
+#[tactic(auto, using(crate::proofs::Fronts::begins_same, crate::proofs::Fronts::begins_behind))]
 pub fn signed64(out: &mut Vec<u8>, number: &i64) -> Result<(), AllocError>
-    ensures { OnOk result (Appends out.old.items (signed64 number.now) out.new.items) }
+    ensures written { OnOk result (Appends out.old.items (signed64 number.now) out.new.items) }
+    ensures kept { OnErr result (Begins out.old.items out.new.items) }
 {
     int64(out, number.cast_unsigned())
 }
 
 /// A text, and the zero byte that ends it.
-#[tactic(auto, unfolding(crate::specs::Grammar::string))]
+#[tactic(auto, using(crate::proofs::Fronts::begins_same, crate::proofs::Fronts::begins_behind), unfolding(crate::specs::Grammar::string))]
 pub fn string(out: &mut Vec<u8>, text: &Text) -> Result<(), AllocError>
-    ensures { OnOk result (Appends out.old.items (string text.now) out.new.items) }
+    ensures written { OnOk result (Appends out.old.items (string text.now) out.new.items) }
+    ensures kept { OnErr result (Begins out.old.items out.new.items) }
 {
     out.extend_from_slice(text.as_str().as_bytes())?;
     out.push(0)?;
     Ok(())
 }
 
-#[tactic(auto, unfolding(crate::specs::Grammar::cell))]
+#[tactic(auto, using(crate::proofs::Fronts::begins_same, crate::proofs::Fronts::begins_behind), unfolding(crate::specs::Grammar::cell))]
 fn write_cell(out: &mut Vec<u8>, item: &TupleCell) -> Result<(), AllocError>
     requires { FitsCell item.now }
-    ensures { OnOk result (Appends out.old.items (cell item.now) out.new.items) }
+    ensures written { OnOk result (Appends out.old.items (cell item.now) out.new.items) }
+    ensures kept { OnErr result (Begins out.old.items out.new.items) }
 {
     match item {
         TupleCell::Null => out.extend_from_slice(b"n"),
@@ -69,9 +78,11 @@ fn write_cell(out: &mut Vec<u8>, item: &TupleCell) -> Result<(), AllocError>
     }
 }
 
+#[tactic(auto, using(crate::proofs::Fronts::begins_same, crate::proofs::Fronts::begins_behind))]
 fn write_cells(out: &mut Vec<u8>, cells: &[TupleCell]) -> Result<(), AllocError>
     requires { AllByRecursion FitsCell cells.now }
-    ensures { OnOk result (Appends out.old.items (flat_map cell cells.now) out.new.items) }
+    ensures written { OnOk result (Appends out.old.items (flat_map cell cells.now) out.new.items) }
+    ensures kept { OnErr result (Begins out.old.items out.new.items) }
 {
     for item in cells {
         write_cell(out, item)?;
@@ -79,20 +90,22 @@ fn write_cells(out: &mut Vec<u8>, cells: &[TupleCell]) -> Result<(), AllocError>
     Ok(())
 }
 
-#[tactic(auto, unfolding(crate::specs::Grammar::tuple))]
+#[tactic(auto, using(crate::proofs::Fronts::begins_same, crate::proofs::Fronts::begins_behind), unfolding(crate::specs::Grammar::tuple))]
 pub fn write_tuple(out: &mut Vec<u8>, row: &Tuple) -> Result<(), AllocError>
     requires { FitsTuple row.now }
-    ensures { OnOk result (Appends out.old.items (tuple row.now) out.new.items) }
+    ensures written { OnOk result (Appends out.old.items (tuple row.now) out.new.items) }
+    ensures kept { OnErr result (Begins out.old.items out.new.items) }
 {
     let cells = row.cells.items();
     int16(out, cells.len() as u16)?;
     write_cells(out, cells)
 }
 
-#[tactic(auto, unfolding(crate::specs::Grammar::old_tuple))]
+#[tactic(auto, using(crate::proofs::Fronts::begins_same, crate::proofs::Fronts::begins_behind), unfolding(crate::specs::Grammar::old_tuple))]
 pub fn write_old(out: &mut Vec<u8>, old: &OldTuple) -> Result<(), AllocError>
     requires { FitsOld old.now }
-    ensures { OnOk result (Appends out.old.items (old_tuple old.now) out.new.items) }
+    ensures written { OnOk result (Appends out.old.items (old_tuple old.now) out.new.items) }
+    ensures kept { OnErr result (Begins out.old.items out.new.items) }
 {
     match old {
         OldTuple::Key(row) => {
@@ -106,9 +119,11 @@ pub fn write_old(out: &mut Vec<u8>, old: &OldTuple) -> Result<(), AllocError>
     }
 }
 
+#[tactic(auto, using(crate::proofs::Fronts::begins_same, crate::proofs::Fronts::begins_behind))]
 pub fn write_before(out: &mut Vec<u8>, before: &Option<OldTuple>) -> Result<(), AllocError>
     requires { FitsOptional before.now }
-    ensures { OnOk result (Appends out.old.items (optional_tuple before.now) out.new.items) }
+    ensures written { OnOk result (Appends out.old.items (optional_tuple before.now) out.new.items) }
+    ensures kept { OnErr result (Begins out.old.items out.new.items) }
 {
     match before {
         None => Ok(()),
@@ -116,9 +131,10 @@ pub fn write_before(out: &mut Vec<u8>, before: &Option<OldTuple>) -> Result<(), 
     }
 }
 
-#[tactic(auto, unfolding(crate::specs::Grammar::column))]
+#[tactic(auto, using(crate::proofs::Fronts::begins_same, crate::proofs::Fronts::begins_behind), unfolding(crate::specs::Grammar::column))]
 fn write_column(out: &mut Vec<u8>, item: &RelationColumn) -> Result<(), AllocError>
-    ensures { OnOk result (Appends out.old.items (column item.now) out.new.items) }
+    ensures written { OnOk result (Appends out.old.items (column item.now) out.new.items) }
+    ensures kept { OnErr result (Begins out.old.items out.new.items) }
 {
     out.extend_from_slice(&[item.flags])?;
     string(out, &item.name)?;
@@ -126,8 +142,10 @@ fn write_column(out: &mut Vec<u8>, item: &RelationColumn) -> Result<(), AllocErr
     signed32(out, &item.modifier)
 }
 
+#[tactic(auto, using(crate::proofs::Fronts::begins_same, crate::proofs::Fronts::begins_behind))]
 pub fn write_columns(out: &mut Vec<u8>, columns: &[RelationColumn]) -> Result<(), AllocError>
-    ensures { OnOk result (Appends out.old.items (flat_map column columns.now) out.new.items) }
+    ensures written { OnOk result (Appends out.old.items (flat_map column columns.now) out.new.items) }
+    ensures kept { OnErr result (Begins out.old.items out.new.items) }
 {
     for item in columns {
         write_column(out, item)?;
@@ -135,8 +153,10 @@ pub fn write_columns(out: &mut Vec<u8>, columns: &[RelationColumn]) -> Result<()
     Ok(())
 }
 
+#[tactic(auto, using(crate::proofs::Fronts::begins_same, crate::proofs::Fronts::begins_behind))]
 pub fn write_oids(out: &mut Vec<u8>, oids: &[u32]) -> Result<(), AllocError>
-    ensures { OnOk result (Appends out.old.items (flat_map int32 oids.now) out.new.items) }
+    ensures written { OnOk result (Appends out.old.items (flat_map int32 oids.now) out.new.items) }
+    ensures kept { OnErr result (Begins out.old.items out.new.items) }
 {
     for oid in oids {
         int32(out, *oid)?;

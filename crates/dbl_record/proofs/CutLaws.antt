@@ -1,12 +1,12 @@
 -- The groups of records, joined, give the records, and a sink takes each of them.
-use Rattle.std.proofs.Common.{◌≡◌, ◌+◌, Bool, true, false, cond, ltb, List, [], ◌∷◌, ◌++◌, length, refl, ap, ◌∙◌, append_assoc, arith, inl, inr}
-use Rattle.std.specs.Prelude.{◌||◌}
+use Rattle.std.proofs.Common.{◌≡◌, ℕ, zero, suc, ◌+◌, ◌≤◌, Bool, true, false, cond, ltb, List, [], ◌∷◌, ◌++◌, length, take, refl, sym, ap, subst, ◌∙◌, append_assoc, arith, inl, inr}
+use Rattle.std.specs.Prelude.{◌||◌, not}
 use Rattle.std.specs.List.{AllByRecursion}
-use Rattle.std.proofs.lemmas.Bool.{ltb-false}
-use Rattle.std.proofs.lemmas.List.{length-append}
+use Rattle.std.proofs.lemmas.Bool.{ltb-false, ne_eqb}
+use Rattle.std.proofs.lemmas.List.{append-nil, length-append}
 use Rattle.dbl_record.specs.declared.record.Record.{Record}
 use Rattle.dbl_record.specs.Groups.{group_form}
-use Rattle.dbl_record.specs.Cuts.{IsHandful, stands_elsewhere, begins_behind, cut_behind, cut, joined}
+use Rattle.dbl_record.specs.Cuts.{IsHandful, ArePartedAt, stands_elsewhere, begins_behind, cut_behind, cut, joined}
 
 cut_joins : (group items : List Record) → joined (cut_behind group items) ≡ group ++ items
 cut_joins group [] = refl
@@ -55,3 +55,127 @@ cut_is group (item ∷ items) handful = cut_if group item items handful (cut_is 
 pub cuts_are_handfuls : (records : List Record) → AllByRecursion IsHandful (cut records)
 cuts_are_handfuls [] = tt
 cuts_are_handfuls (item ∷ items) = cut_is (item ∷ []) items (alone item)
+
+-- ---- records are cut where their positions part
+
+-- the last record alone decides
+elsewhere_last : (group : List Record) (i : Record) (items : List Record) (y : Record) → stands_elsewhere (group ++ i ∷ items) y ≡ stands_elsewhere (i ∷ items) y
+elsewhere_last [] i items y = refl
+elsewhere_last (g ∷ []) i items y = refl
+elsewhere_last (g ∷ (h ∷ group)) i items y = elsewhere_last (h ∷ group) i items y
+
+begins_elsewhere : (group : List Record) (y : Record) → stands_elsewhere group y ≡ true → begins_behind group y ≡ true
+unfolding begins_behind
+begins_elsewhere group y e = rw e refl
+
+-- one step of the cut, by whether a group begins
+part_if : (group : List Record) (i : Record) (items : List Record) (y : Record) (ys : List Record)
+    → cut_behind (i ∷ []) (items ++ y ∷ ys) ≡ cut_behind (i ∷ []) items ++ cut (y ∷ ys)
+    → cut_behind (group ++ i ∷ []) (items ++ y ∷ ys) ≡ cut_behind (group ++ i ∷ []) items ++ cut (y ∷ ys)
+    → (b : Bool) → cond b (group ∷ cut_behind (i ∷ []) (items ++ y ∷ ys)) (cut_behind (group ++ i ∷ []) (items ++ y ∷ ys)) ≡ cond b (group ∷ cut_behind (i ∷ []) items) (cut_behind (group ++ i ∷ []) items) ++ cut (y ∷ ys)
+part_if group i items y ys new same true = ap (λ (gs : List (List Record)). group ∷ gs) new
+part_if group i items y ys new same false = same
+
+part_behind : (group items : List Record) (y : Record) (ys : List Record) → stands_elsewhere (group ++ items) y ≡ true → cut_behind group (items ++ y ∷ ys) ≡ cut_behind group items ++ cut (y ∷ ys)
+part_behind group [] y ys e =
+    let begins = begins_elsewhere group y (subst (λ (g : List Record). stands_elsewhere g y ≡ true) (append-nil group) e) in
+    ap (λ (b : Bool). cond b (group ∷ cut_behind (y ∷ []) ys) (cut_behind (group ++ y ∷ []) ys)) begins
+part_behind group (i ∷ items) y ys e =
+    let last = sym (elsewhere_last group i items y) ∙ e in
+    let whole = subst (λ (g : List Record). stands_elsewhere g y ≡ true) (sym (append_assoc group (i ∷ []) items)) e in
+    part_if group i items y ys (part_behind (i ∷ []) items y ys last) (part_behind (group ++ i ∷ []) items y ys whole) (begins_behind group i)
+
+parted_elsewhere : (x : Record) (xs : List Record) (y : Record) (ys : List Record) → ArePartedAt (x ∷ xs) (y ∷ ys) → stands_elsewhere (x ∷ xs) y ≡ true
+parted_elsewhere x [] y ys parted = ap not (ne_eqb x.position y.position parted.0.0)
+parted_elsewhere x (z ∷ xs) y ys parted = parted_elsewhere z xs y ys parted.1
+
+pub cut_apart : (first others : List Record) → ArePartedAt first others → cut (first ++ others) ≡ cut first ++ cut others
+cut_apart [] others parted = refl
+cut_apart (x ∷ xs) [] parted = ap cut (append-nil (x ∷ xs)) ∙ sym (append-nil (cut (x ∷ xs)))
+cut_apart (x ∷ xs) (y ∷ ys) parted = part_behind (x ∷ []) xs y ys (parted_elsewhere x xs y ys parted)
+
+-- ---- a group of a cut of which some first records are left
+
+-- no group begins at any of the items behind the group
+abbrev Together : List Record → List Record → Type 0
+Together group [] = Unit {0}
+Together group (item ∷ items) = (begins_behind group item ≡ false) × Together (group ++ item ∷ []) items
+
+together_cut : (group more items : List Record) → Together group more → cut_behind group (more ++ items) ≡ cut_behind (group ++ more) items
+together_cut group [] items t = ap (λ (g : List Record). cut_behind g items) (sym (append-nil group))
+together_cut group (item ∷ more) items t =
+    ap (λ (b : Bool). cond b (group ∷ cut_behind (item ∷ []) (more ++ items)) (cut_behind (group ++ item ∷ []) (more ++ items))) t.0
+    ∙ together_cut (group ++ item ∷ []) more items t.1
+    ∙ ap (λ (g : List Record). cut_behind g items) (append_assoc group (item ∷ []) more)
+
+together_take : (group more : List Record) (n : ℕ) → Together group more → Together group (take n more)
+together_take group [] zero t = tt
+together_take group [] (suc n) t = tt
+together_take group (item ∷ more) zero t = tt
+together_take group (item ∷ more) (suc n) t = (t.0, together_take (group ++ item ∷ []) more n t.1)
+
+together_push : (group more : List Record) (item : Record) → Together group more → begins_behind (group ++ more) item ≡ false → Together group (more ++ item ∷ [])
+together_push group [] item t e = (subst (λ (g : List Record). begins_behind g item ≡ false) (append-nil group) e, tt)
+together_push group (x ∷ more) item t e = (t.0, together_push (group ++ x ∷ []) more item t.1 (subst (λ (g : List Record). begins_behind g item ≡ false) (sym (append_assoc group (x ∷ []) more)) e))
+
+-- what is left begins with this record, and is cut so
+record Torn (start : Record) (groups : List (List Record)) (group : List Record) (n : ℕ) : Type 0 where
+  rest : List Record
+  begins : joined groups ++ take n group ≡ start ∷ rest
+  is : cut_behind (start ∷ []) rest ≡ groups ++ take n group ∷ []
+
+no_cons : (groups later : List (List Record)) (group : List Record) → [] ≡ groups ++ group ∷ later → ⊥
+no_cons [] later group e = cc
+no_cons (g ∷ groups) later group e = cc
+
+-- the first group is the torn one
+torn_here : (start : Record) (more : List Record) (group : List Record) (n : ℕ) → Together (start ∷ []) more → start ∷ more ≡ group → 1 ≤ n → Torn start [] group n
+torn_here start more group zero t e some = absurd (omega (arith, some))
+torn_here start more group (suc n) t e some =
+    let first : take (suc n) group ≡ start ∷ take n more = ap (λ (g : List Record). take (suc n) g) (sym e) in
+    record {
+      rest = take n more;
+      begins = first;
+      is = ap (λ (g : List Record). cut_behind (start ∷ []) g) (sym (append-nil (take n more)))
+          ∙ together_cut (start ∷ []) (take n more) [] (together_take (start ∷ []) more n t)
+          ∙ ap (λ (g : List Record). g ∷ []) (sym first);
+    }
+
+-- the torn group stands behind the first one
+torn_later : (start : Record) (more : List Record) (item : Record) (groups : List (List Record)) (group : List Record) (n : ℕ) (head : List Record) → Together (start ∷ []) more → begins_behind (start ∷ more) item ≡ true → start ∷ more ≡ head
+    → Torn item groups group n → Torn start (head ∷ groups) group n
+torn_later start more item groups group n head t begins e torn = record {
+  rest = more ++ item ∷ torn.rest;
+  begins = append_assoc head (joined groups) (take n group) ∙ ap (λ (g : List Record). head ++ g) torn.begins ∙ ap (λ (g : List Record). g ++ item ∷ torn.rest) (sym e);
+  is = together_cut (start ∷ []) more (item ∷ torn.rest) t
+      ∙ ap (λ (b : Bool). cond b ((start ∷ more) ∷ cut_behind (item ∷ []) torn.rest) (cut_behind ((start ∷ more) ++ item ∷ []) torn.rest)) begins
+      ∙ ap (λ (g : List Record). g ∷ cut_behind (item ∷ []) torn.rest) e
+      ∙ ap (λ (gs : List (List Record)). head ∷ gs) torn.is;
+}
+
+-- both ways on from a group
+abbrev Tears : Record → List Record → Record → List Record → ℕ → Type 0
+Tears start more item items n =
+    ((groups later : List (List Record)) (group : List Record) → cut_behind (item ∷ []) items ≡ groups ++ group ∷ later → n ≤ length group → Torn item groups group n)
+    × (Together (start ∷ []) (more ++ item ∷ []) → (groups later : List (List Record)) (group : List Record) → cut_behind (start ∷ more ++ item ∷ []) items ≡ groups ++ group ∷ later → n ≤ length group → Torn start groups group n)
+
+torn_if : (start : Record) (more : List Record) (item : Record) (items : List Record) (n : ℕ) → 1 ≤ n → Together (start ∷ []) more → Tears start more item items n → (b : Bool) → begins_behind (start ∷ more) item ≡ b
+    → (groups later : List (List Record)) (group : List Record) → cond b ((start ∷ more) ∷ cut_behind (item ∷ []) items) (cut_behind (start ∷ more ++ item ∷ []) items) ≡ groups ++ group ∷ later → n ≤ length group → Torn start groups group n
+torn_if start more item items n some t ways true begins [] later group e le = let same : start ∷ more ≡ group = cc in torn_here start more group n t same some
+torn_if start more item items n some t ways true begins (head ∷ groups) later group e le =
+    let same : start ∷ more ≡ head = cc in
+    let others : cut_behind (item ∷ []) items ≡ groups ++ group ∷ later = cc in
+    torn_later start more item groups group n head t begins same (ways.0 groups later group others le)
+torn_if start more item items n some t ways false begins groups later group e le = ways.1 (together_push (start ∷ []) more item t begins) groups later group e le
+
+torn_behind : (start : Record) (more items : List Record) (n : ℕ) → 1 ≤ n → Together (start ∷ []) more → (groups later : List (List Record)) (group : List Record) → cut_behind (start ∷ more) items ≡ groups ++ group ∷ later → n ≤ length group → Torn start groups group n
+torn_behind start more [] n some t [] later group e le = let same : start ∷ more ≡ group = cc in torn_here start more group n t same some
+torn_behind start more [] n some t (head ∷ groups) later group e le = let none : [] ≡ groups ++ group ∷ later = cc in absurd (no_cons groups later group none)
+torn_behind start more (item ∷ items) n some t groups later group e le =
+    torn_if start more item items n some t (torn_behind item [] items n some tt, torn_behind start (more ++ item ∷ []) items n some) (begins_behind (start ∷ more) item) refl groups later group e le
+
+pub cut_torn : (records : List Record) (groups later : List (List Record)) (group : List Record) (n : ℕ) → cut records ≡ groups ++ group ∷ later → 1 ≤ n → n ≤ length group → cut (joined groups ++ take n group) ≡ groups ++ take n group ∷ []
+cut_torn [] groups later group n e some le = absurd (no_cons groups later group e)
+cut_torn (item ∷ items) groups later group n e some le =
+    let torn = torn_behind item [] items n some tt groups later group e le in
+    ap cut torn.begins ∙ torn.is

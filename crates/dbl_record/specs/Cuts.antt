@@ -1,5 +1,5 @@
 -- The groups in which a list of records is handed to a sink. Source: own.
-use Rattle.std.specs.Prelude.{◌≡◌, ◌⊎◌, ◌≤◌, ◌+◌, ◌==◌, ◌||◌, Bool, not, false, if◌then◌else◌, List, [], ◌∷◌, ◌++◌, length, nat_lt}
+use Rattle.std.specs.Prelude.{◌≡◌, ◌≢◌, ◌⊎◌, ℕ, ◌≤◌, ◌+◌, ◌==◌, ◌||◌, Bool, not, false, if◌then◌else◌, List, [], ◌∷◌, ◌++◌, length, take, nat_lt}
 use Rattle.std.specs.List.{AllByRecursion, flat_map}
 use Rattle.dbl_record.specs.declared.record.Record.{Record}
 use Rattle.dbl_record.specs.Groups.{group_form}
@@ -41,3 +41,19 @@ CutsJoin = (records : List Record) → joined (cut records) ≡ records
 
 abbrev pub CutsAreHandfuls : Type 0
 CutsAreHandfuls = (records : List Record) → AllByRecursion IsHandful (cut records)
+
+-- no position of the first records is one of the others'
+abbrev pub ArePartedAt : List Record → List Record → Type 0
+ArePartedAt first others =
+    AllByRecursion (λ a. AllByRecursion (λ b. a.position ≢ b.position) others) first
+
+-- Records are cut where their positions part: the groups of both together are those of the first and those of the others.
+abbrev pub CutsPart : Type 0
+CutsPart = (first others : List Record) → ArePartedAt first others → cut (first ++ others) ≡ cut first ++ cut others
+
+-- Where a group of a cut is left whole or torn, so that some first records of it are left, what is left is cut as it stands:
+-- into the groups before it and these records.
+abbrev pub CutsTear : Type 0
+CutsTear = (records : List Record) (groups later : List (List Record)) (group : List Record) (n : ℕ) →
+    cut records ≡ groups ++ group ∷ later → 1 ≤ n → n ≤ length group →
+    cut (joined groups ++ take n group) ≡ groups ++ take n group ∷ []

@@ -34,7 +34,8 @@ fn optional_length(text: &Option<Text>) -> u64
     }
 }
 
-fn record_length(item: &Record) -> u64
+/// How many bytes a record has in the bytes form of a group, where that is below 2^64; else 2^64 - 1. Takes no memory.
+pub fn record_length(item: &Record) -> u64
     ensures { result ≡ min (length (record_form item.now)) (2 ^ 64 - 1) }
 {
     let texts = text_length(&item.topic)

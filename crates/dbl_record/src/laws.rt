@@ -3,7 +3,7 @@ ghost use Rattle.std.specs.List.{AllByRecursion};
 ghost use Rattle.dbl_record.specs.Whole.{ReadsBack, TextsTellData};
 ghost use Rattle.dbl_record.specs.Laws.{LinesReadBack};
 ghost use Rattle.dbl_record.specs.Places.{TopsAreOne, TopsStand};
-ghost use Rattle.dbl_record.specs.Cuts.{CutsAreHandfuls, CutsJoin};
+ghost use Rattle.dbl_record.specs.Cuts.{CutsAreHandfuls, CutsJoin, CutsPart, CutsTear};
 ghost use Rattle.dbl_record.specs.GroupFaults.{IsBadAt};
 ghost use Rattle.dbl_record.specs.Groups.{HasForm, IsGroup, group_form};
 ghost use Rattle.dbl_record.specs.declared.record.Record.{Record};
@@ -68,8 +68,11 @@ pub fn short_groups_have_a_form()
     ensures { (group : List Record) → length (group_form group) < 2 ^ 32 → HasForm group }
 {}
 
-/// The groups of records, joined, give the records, and a sink takes each of them.
+/// The groups of records, joined, give the records, and a sink takes each of them. Records are cut where their positions part,
+/// and a group of which some first records are left is a group of what is left.
 pub fn cuts_join()
     ensures joined { CutsJoin }
     ensures handfuls { CutsAreHandfuls }
+    ensures part { CutsPart }
+    ensures tear { CutsTear }
 {}

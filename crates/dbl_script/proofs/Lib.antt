@@ -4,3 +4,4 @@ pub mod TextLemmas
 pub mod SetLemmas
 pub mod ColumnLemmas
 pub mod ScriptLemmas
+pub mod RangeLemmas

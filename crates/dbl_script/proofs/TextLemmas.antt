@@ -1,5 +1,5 @@
 -- Texts of bytes that are known.
-use Rattle.std.proofs.Common.{◌≡◌, ◌∙◌, ℕ, zero, suc, ◌<◌, ◌≤◌, ◌&&◌, ◌||◌, Bool, true, false, List, [], ◌∷◌, ◌++◌, ◌^◌, append_assoc, length, get_or, Result, Ok, Option, Some, None, option_and_then, refl, sym, ap, arith, rules}
+use Rattle.std.proofs.Common.{◌≡◌, ◌≢◌, ◌∙◌, ℕ, zero, suc, ◌<◌, ◌≤◌, ◌&&◌, ◌||◌, Bool, true, false, List, [], ◌∷◌, ◌++◌, ◌^◌, append_assoc, length, get_or, Result, Ok, Option, Some, None, option_and_then, refl, sym, ap, arith, rules}
 use Rattle.std.specs.Char.{is_ascii_digit, is_ascii_lowercase}
 use Rattle.std.specs.Int.{is_in_range}
 use Rattle.std.specs.Str.Parse.{ParsesUnsigned, digits_value}
@@ -7,7 +7,7 @@ use Rattle.std.proofs.lemmas.Str.Parse.{IsNumeralModel, numerals_by_value, parse
 use Rattle.std.proofs.Common.{inl, inr}
 use Rattle.std.proofs.lemmas.Bool.{false_from_ne_true, false≢true, cases_Bool, eqb-true, lt-ltb, le-leb}
 use Rattle.std.proofs.lemmas.Bool.Decides.{nat_tests}
-use Rattle.std.specs.List.{list_all}
+use Rattle.std.specs.List.{list_all, AllByRecursion}
 use Rattle.std.specs.Str.{IsUtf8, is_utf8}
 use Rattle.std.proofs.lemmas.Str.{IsUtf8-from_is_utf8, is_utf8-from_IsUtf8, IsUtf8-from_ascii}
 use Rattle.dbl_script.specs.Texts.{utf8_text, is_session_byte, is_column_byte, session_of, column_name_of, escape_of, escapes_of}
@@ -59,6 +59,15 @@ ascii_utf8 p small bytes all = IsUtf8-from_ascii bytes (λ i. ascii_at p small b
 pub digits_utf8 : (bytes : List ℕ) → list_all is_ascii_digit bytes ≡ true → IsUtf8 bytes
 digits_utf8 bytes all = ascii_utf8 is_ascii_digit (λ c is. small_digit c is) bytes all
 
+pub column_utf8 : (bytes : List ℕ) → list_all is_column_byte bytes ≡ true → IsUtf8 bytes
+column_utf8 bytes all = ascii_utf8 is_column_byte (λ c is. small_column c is) bytes all
+
+pub column_no_zero : (bytes : List ℕ) → list_all is_column_byte bytes ≡ true → AllByRecursion (λ b. b ≢ 0) bytes
+column_no_zero [] all = tt
+column_no_zero (c ∷ cs) all =
+    let here : is_column_byte c ≡ true = and_first _ _ all in
+    (λ (zero_is : c ≡ 0). false≢true (sym (ap is_column_byte zero_is) ∙ here), column_no_zero cs (and_second _ _ all))
+
 -- a column's name is a text
 pub column_text : (bytes : List ℕ) → 0 < length bytes → length bytes ≤ 63 → list_all is_column_byte bytes ≡ true → utf8_text bytes ≡ column_name_of bytes
 unfolding column_name_of
@@ -71,6 +80,9 @@ session_text bytes some short all = utf8_taken bytes (ascii_utf8 is_session_byte
 
 own : IsNumeralModel (λ ds. list_all is_ascii_digit ds ≡ true) (digits_value 10)
 own = numerals_by_value _ (search rules)
+
+pub digits_small : (bytes : List ℕ) → length bytes ≤ 9 → list_all is_ascii_digit bytes ≡ true → 0 < length bytes → digits_value 10 bytes < 2 ^ 32
+digits_small bytes short all some = let small : digits_value 10 bytes < 10 ^ 9 = digits_value_short own bytes 9 all short in omega arith
 
 -- what parse gives of 1 to 9 digits
 pub digits_parse : {E : Type 0} (bytes : List ℕ) (r : Result ℕ E) → ParsesUnsigned 32 10 bytes r → list_all is_ascii_digit bytes ≡ true → 0 < length bytes → length bytes ≤ 9 → r ≡ Ok (digits_value 10 bytes)

@@ -1,6 +1,6 @@
 -- Columns of a table of a workload. Source: own.
 use Rattle.std.specs.Prelude.{ℕ, nat_le, Bool, true, false, if◌then◌else◌, Option, Some, None, List, length, map, filter, bytes_eq, codes}
-use Rattle.dbl_model.specs.declared.table.RawColumn.{RawColumn}
+use Rattle.dbl_table.specs.declared.table.RawColumn.{RawColumn}
 use Rattle.dbl_script.specs.declared.columns.ColumnWord.{ColumnWord}
 use Rattle.dbl_script.specs.Words.{cut_at}
 use Rattle.dbl_script.specs.Reads.{◌>>=◌, some_of}

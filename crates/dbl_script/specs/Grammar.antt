@@ -1,7 +1,7 @@
 -- What a line of a workload says. Source: own.
 use Rattle.std.specs.Prelude.{ℕ, ◌==◌, Bool, true, false, if◌then◌else◌, Option, Some, None, option_map, List, [], ◌∷◌, length, bytes_eq, codes}
 use Rattle.dbl_base.specs.Lines.{is_passed_over}
-use Rattle.dbl_script.specs.declared.script.NamedCell.{NamedCell}
+use Rattle.dbl_table.specs.declared.named_cell.NamedCell.{NamedCell}
 use Rattle.dbl_script.specs.declared.script.ScriptTable.{ScriptTable}
 use Rattle.dbl_script.specs.declared.script.ScriptRow.{ScriptRow}
 use Rattle.dbl_script.specs.declared.script.Step.{Step}

@@ -5,3 +5,4 @@ pub mod Columns
 pub mod Grammar
 pub mod Scripts
 pub mod Building
+pub mod Ranges

@@ -1,7 +1,7 @@
 -- What the lines of a workload say together. Source: own.
 use Rattle.std.specs.Prelude.{ℕ, ◌+◌, ◌==◌, ◌&&◌, not, nat_lt, Bool, true, false, if◌then◌else◌, Option, Some, None, List, [], ◌∷◌, ◌++◌, length}
 use Rattle.std.specs.List.{filter_map, list_any, cons_option}
-use Rattle.dbl_model.specs.Tables.{same_name}
+use Rattle.dbl_table.specs.Tables.{same_name}
 use Rattle.dbl_script.specs.declared.script.ScriptTable.{ScriptTable}
 use Rattle.dbl_script.specs.declared.script.ScriptRow.{ScriptRow}
 use Rattle.dbl_script.specs.declared.script.Script.{Script}

@@ -11,7 +11,7 @@ use crate::fault::Fault;
 use crate::parts::{Parts, cut};
 use crate::words::{column_name, is_word, number, oid, table_name};
 use dbl_base::{Seq, Text};
-use dbl_model::{RawColumn, RawTable};
+use dbl_table::{RawColumn, RawTable};
 use std::alloc::{AllocError, Global};
 
 /// The most columns that a table of PostgreSQL has.

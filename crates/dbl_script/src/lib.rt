@@ -5,15 +5,16 @@ mod cells;
 mod columns;
 mod error;
 mod fault;
+mod laws;
 mod line;
 mod parsing;
 mod parts;
 mod script;
 mod steps;
-#[cfg(test)]
-mod tests;
 mod words;
 
+pub use dbl_table::NamedCell;
 pub use error::ScriptError;
+pub use laws::scripts_are_in_range;
 pub use parsing::parse;
-pub use script::{NamedCell, Script, ScriptRow, ScriptTable, Step};
+pub use script::{Script, ScriptRow, ScriptTable, Step};

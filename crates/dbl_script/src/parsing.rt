@@ -3,7 +3,7 @@
 ghost use Rattle.std.specs.Prelude.{◌≡◌, ◌≢◌, ◌<◌, ◌≤◌, ◌↔◌, ◌==◌, ℕ, [], not, true, false, None, Some, Err, length, IfOk, OnOk};
 ghost use Rattle.std.specs.List.{list_any};
 ghost use Rattle.dbl_base.specs.Lines.{lines_of};
-ghost use Rattle.dbl_model.specs.Tables.{same_name};
+ghost use Rattle.dbl_table.specs.Tables.{same_name};
 ghost use Rattle.dbl_script.specs.Grammar.{line_at};
 ghost use Rattle.dbl_script.specs.Scripts.{may_follow, follows, script_of, first_bad};
 ghost use Rattle.dbl_script.specs.Building.{with_line, with_said};
@@ -12,7 +12,7 @@ use crate::fault::Fault;
 use crate::line::{Line, read_line};
 use crate::{Script, ScriptError, ScriptRow, ScriptTable, Step};
 use dbl_base::{Seq, next_line};
-use dbl_model::TableName;
+use dbl_table::TableName;
 use std::alloc::{AllocError, Global};
 use std::marker::Model;
 

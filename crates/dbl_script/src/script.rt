@@ -1,12 +1,5 @@
 use dbl_base::{Seq, Text};
-use dbl_model::{RawTable, TableName};
-
-/// A cell by the name of its column: its text, or null.
-#[derive(Debug, Drop)]
-pub struct NamedCell {
-    pub column: Text,
-    pub text: Option<Text>,
-}
+use dbl_table::{NamedCell, RawTable, TableName};
 
 /// A table of the script's database. `full` says that its replica identity is full, else it is default; a text of at
 /// least `toast` bytes is stored out of line. `line` is the number of its line, from 1.

@@ -11,7 +11,7 @@ use crate::parts::Parts;
 use crate::words::{is_word, session, table_name};
 use crate::{ScriptRow, Step};
 use dbl_base::{Seq, Text};
-use dbl_model::TableName;
+use dbl_table::TableName;
 use std::alloc::Global;
 
 /// A row, from the words behind `row`.

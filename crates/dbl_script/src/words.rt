@@ -11,7 +11,7 @@ ghost use Rattle.dbl_script.specs.Texts.{utf8_text, name_of, table_name_of, is_s
 use crate::fault::Fault;
 use crate::parts::{Parts, cut};
 use dbl_base::Text;
-use dbl_model::TableName;
+use dbl_table::TableName;
 use std::alloc::Global;
 
 /// Whether a word is this one.

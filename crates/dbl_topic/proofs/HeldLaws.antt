@@ -1,8 +1,12 @@
 -- What a topic log on a disk holds, and what a stop leaves of it.
-use Rattle.std.proofs.Common.{◌≡◌, ◌⊎◌, ℕ, ◌≤◌, List, [], ◌∷◌, ◌++◌, length, Option, refl, sym, ap, subst, ◌∙◌, arith, inl, inr}
+use Rattle.std.proofs.Common.{◌≡◌, ◌⊎◌, ℕ, ◌+◌, ◌^◌, ◌≤◌, Some, List, [], ◌∷◌, ◌++◌, length, Option, refl, sym, ap, subst, ◌∙◌, arith, inl, inr}
 use Rattle.std.proofs.lemmas.List.{take_all}
 use Rattle.dbl_record.specs.declared.record.Record.{Record}
-use Rattle.dbl_journal.specs.Stored.{LeavesEntries, OnDisk, count_of}
+use Rattle.std.specs.Prelude.{max}
+use Rattle.dbl_journal.specs.Form.{IsJournal, front}
+use Rattle.dbl_journal.specs.Growth.{ComesOf}
+use Rattle.dbl_journal.specs.Stored.{LeavesEntries, OnDisk, count_of, size}
+use Rattle.dbl_journal.proofs.Growth.{grown_from}
 use Rattle.dbl_journal.proofs.Appends.{length-places}
 use Rattle.dbl_journal.specs.declared.error.JournalError.{JournalError}
 use Rattle.dbl_journal.specs.declared.error.JournalError.TheVariants as journal
@@ -10,9 +14,9 @@ use Rattle.dbl_topic.specs.declared.error.SinkError.TheVariants as sink
 use Rattle.dbl_topic.specs.Faults.{sink_fault}
 use Rattle.dbl_topic.specs.Held.{HoldsGroups, LeavesGroups, MayLeaveGroups}
 use Rattle.dbl_topic.specs.SinkLaws.{log_of, one_log}
-use Rattle.dbl_topic.specs.Logs.{AreLogEntries, IsLog, IsLogEntry}
+use Rattle.dbl_topic.specs.Logs.{AreLogEntries, IsLog, IsLogEntry, log_size}
 use Rattle.dbl_topic.specs.Sinks.{IsLeftByPut, IsLeftByWhole}
-use Rattle.dbl_topic.proofs.LogLaws.{entries-push, length-entries}
+use Rattle.dbl_topic.proofs.LogLaws.{entries-push, forms_of, length-entries}
 
 module _ {D : Type 0} (seen : D → Option (List ℕ)) (may_leave : D → List ℕ → Type 0) where
   pub one_held : (log : OnDisk D) (first second : List (List Record)) → HoldsGroups seen may_leave log first → HoldsGroups seen may_leave log second → first ≡ second
@@ -47,6 +51,22 @@ module _ {D : Type 0} (may_leave : D → List ℕ → Type 0) (disk : D) (groups
 
   pub leaves_any : LeavesGroups may_leave disk (IsLeftByWhole groups group) → LeavesGroups may_leave disk (λ left. Unit {0})
   leaves_any leaves image may = let here = leaves image may in (here.0, here.1, tt)
+
+-- where what is left is a log of some groups, and the disk tells its bytes, some groups may be left
+pub some_left : {D : Type 0} (seen : D → Option (List ℕ)) (may_leave : D → List ℕ → Type 0) → ((disk : D) (bytes : List ℕ) → seen disk ≡ Some bytes → may_leave disk bytes) → (disk : D) (bytes : List ℕ) → seen disk ≡ Some bytes
+    → (P : List (List Record) → Type 0) → LeavesGroups may_leave disk P → (left : List (List Record)) × MayLeaveGroups may_leave disk left
+some_left seen may_leave is_image disk bytes told P leaves =
+    let may = is_image disk bytes told in
+    let here = leaves bytes may in
+    (here.0, (bytes, may, here.1))
+
+-- what a log has become that comes of one with groups
+pub log_grown : {D : Type 0} (seen : D → Option (List ℕ)) (may_leave : D → List ℕ → Type 0) (old new : OnDisk D) (groups : List (List Record)) (before after : List ℕ) → ComesOf seen may_leave old new → HoldsGroups seen may_leave old groups
+    → seen old.disk ≡ Some before → seen new.disk ≡ Some after → (entries : List (List ℕ)) × IsJournal after entries × (log_size groups ≤ size entries) × (length after ≤ max (length before) (length (front entries) + 2 ^ 30))
+log_grown seen may_leave old new groups before after comes held was told =
+    let far = grown_from seen may_leave old new held.entries before after comes held.lists was told in
+    let forms = ap size (forms_of held.entries groups held.are) in
+    (far.entries, far.journal, omega (arith, far.on, forms), far.short)
 
 -- a sink's fault that a group is too long is the journal's
 pub too_long_of : (fault : JournalError) (len : ℕ) → sink_fault fault ≡ sink.TooLong len → fault ≡ journal.EntryTooLong len

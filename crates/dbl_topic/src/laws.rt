@@ -1,11 +1,12 @@
 //! Laws of topic logs. The functions do nothing: their contracts are the laws.
 
-ghost use Rattle.std.specs.Prelude.{◌≡◌, ◌⊎◌, ◌++◌, ◌∷◌, [], ℕ, Some, List, length};
-ghost use Rattle.dbl_journal.specs.Form.{IsFaultAt};
-ghost use Rattle.dbl_journal.specs.Stored.{OnDisk, count_of};
+ghost use Rattle.std.specs.Prelude.{◌≡◌, ◌⊎◌, ◌+◌, ◌^◌, ◌≤◌, ◌++◌, ◌∷◌, [], ℕ, Some, List, length, max};
+ghost use Rattle.dbl_journal.specs.Form.{IsFaultAt, IsJournal, front};
+ghost use Rattle.dbl_journal.specs.Growth.{ComesOf};
+ghost use Rattle.dbl_journal.specs.Stored.{OnDisk, count_of, size};
 ghost use Rattle.dbl_record.specs.declared.record.Record.{Record};
 ghost use Rattle.dbl_topic.specs.Held.{HoldsGroups, LeavesGroups, MayLeaveGroups};
-ghost use Rattle.dbl_topic.specs.Logs.{HasBadEntry, HoldRecords, IsLog};
+ghost use Rattle.dbl_topic.specs.Logs.{HasBadEntry, HoldRecords, IsLog, log_size};
 ghost use Rattle.dbl_topic.specs.Sinks.{IsLeftByWhole};
 
 use dbl_disk::Disk;
@@ -34,4 +35,13 @@ pub fn held_groups_are_one<D: Disk>()
     ensures held { (log : OnDisk D) (groups : List (List Record)) → HoldsGroups D.seen D.may_leave log groups → MayLeaveGroups D.may_leave log.disk groups }
     ensures whole { (log : OnDisk D) (groups : List (List Record)) → HoldsGroups D.seen D.may_leave log groups → LeavesGroups D.may_leave log.disk (λ left. left ≡ groups) }
     ensures one_of { (disk : D) (groups left : List (List Record)) (group : List Record) → LeavesGroups D.may_leave disk (IsLeftByWhole groups group) → MayLeaveGroups D.may_leave disk left → IsLeftByWhole groups group left }
+{}
+
+/// Of a log that comes of one with groups, the disk tells its bytes. They are a journal, whose closed gate stands no earlier
+/// than behind these groups, and they are no more than they were, or than 2^30 past that gate.
+pub fn logs_come_of_logs<D: Disk>()
+    ensures told { (old new : OnDisk D) (groups : List (List Record)) → ComesOf D.seen D.may_leave old new → HoldsGroups D.seen D.may_leave old groups → (after : List ℕ) × (D.seen new.disk ≡ Some after) }
+    ensures grown { (old new : OnDisk D) (groups : List (List Record)) (before after : List ℕ) → ComesOf D.seen D.may_leave old new → HoldsGroups D.seen D.may_leave old groups →
+        D.seen old.disk ≡ Some before → D.seen new.disk ≡ Some after →
+        (entries : List (List ℕ)) × IsJournal after entries × (log_size groups ≤ size entries) × (length after ≤ max (length before) (length (front entries) + 2 ^ 30)) }
 {}

@@ -6,11 +6,9 @@ mod laws;
 mod log;
 mod memory;
 mod sink;
-#[cfg(test)]
-mod tests;
 
 pub use error::{SinkError, TopicError};
-pub use laws::{held_groups_are_one, logs_are_read_once, logs_or_faults};
+pub use laws::{held_groups_are_one, logs_are_read_once, logs_come_of_logs, logs_or_faults};
 pub use log::TopicLog;
 pub use memory::MemSink;
 pub use sink::{GROUP_LIMIT, Sink};

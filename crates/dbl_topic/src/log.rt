@@ -1,8 +1,9 @@
 ghost use Rattle.std.specs.Prelude.{◌≡◌, ◌≢◌, ◌⊎◌, ◌↔◌, ℕ, ◌+◌, ◌^◌, ◌<◌, ◌≤◌, ◌++◌, List, [], ◌∷◌, length, max, take, drop, false, Some, IsTrue, IsErr, IfOk, IfErr, OnOk, OnErr, MatchResult, slice_get};
 ghost use Rattle.dbl_base.specs.Streams.{Rose};
-ghost use Rattle.dbl_disk.specs.Disks.{Follows, Torn};
+ghost use Rattle.dbl_disk.specs.Disks.{Follows, IsOnly, Torn};
 ghost use Rattle.dbl_journal.specs.Form.{IsFaultAt, IsJournal};
-ghost use Rattle.dbl_journal.specs.Stored.{Lists, count_of};
+ghost use Rattle.dbl_journal.specs.Growth.{ComesOf};
+ghost use Rattle.dbl_journal.specs.Stored.{IsSteady, Lists, count_of};
 ghost use Rattle.dbl_record.specs.declared.record.Record.{Record};
 ghost use Rattle.dbl_record.specs.Cuts.{IsHandful};
 ghost use Rattle.dbl_record.specs.Groups.{group_form};
@@ -91,6 +92,7 @@ fn read_entry<D: Disk>(
     ensures images { (image : List ℕ) → D.may_leave journal.new.disk image ↔ D.may_leave journal.old.disk image }
     ensures failed { result ≡ Err (TopicError.Journal JournalError.Failed) → Rose (D.faults journal.old.disk) (D.faults journal.new.disk) }
     ensures later { D.faults journal.old.disk ≤ D.faults journal.new.disk }
+    ensures steady { result ≢ Err (TopicError.Journal JournalError.Failed) → IsSteady D.seen D.faults journal.old.disk journal.new.disk }
 {
     let entry = journal.entry(alloc, number)?;
     group_of(alloc, entry.items(), number)
@@ -109,6 +111,7 @@ fn check_entries<D: Disk>(alloc: Global, journal: &mut Journal<D>) -> Result<(),
     ensures images { (image : List ℕ) → D.may_leave journal.new.disk image → D.may_leave journal.old.disk image }
     ensures failed { result ≡ Err (TopicError.Journal JournalError.Failed) → Rose (D.faults journal.old.disk) (D.faults journal.new.disk) }
     ensures later { D.faults journal.old.disk ≤ D.faults journal.new.disk }
+    ensures steady { result ≢ Err (TopicError.Journal JournalError.Failed) → IsSteady D.seen D.faults journal.old.disk journal.new.disk }
 {
     'entries: for number in 0..journal.count() {
         let _group = read_entry(alloc, journal, number)?;
@@ -128,6 +131,7 @@ impl<D: Disk> TopicLog<D> {
         ensures failed { IfErr result (λ refused. Rose (D.faults disk) (D.faults refused.disk)) }
         ensures left { IfErr result (λ refused. Follows (Torn 0 9) (D.may_leave disk) (D.may_leave refused.disk)) }
         ensures later { MatchResult result (λ log. D.faults disk ≤ D.faults log.disk) (λ refused. D.faults disk ≤ D.faults refused.disk) }
+        ensures steady { IfOk result (λ log. IsSteady D.seen D.faults disk log.disk) }
     {
         match Journal::make(alloc, disk) {
             Ok(journal) => Ok(TopicLog { alloc, journal }),
@@ -138,7 +142,8 @@ impl<D: Disk> TopicLog<D> {
         }
     }
 
-    /// The topic log on the disk, as a stop may have left it: the journal is opened, and each entry is read once.
+    /// The topic log on the disk, as a stop may have left it: the journal is opened, which begins with a sync, and each entry
+    /// is read once. Whatever it answers but `Failed`, a stop leaves what was read and nothing else.
     pub fn open(alloc: Global, disk: D) -> Result<TopicLog<D>, Refused<D, TopicError>>
         ensures opened { (bytes : List ℕ) → D.seen disk ≡ Some bytes → IfOk result (λ log. (groups : List (List Record)) × IsLog bytes groups × HoldsGroups D.seen D.may_leave log groups) }
         ensures bad { (bytes : List ℕ) → D.seen disk ≡ Some bytes → IfErr result (λ refused. (index : ℕ) → refused.error ≡ TopicError.BadEntry index → HasBadEntry bytes index) }
@@ -148,7 +153,10 @@ impl<D: Disk> TopicLog<D> {
         ensures failed { IfErr result (λ refused. refused.error ≡ TopicError.Journal JournalError.Failed → Rose (D.faults disk) (D.faults refused.disk)) }
         ensures seen { MatchResult result (λ log. D.seen log.disk ≡ D.seen disk) (λ refused. D.seen refused.disk ≡ D.seen disk) }
         ensures images { (image : List ℕ) → MatchResult result (λ log. D.may_leave log.disk image → D.may_leave disk image) (λ refused. D.may_leave refused.disk image → D.may_leave disk image) }
+        ensures stable { (bytes : List ℕ) → D.seen disk ≡ Some bytes → MatchResult result (λ log. IsOnly bytes (D.may_leave log.disk))
+            (λ refused. refused.error ≢ TopicError.Journal JournalError.Failed → IsOnly bytes (D.may_leave refused.disk)) }
         ensures later { MatchResult result (λ log. D.faults disk ≤ D.faults log.disk) (λ refused. D.faults disk ≤ D.faults refused.disk) }
+        ensures steady { MatchResult result (λ log. IsSteady D.seen D.faults disk log.disk) (λ refused. refused.error ≢ TopicError.Journal JournalError.Failed → IsSteady D.seen D.faults disk refused.disk) }
     {
         match Journal::open(alloc, disk) {
             Ok(journal) => checked(alloc, journal),
@@ -173,6 +181,7 @@ impl<D: Disk> TopicLog<D> {
         ensures images { (image : List ℕ) → D.may_leave self.new.disk image ↔ D.may_leave self.old.disk image }
         ensures failed { result ≡ Err (TopicError.Journal JournalError.Failed) → Rose (D.faults self.old.disk) (D.faults self.new.disk) }
         ensures later { D.faults self.old.disk ≤ D.faults self.new.disk }
+        ensures steady { result ≢ Err (TopicError.Journal JournalError.Failed) → IsSteady D.seen D.faults self.old.disk self.new.disk }
     {
         read_entry(self.alloc, &mut self.journal, number)
     }
@@ -207,8 +216,10 @@ fn checked<D: Disk>(
     ensures live { IfOk result (λ log. IsTrue log.live) }
     ensures seen { MatchResult result (λ log. D.seen log.disk ≡ D.seen journal.disk) (λ refused. D.seen refused.disk ≡ D.seen journal.disk) }
     ensures images { (image : List ℕ) → MatchResult result (λ log. D.may_leave log.disk image → D.may_leave journal.disk image) (λ refused. D.may_leave refused.disk image → D.may_leave journal.disk image) }
+    ensures stable { (bytes : List ℕ) → IsOnly bytes (D.may_leave journal.disk) → MatchResult result (λ log. IsOnly bytes (D.may_leave log.disk)) (λ refused. IsOnly bytes (D.may_leave refused.disk)) }
     ensures failed { IfErr result (λ refused. refused.error ≡ TopicError.Journal JournalError.Failed → Rose (D.faults journal.disk) (D.faults refused.disk)) }
     ensures later { MatchResult result (λ log. D.faults journal.disk ≤ D.faults log.disk) (λ refused. D.faults journal.disk ≤ D.faults refused.disk) }
+    ensures steady { MatchResult result (λ log. IsSteady D.seen D.faults journal.disk log.disk) (λ refused. refused.error ≢ TopicError.Journal JournalError.Failed → IsSteady D.seen D.faults journal.disk refused.disk) }
 {
     match check_entries(alloc, &mut journal) {
         Ok(()) => Ok(TopicLog { alloc, journal }),
@@ -220,6 +231,7 @@ fn checked<D: Disk>(
 }
 
 impl<D: Disk> Sink for TopicLog<D> {
+    ghost use Rattle.dbl_journal.specs.Growth.{ComesOf};
     ghost use Rattle.dbl_topic.specs.Held.{HoldsGroups, LeavesGroups, MayLeaveGroups};
     ghost use Rattle.dbl_topic.specs.SinkLaws.{leaves_held, may_leave_held, only_held};
 
@@ -228,6 +240,8 @@ impl<D: Disk> Sink for TopicLog<D> {
     ghost may_leave = { λ log groups. MayLeaveGroups D.may_leave log.disk groups };
 
     ghost leaves_groups = { λ log. LeavesGroups D.may_leave log.disk (λ groups. Unit {0}) };
+
+    ghost comes_of = { λ old new. ComesOf D.seen D.may_leave old new };
 
     ghost is_live = { λ log. log.live };
 
@@ -239,6 +253,10 @@ impl<D: Disk> Sink for TopicLog<D> {
 
     ghost whole = { λ log groups held. leaves_held D.seen D.may_leave log groups held };
 
+    ghost comes_self = { λ log gate most has. has };
+
+    ghost comes_on = { λ first second third before after gate most has. after gate most (before gate most has) };
+
     fn put(&mut self, group: &Vec<Record>) -> Result<(), SinkError>
         requires live { IsTrue self.old.live }
         requires handful { IsHandful group.now.items }
@@ -246,6 +264,8 @@ impl<D: Disk> Sink for TopicLog<D> {
         ensures kept { (groups : List (List Record)) → HoldsGroups D.seen D.may_leave self.old groups → OnErr result (result ≢ Err SinkError.Failed → HoldsGroups D.seen D.may_leave self.new groups) }
         ensures left { (groups left : List (List Record)) → HoldsGroups D.seen D.may_leave self.old groups → MayLeaveGroups D.may_leave self.new.disk left → IsLeftByPut groups group.now.items left }
         ensures whole { (groups : List (List Record)) → HoldsGroups D.seen D.may_leave self.old groups → LeavesGroups D.may_leave self.new.disk (λ left. Unit {0}) }
+        ensures some { (groups : List (List Record)) → HoldsGroups D.seen D.may_leave self.old groups → (left : List (List Record)) × MayLeaveGroups D.may_leave self.new.disk left }
+        ensures comes { ComesOf D.seen D.may_leave self.old self.new }
         ensures live { result ≢ Err SinkError.Failed → IsTrue self.new.live }
         ensures dead { result ≡ Err SinkError.Failed → self.new.live ≡ false }
         ensures too_long { (len : ℕ) → result ≡ Err (SinkError.TooLong len) → (2 ^ 28 < length (group_form group.now.items)) × (len ≡ told_length group.now.items) }
@@ -254,12 +274,14 @@ impl<D: Disk> Sink for TopicLog<D> {
         ensures later { D.faults self.old.disk ≤ D.faults self.new.disk }
 
         // A put is all or nothing, and a group is too long exactly by its length. The disk's bytes become no more than a log
-        // with the group takes, unless they were more before.
+        // with the group takes, unless they were more before. A disk that tells its bytes tells them after each answer.
         ensures one_of { (groups : List (List Record)) → HoldsGroups D.seen D.may_leave self.old groups → LeavesGroups D.may_leave self.new.disk (IsLeftByWhole groups group.now.items) }
         ensures grows { (groups : List (List Record)) (old new : List ℕ) → HoldsGroups D.seen D.may_leave self.old groups → D.seen self.old.disk ≡ Some old → D.seen self.new.disk ≡ Some new → length new ≤ max (length old) (log_size (groups ++ group.now.items ∷ [])) }
+        ensures told { (old : List ℕ) → D.seen self.old.disk ≡ Some old → (new : List ℕ) × (D.seen self.new.disk ≡ Some new) }
         ensures exactly { (len : ℕ) → (result ≡ Err (SinkError.TooLong len)) ↔ ((2 ^ 28 < length (group_form group.now.items)) × (len ≡ told_length group.now.items)) }
         ensures count { OnOk result (count_of self.new ≡ count_of self.old + 1) }
         ensures unchanged { OnErr result (result ≢ Err SinkError.Failed → self.new ≡ self.old) }
+        ensures steady { result ≢ Err SinkError.Failed → IsSteady D.seen D.faults self.old.disk self.new.disk }
     {
         let len = group_length(group);
         if len > GROUP_LIMIT {

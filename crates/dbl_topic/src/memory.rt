@@ -95,6 +95,8 @@ impl Sink for MemSink {
 
     ghost leaves_groups = { λ s. Unit {0} };
 
+    ghost comes_of = { λ old new. Unit {0} };
+
     ghost is_live = { λ s. s.live };
 
     ghost faults = { λ s. s.plan.faults };
@@ -105,6 +107,10 @@ impl Sink for MemSink {
 
     ghost whole = { λ sink groups held. tt };
 
+    ghost comes_self = { λ sink. tt };
+
+    ghost comes_on = { λ first second third before after. tt };
+
     fn put(&mut self, group: &Vec<Record>) -> Result<(), SinkError>
         requires live { IsTrue self.old.live }
         requires handful { IsHandful group.now.items }
@@ -112,6 +118,8 @@ impl Sink for MemSink {
         ensures kept { (groups : List (List Record)) → IsTrue self.old.live × (self.old.groups ≡ groups) → OnErr result (result ≢ Err SinkError.Failed → IsTrue self.new.live × (self.new.groups ≡ groups)) }
         ensures left { (groups left : List (List Record)) → IsTrue self.old.live × (self.old.groups ≡ groups) → self.new.groups ≡ left → IsLeftByPut groups group.now.items left }
         ensures whole { (groups : List (List Record)) → IsTrue self.old.live × (self.old.groups ≡ groups) → Unit {0} }
+        ensures some { (groups : List (List Record)) → IsTrue self.old.live × (self.old.groups ≡ groups) → (left : List (List Record)) × (self.new.groups ≡ left) }
+        ensures comes { Unit {0} }
         ensures live { result ≢ Err SinkError.Failed → IsTrue self.new.live }
         ensures dead { result ≡ Err SinkError.Failed → self.new.live ≡ false }
         ensures too_long { (len : ℕ) → result ≡ Err (SinkError.TooLong len) → (2 ^ 28 < length (group_form group.now.items)) × (len ≡ told_length group.now.items) }

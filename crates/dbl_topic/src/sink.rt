@@ -22,6 +22,10 @@ pub trait Sink {
     /// What the sink says of all that a stop may leave now: of a topic log, that it is one of some groups.
     ghost leaves_groups: { Self → Type 0 };
 
+    /// The second sink comes of the first one: what no put undoes, whatever it answers. Of a topic log, how far it has come:
+    /// its closed gate never falls, and the disk's bytes become no more than 2^30 past it, unless they were more before.
+    ghost comes_of: { Self → Self → Type 0 };
+
     /// Whether the sink can be used.
     ghost is_live: { Self → Bool };
 
@@ -30,7 +34,7 @@ pub trait Sink {
 
     /// Appends the group. After `Failed` some first records of it may have been appended, as a group of their own, and the
     /// sink isn't live. After the other errors nothing was appended, and the sink stays live. A group that is too long may be
-    /// answered with another error, where that comes first.
+    /// answered with another error, where that comes first. Whatever it answers, a stop leaves some groups.
     fn put(&mut self, group: &Vec<Record>) -> Result<(), SinkError>
         requires live { IsTrue (is_live self.old) }
         requires handful { IsHandful group.now.items }
@@ -38,6 +42,8 @@ pub trait Sink {
         ensures kept { (groups : List (List Record)) → holds self.old groups → OnErr result (result ≢ Err SinkError.Failed → holds self.new groups) }
         ensures left { (groups left : List (List Record)) → holds self.old groups → may_leave self.new left → IsLeftByPut groups group.now.items left }
         ensures whole { (groups : List (List Record)) → holds self.old groups → leaves_groups self.new }
+        ensures some { (groups : List (List Record)) → holds self.old groups → (left : List (List Record)) × may_leave self.new left }
+        ensures comes { comes_of self.old self.new }
         ensures live { result ≢ Err SinkError.Failed → IsTrue (is_live self.new) }
         ensures dead { result ≡ Err SinkError.Failed → is_live self.new ≡ false }
         ensures too_long { (len : ℕ) → result ≡ Err (SinkError.TooLong len) → (2 ^ 28 < length (group_form group.now.items)) × (len ≡ told_length group.now.items) }
@@ -51,4 +57,9 @@ pub trait Sink {
     ghost may: { (sink : Self) (groups : List (List Record)) → holds sink groups → may_leave sink groups };
 
     ghost whole: { (sink : Self) (groups : List (List Record)) → holds sink groups → leaves_groups sink };
+
+    /// Each sink comes of itself, and of what those come of that it comes of.
+    ghost comes_self: { (sink : Self) → comes_of sink sink };
+
+    ghost comes_on: { (first second third : Self) → comes_of first second → comes_of second third → comes_of first third };
 }

@@ -6,17 +6,17 @@ use Rattle.indexmap.specs.IndexMap.{get}
 use Rattle.dbl_base.specs.declared.lsn.Lsn.{Lsn}
 use Rattle.dbl_pgmsg.specs.declared.messages.Message.{Message}
 use Rattle.dbl_pgmsg.specs.declared.messages.Message.TheVariants as says
-use Rattle.dbl_model.specs.declared.change.Change.{Change}
-use Rattle.dbl_model.specs.declared.change.Commit.{Commit}
-use Rattle.dbl_model.specs.declared.table.TableInfo.{TableInfo}
-use Rattle.dbl_model.specs.declared.told.Relation.{Relation}
-use Rattle.dbl_model.specs.declared.told.RowChange.{RowChange}
-use Rattle.dbl_model.specs.declared.told.RowChange.TheVariants as row
-use Rattle.dbl_model.specs.declared.txn_error.TxnError.{TxnError}
-use Rattle.dbl_model.specs.declared.txn_error.TxnError.TheVariants as errors
-use Rattle.dbl_model.specs.Past.{relation_of, Begun, begin_of, mark_of, HasNoRelation}
-use Rattle.dbl_model.specs.Stated.{has_some, stated, ok_or_none, open_changes, mismatch, first_of, commit_of, ended_with, target}
-use Rattle.dbl_model.proofs.Learning.{changes_learnt, other_relation, target_learnt}
+use Rattle.dbl_table.specs.declared.change.Change.{Change}
+use Rattle.dbl_table.specs.declared.change.Commit.{Commit}
+use Rattle.dbl_table.specs.declared.table.TableInfo.{TableInfo}
+use Rattle.dbl_commit.specs.declared.told.Relation.{Relation}
+use Rattle.dbl_commit.specs.declared.told.RowChange.{RowChange}
+use Rattle.dbl_commit.specs.declared.told.RowChange.TheVariants as row
+use Rattle.dbl_commit.specs.declared.txn_error.TxnError.{TxnError}
+use Rattle.dbl_commit.specs.declared.txn_error.TxnError.TheVariants as errors
+use Rattle.dbl_commit.specs.Past.{relation_of, Begun, begin_of, mark_of, HasNoRelation}
+use Rattle.dbl_commit.specs.Stated.{has_some, stated, ok_or_none, open_changes, mismatch, first_of, commit_of, ended_with, target}
+use Rattle.dbl_commit.proofs.Learning.{changes_learnt, other_relation, target_learnt}
 use Rattle.dbl_txn.specs.declared.assembler.Block.{Block}
 use Rattle.dbl_txn.specs.declared.assembler.Assembler.{Assembler}
 use Rattle.dbl_txn.specs.Stands.{message_of, known_in, IsBlock, IsOpen, Stands, Moved, Moves, Said, Taken, Takes}

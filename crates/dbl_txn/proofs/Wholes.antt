@@ -3,12 +3,12 @@ use Rattle.std.proofs.Common.{◌≡◌, ◌⊎◌, inl, inr, List, [], ◌∷�
 use Rattle.std.specs.Prelude.{Option, Some, None}
 use Rattle.dbl_base.specs.declared.lsn.Lsn.{Lsn}
 use Rattle.dbl_pgmsg.specs.declared.messages.Message.{Message}
-use Rattle.dbl_model.specs.declared.change.Commit.{Commit}
-use Rattle.dbl_model.specs.declared.table.TableInfo.{TableInfo}
-use Rattle.dbl_model.specs.declared.txn_error.TxnError.{TxnError}
-use Rattle.dbl_model.specs.declared.txn_error.TxnError.TheVariants as errors
-use Rattle.dbl_model.specs.Stated.{list_of, ended, commits_of, first_of, transaction_fault}
-use Rattle.dbl_model.specs.Blocks.{onto, first_fault}
+use Rattle.dbl_table.specs.declared.change.Commit.{Commit}
+use Rattle.dbl_table.specs.declared.table.TableInfo.{TableInfo}
+use Rattle.dbl_commit.specs.declared.txn_error.TxnError.{TxnError}
+use Rattle.dbl_commit.specs.declared.txn_error.TxnError.TheVariants as errors
+use Rattle.dbl_commit.specs.Stated.{list_of, ended, commits_of, first_of, transaction_fault}
+use Rattle.dbl_commit.specs.Blocks.{onto, first_fault}
 use Rattle.dbl_txn.specs.declared.assembler.Assembler.{Assembler}
 use Rattle.dbl_txn.specs.Stands.{StandsWhole, Taken}
 

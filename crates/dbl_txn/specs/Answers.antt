@@ -1,7 +1,7 @@
 -- What a function answers, beside the definitions of what is read and of faults. Memory may always be wanting.
 use Rattle.std.specs.Prelude.{◌≡◌, ◌⊎◌, Option, Some, None, Result, Ok, Err}
-use Rattle.dbl_model.specs.declared.txn_error.TxnError.{TxnError}
-use Rattle.dbl_model.specs.declared.txn_error.TxnError.TheVariants as errors
+use Rattle.dbl_commit.specs.declared.txn_error.TxnError.{TxnError}
+use Rattle.dbl_commit.specs.declared.txn_error.TxnError.TheVariants as errors
 
 -- what was answered is what was read, or its fault
 abbrev pub Fails : {A : Type 0} → TxnError → Result A TxnError → Type 0

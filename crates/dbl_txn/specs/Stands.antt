@@ -4,16 +4,16 @@ use Rattle.indexmap.specs.IndexMap.{get}
 use Rattle.dbl_base.specs.declared.lsn.Lsn.{Lsn}
 use Rattle.dbl_pgmsg.specs.declared.messages.Message.{Message}
 use Rattle.dbl_pgmsg.specs.declared.messages.Message.TheVariants as says
-use Rattle.dbl_model.specs.declared.change.Change.{Change}
-use Rattle.dbl_model.specs.declared.change.Commit.{Commit}
-use Rattle.dbl_model.specs.declared.table.TableInfo.{TableInfo}
-use Rattle.dbl_model.specs.declared.told.Relation.{Relation}
-use Rattle.dbl_model.specs.declared.told.RowChange.{RowChange}
-use Rattle.dbl_model.specs.declared.told.RowChange.TheVariants as row
-use Rattle.dbl_model.specs.declared.txn_error.TxnError.{TxnError}
-use Rattle.dbl_model.specs.declared.txn_error.TxnError.TheVariants as errors
-use Rattle.dbl_model.specs.Past.{relation_of, Begun, begin_of, last_lsn, mark_of}
-use Rattle.dbl_model.specs.Stated.{has_some, target, open_changes, stated, ended_with, ended, transaction_fault}
+use Rattle.dbl_table.specs.declared.change.Change.{Change}
+use Rattle.dbl_table.specs.declared.change.Commit.{Commit}
+use Rattle.dbl_table.specs.declared.table.TableInfo.{TableInfo}
+use Rattle.dbl_commit.specs.declared.told.Relation.{Relation}
+use Rattle.dbl_commit.specs.declared.told.RowChange.{RowChange}
+use Rattle.dbl_commit.specs.declared.told.RowChange.TheVariants as row
+use Rattle.dbl_commit.specs.declared.txn_error.TxnError.{TxnError}
+use Rattle.dbl_commit.specs.declared.txn_error.TxnError.TheVariants as errors
+use Rattle.dbl_commit.specs.Past.{relation_of, Begun, begin_of, last_lsn, mark_of}
+use Rattle.dbl_commit.specs.Stated.{has_some, target, open_changes, stated, ended_with, ended, transaction_fault}
 use Rattle.dbl_txn.specs.declared.assembler.Known.{Known}
 use Rattle.dbl_txn.specs.declared.assembler.Block.{Block}
 use Rattle.dbl_txn.specs.declared.assembler.Assembler.{Assembler}

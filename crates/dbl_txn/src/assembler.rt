@@ -4,21 +4,22 @@ ghost use Rattle.indexmap.specs.IndexMap.{get};
 ghost use Rattle.dbl_base.specs.declared.lsn.Lsn.{Lsn};
 ghost use Rattle.dbl_pgmsg.specs.declared.messages.Message.{Message};
 ghost use Rattle.dbl_pgmsg.specs.declared.messages.Message.TheVariants as says;
-ghost use Rattle.dbl_model.specs.declared.change.Change.{Change};
-ghost use Rattle.dbl_model.specs.declared.change.Commit.{Commit};
-ghost use Rattle.dbl_model.specs.declared.table.TableInfo.{TableInfo};
-ghost use Rattle.dbl_model.specs.Past.{Begun, begin_of, second_text, mark_in, HasNoRelation};
-ghost use Rattle.dbl_model.specs.Tuples.{refuse_if};
-ghost use Rattle.dbl_model.specs.Stated.{is_empty, has_some, in_table, row_stated, targets_at, is_the_watermark, clears, truncate_stated, truncated, commit_of};
-ghost use Rattle.dbl_model.specs.Blocks.{onto, States};
+ghost use Rattle.dbl_table.specs.declared.change.Change.{Change};
+ghost use Rattle.dbl_table.specs.declared.change.Commit.{Commit};
+ghost use Rattle.dbl_table.specs.declared.table.TableInfo.{TableInfo};
+ghost use Rattle.dbl_commit.specs.Past.{Begun, begin_of, second_text, mark_in, HasNoRelation};
+ghost use Rattle.dbl_commit.specs.Tuples.{refuse_if};
+ghost use Rattle.dbl_commit.specs.Stated.{is_empty, has_some, in_table, row_stated, targets_at, is_the_watermark, clears, truncate_stated, truncated, commit_of};
+ghost use Rattle.dbl_commit.specs.Blocks.{onto, States};
 ghost use Rattle.dbl_txn.specs.Stands.{message_of, IsBlock, Recalls, Stands, StandsWhole, Moves, Says, Takes};
 ghost use Rattle.dbl_txn.specs.Answers.{Gives};
 
 use crate::changes::change_of;
 use crate::tables::{check_schema, named, target_of};
 use dbl_base::{Lsn, Seq, Text};
-use dbl_model::{Body, Change, Commit, Relation, RowChange, TableInfo, Target, TxnError};
+use dbl_commit::{Relation, RowChange, Target, TxnError};
 use dbl_pgmsg::{Message, RelationColumn, TupleCell};
+use dbl_table::{Body, Change, Commit, TableInfo};
 use indexmap::IndexMap;
 use std::alloc::{AllocError, Global};
 
@@ -104,7 +105,7 @@ fn marked(mark: &mut Option<Text>, changed: bool, change: RowChange) -> Result<(
 }
 
 // What a change of a row states in the open transaction.
-#[tactic(auto, unfolding(dbl_model::specs::Stated::row_stated))]
+#[tactic(auto, unfolding(dbl_commit::specs::Stated::row_stated))]
 fn row_in(
     alloc: Global,
     infos: &Vec<TableInfo>,
@@ -171,7 +172,7 @@ fn any_watermark(targets: &Vec<Target>) -> bool
 }
 
 // The Clears of a Truncate in the open transaction.
-#[tactic(auto, unfolding(dbl_model::specs::Stated::truncate_stated))]
+#[tactic(auto, unfolding(dbl_commit::specs::Stated::truncate_stated))]
 fn cleared(alloc: Global, marked: bool, targets: &Vec<Target>) -> Result<Seq<Change>, TxnError>
     ensures { Gives result (truncate_stated marked targets.now.items) }
 {

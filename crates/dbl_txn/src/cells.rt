@@ -2,12 +2,13 @@
 
 ghost use Rattle.std.specs.Prelude.{◌≡◌, ◌≢◌, ◌⊎◌};
 ghost use Rattle.std.specs.Option.{option_copied};
-ghost use Rattle.dbl_model.specs.Tuples.{spelled_value, null_cell, given_cell, is_fixed, filled_cell, new_cell};
+ghost use Rattle.dbl_commit.specs.Tuples.{spelled_value, null_cell, given_cell, is_fixed, filled_cell, new_cell};
 ghost use Rattle.dbl_txn.specs.Answers.{Gives};
 
 use dbl_base::Text;
-use dbl_model::{Cell, Column, TableName, TxnError};
+use dbl_commit::TxnError;
 use dbl_pgmsg::TupleCell;
+use dbl_table::{Cell, Column, TableName};
 use dbl_value::{PgType, Val, ValueError, oid, read_owned};
 use std::alloc::Global;
 
@@ -30,7 +31,7 @@ fn refused(
     }
 }
 
-#[tactic(auto, unfolding(dbl_model::specs::Tuples::spelled_value))]
+#[tactic(auto, unfolding(dbl_commit::specs::Tuples::spelled_value))]
 fn spelled(alloc: Global, table: &TableName, column: &Column, text: Text) -> Result<Val, TxnError>
     ensures { Gives result (spelled_value table.now column.now text) }
 {
@@ -53,7 +54,7 @@ fn null(alloc: Global, table: &TableName, in_key: bool) -> Result<Val, TxnError>
 }
 
 /// A cell of an Insert or of an old row.
-#[tactic(auto, unfolding(dbl_model::specs::Tuples::given_cell))]
+#[tactic(auto, unfolding(dbl_commit::specs::Tuples::given_cell))]
 pub fn given(
     alloc: Global,
     table: &TableName,
@@ -107,7 +108,7 @@ fn filled(
 }
 
 /// A cell of an Update's new row, where the old row fills in `old`.
-#[tactic(auto, unfolding(dbl_model::specs::Tuples::new_cell))]
+#[tactic(auto, unfolding(dbl_commit::specs::Tuples::new_cell))]
 pub fn renewed(
     alloc: Global,
     table: &TableName,

@@ -2,16 +2,17 @@
 
 ghost use Rattle.std.specs.Prelude.{◌≡◌, ◌&&◌, not, IfOk};
 ghost use Rattle.std.specs.List.{position_from};
-ghost use Rattle.dbl_model.specs.Infos.{name_at};
-ghost use Rattle.dbl_model.specs.Tuples.{refuse_if, is_unsent, none_unsent, all_sent_if_moved, key_in_identity, is_full, change_of};
-ghost use Rattle.dbl_model.specs.declared.told.RowChange.TheVariants as row;
+ghost use Rattle.dbl_table.specs.Infos.{name_at};
+ghost use Rattle.dbl_commit.specs.Tuples.{refuse_if, is_unsent, none_unsent, all_sent_if_moved, key_in_identity, is_full, change_of};
+ghost use Rattle.dbl_commit.specs.declared.told.RowChange.TheVariants as row;
 ghost use Rattle.dbl_txn.specs.Answers.{Gives};
 
 use crate::keys::{identifies_key, is_same, key_before, key_of, new_key_of};
 use crate::rows::{has_whole, new_cells, old_row, old_row_if_sent, row_of};
 use dbl_base::{Seq, Text};
-use dbl_model::{Cell, Change, Column, Key, Relation, RowChange, TableInfo, TableName, TxnError};
+use dbl_commit::{Relation, RowChange, TxnError};
 use dbl_pgmsg::{OldTuple, Tuple};
+use dbl_table::{Cell, Change, Column, Key, TableInfo, TableName};
 use std::alloc::{AllocError, Global};
 
 fn is_unsent(cell: &Cell) -> bool
@@ -56,7 +57,7 @@ fn check_sent(
 }
 
 // An update that moves the key sends all cells.
-#[tactic(auto, unfolding(dbl_model::specs::Tuples::all_sent_if_moved))]
+#[tactic(auto, unfolding(dbl_commit::specs::Tuples::all_sent_if_moved))]
 fn check_moved(
     alloc: Global,
     info: &TableInfo,
@@ -101,7 +102,7 @@ fn check_old(
     }
 }
 
-#[tactic(auto, unfolding(dbl_model::specs::Tuples::change_of))]
+#[tactic(auto, unfolding(dbl_commit::specs::Tuples::change_of))]
 fn inserted(
     alloc: Global,
     table: u32,
@@ -115,7 +116,7 @@ fn inserted(
     Ok(Change::Insert { table, row })
 }
 
-#[tactic(auto, unfolding(dbl_model::specs::Tuples::change_of))]
+#[tactic(auto, unfolding(dbl_commit::specs::Tuples::change_of))]
 fn updated(
     alloc: Global,
     table: u32,
@@ -141,7 +142,7 @@ fn updated(
     })
 }
 
-#[tactic(auto, unfolding(dbl_model::specs::Tuples::change_of))]
+#[tactic(auto, unfolding(dbl_commit::specs::Tuples::change_of))]
 fn deleted(
     alloc: Global,
     table: u32,

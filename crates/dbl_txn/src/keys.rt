@@ -1,11 +1,12 @@
 //! Keys of rows, and which columns they are of.
 
 ghost use Rattle.std.specs.Prelude.{◌≡◌, IfOk, map};
-ghost use Rattle.dbl_model.specs.Keys.{key_of, new_key_of, cell_or_null, given_or_null, same_key};
-ghost use Rattle.dbl_model.specs.Tuples.{is_key_place, is_flagged, key_in_identity, key_before};
+ghost use Rattle.dbl_table.specs.Keys.{key_of, new_key_of, cell_or_null, given_or_null, same_key};
+ghost use Rattle.dbl_commit.specs.Tuples.{is_key_place, is_flagged, key_in_identity, key_before};
 
 use dbl_base::Seq;
-use dbl_model::{Cell, Key, Relation, Row, TableInfo, compare};
+use dbl_commit::Relation;
+use dbl_table::{Cell, Key, Row, TableInfo, compare};
 use dbl_value::Val;
 use std::alloc::{AllocError, Global};
 
@@ -27,7 +28,7 @@ pub fn has_flag(relation: &Relation, place: usize) -> bool
 }
 
 /// Whether all columns of the key are columns of the replica identity.
-#[tactic(auto, unfolding(dbl_model::specs::Tuples::key_in_identity))]
+#[tactic(auto, unfolding(dbl_commit::specs::Tuples::key_in_identity))]
 pub fn identifies_key(info: &TableInfo, relation: &Relation) -> bool
     ensures { result ≡ key_in_identity info.now relation.now }
 {
@@ -81,7 +82,7 @@ pub fn new_key_of(alloc: Global, info: &TableInfo, cells: &Seq<Cell>) -> Result<
 }
 
 /// The key that a row had before an update of these cells.
-#[tactic(auto, unfolding(dbl_model::specs::Tuples::key_before))]
+#[tactic(auto, unfolding(dbl_commit::specs::Tuples::key_before))]
 pub fn key_before(
     alloc: Global,
     info: &TableInfo,

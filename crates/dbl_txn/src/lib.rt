@@ -10,8 +10,5 @@ mod tables;
 mod whole;
 
 pub use assembler::Assembler;
-pub use dbl_model::TxnError;
+pub use dbl_commit::TxnError;
 pub use whole::take_all;
-
-#[cfg(test)]
-mod tests;

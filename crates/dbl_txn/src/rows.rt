@@ -2,15 +2,16 @@
 
 ghost use Rattle.std.specs.Prelude.{◌≡◌, ◌⊎◌, length};
 ghost use Rattle.std.specs.Option.{option_copied};
-ghost use Rattle.dbl_model.specs.Infos.{width};
-ghost use Rattle.dbl_model.specs.Tuples.{each_from, row_cell, row_of, old_row, old_row_if_sent, is_whole, filling, next_cell, new_cells};
+ghost use Rattle.dbl_table.specs.Infos.{width};
+ghost use Rattle.dbl_commit.specs.Tuples.{each_from, row_cell, row_of, old_row, old_row_if_sent, is_whole, filling, next_cell, new_cells};
 ghost use Rattle.dbl_txn.specs.Answers.{Gives};
 
 use crate::cells::{given, renewed};
 use crate::keys::{has_flag, has_key_place};
 use dbl_base::Seq;
-use dbl_model::{Cell, Column, Relation, Row, TableInfo, TxnError};
+use dbl_commit::{Relation, TxnError};
 use dbl_pgmsg::{OldTuple, Tuple, TupleCell};
+use dbl_table::{Cell, Column, Row, TableInfo};
 use dbl_value::Val;
 use std::alloc::Global;
 
@@ -66,7 +67,7 @@ fn read_cells(
 }
 
 /// A row of a table: a whole one, or an old key.
-#[tactic(auto, unfolding(dbl_model::specs::Tuples::row_of))]
+#[tactic(auto, unfolding(dbl_commit::specs::Tuples::row_of))]
 pub fn row_of(
     alloc: Global,
     info: &TableInfo,
@@ -202,7 +203,7 @@ fn next_cells(
 }
 
 /// The cells of an update, where the old row fills in what wasn't sent.
-#[tactic(auto, unfolding(dbl_model::specs::Tuples::new_cells))]
+#[tactic(auto, unfolding(dbl_commit::specs::Tuples::new_cells))]
 pub fn new_cells(
     alloc: Global,
     info: &TableInfo,

@@ -2,15 +2,16 @@
 
 ghost use Rattle.std.specs.Prelude.{◌≡◌, Ok, IfOk, Some};
 ghost use Rattle.std.specs.List.{list_all, zip};
-ghost use Rattle.dbl_model.specs.Tables.{same_name};
-ghost use Rattle.dbl_model.specs.Infos.{number_of};
-ghost use Rattle.dbl_model.specs.Past.{named};
-ghost use Rattle.dbl_model.specs.Stated.{target, same_column, same_columns, columns_fault, schema_fault};
+ghost use Rattle.dbl_table.specs.Tables.{same_name};
+ghost use Rattle.dbl_table.specs.Infos.{number_of};
+ghost use Rattle.dbl_commit.specs.Past.{named};
+ghost use Rattle.dbl_commit.specs.Stated.{target, same_column, same_columns, columns_fault, schema_fault};
 ghost use Rattle.dbl_txn.specs.Answers.{Gives, Judges};
 
 use dbl_base::Text;
-use dbl_model::{Column, Relation, TableInfo, TableName, Target, TxnError};
+use dbl_commit::{Relation, Target, TxnError};
 use dbl_pgmsg::RelationColumn;
+use dbl_table::{Column, TableInfo, TableName};
 use dbl_value::oid;
 use std::alloc::{AllocError, Global};
 

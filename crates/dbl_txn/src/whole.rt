@@ -1,14 +1,15 @@
 ghost use Rattle.std.specs.Prelude.{◌≡◌, ◌⊎◌, List, [], ◌++◌, None, Some, OnOk, IfOk, IfErr};
 ghost use Rattle.dbl_base.specs.declared.lsn.Lsn.{Lsn};
 ghost use Rattle.dbl_pgmsg.specs.declared.messages.Message.{Message};
-ghost use Rattle.dbl_model.specs.declared.table.TableInfo.{TableInfo};
-ghost use Rattle.dbl_model.specs.Stated.{commits_of, list_of};
-ghost use Rattle.dbl_model.specs.Blocks.{onto, States, first_fault};
+ghost use Rattle.dbl_table.specs.declared.table.TableInfo.{TableInfo};
+ghost use Rattle.dbl_commit.specs.Stated.{commits_of, list_of};
+ghost use Rattle.dbl_commit.specs.Blocks.{onto, States, first_fault};
 ghost use Rattle.dbl_txn.specs.Stands.{StandsWhole};
 
 use crate::Assembler;
-use dbl_model::{Commit, TxnError};
+use dbl_commit::TxnError;
 use dbl_pgmsg::Message;
+use dbl_table::Commit;
 use std::alloc::{AllocError, Global};
 
 fn keep(commits: &mut Vec<Commit>, ended: Option<Commit>) -> Result<(), AllocError>

@@ -11,3 +11,4 @@ pub mod Faults
 pub mod Order
 pub mod Laws
 pub mod Forms
+pub mod KindOrder

@@ -1,7 +1,8 @@
 ghost use Rattle.dbl_value.specs.Forms.{TimeTextsAreClocks, StampTextsAreMoments, InstantTextsAreInstants, DateTextsAreDays, DaysAreDates, ByteTextsAreHex, UuidTextsAreGroups};
+ghost use Rattle.dbl_value.specs.KindOrder.{KindsAreInOrder};
 ghost use Rattle.dbl_value.specs.Laws.{DateRangesSpellNoValue, OidsNameTypes, TextsSpellOneValue, DecimalsSpellIntegers, TextsReadBack, JsonTellsCells, ValuesAreOrdered};
 
-/// An OID is that of at most one type, and each type has one.
+/// An OID is that of at most one type that a column can have, and each such type has one.
 pub fn oids_name_types()
     ensures { OidsNameTypes }
 {}
@@ -29,6 +30,12 @@ pub fn json_tells_cells()
 /// Values have a total order, and only a value itself is equal to it.
 pub fn values_are_ordered()
     ensures { ValuesAreOrdered }
+{}
+
+/// Null is less than truth values, these than integers, then come texts, byte strings, dates, times of a day, timestamps and
+/// instants.
+pub fn kinds_are_in_order()
+    ensures { KindsAreInOrder }
 {}
 
 /// A text spells a date exactly where it is `YYYY-MM-DD` of a day of the calendar in the years 1 to 9999.

@@ -1,21 +1,8 @@
-//! The program `dblog`: the change events of a PostgreSQL log.
+//! The program `dblog`: the words, the clock and the standard streams that a run is made with.
 #![tactic(auto)]
 
-mod apply;
-mod capture;
-mod halt;
-mod laws;
-mod lines;
-mod log_fault;
-mod options;
-mod printing;
-mod program;
-mod replay;
-#[cfg(test)]
-mod tests;
-
 use dbl_base::{StdInput, StdOutput, Text};
-use halt::Halt;
+use dbl_program::{Halt, run, say};
 use std::alloc::AllocError;
 use std::env;
 use std::io::{self, ErrorKind};
@@ -51,14 +38,14 @@ fn now_ms(rt: &impl Clock) -> i64 {
 fn main(rt: HostRuntime) -> ExitCode {
     let mut output = StdOutput::make(io::writer(&rt));
     let status = match words(&rt) {
-        Ok(words) => program::run(
+        Ok(words) => run(
             rt.alloc(),
             &words,
             now_ms(&rt),
             &mut StdInput::make(rt.reader()),
             &mut output,
         ),
-        Err(AllocError) => program::say(rt.alloc(), Halt::Memory, &mut output),
+        Err(AllocError) => say(rt.alloc(), Halt::Memory, &mut output),
     };
     ExitCode::from(status)
 }

@@ -1,8 +1,8 @@
 use Rattle.std.proofs.Common.{◌≡◌, ◌∙◌, List, ℕ, Some, ap, ap₂}
 use Rattle.dbl_record.specs.declared.record.Record.{Record}
 use Rattle.dbl_value.specs.declared.value.Val.{Val}
-use Rattle.dbl_model.specs.Keys.{key_of}
-use Rattle.dbl_model.specs.Image.{key_text}
+use Rattle.dbl_table.specs.Keys.{key_of}
+use Rattle.dbl_history.specs.Image.{key_text}
 use Rattle.dbl_envelope.specs.Frames.{deleted_record}
 use Rattle.dbl_envelope.proofs.SideLemmas.{given_sent}
 use Rattle.dbl_envelope.proofs.event.moved_from.Goals as goal

@@ -3,9 +3,9 @@ use Rattle.serde_json.specs.Data.{null}
 use Rattle.serde_json.specs.Written.{compact_text}
 use Rattle.dbl_record.specs.declared.record.Record.{Record}
 use Rattle.dbl_value.specs.declared.value.Val.{Val}
-use Rattle.dbl_model.specs.Keys.{key_of}
-use Rattle.dbl_model.specs.Image.{key_text}
-use Rattle.dbl_model.specs.EventJson.{row_data}
+use Rattle.dbl_table.specs.Keys.{key_of}
+use Rattle.dbl_history.specs.Image.{key_text}
+use Rattle.dbl_event.specs.EventJson.{row_data}
 use Rattle.dbl_envelope.specs.Frames.{plain_record, event_of}
 use Rattle.dbl_envelope.proofs.SideLemmas.{given_sent}
 use Rattle.dbl_envelope.proofs.event.moved_to.Goals as goal

@@ -2,7 +2,7 @@ use Rattle.std.proofs.Common.{◌∙◌, List, ℕ, Some, map, ap, ap₂, codes}
 use Rattle.std.proofs.lemmas.Result.{IfOk-weaker}
 use Rattle.serde_json.specs.Data.{Data}
 use Rattle.serde_json.specs.Written.{compact_text}
-use Rattle.dbl_model.specs.EventJson.{row_data, sent}
+use Rattle.dbl_event.specs.EventJson.{row_data, sent}
 use Rattle.dbl_envelope.specs.Frames.{plain_record, event_of}
 use Rattle.dbl_envelope.proofs.event.updated.Goals as goal
 

@@ -1,6 +1,6 @@
 use Rattle.std.proofs.Common.{◌≡◌, ◌∙◌, ◌+◌, ◌<◌, suc, length, slice_get, Some, true, false, refl, sym, ap, arith, rules}
 use Rattle.std.proofs.lemmas.Option.{slice_get_read}
-use Rattle.dbl_model.specs.Keys.{new_key_of, given_or_null}
+use Rattle.dbl_table.specs.Keys.{new_key_of, given_or_null}
 use Rattle.dbl_envelope.proofs.LayoutLemmas.{key_place}
 use Rattle.dbl_envelope.proofs.KeySteps.{new_cell, same_from, same_more, same_not}
 use Rattle.dbl_envelope.proofs.keys.is_key_of.Goals as goal

@@ -1,5 +1,5 @@
 use Rattle.std.proofs.Common.{◌≡◌}
-use Rattle.dbl_model.specs.Keys.{same_key, new_key_of}
+use Rattle.dbl_table.specs.Keys.{same_key, new_key_of}
 use Rattle.dbl_envelope.proofs.KeySteps.{same_from}
 use Rattle.dbl_envelope.proofs.keys.is_key_of.Given as goal
 

@@ -3,7 +3,7 @@ use Rattle.std.specs.List.{All}
 use Rattle.std.proofs.lemmas.Result.{IfOk-weaker}
 use Rattle.serde_json.specs.Data.{object}
 use Rattle.serde_json.specs.Written.{compact_text}
-use Rattle.dbl_model.specs.EventJson.{sent}
+use Rattle.dbl_event.specs.EventJson.{sent}
 use Rattle.dbl_envelope.specs.declared.layout.Layout.{Layout}
 use Rattle.dbl_envelope.specs.Layouts.{members_at}
 use Rattle.dbl_envelope.proofs.LayoutLemmas.{key_fits}

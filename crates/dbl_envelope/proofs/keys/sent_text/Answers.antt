@@ -4,7 +4,7 @@ use Rattle.json.specs.Tree.{json_tokens}
 use Rattle.serde_json.specs.Data.{object}
 use Rattle.serde_json.specs.Written.{outline}
 use Rattle.serde_json.proofs.Texts.{print-outline}
-use Rattle.dbl_model.specs.EventJson.{sent}
+use Rattle.dbl_event.specs.EventJson.{sent}
 use Rattle.dbl_envelope.specs.Layouts.{members_at}
 use Rattle.dbl_envelope.proofs.keys.sent_text.Goals as goal
 

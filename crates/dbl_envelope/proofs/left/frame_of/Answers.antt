@@ -1,5 +1,5 @@
 use Rattle.std.proofs.Common.{◌≡◌, ◌∙◌, ◌<◌, Some, option_map, slice_get, length, sym, ap, arith, codes}
-use Rattle.dbl_model.specs.Rows.{table_of}
+use Rattle.dbl_table.specs.Rows.{table_of}
 use Rattle.dbl_envelope.specs.Layouts.{layout_of}
 use Rattle.dbl_envelope.specs.Frames.{tail_text}
 use Rattle.dbl_envelope.proofs.CommitLemmas.{suits_place, laid, tailed}

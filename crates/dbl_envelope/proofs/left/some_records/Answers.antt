@@ -1,7 +1,7 @@
 use Rattle.std.proofs.Common.{◌≡◌, ◌∙◌, ◌+◌, ◌++◌, ◌==◌, ◌<◌, ◌∷◌, drop, length, length-append, sym, ap, subst, arith}
 use Rattle.std.specs.List.{slice_index_or}
 use Rattle.std.proofs.lemmas.List.{drop_more}
-use Rattle.dbl_model.specs.Rows.{changes_of}
+use Rattle.dbl_table.specs.Rows.{changes_of}
 use Rattle.dbl_envelope.specs.declared.stamp.Stamp.{Stamp}
 use Rattle.dbl_envelope.specs.Suits.{Suits}
 use Rattle.dbl_envelope.specs.Writers.{records_from, change_records}

@@ -1,6 +1,6 @@
 use Rattle.std.proofs.Common.{◌≡◌, ◌∙◌, Some, None, true, ap}
 use Rattle.serde_json.specs.Written.{compact_text}
-use Rattle.dbl_model.specs.Snapshots.{progress_topic, progress_key, progress_data}
+use Rattle.dbl_event.specs.Snapshots.{progress_topic, progress_key, progress_data}
 use Rattle.dbl_envelope.specs.Frames.{table_data}
 use Rattle.dbl_envelope.proofs.progress.progress_record.Goals as goal
 

@@ -1,6 +1,6 @@
 use Rattle.std.proofs.Common.{◌∙◌, append_assoc}
 use Rattle.std.proofs.lemmas.Result.{on_ok_weaker}
-use Rattle.dbl_model.specs.EventJson.{source_data}
+use Rattle.dbl_event.specs.EventJson.{source_data}
 use Rattle.dbl_envelope.proofs.TokenLemmas.{number_text-of_integer}
 use Rattle.dbl_envelope.proofs.source.write_source.Goals as goal
 

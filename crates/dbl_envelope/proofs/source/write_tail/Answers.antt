@@ -4,7 +4,7 @@ use Rattle.std.specs.Fmt.{signed_decimal}
 use Rattle.json.specs.Token.{key, null, number}
 use Rattle.json.specs.Tree.{json_tokens}
 use Rattle.serde_json.specs.Written.{outline}
-use Rattle.dbl_model.specs.EventJson.{source_data}
+use Rattle.dbl_event.specs.EventJson.{source_data}
 use Rattle.dbl_envelope.proofs.source.write_tail.Goals as goal
 
 pub returns-clause-ok : goal.returns-clause-ok

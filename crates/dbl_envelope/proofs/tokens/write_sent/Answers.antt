@@ -6,7 +6,7 @@ use Rattle.json.specs.Token.{key}
 use Rattle.json.specs.Tree.{json_tokens}
 use Rattle.serde_json.specs.Written.{outline}
 use Rattle.dbl_value.specs.Values.{json_data}
-use Rattle.dbl_model.specs.EventJson.{sent}
+use Rattle.dbl_event.specs.EventJson.{sent}
 use Rattle.dbl_envelope.proofs.TokenLemmas.{cell_step, map_get}
 use Rattle.dbl_envelope.proofs.tokens.write_sent.Goals as goal
 

@@ -2,7 +2,7 @@ use Rattle.std.proofs.Common.{◌≡◌, ◌++◌, ◌∷◌, drop, map}
 use Rattle.json.specs.Token.{begin_object}
 use Rattle.json.specs.Tree.{members_tokens}
 use Rattle.serde_json.specs.Written.{members_outline}
-use Rattle.dbl_model.specs.EventJson.{sent}
+use Rattle.dbl_event.specs.EventJson.{sent}
 use Rattle.dbl_envelope.specs.Layouts.{members_at}
 use Rattle.dbl_envelope.proofs.tokens.write_sent.Given as goal
 

@@ -33,3 +33,10 @@ returns-in_err-write_at-clause-longest g c old new was told = longest_torn _ _ (
 
 pub returns-clause-longest : goal.returns-clause-longest
 returns-clause-longest g c old new was told = longest_done _ _ (c.args.gate + 1) c.args.bytes.now old new was c.in_ok-write_at.ensures.written (sym c.sync.ensures.seen ∙ told)
+
+pub returns-clause-told : goal.returns-clause-told
+returns-clause-told g c old told = (written old (c.args.gate + 1) c.args.bytes.now, c.sync.ensures.seen ∙ c.in_ok-write_at.ensures.written old told)
+
+pub returns-clause-steady : goal.returns-clause-steady
+returns-clause-steady g c old told =
+    on_ok_weaker c.sync.result (λ same. same ∙ c.in_ok-write_at.ensures.steady old told) (c.sync.ensures.steady (written old (c.args.gate + 1) c.args.bytes.now) (c.in_ok-write_at.ensures.written old told))

@@ -50,3 +50,7 @@ returns-clause-longest g c new was told =
     let long = nine c.args.bytes.now c.requires in
     let most = longest_done _ _ 0 c.args.bytes.now [] new was c.in_ok-write_at.ensures.written (sym c.sync.ensures.seen ∙ told) in
     omega (arith, long, most)
+
+pub returns-clause-steady : goal.returns-clause-steady
+returns-clause-steady g c old told =
+    on_ok_weaker c.sync.result (λ same. same ∙ c.in_ok-write_at.ensures.steady old told) (c.sync.ensures.steady (written old 0 c.args.bytes.now) (c.in_ok-write_at.ensures.written old told))

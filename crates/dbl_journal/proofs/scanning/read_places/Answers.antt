@@ -1,4 +1,4 @@
-use Rattle.std.proofs.Common.{◌∙◌, ◌+◌, List, drop, inr, refl, sym, subst, ap, arith, length, length-append}
+use Rattle.std.proofs.Common.{◌∙◌, ◌+◌, ◌∷◌, [], List, drop, inr, refl, sym, subst, ap, arith, length, length-append}
 use Rattle.std.proofs.lemmas.Result.{err_from_is_err_and}
 use Rattle.dbl_disk.specs.declared.extent.Extent.{Extent}
 use Rattle.dbl_journal.specs.Form.{magic}
@@ -18,6 +18,8 @@ entries-init g c = record {
   images = λ image. ((λ left. left), (λ left. left));
   inside = omega (arith, c.if-total-lt8.false);
   small = c.requires;
+  few = omega (arith, ap length c.new-places.ensures.items);
+  steady = λ bytes told. refl;
   later = omega arith;
 }
 
@@ -43,5 +45,7 @@ entries-preserved g c =
       );
       inside = omega (arith, forward.1);
       small = c.entries.invariant.small;
+      few = omega (arith, c.entries.invariant.few, forward.0, ap length c.in_ok-push.ensures.items, length-append c.entries.places.items (c.in-Some.place ∷ []));
+      steady = λ bytes told. c.in_ok-place.ensures.steady bytes (c.entries.invariant.seen ∙ told) (λ ok. cc) ∙ c.entries.invariant.steady bytes told;
       later = omega (arith, c.entries.invariant.later, c.next_place.ensures.later);
     }

@@ -10,6 +10,8 @@ invariant-entries g l = record {
   images : (image : List ℕ) → g.D.Disk.may_leave l.disk image ↔ g.D.Disk.may_leave l.fn.disk image;
   inside : l.gate ≤ l.total;
   small : l.total < 2 ^ 40;
+  few : length l.places.items ≤ l.gate;
+  steady : (bytes : List ℕ) → g.D.Disk.seen l.fn.disk ≡ Some bytes → g.D.Disk.faults l.disk ≡ g.D.Disk.faults l.fn.disk;
   later : g.D.Disk.faults l.fn.disk ≤ g.D.Disk.faults l.disk;
 }
 

@@ -1,7 +1,7 @@
 use Rattle.std.proofs.Common.{◌≡◌, Ok, map, get_or, refl, ap, sym, subst, ◌∙◌}
 use Rattle.std.proofs.lemmas.Result.{err_from_is_err_and}
 use Rattle.dbl_value.specs.declared.column_type.PgType.{PgType}
-use Rattle.dbl_model.specs.Tables.{type_at}
+use Rattle.dbl_table.specs.Tables.{type_at}
 use Rattle.dbl_record.specs.GroupReading.{Fails}
 use Rattle.dbl_offset.specs.Reading.{cell_at, cells_at}
 use Rattle.dbl_offset.proofs.Many.{cells_go_on, cells_end, cells_done}

@@ -1,7 +1,7 @@
 use Rattle.std.proofs.Common.{◌∙◌, ◌<◌, ◌^◌, ℕ, List, length, subst}
 use Rattle.std.specs.List.{AllByRecursion, flat_map}
 use Rattle.dbl_record.specs.Fields.{number32}
-use Rattle.dbl_model.specs.declared.table.Column.{Column}
+use Rattle.dbl_table.specs.declared.table.Column.{Column}
 use Rattle.dbl_offset.specs.Entries.{column, counted, FitsColumn}
 use Rattle.dbl_offset.specs.Measures.{Measures}
 use Rattle.dbl_offset.proofs.Sizes.{table_measured}

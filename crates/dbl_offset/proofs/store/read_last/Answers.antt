@@ -29,15 +29,16 @@ loop-index-preserved g c =
       count = c.loop-index.invariant.count;
       seen = c.entry.ensures.seen ∙ c.loop-index.invariant.seen;
       images = λ image. (λ h. (c.loop-index.invariant.images image).0 ((c.entry.ensures.images image).0 h), λ h. (c.entry.ensures.images image).1 ((c.loop-index.invariant.images image).1 h));
+      steady = λ bytes told. c.in_ok-bytes.ensures.steady (λ ok. cc) bytes (c.loop-index.invariant.seen ∙ told) ∙ c.loop-index.invariant.steady bytes told;
       later = omega (arith, c.entry.ensures.later, c.loop-index.invariant.later);
     }
 
 pub returns-clause-each : goal.returns-clause-each
 returns-clause-each g c entries lists =
-    let long : length entries ≤ c.loop-index.index = omega (arith, c.loop-index-test.false, c.count-index-end.ensures, ap (λ (l : List Extent). length l) lists.places, length-places entries 8) in
+    let long : length entries ≤ c.loop-index.index = omega (arith, c.loop-index-test.false, c.count-index-end.ensures.count, ap (λ (l : List Extent). length l) lists.places, length-places entries 8) in
     each_done entries c.loop-index.index long (c.loop-index.invariant.each entries lists)
 
 pub returns-clause-last : goal.returns-clause-last
 returns-clause-last g c entries lists =
-    let long : length entries ≤ c.loop-index.index = omega (arith, c.loop-index-test.false, c.count-index-end.ensures, ap (λ (l : List Extent). length l) lists.places, length-places entries 8) in
+    let long : length entries ≤ c.loop-index.index = omega (arith, c.loop-index-test.false, c.count-index-end.ensures.count, ap (λ (l : List Extent). length l) lists.places, length-places entries 8) in
     last_done entries c.loop-index.index c.loop-index.last long (c.loop-index.invariant.last entries lists)

@@ -1,4 +1,4 @@
-use Rattle.std.proofs.Common.{◌≡◌, ◌≤◌, ℕ, List, take}
+use Rattle.std.proofs.Common.{◌≡◌, ◌≤◌, ℕ, List, Some, take}
 use Rattle.std.specs.Prelude.{◌↔◌, IfSome}
 use Rattle.std.specs.List.{All}
 use Rattle.dbl_journal.specs.Stored.{Lists, count_of}
@@ -16,5 +16,6 @@ invariant-loop-index g l = record {
   count : l.index-end ≡ count_of l.fn.journal;
   seen : g.D.Disk.seen l.journal.disk ≡ g.D.Disk.seen l.fn.journal.disk;
   images : (image : List ℕ) → g.D.Disk.may_leave l.journal.disk image ↔ g.D.Disk.may_leave l.fn.journal.disk image;
+  steady : (bytes : List ℕ) → g.D.Disk.seen l.fn.journal.disk ≡ Some bytes → g.D.Disk.faults l.journal.disk ≡ g.D.Disk.faults l.fn.journal.disk;
   later : g.D.Disk.faults l.fn.journal.disk ≤ g.D.Disk.faults l.journal.disk;
 }

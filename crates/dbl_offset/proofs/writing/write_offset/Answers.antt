@@ -1,6 +1,6 @@
 use Rattle.std.proofs.Common.{◌≡◌, ◌∙◌, ◌++◌, List, ℕ, length, ap, arith}
 use Rattle.std.specs.List.{flat_map, zip}
-use Rattle.dbl_model.specs.declared.table.TableInfo.{TableInfo}
+use Rattle.dbl_table.specs.declared.table.TableInfo.{TableInfo}
 use Rattle.dbl_record.specs.Fields.{number32}
 use Rattle.dbl_offset.specs.Entries.{entry, tables_of}
 use Rattle.dbl_offset.proofs.Sizes.{written_whole, zip_long}

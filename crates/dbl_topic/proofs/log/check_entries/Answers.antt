@@ -35,11 +35,12 @@ entries-preserved g c = record {
       (_, entries_more entries before.0 c.entries.number read.0 c.in_ok-_group._group.items before.1 read.1 read.2);
   seen = c.in_ok-_group.ensures.seen ∙ c.entries.invariant.seen;
   images = λ image may. c.entries.invariant.images image ((c.in_ok-_group.ensures.images image).0 may);
+  steady = λ bytes told. c.in_ok-_group.ensures.steady (λ ok. cc) bytes (c.entries.invariant.seen ∙ told) ∙ c.entries.invariant.steady bytes told;
   later = omega (arith, c.entries.invariant.later, c.in_ok-_group.ensures.later);
 }
 
 pub returns-clause-good : goal.returns-clause-good
 returns-clause-good g c entries lists =
     let before = c.entries.invariant.good entries lists in
-    let all : take c.entries.number entries ≡ entries = take_all c.entries.number entries (omega (arith, c.entries-test.false, c.count-number-end.ensures, ap length lists.places, length-places entries 8)) in
+    let all : take c.entries.number entries ≡ entries = take_all c.entries.number entries (omega (arith, c.entries-test.false, c.count-number-end.ensures.count, ap length lists.places, length-places entries 8)) in
     (before.0, subst (λ (es : List (List ℕ)). AreLogEntries es before.0) all before.1)

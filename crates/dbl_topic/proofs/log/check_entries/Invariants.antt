@@ -1,4 +1,4 @@
-use Rattle.std.proofs.Common.{◌≡◌, ◌≤◌, ℕ, List, take}
+use Rattle.std.proofs.Common.{◌≡◌, ◌≤◌, ℕ, List, Some, take}
 use Rattle.dbl_journal.specs.Stored.{Lists, count_of}
 use Rattle.dbl_record.specs.declared.record.Record.{Record}
 use Rattle.dbl_topic.specs.Logs.{AreLogEntries}
@@ -12,5 +12,6 @@ invariant-entries g l = record {
   good : (entries : List (List ℕ)) → Lists g.D.Disk.seen g.D.Disk.may_leave l.fn.journal entries → (groups : List (List Record)) × AreLogEntries (take l.number entries) groups;
   seen : g.D.Disk.seen l.journal.disk ≡ g.D.Disk.seen l.fn.journal.disk;
   images : (image : List ℕ) → g.D.Disk.may_leave l.journal.disk image → g.D.Disk.may_leave l.fn.journal.disk image;
+  steady : (bytes : List ℕ) → g.D.Disk.seen l.fn.journal.disk ≡ Some bytes → g.D.Disk.faults l.journal.disk ≡ g.D.Disk.faults l.fn.journal.disk;
   later : g.D.Disk.faults l.fn.journal.disk ≤ g.D.Disk.faults l.journal.disk;
 }

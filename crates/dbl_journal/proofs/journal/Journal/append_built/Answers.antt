@@ -1,8 +1,9 @@
-use Rattle.std.proofs.Common.{◌≡◌, ℕ, ◌-◌, ◌∙◌, List, Option, length, drop, refl, sym, ap, subst, arith}
-use Rattle.std.proofs.lemmas.List.{length-drop}
+use Rattle.std.proofs.Common.{◌≡◌, ◌≤◌, ◌+◌, IsTrue, ℕ, ◌-◌, ◌∙◌, List, Option, length, false, true, drop, refl, sym, ap, subst, arith, inl}
+use Rattle.std.proofs.lemmas.List.{length-drop, length_push}
 use Rattle.dbl_journal.specs.Form.{IsEntry}
 use Rattle.dbl_journal.specs.Stored.{Lists, OnDisk}
 use Rattle.dbl_journal.proofs.Appends.{places-add, size-push}
+use Rattle.dbl_journal.proofs.Growth.{comes_by_append}
 use Rattle.dbl_journal.proofs.journal.Journal.append_built.Goals as goal
 
 -- a journal with the same parts
@@ -28,6 +29,11 @@ returns-clause-left g c entries lists =
 pub invariant_of-self-2 : goal.invariant_of-self-2
 invariant_of-self-2 g c = record {
   small = omega (arith, c.in_ok-stage.ensures.room, c.deref.ensures.len, c.len-2.ensures);
+  few = λ live.
+      let few = c.self.invariant.few (subst (λ (j : OnDisk _). IsTrue j.live) (sym c.self.view_is) c.requires.live) in
+      let pushed : length c.push.new.self.items ≡ length c.self.inside.places.items + 1 = ap length c.in_ok-push.ensures.items ∙ length_push c.self.inside.places.items _ in
+      let fewer : length c.push.new.self.items ≤ c.self.inside.gate + c.len-2.result = omega (arith, few, pushed, c.in_ok-spell.ensures.long, c.deref.ensures.len, c.len-2.ensures, c.spell.new.bytes.ok) in
+      fewer;
   there = λ live new told.
       let old = c.in_ok-open_gate.ensures.reaches new told in
       let reach = c.in_ok-stage.ensures.reaches old.0 old.1 in
@@ -74,3 +80,42 @@ returns-clause-grows g c entries old new lists was told =
     let began = ap (λ (j : OnDisk _). g.D.Disk.seen j.disk) c.self.view_is ∙ was in
     let staged = c.in_ok-stage.ensures.staged held.bytes entries entry held.told held.only held.spelled held.gate (c.deref.ensures.value ∙ c.in_ok-spell.ensures.bytes) in
     omega (arith, c.stage.ensures.longest old staged.bytes began staged.told, c.open_gate.ensures.longest staged.bytes new staged.told told, size-push entries entry _ _ held.gate c.in_ok-spell.ensures.long, ap length c.deref.ensures.value)
+
+pub returns-in_err-stage-clause-comes : goal.returns-in_err-stage-clause-comes
+returns-in_err-stage-clause-comes g c =
+    let entry : List ℕ = drop 4 c.args.bytes.items in
+    let short : IsEntry entry = omega (arith, length-drop 4 c.args.bytes.items) in
+    comes_by_append g.D.Disk.seen g.D.Disk.may_leave g.met.D.Disk.seen_is_image c.args.self.now _ entry short c.requires.live
+    (λ entries lists (now : false ≡ true). cc)
+    (λ entries lists image may.
+    let held = lists_at c.self.view_is lists in
+    let kept = c.stage.ensures.kept held.bytes entries held.only held.spelled held.gate image may in
+    (kept.0, kept.1, inl kept.2))
+    (returns-in_err-stage-clause-grows g c)
+    (λ before told. c.stage.ensures.told before (ap (λ (j : OnDisk _). g.D.Disk.seen j.disk) c.self.view_is ∙ told))
+
+pub returns-in_err-open_gate-clause-comes : goal.returns-in_err-open_gate-clause-comes
+returns-in_err-open_gate-clause-comes g c =
+    let entry : List ℕ = drop 4 c.args.bytes.items in
+    let short : IsEntry entry = omega (arith, length-drop 4 c.args.bytes.items) in
+    comes_by_append g.D.Disk.seen g.D.Disk.may_leave g.met.D.Disk.seen_is_image c.args.self.now _ entry short c.requires.live
+    (λ entries lists (now : false ≡ true). cc)
+    (returns-in_err-open_gate-clause-left g c)
+    (returns-in_err-open_gate-clause-grows g c)
+    (λ before told. (let staged = c.stage.ensures.told before (ap (λ (j : OnDisk _). g.D.Disk.seen j.disk) c.self.view_is ∙ told) in c.open_gate.ensures.told staged.0 staged.1))
+
+pub returns-clause-comes : goal.returns-clause-comes
+returns-clause-comes g c =
+    let entry : List ℕ = drop 4 c.args.bytes.items in
+    let short : IsEntry entry = omega (arith, length-drop 4 c.args.bytes.items) in
+    comes_by_append g.D.Disk.seen g.D.Disk.may_leave g.met.D.Disk.seen_is_image c.args.self.now _ entry short c.requires.live
+    (λ entries lists now. returns-clause-added g c entries lists)
+    (returns-clause-left g c)
+    (returns-clause-grows g c)
+    (λ before told. (let staged = c.stage.ensures.told before (ap (λ (j : OnDisk _). g.D.Disk.seen j.disk) c.self.view_is ∙ told) in c.open_gate.ensures.told staged.0 staged.1))
+
+pub returns-clause-steady : goal.returns-clause-steady
+returns-clause-steady g c answered before told =
+    let was = ap (λ (j : OnDisk _). g.D.Disk.seen j.disk) c.self.view_is ∙ told in
+    let staged = c.stage.ensures.told before was in
+    c.in_ok-open_gate.ensures.steady staged.0 staged.1 ∙ c.in_ok-stage.ensures.steady before was ∙ ap (λ (j : OnDisk _). g.D.Disk.faults j.disk) c.self.view_is

@@ -5,9 +5,10 @@ use Rattle.dbl_journal.specs.declared.error.JournalError.TheVariants as journal_
 use Rattle.dbl_offset.specs.declared.error.OffsetError.TheVariants as error
 use Rattle.dbl_offset.specs.Entries.{spelling}
 use Rattle.dbl_offset.specs.Offsets.{Spells, IsEntry}
-use Rattle.dbl_offset.specs.Stores.{OnJournal, Holds}
+use Rattle.dbl_offset.specs.Stores.{StoreOn, Holds}
+use Rattle.dbl_journal.proofs.Growth.{comes_at}
 use Rattle.dbl_offset.proofs.OffsetLaws.{same_long}
-use Rattle.dbl_offset.proofs.StoreLaws.{err_one, grown, leaves, not_long}
+use Rattle.dbl_offset.proofs.StoreLaws.{err_one, leaves, not_long, roomy}
 use Rattle.dbl_offset.proofs.store.OffsetStore.store.Goals as goal
 
 pub measure-count-requires : goal.measure-count-requires
@@ -18,17 +19,15 @@ encode-requires-clause-long g c = same_long c.args.offset.infos c.args.offset.cu
 
 pub returns-in_err-append_built-clause-left : goal.returns-in_err-append_built-clause-left
 returns-in_err-append_built-clause-left g c old holds =
-    let held = subst (λ (s : OnJournal _). Holds g.D.Disk.seen g.D.Disk.may_leave s old) (sym c.self.view_is) holds in
+    let held = subst (λ (s : StoreOn _). Holds g.D.Disk.seen g.D.Disk.may_leave s old) (sym c.self.view_is) holds in
     let spells : Spells (drop 4 c.in_ok-bytes.bytes.items) c.args.offset = record { asked = c.requires.offset; fits = c.measure-count.ensures.fits (omega (arith, c.if-count.false)); spelled = c.in_ok-bytes.ensures.entry } in
     leaves g.D.Disk.may_leave c.append_built.new.self.disk held.entries (drop 4 c.in_ok-bytes.bytes.items) old c.args.offset held.each held.last spells (c.append_built.ensures.left held.entries held.lists)
 
 pub returns-in_err-append_built-clause-grows : goal.returns-in_err-append_built-clause-grows
 returns-in_err-append_built-clause-grows g c old before after holds told_before told_after =
-    let held = subst (λ (s : OnJournal _). Holds g.D.Disk.seen g.D.Disk.may_leave s old) (sym c.self.view_is) holds in
-    let told = ap (λ (s : OnJournal _). g.D.Disk.seen s.journal.disk) c.self.view_is ∙ told_before in
-    let entry : List ℕ = drop 4 c.in_ok-bytes.bytes.items in
-    subst (λ (l : List ℕ). length after ≤ length before + 5 + length l) c.in_ok-bytes.ensures.entry
-    (grown g.D.Disk.seen g.D.Disk.may_leave c.self.inside.journal held.entries entry before after held.lists told (c.append_built.ensures.grows held.entries before after held.lists told told_after))
+    let held = subst (λ (s : StoreOn _). Holds g.D.Disk.seen g.D.Disk.may_leave s old) (sym c.self.view_is) holds in
+    let told = ap (λ (s : StoreOn _). g.D.Disk.seen s.journal.disk) c.self.view_is ∙ told_before in
+    roomy held.entries (drop 4 c.in_ok-bytes.bytes.items) (spelling c.args.offset) c.args.self.now.journal.gate (length before) (length after) (sym (ap (λ (s : StoreOn _). s.journal.gate) c.self.view_is) ∙ held.lists.gate) c.in_ok-bytes.ensures.entry (c.append_built.ensures.grows held.entries before after held.lists told told_after)
 
 pub returns-in_err-append_built-clause-too_long : goal.returns-in_err-append_built-clause-too_long
 returns-in_err-append_built-clause-too_long g c len =
@@ -40,7 +39,7 @@ returns-in_err-append_built-clause-too_long g c len =
 
 pub returns-clause-stored : goal.returns-clause-stored
 returns-clause-stored g c old holds =
-    let held = subst (λ (s : OnJournal _). Holds g.D.Disk.seen g.D.Disk.may_leave s old) (sym c.self.view_is) holds in
+    let held = subst (λ (s : StoreOn _). Holds g.D.Disk.seen g.D.Disk.may_leave s old) (sym c.self.view_is) holds in
     let spells : Spells (drop 4 c.in_ok-bytes.bytes.items) c.args.offset = record { asked = c.requires.offset; fits = c.measure-count.ensures.fits (omega (arith, c.if-count.false)); spelled = c.in_ok-bytes.ensures.entry } in
     record {
       entries = held.entries ++ drop 4 c.in_ok-bytes.bytes.items ∷ [];
@@ -52,14 +51,30 @@ returns-clause-stored g c old holds =
 
 pub returns-clause-left : goal.returns-clause-left
 returns-clause-left g c old holds =
-    let held = subst (λ (s : OnJournal _). Holds g.D.Disk.seen g.D.Disk.may_leave s old) (sym c.self.view_is) holds in
+    let held = subst (λ (s : StoreOn _). Holds g.D.Disk.seen g.D.Disk.may_leave s old) (sym c.self.view_is) holds in
     let spells : Spells (drop 4 c.in_ok-bytes.bytes.items) c.args.offset = record { asked = c.requires.offset; fits = c.measure-count.ensures.fits (omega (arith, c.if-count.false)); spelled = c.in_ok-bytes.ensures.entry } in
     leaves g.D.Disk.may_leave c.append_built.new.self.disk held.entries (drop 4 c.in_ok-bytes.bytes.items) old c.args.offset held.each held.last spells (c.append_built.ensures.left held.entries held.lists)
 
 pub returns-clause-grows : goal.returns-clause-grows
 returns-clause-grows g c old before after holds told_before told_after =
-    let held = subst (λ (s : OnJournal _). Holds g.D.Disk.seen g.D.Disk.may_leave s old) (sym c.self.view_is) holds in
-    let told = ap (λ (s : OnJournal _). g.D.Disk.seen s.journal.disk) c.self.view_is ∙ told_before in
-    let entry : List ℕ = drop 4 c.in_ok-bytes.bytes.items in
-    subst (λ (l : List ℕ). length after ≤ length before + 5 + length l) c.in_ok-bytes.ensures.entry
-    (grown g.D.Disk.seen g.D.Disk.may_leave c.self.inside.journal held.entries entry before after held.lists told (c.append_built.ensures.grows held.entries before after held.lists told told_after))
+    let held = subst (λ (s : StoreOn _). Holds g.D.Disk.seen g.D.Disk.may_leave s old) (sym c.self.view_is) holds in
+    let told = ap (λ (s : StoreOn _). g.D.Disk.seen s.journal.disk) c.self.view_is ∙ told_before in
+    roomy held.entries (drop 4 c.in_ok-bytes.bytes.items) (spelling c.args.offset) c.args.self.now.journal.gate (length before) (length after) (sym (ap (λ (s : StoreOn _). s.journal.gate) c.self.view_is) ∙ held.lists.gate) c.in_ok-bytes.ensures.entry (c.append_built.ensures.grows held.entries before after held.lists told told_after)
+
+pub returns-in_err-append_built-clause-comes : goal.returns-in_err-append_built-clause-comes
+returns-in_err-append_built-clause-comes g c =
+    comes_at g.D.Disk.seen g.D.Disk.may_leave c.self.inside.journal c.args.self.now.journal c.append_built.new.self (ap (λ (s : StoreOn _). s.journal) c.self.view_is) c.append_built.ensures.comes
+
+pub returns-clause-comes : goal.returns-clause-comes
+returns-clause-comes g c =
+    comes_at g.D.Disk.seen g.D.Disk.may_leave c.self.inside.journal c.args.self.now.journal c.append_built.new.self (ap (λ (s : StoreOn _). s.journal) c.self.view_is) c.append_built.ensures.comes
+
+pub returns-in_err-append_built-clause-told : goal.returns-in_err-append_built-clause-told
+returns-in_err-append_built-clause-told g c before told_before = c.append_built.ensures.told before (ap (λ (s : StoreOn _). g.D.Disk.seen s.journal.disk) c.self.view_is ∙ told_before)
+
+pub returns-clause-told : goal.returns-clause-told
+returns-clause-told g c before told_before = c.append_built.ensures.told before (ap (λ (s : StoreOn _). g.D.Disk.seen s.journal.disk) c.self.view_is ∙ told_before)
+
+pub returns-clause-steady : goal.returns-clause-steady
+returns-clause-steady g c answered before told =
+    c.in_ok-append_built.ensures.steady (λ ok. cc) before (ap (λ (s : StoreOn _). g.D.Disk.seen s.journal.disk) c.self.view_is ∙ told) ∙ ap (λ (s : StoreOn _). g.D.Disk.faults s.journal.disk) c.self.view_is

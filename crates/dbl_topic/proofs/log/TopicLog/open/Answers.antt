@@ -1,3 +1,4 @@
+use Rattle.std.proofs.Common.{◌≡◌, ◌∙◌, Some, sym}
 use Rattle.std.proofs.lemmas.Result.{IfErr-weaker, IfOk-weaker, MatchResult-weaker}
 use Rattle.dbl_topic.proofs.log.TopicLog.open.Goals as goal
 
@@ -14,3 +15,10 @@ returns-in-Ok-clause-bad g c bytes told =
 pub returns-in-Ok-clause-images : goal.returns-in-Ok-clause-images
 returns-in-Ok-clause-images g c image =
     MatchResult-weaker c.checked.result (c.checked.ensures.images image) (λ log back may. c.in-Ok.ensures.images image (back may)) (λ refused back may. c.in-Ok.ensures.images image (back may))
+
+pub returns-in-Ok-clause-stable : goal.returns-in-Ok-clause-stable
+returns-in-Ok-clause-stable g c bytes told =
+    let opened = c.in-Ok.ensures.opened bytes told in
+    let is : Some opened.2.bytes ≡ Some bytes = sym opened.2.told ∙ c.in-Ok.ensures.seen ∙ told in
+    let same : opened.2.bytes ≡ bytes = cc in
+    MatchResult-weaker c.checked.result (c.checked.ensures.stable bytes (λ image may. opened.2.only image may ∙ same)) (λ log only. only) (λ refused only failed. only)

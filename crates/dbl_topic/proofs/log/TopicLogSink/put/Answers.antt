@@ -8,9 +8,10 @@ use Rattle.dbl_record.specs.Groups.{group_form}
 use Rattle.dbl_topic.specs.declared.error.SinkError.{SinkError}
 use Rattle.dbl_topic.specs.declared.error.SinkError.TheVariants.{TooLong}
 use Rattle.dbl_topic.specs.Held.{HoldsGroups, LeavesGroups}
-use Rattle.dbl_topic.specs.SinkLaws.{only_held}
+use Rattle.dbl_topic.specs.SinkLaws.{may_leave_held, only_held}
 use Rattle.dbl_topic.specs.Sinks.{IsLeftByWhole}
-use Rattle.dbl_topic.proofs.HeldLaws.{leaves_any, leaves_put, left_by_put, too_long_of}
+use Rattle.dbl_topic.proofs.HeldLaws.{leaves_any, leaves_put, left_by_put, some_left, too_long_of}
+use Rattle.dbl_journal.proofs.Growth.{comes_at}
 use Rattle.dbl_topic.proofs.LogLaws.{entries-push, size_of}
 use Rattle.dbl_topic.proofs.log.TopicLogSink.put.Goals as goal
 
@@ -67,6 +68,12 @@ returns-in_err-append_built-clause-grows g c groups old new holds told_old told_
     let told = ap (λ (log : OnDisk _). g.D.Disk.seen log.disk) c.self.view_is ∙ told_old in
     subst (λ (n : ℕ). length new ≤ max (length old) n) (size_of held.entries groups (drop 4 c.in_ok-bytes.bytes.items) c.args.group.now.items held.are c.in_ok-bytes.ensures.entry) (c.in_err-append_built.ensures.grows held.entries old new held.lists told told_new)
 
+pub returns-in_err-append_built-clause-told : goal.returns-in_err-append_built-clause-told
+returns-in_err-append_built-clause-told g c old told = c.append_built.ensures.told old (ap (λ (log : OnDisk _). g.D.Disk.seen log.disk) c.self.view_is ∙ told)
+
+pub returns-clause-told : goal.returns-clause-told
+returns-clause-told g c old told = c.append_built.ensures.told old (ap (λ (log : OnDisk _). g.D.Disk.seen log.disk) c.self.view_is ∙ told)
+
 pub returns-clause-grows : goal.returns-clause-grows
 returns-clause-grows g c groups old new holds told_old told_new =
     let held = subst (λ (log : OnDisk _). HoldsGroups g.D.Disk.seen g.D.Disk.may_leave log groups) (sym c.self.view_is) holds in
@@ -94,3 +101,31 @@ returns-in_err-append_built-clause-exactly g c len =
 
 pub returns-in_err-append_built-clause-too_long : goal.returns-in_err-append_built-clause-too_long
 returns-in_err-append_built-clause-too_long g c len is = (returns-in_err-append_built-clause-exactly g c len).0 is
+
+pub returns-then-len-gt-GROUP_LIMIT-clause-some : goal.returns-then-len-gt-GROUP_LIMIT-clause-some
+returns-then-len-gt-GROUP_LIMIT-clause-some g c groups held = (groups, may_leave_held g.D.Disk.seen g.D.Disk.may_leave g.met.D.Disk.seen_is_image c.args.self.now groups held)
+
+pub returns-in_err-bytes-clause-some : goal.returns-in_err-bytes-clause-some
+returns-in_err-bytes-clause-some g c groups held = (groups, may_leave_held g.D.Disk.seen g.D.Disk.may_leave g.met.D.Disk.seen_is_image c.args.self.now groups held)
+
+pub returns-in_err-append_built-clause-some : goal.returns-in_err-append_built-clause-some
+returns-in_err-append_built-clause-some g c groups holds =
+    let held = subst (λ (log : OnDisk _). HoldsGroups g.D.Disk.seen g.D.Disk.may_leave log groups) (sym c.self.view_is) holds in
+    let told = c.append_built.ensures.told held.lists.bytes held.lists.told in
+    some_left g.D.Disk.seen g.D.Disk.may_leave g.met.D.Disk.seen_is_image c.append_built.new.self.disk told.0 told.1 (IsLeftByWhole groups c.args.group.now.items) (returns-in_err-append_built-clause-one_of g c groups holds)
+
+pub returns-clause-some : goal.returns-clause-some
+returns-clause-some g c groups holds =
+    let held = subst (λ (log : OnDisk _). HoldsGroups g.D.Disk.seen g.D.Disk.may_leave log groups) (sym c.self.view_is) holds in
+    let told = c.append_built.ensures.told held.lists.bytes held.lists.told in
+    some_left g.D.Disk.seen g.D.Disk.may_leave g.met.D.Disk.seen_is_image c.append_built.new.self.disk told.0 told.1 (IsLeftByWhole groups c.args.group.now.items) (returns-clause-one_of g c groups holds)
+
+pub returns-in_err-append_built-clause-comes : goal.returns-in_err-append_built-clause-comes
+returns-in_err-append_built-clause-comes g c = comes_at g.D.Disk.seen g.D.Disk.may_leave c.self.inside.journal c.args.self.now c.append_built.new.self c.self.view_is c.append_built.ensures.comes
+
+pub returns-clause-comes : goal.returns-clause-comes
+returns-clause-comes g c = comes_at g.D.Disk.seen g.D.Disk.may_leave c.self.inside.journal c.args.self.now c.append_built.new.self c.self.view_is c.append_built.ensures.comes
+
+pub returns-clause-steady : goal.returns-clause-steady
+returns-clause-steady g c answered old told =
+    c.in_ok-append_built.ensures.steady (λ ok. cc) old (ap (λ (log : OnDisk _). g.D.Disk.seen log.disk) c.self.view_is ∙ told) ∙ ap (λ (log : OnDisk _). g.D.Disk.faults log.disk) c.self.view_is

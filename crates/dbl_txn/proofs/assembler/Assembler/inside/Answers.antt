@@ -1,8 +1,8 @@
 use Rattle.std.proofs.Common.{[], ◌∙◌}
-use Rattle.dbl_model.specs.Past.{begin_of, mark_of}
-use Rattle.dbl_model.specs.Stated.{has_some, open_changes}
-use Rattle.dbl_model.specs.Blocks.{onto}
-use Rattle.dbl_model.proofs.BlockLemmas.{one_inside}
+use Rattle.dbl_commit.specs.Past.{begin_of, mark_of}
+use Rattle.dbl_commit.specs.Stated.{has_some, open_changes}
+use Rattle.dbl_commit.specs.Blocks.{onto}
+use Rattle.dbl_commit.proofs.BlockLemmas.{one_inside}
 use Rattle.dbl_txn.proofs.Steps.{is_open_so}
 use Rattle.dbl_txn.proofs.assembler.Assembler.inside.Goals as goal
 

@@ -1,5 +1,5 @@
 use Rattle.std.proofs.Common.{◌∷◌}
-use Rattle.dbl_model.specs.Stated.{open_changes}
+use Rattle.dbl_commit.specs.Stated.{open_changes}
 use Rattle.dbl_txn.specs.Stands.{message_of}
 use Rattle.dbl_txn.proofs.Steps.{row_held}
 use Rattle.dbl_txn.proofs.assembler.Assembler.take_row.Goals as goal

@@ -1,7 +1,7 @@
 use Rattle.std.proofs.Common.{◌∷◌}
 use Rattle.std.proofs.lemmas.Result.{err_from_is_err_and}
 use Rattle.dbl_pgmsg.specs.declared.messages.Message.TheVariants as says
-use Rattle.dbl_model.specs.Stated.{open_changes}
+use Rattle.dbl_commit.specs.Stated.{open_changes}
 use Rattle.dbl_txn.proofs.Steps.{truncate_held}
 use Rattle.dbl_txn.proofs.assembler.Assembler.take_truncate.Goals as goal
 

@@ -1,0 +1,81 @@
+-- What a message of the log finds when it looks back: PostgreSQL's "Logical Replication Message Formats" and "Logical
+-- Streaming Replication Protocol". Lists of messages have the newest first: what stands behind a message came before it.
+use Rattle.std.specs.Prelude.{◌≢◌, ℕ, ℤ, ◌==◌, if◌then◌else◌, Option, Some, None, List, [], ◌∷◌, codes}
+use Rattle.dbl_base.specs.declared.lsn.Lsn.{Lsn}
+use Rattle.dbl_pgmsg.specs.declared.messages.Message.{Message}
+use Rattle.dbl_pgmsg.specs.declared.messages.Message.TheVariants as says
+use Rattle.dbl_pgmsg.specs.declared.messages.RelationColumn.{RelationColumn}
+use Rattle.dbl_pgmsg.specs.declared.messages.TupleCell.{TupleCell}
+use Rattle.dbl_pgmsg.specs.declared.messages.TupleCell.TheVariants as cell
+use Rattle.dbl_table.specs.declared.table.TableName.{TableName}
+use Rattle.dbl_commit.specs.declared.told.Relation.{Relation}
+use Rattle.dbl_commit.specs.declared.told.RowChange.{RowChange}
+use Rattle.dbl_commit.specs.declared.told.RowChange.TheVariants as row
+use Rattle.dbl_table.specs.Tables.{is_watermark}
+
+-- the schema that a Relation names: an empty namespace is `pg_catalog`
+abbrev pub schema_of : List ℕ → List ℕ
+schema_of [] = codes "pg_catalog"
+schema_of (c ∷ cs) = c ∷ cs
+
+abbrev pub named : List ℕ → List ℕ → TableName
+named namespace name = record { schema = schema_of namespace; name = name }
+
+abbrev pub described : List ℕ → List ℕ → ℕ → List RelationColumn → Relation
+described namespace name identity columns = record { name = named namespace name; identity = identity; columns = columns }
+
+-- the last Relation with this OID
+abbrev pub relation_of : ℕ → List Message → Option Relation
+relation_of oid [] = None
+relation_of oid (says.Relation given namespace name identity columns ∷ ms) = if given == oid then Some (described namespace name identity columns) else relation_of oid ms
+relation_of oid (m ∷ ms) = relation_of oid ms
+
+-- a Begin: the LSN of the commit to come, the commit's time and the transaction's number
+pub record Begun : Type 0 where
+  pub lsn : Lsn
+  pub time : ℤ
+  pub xid : ℕ
+
+-- the Begin of the open transaction; none where no transaction is open
+abbrev pub begin_of : List Message → Option Begun
+begin_of [] = None
+begin_of (says.Begin lsn time xid ∷ ms) = Some (record { lsn = lsn; time = time; xid = xid })
+begin_of (says.Commit flags lsn end_lsn time ∷ ms) = None
+begin_of (m ∷ ms) = begin_of ms
+
+-- the LSN of the last Commit, and before the first one the LSN that reading began after
+abbrev pub last_lsn : Lsn → List Message → Lsn
+last_lsn after [] = after
+last_lsn after (says.Commit flags lsn end_lsn time ∷ ms) = lsn
+last_lsn after (m ∷ ms) = last_lsn after ms
+
+-- what a row of the watermark table marks: it has two cells, and the second is a text
+abbrev pub second_text : List TupleCell → Option (List ℕ)
+second_text (first ∷ cell.Text value ∷ []) = Some value
+second_text cells = None
+
+-- a mark is an Update of the watermark table to such a row
+abbrev pub mark_in : RowChange → Option (List ℕ)
+mark_in (row.Update before new) = second_text new.cells
+mark_in (row.Insert new) = None
+mark_in (row.Delete before) = None
+
+-- the mark of a transaction behind one more change of the table with this Relation
+abbrev pub mark_by : Option Relation → RowChange → Option (List ℕ) → Option (List ℕ)
+mark_by None change mark = mark
+mark_by (Some relation) change mark = if is_watermark relation.name then mark_in change else mark
+
+-- the mark of the open transaction
+abbrev pub mark_of : List Message → Option (List ℕ)
+mark_of [] = None
+mark_of (says.Begin lsn time xid ∷ ms) = None
+mark_of (says.Insert oid new ∷ ms) = mark_by (relation_of oid ms) (row.Insert new) (mark_of ms)
+mark_of (says.Update oid before new ∷ ms) = mark_by (relation_of oid ms) (row.Update before new) (mark_of ms)
+mark_of (says.Delete oid before ∷ ms) = mark_by (relation_of oid ms) (row.Delete before) (mark_of ms)
+mark_of (m ∷ ms) = mark_of ms
+
+-- no Relation among the messages describes a table of this name
+abbrev pub HasNoRelation : TableName → List Message → Type 0
+HasNoRelation table [] = Unit {0}
+HasNoRelation table (says.Relation oid namespace name identity columns ∷ ms) = (named namespace name ≢ table) × HasNoRelation table ms
+HasNoRelation table (m ∷ ms) = HasNoRelation table ms

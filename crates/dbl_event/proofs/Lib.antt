@@ -1,0 +1,4 @@
+pub mod EventLemmas
+pub mod PlainJsonLemmas
+pub mod PlainEventLemmas
+pub mod SnapshotLemmas

@@ -1,0 +1,12 @@
+pub mod RowLemmas
+pub mod MomentLemmas
+pub mod PlainLemmas
+pub mod ImageLemmas
+pub mod RowKeys
+pub mod RangeLemmas
+pub mod FitsInfosLemmas
+pub mod BoundLemmas
+pub mod FitChangeLemmas
+pub mod KeyFitLemmas
+pub mod MarkLemmas
+pub mod WholeLemmas

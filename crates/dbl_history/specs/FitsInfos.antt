@@ -1,0 +1,97 @@
+-- Changes that fit what is captured: as wide as their tables, of the columns' types, with keys of the key types.
+use Rattle.std.specs.Prelude.{◌≡◌, ◌⊎◌, ℕ, Option, Some, None, IfSome, IsSome, IsSomeAnd, List, [], ◌∷◌, slice_get}
+use Rattle.std.specs.List.{AllByRecursion}
+use Rattle.dbl_value.specs.declared.column_type.PgType.{PgType}
+use Rattle.dbl_value.specs.declared.value.Val.{Val}
+use Rattle.dbl_value.specs.Values.{value_of, IsCellOf}
+use Rattle.dbl_table.specs.declared.row.Key.{Key}
+use Rattle.dbl_table.specs.declared.row.Row.{Row}
+use Rattle.dbl_table.specs.declared.change.Cell.{Cell}
+use Rattle.dbl_table.specs.declared.change.Cell.TheVariants.{Given, Unchanged}
+use Rattle.dbl_table.specs.declared.change.Change.{Change}
+use Rattle.dbl_table.specs.declared.change.Change.TheVariants.{Insert, Update, Delete, Clear}
+use Rattle.dbl_table.specs.declared.table.TableInfo.{TableInfo}
+use Rattle.dbl_table.specs.Infos.{column_types, number_of}
+use Rattle.dbl_table.specs.Keys.{key_of, new_key_of}
+use Rattle.dbl_table.specs.Rows.{all_given}
+use Rattle.dbl_history.specs.History.{RawCell, RawChange, History, raw_changes_of}
+use Rattle.dbl_history.specs.History as raw
+use Rattle.dbl_history.specs.Typed.{types_of}
+use Rattle.dbl_history.specs.Fit.{IsKeyOf}
+
+-- one value per column, each of its column's type or Null
+abbrev pub AreCellsOf : List PgType → List Val → Type 0
+AreCellsOf [] [] = Unit {0}
+AreCellsOf [] (v ∷ values) = ⊥
+AreCellsOf (ty ∷ types) [] = ⊥
+AreCellsOf (ty ∷ types) (v ∷ values) = IsCellOf ty v × AreCellsOf types values
+
+-- a cell that is left unsent is of each type
+abbrev pub IsSentOf : PgType → Cell → Type 0
+IsSentOf ty (Given v) = IsCellOf ty v
+IsSentOf ty Unchanged = Unit {0}
+
+-- one cell per column, each left unsent, or of its column's type or Null
+abbrev pub AreSentOf : List PgType → List Cell → Type 0
+AreSentOf [] [] = Unit {0}
+AreSentOf [] (cell ∷ cells) = ⊥
+AreSentOf (ty ∷ types) [] = ⊥
+AreSentOf (ty ∷ types) (cell ∷ cells) = IsSentOf ty cell × AreSentOf types cells
+
+pub record FitsInsert (info : TableInfo) (row : Row) : Type 0 where
+  pub cells : AreCellsOf (column_types info) row.cells
+  pub key : IsKeyOf info (key_of info row.cells)
+
+pub record FitsUpdate (info : TableInfo) (from : Key) (before : Option Row) (after : List Cell) : Type 0 where
+  pub old : IfSome before (λ row. AreCellsOf (column_types info) row.cells)
+  pub cells : AreSentOf (column_types info) after
+  pub old_key : IsKeyOf info from
+  -- so none of its cells is Null or left unsent
+  pub new_key : IsKeyOf info (new_key_of info after)
+  -- an update that moves the key leaves no cell unsent
+  pub stays_or_moves : (from ≡ new_key_of info after) ⊎ IsSome (all_given after)
+
+pub record FitsDelete (info : TableInfo) (from : Key) (before : Row) : Type 0 where
+  pub old : AreCellsOf (column_types info) before.cells
+  pub old_key : IsKeyOf info from
+
+-- the change is of a captured table and fits its info
+abbrev pub FitsInfos : List TableInfo → Change → Type 0
+FitsInfos infos (Insert table row) = IsSomeAnd (slice_get infos table) (λ info. FitsInsert info row)
+FitsInfos infos (Update table from old cells) = IsSomeAnd (slice_get infos table) (λ info. FitsUpdate info from old cells)
+FitsInfos infos (Delete table from old) = IsSomeAnd (slice_get infos table) (λ info. FitsDelete info from old)
+FitsInfos infos (Clear table) = IsSome (slice_get infos table)
+
+-- ---- readable changes of a source's history
+
+-- A text that spells no value of its column's type stands as itself in the typed history, as a Text in a column of numbers.
+-- So not each change of a fit history fits what is captured: its cells must be readable too.
+abbrev pub IsReadable : PgType → Option (List ℕ) → Type 0
+IsReadable ty None = Unit {0}
+IsReadable ty (Some text) = IsSome (value_of ty text)
+
+-- each text at its column's type; what stands past the last column isn't looked at
+abbrev pub AreReadable : List PgType → List (Option (List ℕ)) → Type 0
+AreReadable types [] = Unit {0}
+AreReadable [] (text ∷ texts) = Unit {0}
+AreReadable (ty ∷ types) (text ∷ texts) = IsReadable ty text × AreReadable types texts
+
+abbrev pub IsReadableCell : PgType → RawCell → Type 0
+IsReadableCell ty (raw.Given text) = IsReadable ty text
+IsReadableCell ty raw.Unchanged = Unit {0}
+
+abbrev pub AreReadableCells : List PgType → List RawCell → Type 0
+AreReadableCells types [] = Unit {0}
+AreReadableCells [] (cell ∷ cells) = Unit {0}
+AreReadableCells (ty ∷ types) (cell ∷ cells) = IsReadableCell ty cell × AreReadableCells types cells
+
+-- The rows and cells of a change of a captured table. Its key isn't looked at, as those of a fit history are readable.
+abbrev pub IsReadableChange : List TableInfo → RawChange → Type 0
+IsReadableChange infos (raw.Insert name row) = IfSome (number_of infos name) (λ table. AreReadable (types_of infos table) row.cells)
+IsReadableChange infos (raw.Update name key old cells) =
+    IfSome (number_of infos name) (λ table. IfSome old (λ row. AreReadable (types_of infos table) row.cells) × AreReadableCells (types_of infos table) cells)
+IsReadableChange infos (raw.Delete name key old) = IfSome (number_of infos name) (λ table. AreReadable (types_of infos table) old.cells)
+IsReadableChange infos (raw.Clear name) = Unit {0}
+
+abbrev pub IsReadableHistory : List TableInfo → History → Type 0
+IsReadableHistory infos history = AllByRecursion (λ commit. AllByRecursion (IsReadableChange infos) (raw_changes_of commit.body)) history.commits

@@ -1,0 +1,16 @@
+pub mod History
+pub mod Ranges
+pub mod Typed
+pub mod Fit
+pub mod Cursors
+pub mod FitsInfos
+pub mod Image
+pub mod Laws
+pub mod PlainRows
+pub mod FitChanges
+pub mod ImageNames
+pub mod KeyBounds
+pub mod KeyFits
+pub mod KeyedRows
+pub mod MarkTexts
+pub mod WholeChanges

@@ -1,0 +1,85 @@
+-- Journals that come of one another.
+use Rattle.std.proofs.Common.{◌≡◌, ◌⊎◌, ◌∙◌, inl, inr, ℕ, ◌+◌, ◌^◌, ◌≤◌, List, [], ◌∷◌, ◌++◌, length, Option, Some, sym, ap, subst, arith}
+use Rattle.std.specs.Prelude.{IsTrue, max}
+use Rattle.dbl_journal.specs.Form.{IsEntry, IsJournal, front}
+use Rattle.dbl_journal.specs.Stored.{LeavesEntries, Lists, OnDisk, size}
+use Rattle.dbl_journal.specs.Growth.{ComesOf, HasCome, ReachesFrom}
+use Rattle.dbl_journal.proofs.Appends.{length-front-push}
+use Rattle.dbl_journal.proofs.Reading.{one_journal}
+
+no_more : (gate most : ℕ) (before entries left : List (List ℕ)) (entry old new : List ℕ) → IsEntry entry → before ≡ entries → gate ≤ length (front before) → length old ≤ max most (length (front before) + 2 ^ 30)
+    → length new ≤ max (length old) (size (entries ++ entry ∷ [])) → (left ≡ entries) ⊎ (left ≡ entries ++ entry ∷ []) → (gate ≤ length (front left)) × (length new ≤ max most (length (front left) + 2 ^ 30))
+no_more gate most before entries left entry old new short same on was now (inl e) =
+    let first = ap (λ (es : List (List ℕ)). length (front es)) same in
+    let second = ap (λ (es : List (List ℕ)). length (front es)) e in
+    let push = length-front-push entries entry in
+    (omega (arith, on, first, second), omega (arith, was, now, first, second, push, short))
+no_more gate most before entries left entry old new short same on was now (inr e) =
+    let first = ap (λ (es : List (List ℕ)). length (front es)) same in
+    let second = ap (λ (es : List (List ℕ)). length (front es)) e in
+    let push = length-front-push entries entry in
+    (omega (arith, on, first, second, push), omega (arith, was, now, first, second, push, short))
+
+module _ {D : Type 0} (seen : D → Option (List ℕ)) (may_leave : D → List ℕ → Type 0) where
+  pub comes_self : (journal : OnDisk D) → ComesOf seen may_leave journal journal
+  comes_self journal gate most has = has
+
+  pub comes_on : (first second third : OnDisk D) → ComesOf seen may_leave first second → ComesOf seen may_leave second third → ComesOf seen may_leave first third
+  comes_on first second third a b gate most has = b gate most (a gate most has)
+
+  -- an append to a journal that could be used, whatever it answered
+  pub comes_by_append : ((disk : D) (bytes : List ℕ) → seen disk ≡ Some bytes → may_leave disk bytes) → (old new : OnDisk D) (entry : List ℕ) → IsEntry entry → IsTrue old.live
+      → ((entries : List (List ℕ)) → Lists seen may_leave old entries → IsTrue new.live → Lists seen may_leave new (entries ++ entry ∷ []))
+      → ((entries : List (List ℕ)) → Lists seen may_leave old entries → LeavesEntries may_leave new.disk (λ left. (left ≡ entries) ⊎ (left ≡ entries ++ entry ∷ [])))
+      → ((entries : List (List ℕ)) (before after : List ℕ) → Lists seen may_leave old entries → seen old.disk ≡ Some before → seen new.disk ≡ Some after → length after ≤ max (length before) (size (entries ++ entry ∷ [])))
+      → ((before : List ℕ) → seen old.disk ≡ Some before → (after : List ℕ) × (seen new.disk ≡ Some after))
+      → ComesOf seen may_leave old new
+  comes_by_append is_image old new entry short live added left grows told_on gate most has =
+      let listed = has.lists live in
+      let entries = listed.0 in
+      let lists = listed.1 in
+      let before = has.reaches lists.bytes lists.told in
+      let same = one_journal lists.bytes before.entries entries before.journal lists.spelled in
+      record {
+        lists = λ now. (entries ++ entry ∷ [], added entries lists now);
+        told = told_on lists.bytes lists.told;
+        reaches = λ bytes told.
+            let here = left entries lists bytes (is_image new.disk bytes told) in
+            let far = no_more gate most before.entries entries here.0 entry lists.bytes bytes short same before.on before.short (grows entries lists.bytes bytes lists lists.told told) here.2 in
+            record { entries = here.0; journal = here.1; on = far.0; short = far.1 };
+      }
+
+  -- a journal with the same parts comes of what the other does
+  pub comes_at : (parts whole new : OnDisk D) → parts ≡ whole → ComesOf seen may_leave parts new → ComesOf seen may_leave whole new
+  comes_at parts whole new same comes = subst (λ (j : OnDisk D). ComesOf seen may_leave j new) same comes
+
+  -- the disk of a journal that comes of one with entries goes on telling its bytes
+  pub told_from : (old new : OnDisk D) (entries : List (List ℕ)) → ComesOf seen may_leave old new → Lists seen may_leave old entries → (after : List ℕ) × (seen new.disk ≡ Some after)
+  told_from old new entries comes lists =
+      let has : HasCome seen may_leave 0 (length lists.bytes) old =
+      record {
+        lists = λ live. (entries, lists);
+        told = (lists.bytes, lists.told);
+        reaches = λ bytes here.
+            let is : Some lists.bytes ≡ Some bytes = sym lists.told ∙ here in
+            let same : lists.bytes ≡ bytes = cc in
+            record { entries = entries; journal = subst (λ (b : List ℕ). IsJournal b entries) same lists.spelled; on = omega arith; short = omega (arith, ap length same) };
+      } in
+      (comes 0 (length lists.bytes) has).told
+
+  -- the bytes of a journal that comes of one with entries
+  pub grown_from : (old new : OnDisk D) (entries : List (List ℕ)) (before after : List ℕ) → ComesOf seen may_leave old new → Lists seen may_leave old entries → seen old.disk ≡ Some before → seen new.disk ≡ Some after
+      → ReachesFrom (length (front entries)) (length before) after
+  grown_from old new entries before after comes lists was told =
+      let has : HasCome seen may_leave (length (front entries)) (length before) old =
+      record {
+        lists = λ live. (entries, lists);
+        told = (before, was);
+        reaches = λ bytes here.
+            let first : Some lists.bytes ≡ Some bytes = sym lists.told ∙ here in
+            let is : lists.bytes ≡ bytes = cc in
+            let second : Some bytes ≡ Some before = sym here ∙ was in
+            let same : bytes ≡ before = cc in
+            record { entries = entries; journal = subst (λ (b : List ℕ). IsJournal b entries) is lists.spelled; on = omega arith; short = omega (arith, ap length same) };
+      } in
+      (comes (length (front entries)) (length before) has).reaches after told

@@ -1,5 +1,0 @@
-use Rattle.dbl_model.proofs.ChangeFits.{commits_fit}
-use Rattle.dbl_model.proofs.state_laws.stated_changes_fit.Goals as goal
-
-pub returns : goal.returns
-returns c = λ infos ms all. commits_fit infos ms all

@@ -1,0 +1,10 @@
+pub mod ApplyLemmas
+pub mod CaptureLemmas
+pub mod CommitLaws
+pub mod CommitLemmas
+pub mod FollowLemmas
+pub mod LineLemmas
+pub mod LogLemmas
+pub mod PrintLemmas
+pub mod SuitLemmas
+pub mod LogPrintLemmas

@@ -1,0 +1,13 @@
+use Rattle.std.proofs.Common.{◌∙◌, List, [], ◌∷◌, ◌++◌, ap, ap₂}
+use Rattle.dbl_envelope.specs.Writers.{Captured}
+use Rattle.dbl_table.specs.declared.table.TableInfo.{TableInfo}
+use Rattle.dbl_replay.specs.Log.{log_start}
+use Rattle.dbl_replay.proofs.replay.Replayer.add.Goals as goal
+
+pub returns-in_ok-learn_in-in-Ok-clause-added : goal.returns-in_ok-learn_in-in-Ok-clause-added
+returns-in_ok-learn_in-in-Ok-clause-added c = λ options infos ms behind none. record {
+  stands = c.in-Ok.ensures.whole infos log_start ms behind.stands none;
+  keys = behind.keys;
+  identity = ap (λ (w : Captured). w.identity) c.in_ok-learn_in-in-Ok.ensures.learnt ∙ behind.identity;
+  writes = ap (λ (w : Captured). w.infos) c.in_ok-learn_in-in-Ok.ensures.learnt ∙ ap₂ (λ (is : List TableInfo) (i : TableInfo). is ++ i ∷ []) behind.writes c.in_ok-copied.ensures;
+}

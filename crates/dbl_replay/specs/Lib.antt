@@ -1,0 +1,10 @@
+pub mod Apply
+pub mod Captures
+pub mod Following
+pub mod Judged
+pub mod Lines
+pub mod Log
+pub mod LogFaults
+pub mod LogPrinting
+pub mod Printing
+pub mod LogLaws

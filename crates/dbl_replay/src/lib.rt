@@ -1,0 +1,17 @@
+//! What `replay` and `apply --lines` do: the lines of a log, and the rows that a consumer of lines holds.
+#![tactic(auto)]
+
+mod apply;
+mod capture;
+pub mod laws;
+mod lines;
+mod log_fault;
+mod options;
+mod printing;
+mod replay;
+
+pub use apply::{FaultAt, LineFault, consume};
+pub use lines::{LineError, messages};
+pub use log_fault::LogFault;
+pub use options::ReplayOptions;
+pub use printing::{PrintError, print_log};

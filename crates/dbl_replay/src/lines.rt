@@ -1,0 +1,113 @@
+ghost use Rattle.std.specs.Prelude.{◌≡◌, ◌<◌, ◌++◌, ◌∷◌, ℕ, true, false, length, Some, None, Err, IfOk, OnOk};
+ghost use Rattle.std.specs.Option.{option_to_list};
+ghost use Rattle.std.specs.Result.{result_ok};
+ghost use Rattle.dbl_base.specs.Lines.{is_passed_over, lines_of};
+ghost use Rattle.hex.specs.Hex.{decode_of};
+ghost use Rattle.dbl_replay.specs.Lines.{without_spaces, bytes_in, message_in, is_bad, messages_in, first_bad};
+
+use dbl_base::{Bytes, next_line, passes_over};
+use hex::FromHexError;
+use memchr::memchr;
+use std::alloc::{AllocError, AllocFailed, Global};
+use thiserror::Error;
+
+/// Why lines spell no messages.
+#[derive(Clone, Copy, Debug, PartialEq, Eq, Error)]
+pub enum LineError {
+    /// The line's number, counted from 1.
+    #[error("line {number}: bad line")]
+    BadLine { number: u64 },
+    #[error("out of memory")]
+    Memory,
+}
+
+impl From<AllocError> for LineError {
+    ghost use Rattle.std.specs.Prelude.{◌≡◌};
+    ghost use Rattle.dbl_replay.specs.declared.lines.LineError.TheVariants.{Memory};
+
+    ghost from_gives = { λ _ e. e ≡ Memory };
+
+    fn from(_error: AllocError) -> LineError {
+        LineError::Memory
+    }
+}
+
+impl<T: Drop> From<AllocFailed<T>> for LineError {
+    ghost use Rattle.std.specs.Prelude.{◌≡◌};
+    ghost use Rattle.dbl_replay.specs.declared.lines.LineError.TheVariants.{Memory};
+
+    ghost from_gives = { λ _ e. e ≡ Memory };
+
+    fn from(_error: AllocFailed<T>) -> LineError {
+        LineError::Memory
+    }
+}
+
+fn decoded(alloc: Global, digits: &[u8]) -> Result<Option<Bytes>, AllocError>
+    ensures { IfOk result (λ found. found ≡ result_ok (decode_of digits.now)) }
+{
+    match hex::decode(alloc, digits) {
+        Ok(bytes) => Ok(Some(Bytes::make(bytes))),
+        Err(FromHexError::OutOfMemory) => Err(AllocError),
+        Err(_) => Ok(None),
+    }
+}
+
+fn without_spaces(alloc: Global, line: &[u8]) -> Result<Vec<u8>, AllocError>
+    ensures { IfOk result (λ digits. digits.items ≡ without_spaces line.now) }
+{
+    line.iter().copied().filter(|c| *c != b' ').collect(alloc)
+}
+
+fn bytes_of(alloc: Global, line: &[u8]) -> Result<Option<Bytes>, AllocError>
+    ensures { IfOk result (λ found. found ≡ bytes_in line.now) }
+{
+    match memchr(b' ', line) {
+        None => decoded(alloc, line),
+        Some(_) => {
+            let digits = without_spaces(alloc, line)?;
+            decoded(alloc, digits.as_slice())
+        }
+    }
+}
+
+// Puts the message of the line, which has this number, behind the others.
+fn take_line(
+    alloc: Global,
+    line: &[u8],
+    number: u64,
+    messages: &mut Vec<Bytes>,
+) -> Result<(), LineError>
+    ensures good { OnOk result (is_bad line.now ≡ false) }
+    ensures taken { OnOk result (messages.new.items ≡ messages.old.items ++ option_to_list (message_in line.now)) }
+    ensures bad { (n : ℕ) → result ≡ Err (LineError.BadLine n) → (n ≡ number) × (is_bad line.now ≡ true) }
+{
+    if passes_over(line) {
+        return Ok(());
+    }
+    match bytes_of(alloc, line)? {
+        Some(bytes) => {
+            messages.push(bytes)?;
+            Ok(())
+        }
+        None => Err(LineError::BadLine { number }),
+    }
+}
+
+/// The bytes of the messages that the lines of the text spell, in order, or the first bad line.
+pub fn messages(alloc: Global, text: &[u8]) -> Result<Vec<Bytes>, LineError>
+    ensures ok { IfOk result (λ found. found.items ≡ messages_in (lines_of text.now)) }
+    ensures good { OnOk result (first_bad (lines_of text.now) ≡ None) }
+    ensures bad { (n : ℕ) → result ≡ Err (LineError.BadLine n) → first_bad (lines_of text.now) ≡ Some n }
+{
+    let mut found = Vec::new(alloc);
+    let mut rest = text;
+    let mut number = 0u64;
+    'lines: while !rest.is_empty() {
+        let (line, behind) = next_line(rest);
+        rest = behind;
+        number += 1;
+        take_line(alloc, line, number, &mut found)?;
+    }
+    Ok(found)
+}

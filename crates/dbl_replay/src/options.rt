@@ -1,0 +1,10 @@
+use dbl_base::Seq;
+use dbl_table::{Identity, TableKey};
+
+/// What `replay` takes beside its input.
+#[derive(Debug, Drop)]
+pub struct ReplayOptions {
+    pub identity: Identity,
+    /// The keys of tables that aren't to be read from the log. Of two for one table the first counts.
+    pub keys: Seq<TableKey>,
+}

@@ -1,0 +1,7 @@
+pub mod Lists
+pub mod Making
+pub mod KeyLemmas
+pub mod DerivedOrder
+pub mod InfoLemmas
+pub mod Capturable
+pub mod PartLemmas

@@ -1,5 +1,0 @@
-use Rattle.dblog.proofs.CommandLemmas.{means_one}
-use Rattle.dblog.proofs.laws.answers_are_one.Goals as goal
-
-pub returns : goal.returns
-returns c = means_one

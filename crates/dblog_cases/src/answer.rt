@@ -1,0 +1,45 @@
+use std::io::{self, Write};
+
+/// What a run of the program answered.
+#[derive(Drop)]
+pub struct Answer {
+    status: u8,
+    text: Vec<u8>,
+    tail: Option<usize>,
+}
+
+impl Answer {
+    /// With a tail, so many last lines of the text are to be told.
+    pub fn make(status: u8, text: Vec<u8>, tail: Option<usize>) -> Answer {
+        Answer { status, text, tail }
+    }
+
+    pub fn into_text(self) -> Vec<u8> {
+        self.text
+    }
+
+    pub fn tell_status<W: Write>(&self, writer: &mut W) -> io::Result<()> {
+        let status = self.status;
+        writeln!(writer, "status {status}")?;
+        Ok(())
+    }
+
+    /// Writes the text, or its last lines behind the number of its bytes.
+    pub fn tell_text<W: Write>(&self, writer: &mut W) -> io::Result<()> {
+        let Some(tail) = self.tail else {
+            return writer.write_all(self.text.as_slice());
+        };
+        let length = self.text.len();
+        writeln!(writer, "{length} bytes")?;
+        let count = self.text.split_inclusive(|byte| *byte == b'\n').count();
+        let passed = count.saturating_sub(tail);
+        for line in self
+            .text
+            .split_inclusive(|byte| *byte == b'\n')
+            .skip(passed)
+        {
+            writer.write_all(line)?;
+        }
+        Ok(())
+    }
+}

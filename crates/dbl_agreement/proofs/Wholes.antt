@@ -13,7 +13,7 @@ use Rattle.serde_json.specs.Written.{has_float, items_have_float, members_have_f
 use Rattle.dbl_value.specs.declared.value.Val.{Val}
 use Rattle.dbl_value.specs.declared.value.Val.TheVariants as val
 use Rattle.dbl_value.specs.Values.{json_data}
-use Rattle.dbl_value.specs.Stamps.{is_instant, zulu_text}
+use Rattle.dbl_time.specs.Stamps.{is_instant, zulu_text}
 use Rattle.dbl_record.specs.declared.acts.ConsumeError.{ConsumeError}
 use Rattle.dbl_record.specs.Whole.{IsInteger, IsWhole, ItemsAreWhole, IsBelow, MembersAreWhole}
 use Rattle.dbl_record.specs.Acts.{cell_error, or_later, first_error, unwrapped}

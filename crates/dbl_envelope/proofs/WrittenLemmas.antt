@@ -7,14 +7,14 @@ use Rattle.base64.specs.Engines.{standard}
 use Rattle.base64.specs.Rfc4648.{encode_symbols, unpadded_len, padding_len, encoded_size}
 use Rattle.base64.specs.GeneralPurpose.{encode_of}
 use Rattle.std.proofs.lemmas.Bool.{eqb-false}
-use Rattle.dbl_value.specs.Dates.{date_text}
-use Rattle.dbl_value.specs.Clocks.{seconds_text, six_digits}
+use Rattle.dbl_time.specs.Dates.{date_text}
+use Rattle.dbl_time.specs.Clocks.{seconds_text, six_digits}
 use Rattle.std.proofs.lemmas.Option.{slice_get-get_or}
 use Rattle.std.proofs.Math.Seq.{get_or-append_seam}
 use Rattle.serde_json.specs.Data.{string, number}
 use Rattle.serde_json.specs.Find.{of_integer}
 use Rattle.dbl_value.specs.declared.value.Val.TheVariants as val
-use Rattle.dbl_value.specs.Stamps.{zulu_text, day_of_stamp, clock_of_stamp, is_instant}
+use Rattle.dbl_time.specs.Stamps.{zulu_text, day_of_stamp, clock_of_stamp, is_instant}
 use Rattle.dbl_table.specs.declared.change.Cell.TheVariants.{Given}
 use Rattle.dbl_event.specs.Clashes.{is_string, is_clash}
 

@@ -11,7 +11,7 @@ use Rattle.serde_json.specs.Written.{has_float, members_have_float}
 use Rattle.dbl_value.specs.declared.value.Val.{Val}
 use Rattle.dbl_value.specs.declared.value.Val.TheVariants as val
 use Rattle.dbl_value.specs.Values.{json_data}
-use Rattle.dbl_value.specs.Stamps.{is_instant, zulu_text}
+use Rattle.dbl_time.specs.Stamps.{is_instant, zulu_text}
 use Rattle.dbl_table.specs.declared.identity.Identity.{Identity}
 use Rattle.dbl_table.specs.declared.table.TableName.{TableName}
 use Rattle.dbl_table.specs.declared.table.TableInfo.{TableInfo}

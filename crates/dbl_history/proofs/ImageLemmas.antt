@@ -21,7 +21,7 @@ use Rattle.dbl_value.specs.declared.column_type.PgType.{PgType}
 use Rattle.dbl_value.specs.declared.value.Val.{Val}
 use Rattle.dbl_value.specs.declared.value.Val.TheVariants as val
 use Rattle.dbl_value.specs.Values.{json_data, IsOf}
-use Rattle.dbl_value.specs.Stamps.{is_instant, zulu_text}
+use Rattle.dbl_time.specs.Stamps.{is_instant, zulu_text}
 use Rattle.dbl_value.proofs.JsonTexts.{IsInRange, IsOf-IsInRange, json_tells_cells}
 use Rattle.dbl_table.specs.declared.row.Key.{Key}
 use Rattle.dbl_table.specs.declared.table.TableName.{TableName}

@@ -11,9 +11,9 @@ use Rattle.dbl_value.specs.declared.column_type.PgType.TheVariants as type
 use Rattle.dbl_value.specs.declared.value.Val.{Val}
 use Rattle.dbl_value.specs.declared.value.Val.TheVariants as val
 use Rattle.dbl_value.specs.Values.{value_of, is_uuid, SpellsValue, IsOf}
-use Rattle.dbl_value.specs.Stamps.{is_instant}
+use Rattle.dbl_time.specs.Stamps.{is_instant}
 use Rattle.dbl_value.proofs.KindLemmas.{kind_of, spelled_kind}
-use Rattle.dbl_value.proofs.CalendarSteps.{days_fit}
+use Rattle.dbl_time.proofs.CalendarSteps.{days_fit}
 use Rattle.dbl_value.proofs.RangeLemmas.{date_in_years}
 use Rattle.dbl_value.proofs.JsonTexts.{instant_mag, IsOf-IsInRange}
 use Rattle.dbl_table.specs.declared.table.Column.{Column}

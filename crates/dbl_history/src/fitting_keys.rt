@@ -3,7 +3,7 @@
 ghost use Rattle.std.specs.Prelude.{◌≡◌, ◌↔◌, IsTrue, map};
 ghost use Rattle.std.specs.List.{AllByRecursion};
 ghost use Rattle.dbl_value.specs.Decimals.{is_within};
-ghost use Rattle.dbl_value.specs.Shapes.{stands_for, has_shape};
+ghost use Rattle.dbl_time.specs.Shapes.{stands_for, has_shape};
 ghost use Rattle.dbl_table.specs.Tables.{type_at};
 ghost use Rattle.dbl_history.specs.KeyFits.{is_integer, is_text, is_uuid_text, is_key_cell, are_key_cells, HasUtf8};
 ghost use Rattle.dbl_history.specs.Fit.{IsKeyOf};

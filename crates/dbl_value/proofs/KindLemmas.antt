@@ -7,9 +7,9 @@ use Rattle.dbl_value.specs.declared.value.Val.{Val}
 use Rattle.dbl_value.specs.declared.value.Val.TheVariants as val
 use Rattle.dbl_value.specs.Values.{SpellsValue, truth_of, is_uuid, instant_if_any}
 use Rattle.dbl_value.specs.Decimals.{integer_of}
-use Rattle.dbl_value.specs.Dates.{day_of}
-use Rattle.dbl_value.specs.Clocks.{time_of}
-use Rattle.dbl_value.specs.Stamps.{stamp_of, instant_of, is_instant}
+use Rattle.dbl_time.specs.Dates.{day_of}
+use Rattle.dbl_time.specs.Clocks.{time_of}
+use Rattle.dbl_time.specs.Stamps.{stamp_of, instant_of, is_instant}
 use Rattle.dbl_value.specs.ByteTexts.{bytes_of}
 use Rattle.dbl_value.specs.Order.{rank}
 

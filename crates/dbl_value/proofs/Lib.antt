@@ -1,16 +1,10 @@
 pub mod Decimals
-pub mod ShapeLemmas
-pub mod CalendarSteps
-pub mod ClockLemmas
-pub mod FractionSteps
 pub mod KindLemmas
-pub mod StampLemmas
 pub mod ByteLemmas
 pub mod ReadBack
 pub mod TypeLemmas
 pub mod Ordered
 pub mod JsonTexts
-pub mod ZuluLemmas
 pub mod RangeLemmas
 pub mod DateForms
 pub mod HexForms

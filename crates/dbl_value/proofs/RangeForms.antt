@@ -10,15 +10,15 @@ use Rattle.dbl_value.specs.declared.column_type.PgType.TheVariants as type
 use Rattle.dbl_value.specs.declared.value.Val.{Val}
 use Rattle.dbl_value.specs.declared.value.Val.TheVariants as val
 use Rattle.jiff_core.proofs.CalendarLemmas.{days_in_month_bounds}
-use Rattle.dbl_value.specs.Shapes.{two_digits, four_digits}
-use Rattle.dbl_value.specs.Dates.{day_of}
-use Rattle.dbl_value.specs.Stamps.{stamp_of, instant_of, is_instant}
+use Rattle.dbl_time.specs.Shapes.{two_digits, four_digits}
+use Rattle.dbl_time.specs.Dates.{day_of}
+use Rattle.dbl_time.specs.Stamps.{stamp_of, instant_of, is_instant}
 use Rattle.dbl_value.specs.Values.{instant_if_any}
 use Rattle.dbl_value.specs.Faults.{is_long_year, has_long_year, is_beyond, is_out, is_moved_out}
 use Rattle.dbl_value.specs.Forms.{IsDateText, IsFractionText, IsClockText, IsStampText, IsOffsetText, IsInstantText}
 use Rattle.dbl_value.specs.Laws.{DateRangesSpellNoValue}
-use Rattle.dbl_value.proofs.CalendarSteps.{is_day-IsDay}
-use Rattle.dbl_value.proofs.ShapeLemmas.{digit_is, digit_from}
+use Rattle.dbl_time.proofs.CalendarSteps.{is_day-IsDay}
+use Rattle.dbl_time.proofs.ShapeLemmas.{digit_is, digit_from}
 use Rattle.dbl_value.proofs.DateForms.{read_text}
 use Rattle.dbl_value.proofs.ClockForms.{stamp_form}
 use Rattle.dbl_value.proofs.InstantForms.{instant_form}

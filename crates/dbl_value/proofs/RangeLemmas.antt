@@ -4,12 +4,12 @@ use Rattle.jiff_core.proofs.SignedLemmas.{signed_arith}
 use Rattle.dbl_value.specs.declared.column_type.PgType.{PgType}
 use Rattle.dbl_value.specs.declared.value.Val.TheVariants as val
 use Rattle.dbl_value.specs.Values.{IsOf}
-use Rattle.dbl_value.specs.Dates.{IsInYears}
-use Rattle.dbl_value.specs.Clocks.{day_micros}
-use Rattle.dbl_value.specs.Stamps.{is_instant}
+use Rattle.dbl_time.specs.Dates.{IsInYears}
+use Rattle.dbl_time.specs.Clocks.{day_micros}
+use Rattle.dbl_time.specs.Stamps.{is_instant}
 use Rattle.dbl_value.proofs.KindLemmas.{date_spelled, time_spelled, stamp_spelled, instant_spelled}
-use Rattle.dbl_value.proofs.ClockLemmas.{time_of-bound}
-use Rattle.dbl_value.proofs.StampLemmas.{day_of-named, named_in_years, stamp_of-instant}
+use Rattle.dbl_time.proofs.ClockLemmas.{time_of-bound}
+use Rattle.dbl_time.proofs.StampLemmas.{day_of-named, named_in_years, stamp_of-instant}
 
 pub date_in_years : (ty : PgType) (day : ℤ) → IsOf ty (val.Date day) → IsInYears day
 date_in_years ty day is = named_in_years day (day_of-named is.text day (date_spelled ty is.text day is.spells).1)

@@ -5,15 +5,15 @@ use Rattle.dbl_value.specs.declared.value.Val.TheVariants as val
 use Rattle.std.specs.Fmt.{signed_decimal}
 use Rattle.dbl_value.specs.Values.{SpellsValue, instant_if_any}
 use Rattle.dbl_value.specs.ByteTexts.{bytes_text}
-use Rattle.dbl_value.specs.Dates.{date_text}
-use Rattle.dbl_value.specs.Stamps.{is_instant, stamp_text}
-use Rattle.dbl_value.specs.Clocks.{clock_text, day_micros}
+use Rattle.dbl_time.specs.Dates.{date_text}
+use Rattle.dbl_time.specs.Stamps.{is_instant, stamp_text}
+use Rattle.dbl_time.specs.Clocks.{clock_text, day_micros}
 use Rattle.dbl_value.specs.Laws.{TextsReadBack}
 use Rattle.dbl_value.proofs.KindLemmas.{null_spelled, bool_spelled, int_spelled, limit_of, limit_top, bytes_spelled, date_spelled, time_spelled, stamp_spelled, instant_spelled, text_spelled}
 use Rattle.dbl_value.proofs.Decimals.{integer_of-IsRead, integer_spelled}
 use Rattle.dbl_value.proofs.ByteLemmas.{bytes_of-text, bytes_of-IsBytes}
-use Rattle.dbl_value.proofs.ClockLemmas.{time_of-text, time_of-bound}
-use Rattle.dbl_value.proofs.StampLemmas.{day_of-named, day_of-text, stamp_of-text, stamp_of-instant, instant_of-text}
+use Rattle.dbl_time.proofs.ClockLemmas.{time_of-text, time_of-bound}
+use Rattle.dbl_time.proofs.StampLemmas.{day_of-named, day_of-text, stamp_of-text, stamp_of-instant, instant_of-text}
 
 pub texts_read_back : TextsReadBack
 texts_read_back ty val.Null is = absurd (null_spelled ty is.text is.spells)

@@ -3,7 +3,7 @@ use Rattle.std.specs.Prelude.{ℕ, ◌&&◌, nat_eq, if◌then◌else◌, Option
 use Rattle.std.specs.List.{list_all, starts_with}
 use Rattle.std.specs.Result.{result_ok}
 use Rattle.hex.specs.Hex.{decode_of, encode_lower}
-use Rattle.dbl_value.specs.Shapes.{is_lower_hex}
+use Rattle.dbl_time.specs.Shapes.{is_lower_hex}
 
 -- the bytes of a text that is `\x` and pairs of hexadecimal digits in lower case
 unfoldable pub bytes_of : List ℕ → Option (List ℕ)

@@ -7,7 +7,7 @@ use Rattle.dbl_value.specs.declared.column_type.PgType.{PgType}
 use Rattle.dbl_value.specs.declared.column_type.PgType.TheVariants as type
 use Rattle.dbl_value.specs.declared.error.ValueError.{ValueError}
 use Rattle.dbl_value.specs.declared.error.ValueError.TheVariants as error
-use Rattle.dbl_value.specs.Stamps.{instant_of, is_instant}
+use Rattle.dbl_time.specs.Stamps.{instant_of, is_instant}
 use Rattle.dbl_value.specs.Values.{value_of}
 
 abbrev pub is_long_year : List ℕ → Option ℕ → Bool

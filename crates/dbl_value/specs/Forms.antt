@@ -7,10 +7,10 @@ use Rattle.jiff_core.specs.Calendar.{days_from_civil}
 use Rattle.hex.specs.Hex.{IsBytes}
 use Rattle.dbl_value.specs.declared.column_type.PgType.TheVariants as type
 use Rattle.dbl_value.specs.declared.value.Val.TheVariants as val
-use Rattle.dbl_value.specs.Shapes.{is_lower_hex, two_digits}
-use Rattle.dbl_value.specs.Dates.{is_day, date_parts_text, IsInYears}
-use Rattle.dbl_value.specs.Clocks.{day_micros}
-use Rattle.dbl_value.specs.Stamps.{is_instant}
+use Rattle.dbl_time.specs.Shapes.{is_lower_hex, two_digits}
+use Rattle.dbl_time.specs.Dates.{is_day, date_parts_text, IsInYears}
+use Rattle.dbl_time.specs.Clocks.{day_micros}
+use Rattle.dbl_time.specs.Stamps.{is_instant}
 use Rattle.dbl_value.specs.ByteTexts.{bytes_text}
 use Rattle.dbl_value.specs.Values.{SpellsValue}
 
@@ -34,7 +34,7 @@ pub record NamesOneDate (number : ℤ) : Type 0 where
   pub day : ℕ
   pub is_day : IsTrue (is_day year month day)
   pub number_is : days_from_civil (pos year) month day ≡ number
-  pub one : (y m d : ℕ) → IsTrue (Rattle.dbl_value.specs.Dates.is_day y m d) → days_from_civil (pos y) m d ≡ number → (y ≡ year) × (m ≡ month) × (d ≡ day)
+  pub one : (y m d : ℕ) → IsTrue (Rattle.dbl_time.specs.Dates.is_day y m d) → days_from_civil (pos y) m d ≡ number → (y ≡ year) × (m ≡ month) × (d ≡ day)
 
 abbrev pub DaysAreDates : Type 0
 DaysAreDates = ((number : ℤ) → IsInYears number → NamesOneDate number) × ((y m d : ℕ) → IsTrue (is_day y m d) → IsInYears (days_from_civil (pos y) m d))

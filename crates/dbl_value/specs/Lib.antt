@@ -1,10 +1,6 @@
 pub mod Types
 pub mod Kinds
 pub mod Decimals
-pub mod Shapes
-pub mod Dates
-pub mod Clocks
-pub mod Stamps
 pub mod ByteTexts
 pub mod Values
 pub mod Faults

@@ -14,10 +14,10 @@ use Rattle.dbl_value.specs.declared.value.Val.TheVariants as val
 pub use Rattle.dbl_value.specs.Types.{oid_of, listed, is_column_type}
 unfoldable pub use Rattle.dbl_value.specs.Types.{type_of}
 use Rattle.dbl_value.specs.Decimals.{integer_of}
-use Rattle.dbl_value.specs.Shapes.{has_shape}
-use Rattle.dbl_value.specs.Dates.{day_of, date_text}
-use Rattle.dbl_value.specs.Clocks.{time_of, clock_text}
-use Rattle.dbl_value.specs.Stamps.{stamp_of, instant_of, is_instant, stamp_text, zulu_text}
+use Rattle.dbl_time.specs.Shapes.{has_shape}
+use Rattle.dbl_time.specs.Dates.{day_of, date_text}
+use Rattle.dbl_time.specs.Clocks.{time_of, clock_text}
+use Rattle.dbl_time.specs.Stamps.{stamp_of, instant_of, is_instant, stamp_text, zulu_text}
 use Rattle.dbl_value.specs.ByteTexts.{bytes_of, bytes_text}
 
 -- `t` or `f`

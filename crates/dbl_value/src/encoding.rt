@@ -4,10 +4,10 @@ ghost use Rattle.serde_json.specs.Written.{outline};
 ghost use Rattle.dbl_value.specs.Values.{json_data, json_of};
 
 use crate::error::ValueError;
-use crate::stamps::{is_in_years, push_zulu};
 use crate::value::Val;
 use base64::engine::general_purpose::STANDARD;
 use dbl_base::{Bytes, Text};
+use dbl_time::{is_in_years, push_zulu};
 use json::Writer;
 use std::alloc::{AllocError, Global};
 

@@ -6,8 +6,7 @@ ghost use Rattle.dbl_value.specs.Faults.{has_long_year, is_beyond, is_moved_out,
 
 use crate::column_type::PgType;
 use crate::error::ValueError;
-use crate::shapes::byte_at;
-use crate::stamps::{instant, is_in_years};
+use dbl_time::{byte_at, is_in_years, parse_instant};
 
 /// The place of the first byte that is no digit.
 fn place_behind_digits(text: &[u8]) -> Option<usize>
@@ -41,7 +40,7 @@ fn is_beyond_years(text: &[u8]) -> bool
 fn is_out_in_utc(text: &[u8]) -> bool
     ensures { result ≡ is_moved_out text.now }
 {
-    match instant(text) {
+    match parse_instant(text) {
         Some(instant) => !is_in_years(&instant),
         None => false,
     }

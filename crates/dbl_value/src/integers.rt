@@ -1,13 +1,7 @@
 ghost use Rattle.std.specs.Prelude.{◌≡◌, ◌^◌, nat_lt, slice_index};
-ghost use Rattle.std.specs.List.{list_all};
-ghost use Rattle.std.specs.Char.{is_ascii_digit};
 ghost use Rattle.dbl_value.specs.Decimals.{integer_of, is_plain, digits_of};
 
-pub fn are_digits(bytes: &[u8]) -> bool
-    ensures { result ≡ list_all is_ascii_digit bytes.now }
-{
-    bytes.iter().all(|byte| byte.is_ascii_digit())
-}
+use dbl_time::are_digits;
 
 fn without_minus(bytes: &[u8]) -> &[u8]
     ensures { result.now ≡ digits_of bytes.now }

@@ -1,9 +1,7 @@
 //! Column types and their values: read from the texts that PostgreSQL sends, printed, and written as JSON.
 #![tactic(auto)]
 
-mod clocks;
 mod column_type;
-mod dates;
 mod encoding;
 mod error;
 mod faults;
@@ -11,8 +9,6 @@ mod integers;
 mod laws;
 mod printing;
 mod reading;
-mod shapes;
-mod stamps;
 mod tree;
 mod value;
 

@@ -1,18 +1,16 @@
 ghost use Rattle.std.specs.Prelude.{◌≡◌, ◌++◌, pos, ◌≤ℤ◌, unsigned_abs, IsTrue, IfOk, IfErr};
 ghost use Rattle.std.specs.String.{string_bytes};
 ghost use Rattle.dbl_value.specs.ByteTexts.{bytes_text};
-ghost use Rattle.dbl_value.specs.Dates.{IsInYears, date_text};
-ghost use Rattle.dbl_value.specs.Clocks.{day_micros, clock_text};
-ghost use Rattle.dbl_value.specs.Stamps.{is_instant, stamp_text};
+ghost use Rattle.dbl_time.specs.Dates.{IsInYears, date_text};
+ghost use Rattle.dbl_time.specs.Clocks.{day_micros, clock_text};
+ghost use Rattle.dbl_time.specs.Stamps.{is_instant, stamp_text};
 ghost use Rattle.dbl_value.specs.Values.{IsOf, text_of};
 
-use crate::clocks::push_clock;
 use crate::column_type::PgType;
-use crate::dates::push_date;
 use crate::error::ValueError;
-use crate::stamps::push_stamp;
 use crate::value::Val;
 use dbl_base::Text;
+use dbl_time::{push_date, push_time, push_timestamp};
 use std::alloc::{AllocError, Global};
 
 fn bytes_string(alloc: Global, bytes: &[u8]) -> Result<String, AllocError>
@@ -45,7 +43,7 @@ fn time_string(alloc: Global, micros: &i64) -> Result<String, AllocError>
     ensures { IfOk result (λ text. string_bytes text ≡ clock_text (unsigned_abs micros.now)) }
 {
     let mut text = String::new(alloc);
-    push_clock(&mut text, *micros as u64)?;
+    push_time(&mut text, *micros as u64)?;
     Ok(text)
 }
 
@@ -54,7 +52,7 @@ fn stamp_string(alloc: Global, moment: &i64) -> Result<String, AllocError>
     ensures { IfOk result (λ text. string_bytes text ≡ stamp_text moment.now) }
 {
     let mut text = String::new(alloc);
-    push_stamp(&mut text, moment)?;
+    push_timestamp(&mut text, moment)?;
     Ok(text)
 }
 

@@ -1,21 +1,21 @@
 ghost use Rattle.std.specs.Prelude.{◌≡◌, ◌≢◌, ◌⊎◌, Bool, true, Some, None, IfOk, IfErr, nat_eq};
 ghost use Rattle.std.specs.List.{list_all, starts_with};
-ghost use Rattle.dbl_value.specs.Shapes.{is_lower_hex};
+ghost use Rattle.dbl_time.specs.Shapes.{is_lower_hex};
 ghost use Rattle.dbl_value.specs.ByteTexts.{bytes_of};
 ghost use Rattle.dbl_value.specs.Values.{value_of, truth_of, is_uuid, SpellsValue};
 ghost use Rattle.dbl_value.specs.Faults.{value_fault};
 ghost use Rattle.dbl_value.specs.Kinds.{is_fixed};
 
-use crate::clocks::time;
 use crate::column_type::PgType;
-use crate::dates::day;
 use crate::error::ValueError;
 use crate::faults::fault;
 use crate::integers::{int2, int4, int8};
-use crate::shapes::{behind, is_lower_hex_digit, is_shaped};
-use crate::stamps::{instant, is_in_years, stamp};
 use crate::value::Val;
 use dbl_base::{Seq, Text};
+use dbl_time::{
+    bytes_from, is_in_years, is_lower_hex_digit, is_shaped, parse_date, parse_instant, parse_time,
+    parse_timestamp,
+};
 use hex::FromHexError;
 use std::alloc::{AllocError, Global};
 
@@ -59,7 +59,7 @@ fn int8_value(text: &str) -> Option<Val>
 fn date_value(text: &str) -> Option<Val>
     ensures { result ≡ value_of PgType.Date text.now }
 {
-    match day(text.as_bytes()) {
+    match parse_date(text.as_bytes()) {
         Some(day) => Some(Val::Date(day)),
         None => None,
     }
@@ -68,7 +68,7 @@ fn date_value(text: &str) -> Option<Val>
 fn time_value(text: &str) -> Option<Val>
     ensures { result ≡ value_of PgType.Time text.now }
 {
-    match time(text.as_bytes()) {
+    match parse_time(text.as_bytes()) {
         Some(micros) => Some(Val::Time(micros as i64)),
         None => None,
     }
@@ -77,7 +77,7 @@ fn time_value(text: &str) -> Option<Val>
 fn stamp_value(text: &str) -> Option<Val>
     ensures { result ≡ value_of PgType.Timestamp text.now }
 {
-    match stamp(text.as_bytes()) {
+    match parse_timestamp(text.as_bytes()) {
         Some(moment) => Some(Val::Stamp(moment)),
         None => None,
     }
@@ -86,7 +86,7 @@ fn stamp_value(text: &str) -> Option<Val>
 fn instant_value(text: &str) -> Option<Val>
     ensures { result ≡ value_of PgType.Timestamptz text.now }
 {
-    match instant(text.as_bytes()) {
+    match parse_instant(text.as_bytes()) {
         Some(instant) if is_in_years(&instant) => Some(Val::StampTz(instant)),
         _ => None,
     }
@@ -113,7 +113,7 @@ fn bytes_value(alloc: Global, text: &str) -> Result<Option<Val>, AllocError>
     if !text.starts_with(b"\\x") {
         return Ok(None);
     }
-    let digits = behind(text, 2);
+    let digits = bytes_from(text, 2);
     if !are_lower_hex_digits(digits) {
         return Ok(None);
     }

@@ -4,10 +4,10 @@ ghost use Rattle.std.specs.Prelude.{◌≡◌, IfOk};
 ghost use Rattle.serde_json.specs.View.{view};
 ghost use Rattle.dbl_value.specs.Values.{json_data};
 
-use crate::stamps::{is_in_years, push_zulu};
 use crate::value::Val;
 use base64::engine::general_purpose::STANDARD;
 use dbl_base::Bytes;
+use dbl_time::{is_in_years, push_zulu};
 use serde_json::Value;
 use std::alloc::{AllocError, Global};
 

@@ -1,5 +1,5 @@
 use Rattle.std.proofs.Common.{◌≡◌, ◌∙◌, sym, refl, arith, length}
-use Rattle.dbl_value.proofs.ShapeLemmas.{has_shape_apart, has_shape-yes, has_shape-no, has_shape-all}
+use Rattle.dbl_time.proofs.ShapeLemmas.{has_shape_apart, has_shape-yes, has_shape-no, has_shape-all}
 use Rattle.dbl_history.proofs.fitting_keys.is_shaped.Goals as goal
 
 pub returns-then-shape-text : goal.returns-then-shape-text

@@ -1,5 +1,5 @@
 use Rattle.std.proofs.Common.{◌≡◌, drop}
-use Rattle.dbl_value.specs.Shapes.{has_shape}
+use Rattle.dbl_time.specs.Shapes.{has_shape}
 use Rattle.dbl_history.proofs.fitting_keys.is_shaped.Given as goal
 
 abbrev pub invariant-loop-place : goal.invariant-loop-place

@@ -1,0 +1,6 @@
+pub mod ShapeLemmas
+pub mod CalendarSteps
+pub mod ClockLemmas
+pub mod FractionSteps
+pub mod StampLemmas
+pub mod ZuluLemmas

@@ -1,0 +1,4 @@
+pub mod Shapes
+pub mod Dates
+pub mod Clocks
+pub mod Stamps

@@ -19,7 +19,7 @@ use Rattle.dbl_table.proofs.KeyLemmas.{same_key-itself}
 use Rattle.dbl_envelope.specs.Suits.{SuitsUpdate, SuitsTable}
 use Rattle.dbl_envelope.specs.Clashing.{clash_error, IsClash, change_clash, notices_clash, row_clash}
 use Rattle.dbl_envelope.specs.declared.error.EnvelopeError.{EnvelopeError}
-use Rattle.dbl_envelope.proofs.LayoutLemmas.{drop_here}
+use Rattle.dbl_event_text.proofs.LayoutLemmas.{drop_here}
 
 or_assoc : {B : Type 0} (o p q : Option B) → option_or o (option_or p q) ≡ option_or (option_or o p) q
 or_assoc None p q = refl

@@ -1,8 +1,3 @@
-pub mod LayoutLemmas
-pub mod TokenLemmas
-pub mod SideLemmas
-pub mod ValueLemmas
-pub mod KeySteps
 pub mod CommitLemmas
 pub mod ClashLemmas
 pub mod SuitLemmas

@@ -8,8 +8,8 @@ use Rattle.dbl_table.specs.declared.change.Commit.{Commit}
 use Rattle.dbl_table.specs.Rows.{changes_of}
 use Rattle.dbl_event.specs.Events.{notices, numbered}
 use Rattle.dbl_event.specs.EventJson.{print}
-use Rattle.dbl_envelope.specs.declared.stamp.Stamp.{Stamp}
-use Rattle.dbl_envelope.specs.Frames.{events_from, tail_text}
+use Rattle.dbl_event_text.specs.declared.stamp.Stamp.{Stamp}
+use Rattle.dbl_event_text.specs.Frames.{events_from, tail_text}
 
 -- A connector's identity, and the tables that it captures.
 pub record Captured : Type 0 where

@@ -2,7 +2,7 @@ ghost use Rattle.std.specs.Prelude.{◌≡◌, ◌≤◌, ◌<◌, ◌+◌, ◌*
 ghost use Rattle.dbl_table.specs.Rows.{changes_of, table_of};
 ghost use Rattle.dbl_event.specs.EventJson.{envelopes};
 ghost use Rattle.dbl_envelope.specs.Suits.{Suits, SuitsTable};
-ghost use Rattle.dbl_envelope.specs.Frames.{Framed};
+ghost use Rattle.dbl_event_text.specs.Frames.{Framed};
 ghost use Rattle.dbl_event.specs.Clashes.{clash_of};
 ghost use Rattle.dbl_envelope.specs.Clashing.{IsClash};
 ghost use Rattle.dbl_envelope.specs.Writers.{records_from, change_records, tail_at, AreTails};
@@ -11,12 +11,10 @@ ghost use Rattle.dbl_envelope.specs.declared.left.TheConstants.{CHANGES_AT_ONCE}
 use crate::changes::changes;
 use crate::clash::check;
 use crate::error::EnvelopeError;
-use crate::frame::Frame;
-use crate::source::tail_text;
-use crate::stamp::Stamp;
 use crate::tell::tell;
 use crate::writer::EventWriter;
 use dbl_base::Text;
+use dbl_event_text::{Frame, Stamp, tail_text};
 use dbl_record::Record;
 use dbl_table::{Change, Commit};
 use std::alloc::{AllocError, Global};

@@ -5,22 +5,17 @@ ghost use Rattle.dbl_table.specs.Infos.{width};
 ghost use Rattle.dbl_event.specs.Clashes.{clash_at, rows_clash, snapshot_clash};
 ghost use Rattle.dbl_event.specs.Snapshots.{AreInKeyOrder, read_record, read_records, chunk_records, snapshot};
 ghost use Rattle.dbl_envelope.specs.Clashing.{IsClash, row_clash};
-ghost use Rattle.dbl_envelope.specs.Frames.{Framed};
+ghost use Rattle.dbl_event_text.specs.Frames.{Framed};
 ghost use Rattle.dbl_envelope.specs.Suits.{SuitsRows, SuitsSnapshot};
 
 use crate::clash::{refuse, row_clash};
 use crate::error::EnvelopeError;
-use crate::event::plain_record;
-use crate::frame::Frame;
-use crate::keys::key_text;
-use crate::progress::progress_record;
-use crate::side::Side;
-use crate::source::tail_text;
-use crate::stamp::Stamp;
-use crate::value::value_text;
 use crate::writer::EventWriter;
 use dbl_base::Text;
 use dbl_event::{Closed, KeyedRows};
+use dbl_event_text::{
+    Frame, Side, Stamp, framed_key, plain_record, progress_record, tail_text, value_text,
+};
 use dbl_record::Record;
 use dbl_table::{Commit, Key, Row, TableInfo};
 use std::alloc::{AllocError, Global};
@@ -76,7 +71,7 @@ fn read_record(
 {
     let after = Side::Row(&row.cells);
     let value = value_text(alloc, frame, &after, &Side::Nothing, "r")?;
-    let key = key_text(alloc, frame, key)?;
+    let key = framed_key(alloc, frame, key)?;
     let stamp = Stamp {
         ordinal,
         last: false,

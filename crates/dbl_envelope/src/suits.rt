@@ -10,10 +10,10 @@ ghost use Rattle.dbl_history.specs.PlainRows.{is_sent};
 ghost use Rattle.dbl_envelope.specs.Suits.{Suits, SuitsTable, SuitsUpdate, SuitsDelete, SuitsRows, SuitsChunk, SuitsSnapshot};
 
 use crate::changes::changes;
-use crate::keys::is_key_of;
 use crate::writer::EventWriter;
 use dbl_base::Seq;
 use dbl_event::{Closed, KeyedRows};
+use dbl_event_text::is_key_of;
 use dbl_table::{Cell, Change, Commit, Key, Row, TableInfo};
 use dbl_value::Val;
 

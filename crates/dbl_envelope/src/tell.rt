@@ -5,14 +5,13 @@ ghost use Rattle.dbl_table.specs.declared.change.Change.TheVariants.{Insert, Upd
 ghost use Rattle.dbl_table.specs.Infos.{width};
 ghost use Rattle.dbl_table.specs.Rows.{all_given};
 ghost use Rattle.dbl_envelope.specs.Suits.{SuitsUpdate, SuitsDelete, SuitsTable};
-ghost use Rattle.dbl_envelope.specs.Frames.{Framed, Tells, TellsMove};
+ghost use Rattle.dbl_event_text.specs.Frames.{Framed, Tells, TellsMove};
 
-use crate::event::{created, deleted, moved_from, moved_to, tombstone, truncated, updated};
-use crate::frame::Frame;
-use crate::keys::is_key_of;
-use crate::side::Side;
-use crate::stamp::Stamp;
 use dbl_base::Seq;
+use dbl_event_text::{
+    Frame, Side, Stamp, created, deleted, is_key_of, moved_from, moved_to, tombstone, truncated,
+    updated,
+};
 use dbl_record::Record;
 use dbl_table::{Cell, Change, Key, Row};
 use std::alloc::{AllocError, Global};

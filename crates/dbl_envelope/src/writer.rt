@@ -1,10 +1,10 @@
 ghost use Rattle.std.specs.Prelude.{◌≡◌, ◌<◌, ◌++◌, ◌∷◌, [], Some, length, map, option_map, slice_get, IfOk, IfErr, OnOk, OnErr};
 ghost use Rattle.dbl_table.specs.Rows.{table_of};
 ghost use Rattle.dbl_envelope.specs.Suits.{Suits, SuitsTable};
-ghost use Rattle.dbl_envelope.specs.Layouts.{layout_of};
+ghost use Rattle.dbl_event_text.specs.Layouts.{layout_of};
 
 use crate::error::EnvelopeError;
-use crate::layout::Layout;
+use dbl_event_text::Layout;
 use dbl_table::{Change, Identity, TableInfo};
 use std::alloc::{AllocError, Global};
 use std::marker::Model;
@@ -23,7 +23,7 @@ impl Model for EventWriter {
 
     ghost Value = { Captured };
 
-    ghost use Rattle.dbl_envelope.specs.Layouts.{layout_of};
+    ghost use Rattle.dbl_event_text.specs.Layouts.{layout_of};
 
     ghost view = { λ w. record { identity = w.identity; infos = w.infos.items } };
 

@@ -5,7 +5,7 @@ use Rattle.dbl_table.specs.declared.change.Cell.TheVariants.{Given}
 use Rattle.dbl_table.specs.declared.table.Column.{Column}
 use Rattle.dbl_table.specs.Tables.{column_names}
 use Rattle.dbl_event.specs.Clashes.{is_clash}
-use Rattle.dbl_envelope.proofs.TokenLemmas.{map_get}
+use Rattle.dbl_event_text.proofs.TokenLemmas.{map_get}
 use Rattle.dbl_envelope.proofs.ClashLemmas.{among_more, among_found, among_end}
 use Rattle.dbl_envelope.proofs.clash.row_clash.Goals as goal
 

@@ -2,7 +2,7 @@ use Rattle.std.proofs.Common.{◌≡◌, ◌∙◌, ◌+◌, ◌++◌, ◌==◌,
 use Rattle.std.specs.List.{slice_index_or}
 use Rattle.std.proofs.lemmas.List.{drop_more}
 use Rattle.dbl_table.specs.Rows.{changes_of}
-use Rattle.dbl_envelope.specs.declared.stamp.Stamp.{Stamp}
+use Rattle.dbl_event_text.specs.declared.stamp.Stamp.{Stamp}
 use Rattle.dbl_envelope.specs.Suits.{Suits}
 use Rattle.dbl_envelope.specs.Writers.{records_from, change_records}
 use Rattle.dbl_envelope.proofs.CommitLemmas.{change_step, change_count, all_by}

@@ -1,7 +1,7 @@
 use Rattle.std.proofs.Common.{◌≡◌, ◌∙◌, ◌++◌, List, ap}
 use Rattle.std.proofs.lemmas.Result.{on_ok_weaker}
 use Rattle.dbl_record.specs.declared.record.Record.{Record}
-use Rattle.dbl_envelope.specs.Frames.{told}
+use Rattle.dbl_event_text.specs.Frames.{told}
 use Rattle.dbl_envelope.proofs.CommitLemmas.{told_is}
 use Rattle.dbl_envelope.proofs.left.tell_change.Goals as goal
 

@@ -1,5 +1,5 @@
 ghost use Rattle.std.specs.Prelude.{◌≡◌, ◌≢◌, ℕ, ◌+◌, ◌<◌, ◌≤◌, ◌++◌, List, [], length, take, drop, Option, Some, Ok, Err, IfOk, OnOk, OnErr};
-ghost use Rattle.dbl_base.specs.Streams.{Rose, MovesFront, input_limit};
+ghost use Rattle.dbl_base.specs.Streams.{Rose, MovesFront, raised, input_limit};
 
 use crate::{Bytes, Failed};
 use std::alloc::{AllocError, AllocFailed, Global};
@@ -21,7 +21,8 @@ pub trait Input {
     /// Moves as many of the bytes left as it likes into the front of the buffer, and answers how many. 0 in a buffer
     /// that isn't empty means that nothing is left. After `Failed` the buffer may hold any bytes.
     ///
-    /// An input that tells its bytes counts a fault only where it answers one. Others may count one and try again.
+    /// An input that tells its bytes counts one fault where it answers one, and none elsewhere. Others may count more and try
+    /// again.
     fn read(&mut self, buffer: &mut [u8]) -> Result<usize, Failed>
         ensures bound { IfOk result (λ n. n ≤ length buffer.old) }
         ensures moves { (bytes : List ℕ) → left self.old ≡ Some bytes → IfOk result (λ n. MovesFront n bytes buffer.new (left self.new)) }
@@ -29,7 +30,8 @@ pub trait Input {
         ensures kept { (bytes : List ℕ) → left self.old ≡ Some bytes → OnErr result (left self.new ≡ Some bytes) }
         ensures later { faults self.old ≤ faults self.new }
         ensures cause { OnErr result (Rose (faults self.old) (faults self.new)) }
-        ensures steady { (bytes : List ℕ) → left self.old ≡ Some bytes → OnOk result (faults self.new ≡ faults self.old) };
+        ensures steady { (bytes : List ℕ) → left self.old ≡ Some bytes → OnOk result (faults self.new ≡ faults self.old) }
+        ensures once { (bytes : List ℕ) → left self.old ≡ Some bytes → OnErr result (faults self.new ≡ raised (faults self.old)) };
 }
 
 /// Why an input wasn't read.
@@ -80,6 +82,7 @@ fn read_piece<I: Input>(
     ensures short { result ≢ Err InputError.TooLong }
     ensures later { I.faults input.old ≤ I.faults input.new }
     ensures steady { (rest : List ℕ) → I.left input.old ≡ Some rest → result ≢ Err InputError.Failed → I.faults input.new ≡ I.faults input.old }
+    ensures once { (rest : List ℕ) → I.left input.old ≡ Some rest → result ≡ Err InputError.Failed → I.faults input.new ≡ raised (I.faults input.old) }
 {
     let count = input.read(buffer)?;
     bytes.extend_from_slice(&buffer[..count])?;
@@ -95,6 +98,7 @@ pub fn read_all<I: Input>(alloc: Global, input: &mut I) -> Result<Bytes, InputEr
     ensures failed { result ≡ Err InputError.Failed → Rose (I.faults input.old) (I.faults input.new) }
     ensures later { I.faults input.old ≤ I.faults input.new }
     ensures steady { (bytes : List ℕ) → I.left input.old ≡ Some bytes → result ≢ Err InputError.Failed → I.faults input.new ≡ I.faults input.old }
+    ensures once { (bytes : List ℕ) → I.left input.old ≡ Some bytes → result ≡ Err InputError.Failed → I.faults input.new ≡ raised (I.faults input.old) }
 {
     let mut buffer = [0u8; BUFFER_LENGTH];
     let mut bytes = Vec::new(alloc);

@@ -53,6 +53,7 @@ impl Input for MemInput {
         ensures later { self.old.plan.faults ≤ self.new.plan.faults }
         ensures cause { OnErr result (Rose self.old.plan.faults self.new.plan.faults) }
         ensures steady { (bytes : List ℕ) → Some self.old.left ≡ Some bytes → OnOk result (self.new.plan.faults ≡ self.old.plan.faults) }
+        ensures once { (bytes : List ℕ) → Some self.old.left ≡ Some bytes → OnErr result (self.new.plan.faults ≡ raised self.old.plan.faults) }
 
         // A call fails exactly where it is planned to, and then counts one fault and leaves the buffer as it was.
         ensures planned { IsErr result ↔ Contains self.old.plan.planned (raised self.old.plan.calls) }

@@ -2,13 +2,13 @@
 #![tactic(auto)]
 
 mod laws;
-mod parts;
+mod record_laws;
 
 pub use laws::{
     consumers_hold_images, consumers_hold_no_other_rows, images_stand, lines_are_read,
     snapshot_lines_are_read,
 };
-pub use parts::{
+pub use record_laws::{
     cells_go_alone, changes_change_cells, commits_lack_placeholders, consumers_hold_cells,
     events_change_cells, events_have_letters, fit_changes_are_wide, fitting_changes_are_wide,
     histories_lack_placeholders, pairs_name_events, progress_changes_no_cell,

@@ -18,6 +18,7 @@ use Rattle.dbl_replay.specs.LogPrinting.{IsLogPrinted, LogFails}
 use Rattle.dbl_program.specs.Run.{RunsLog}
 use Rattle.dbl_program.specs.Run.{Answer, fault, log_answer, Replays, too_long, bad_line, replayed, whole, out_of_memory, Ends, Says, HaltsReplaying, RunsReplaying, FailsReading, IsReplayAnswer, IsReplayStatus}
 use Rattle.dbl_program.proofs.ApplyRunLemmas.{memory_outside, memory_written, says_is, outside_of}
+use Rattle.dbl_replay.proofs.CommitLaws.{commits_written, replayed_written}
 use Rattle.dbl_replay.proofs.LogLemmas.{log_one}
 use Rattle.dbl_program.proofs.RunLemmas.{replays_one, says_ends, memory_ends, written_or_outside, memory_is_outside, writes_then}
 
@@ -189,7 +190,7 @@ messages_replay options now bytes bs status before after within are good runs = 
   ended = ends;
   meant = elim runs.meant [
     | inl outside ↦ inl outside
-    | inr told ↦ inr (log_answer told.0 told.1, replayed told.0 told.1 within good (subst (λ (l : List (List ℕ)). LogWrites options now [] l told.0 told.1) are told.2) refl, told.3)
+    | inr told ↦ inr (log_answer told.0 told.1, replayed told.0 told.1 within good (commits_written options now _ told.0 told.1 (subst (λ (l : List (List ℕ)). LogWrites options now [] l told.0 told.1) are told.2)) refl, told.3)
   ];
 }
   where
@@ -197,4 +198,4 @@ messages_replay options now bytes bs status before after within are good runs = 
     ends answer (too_long long is) = absurd (omega arith)
     ends answer (bad_line n within' bad is) = cc
     ends answer (replayed lines end within' good' writes is) =
-        subst (λ (a : Answer). Ends a status before after) (sym is) (runs.ended lines end (subst (λ (l : List (List ℕ)). LogWrites options now [] l lines end) (sym are) writes))
+        subst (λ (a : Answer). Ends a status before after) (sym is) (runs.ended lines end (subst (λ (l : List (List ℕ)). LogWrites options now [] l lines end) (sym are) (replayed_written options now _ lines end writes)))

@@ -10,6 +10,7 @@ use Rattle.dbl_consume.specs.Printing.{Wrote}
 use Rattle.dbl_consume.proofs.PrintingLemmas.{wrote_then, front_then}
 use Rattle.dbl_program.specs.Run.{Answer, fault, log_answer, Replays, too_long, bad_line, replayed, whole, out_of_memory, Writes, Ends, IsOutside, Says}
 use Rattle.dbl_replay.specs.Lines.{messages_in}
+use Rattle.dbl_replay.proofs.CommitLaws.{replayed_written}
 use Rattle.dbl_replay.proofs.LogLemmas.{log_one}
 
 -- bytes have one answer
@@ -25,7 +26,7 @@ replays_one options now bytes a b (bad_line n within bad is) (replayed l e withi
 replays_one options now bytes a b (replayed l e within good writes is) (too_long long is') = absurd (omega arith)
 replays_one options now bytes a b (replayed l e within good writes is) (bad_line n within' bad is') = cc
 replays_one options now bytes a b (replayed l d within good writes is) (replayed k e within' good' writes' is') =
-    let same = log_one options now [] (messages_in (lines_of bytes)) l k d e writes writes' in
+    let same = log_one options now [] (messages_in (lines_of bytes)) l k d e (replayed_written options now _ l d writes) (replayed_written options now _ k e writes') in
     is ∙ ap₂ (λ (x : List (List ℕ)) (y : Option LogFault). log_answer x y) same.lines same.end ∙ sym is'
 
 pub says_ends : (halt : Halt) (status : ℕ) (before after : Option (List ℕ)) → Says halt status before after → Ends (fault halt) status before after

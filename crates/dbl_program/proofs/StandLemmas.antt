@@ -39,6 +39,7 @@ use Rattle.dbl_replay.specs.Lines.{without_spaces, bytes_in, message_in, message
 use Rattle.dbl_replay.specs.Log.{lines_in, read_fault, IsLogFault, no_message, no_table, no_place, end_fault, LogWrites}
 use Rattle.dbl_program.specs.Run.{Answer, fault, done, line_fault, log_answer, Replays, too_long, bad_line, replayed, Applies, long_input, refused, applied}
 use Rattle.dbl_program.specs.Means.{made, not_built, options_of, Answers, Means, usage, spelled}
+use Rattle.dbl_replay.proofs.CommitLaws.{commits_written}
 use Rattle.dbl_replay.proofs.CaptureLemmas.{captured_still, captured_more}
 
 -- ---- pairs of digits are bytes
@@ -160,7 +161,7 @@ replay_stands options now bytes = by_length (within_or_not (length bytes))
     by_lines within (Some number) is = (fault (BadLine number), bad_line number within is refl)
     by_lines within None is =
         let log = log_stands options now [] [] refl (messages_in (lines_of bytes)) (messages_small (lines_of bytes)) in
-        (log_answer log.0 log.1, replayed log.0 log.1 within is log.2 refl)
+        (log_answer log.0 log.1, replayed log.0 log.1 within is (commits_written options now _ log.0 log.1 log.2) refl)
 
     by_length : (length bytes ≤ input_limit) ⊎ (input_limit < length bytes) → (answer : Answer) × Replays options now bytes answer
     by_length (inl within) = by_lines within _ refl

@@ -14,6 +14,7 @@ use Rattle.dbl_replay.specs.Lines.{messages_in, first_bad}
 use Rattle.dbl_replay.specs.declared.log_fault.LogFault.{LogFault}
 use Rattle.dbl_replay.specs.declared.options.ReplayOptions.{ReplayOptions}
 use Rattle.dbl_replay.specs.Log.{LogWrites, end_status, end_lines}
+use Rattle.dbl_replay.specs.Replay.{IsReplayed}
 
 -- a status, the lines that are written before it is answered, and those of them that come one by one
 pub record Answer : Type 0 where
@@ -35,7 +36,7 @@ log_answer lines end = record { status = end_status end; lines = lines ++ end_li
 pub data Replays (options : ReplayOptions) (now : ℤ) (bytes : List ℕ) (answer : Answer) : Type 0 where
   too_long : input_limit < length bytes → answer ≡ fault InputTooLong → Replays options now bytes answer
   bad_line : (number : ℕ) → length bytes ≤ input_limit → first_bad (lines_of bytes) ≡ Some number → answer ≡ fault (BadLine number) → Replays options now bytes answer
-  replayed : (lines : List (List ℕ)) (end : Option LogFault) → length bytes ≤ input_limit → first_bad (lines_of bytes) ≡ None → LogWrites options now [] (messages_in (lines_of bytes)) lines end → answer ≡ log_answer lines end → Replays options now bytes answer
+  replayed : (lines : List (List ℕ)) (end : Option LogFault) → length bytes ≤ input_limit → first_bad (lines_of bytes) ≡ None → IsReplayed options now (messages_in (lines_of bytes)) lines end → answer ≡ log_answer lines end → Replays options now bytes answer
 
 -- the answer of a line that isn't applied
 abbrev pub line_fault : FaultAt → Answer

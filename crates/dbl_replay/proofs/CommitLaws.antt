@@ -6,7 +6,7 @@ use Rattle.std.specs.List.{AllByRecursion}
 use Rattle.std.proofs.lemmas.List.{append-nil, map-append}
 use Rattle.dbl_pgmsg.specs.declared.messages.Message.{Message}
 use Rattle.dbl_pgmsg.specs.declared.messages.Message.TheVariants as says
-use Rattle.dbl_pgmsg.specs.Grammar.{FitsFields}
+use Rattle.dbl_pgmsg.specs.Grammar.{FitsFields, Spells}
 use Rattle.dbl_record.specs.declared.record.Record.{Record}
 use Rattle.dbl_record.specs.Line.{line_of}
 use Rattle.dbl_table.specs.declared.identity.Identity.{Identity}
@@ -32,7 +32,7 @@ use Rattle.dbl_replay.specs.declared.log_fault.LogFault.{LogFault}
 use Rattle.dbl_replay.specs.declared.options.ReplayOptions.{ReplayOptions}
 use Rattle.dbl_replay.specs.declared.log_fault.LogFault.TheVariants as log
 use Rattle.dbl_replay.specs.Captures.{table_told, tables_in, AreCaptured}
-use Rattle.dbl_replay.specs.LogLaws.{AreSpelled, HaveNoFault, EndsLog, IsReplayed}
+use Rattle.dbl_replay.specs.Replay.{AreSpelled, HasNoFault, HaveNoFault, EndsLog, IsReplayed, CommitsAreWritten}
 use Rattle.dbl_replay.specs.Log.{lines_in, log_start, commit_fault, IsTaken, LogWrites}
 use Rattle.dbl_replay.proofs.CaptureLemmas.{infos_one, told_has_none}
 
@@ -232,3 +232,59 @@ commits_written options now bs lines end writes =
       commits = whole.so_far.commits;
       ends = whole.ends;
     }
+
+-- ---- messages without a fault are written
+
+-- the messages before some that have no fault have none
+clean_before : (options : ReplayOptions) (ms messages : List Message) → HaveNoFault options (onto ms messages) → HaveNoFault options ms
+clean_before options ms [] clean = clean
+clean_before options ms (m ∷ messages) clean = (clean_before options (m ∷ ms) messages clean).1
+
+-- bytes that spell a message without a fault are taken
+taken_of : (options : ReplayOptions) (ms : List Message) (b : List ℕ) (m : Message) → Spells b m → (clean : HasNoFault options m ms) → IsTaken options ms b m clean.infos
+taken_of options ms b m spells clean = record { read = record { spells = spells; capturable = clean.capturable; captured = clean.captured }; clean = clean.clean }
+
+-- what messages behind others write, and how it ends
+record IsWalked (options : ReplayOptions) (now : ℤ) (ms messages : List Message) (bs before : List (List ℕ)) (end : Option LogFault) : Type 0 where
+  pub lines : List (List ℕ)
+  pub infos : List TableInfo
+  pub writes : LogWrites options now ms bs lines end
+  pub so_far : IsSoFar options now (onto ms messages) infos (before ++ lines)
+
+walked_end : (options : ReplayOptions) (now : ℤ) (ms : List Message) (infos : List TableInfo) (rest before : List (List ℕ)) (end : Option LogFault) → EndsLog options ms rest end → IsSoFar options now ms infos before
+    → IsWalked options now ms [] rest before end
+walked_end options now ms infos [] before end ends so_far = record { lines = []; infos = infos; writes = (refl, ends); so_far = subst (IsSoFar options now ms infos) (sym (append-nil before)) so_far }
+walked_end options now ms infos (b ∷ rest) before end ends so_far = record {
+  lines = [];
+  infos = infos;
+  writes = inl (record { fault = ends.0; is = ends.1; none = refl; told = ends.2 });
+  so_far = subst (IsSoFar options now ms infos) (sym (append-nil before)) so_far;
+}
+
+walked : (options : ReplayOptions) (now : ℤ) (ms messages : List Message) (infos : List TableInfo) (front rest before : List (List ℕ)) (end : Option LogFault) → AreSpelled front messages → HaveNoFault options (onto ms messages)
+    → EndsLog options (onto ms messages) rest end → IsSoFar options now ms infos before → IsWalked options now ms messages (front ++ rest) before end
+walked options now ms [] infos [] rest before end spelled clean ends so_far = walked_end options now ms infos rest before end ends so_far
+walked options now ms [] infos (b ∷ front) rest before end spelled clean ends so_far = absurd spelled
+walked options now ms (m ∷ messages) infos [] rest before end spelled clean ends so_far = absurd spelled
+walked options now ms (m ∷ messages) infos (b ∷ front) rest before end spelled clean ends so_far =
+    let here = (clean_before options (m ∷ ms) messages clean).0 in
+    let taken = taken_of options ms b m spelled.0 here in
+    let printed = lines_in options.identity here.infos (list_of (ended here.infos m ms)) now in
+    let later = walked options now (m ∷ ms) messages here.infos front rest (before ++ printed) end spelled.1 clean ends (so_far_next options now ms b m infos here.infos before taken so_far) in
+    record {
+      lines = printed ++ later.lines;
+      infos = later.infos;
+      writes = inr (m, here.infos, later.lines, taken, refl, later.writes);
+      so_far = subst (IsSoFar options now (onto (m ∷ ms) messages) later.infos) (append_assoc before printed later.lines) later.so_far;
+    }
+
+pub replayed_written : (options : ReplayOptions) (now : ℤ) (bs lines : List (List ℕ)) (end : Option LogFault) → IsReplayed options now bs lines end → LogWrites options now [] bs lines end
+replayed_written options now bs lines end is =
+    let walk = walked options now [] is.messages [] is.front is.rest [] end is.spelled is.clean is.ends (record { captured = refl; clean = tt; accepted = tt; fields = tt; commits = refl }) in
+    let same = infos_one walk.infos is.infos (walk.so_far.captured ∙ sym is.captured) in
+    let lines_are : walk.lines ≡ lines = walk.so_far.commits ∙ ap (λ (i : List TableInfo). lines_in options.identity i (commits_of i (onto [] is.messages)) now) same ∙ sym is.commits in
+    subst (λ (l : List (List ℕ)). LogWrites options now [] l lines end) (sym is.parts)
+    (subst (λ (l : List (List ℕ)). LogWrites options now [] (is.front ++ is.rest) l end) lines_are walk.writes)
+
+pub commits_are_written : CommitsAreWritten
+commits_are_written options now bs lines end = (commits_written options now bs lines end, replayed_written options now bs lines end)

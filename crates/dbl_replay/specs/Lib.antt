@@ -7,4 +7,4 @@ pub mod Log
 pub mod LogFaults
 pub mod LogPrinting
 pub mod Printing
-pub mod LogLaws
+pub mod Replay

@@ -1,6 +1,7 @@
-ghost use Rattle.dbl_replay.specs.LogLaws.{CommitsAreWritten};
+ghost use Rattle.dbl_replay.specs.Replay.{CommitsAreWritten};
 
-/// What is written of a log are the lines of all commits that its messages state, up to the first fault.
+/// What is written of a log, message by message, are exactly the lines of all commits that its messages state before the first
+/// fault.
 pub fn commits_are_written()
     ensures { CommitsAreWritten }
 {}

@@ -1,5 +1,6 @@
--- What the definitions of a replayed log come to.
-use Rattle.std.specs.Prelude.{◌≡◌, ℕ, ℤ, Option, Some, None, is_some, List, [], ◌∷◌, ◌++◌}
+-- What `replay` promises of a log: it writes the lines of all commits that the log's messages state before the first fault,
+-- and then that fault. How this comes about message by message stands in `Log.antt`, and is the same.
+use Rattle.std.specs.Prelude.{◌≡◌, ◌↔◌, ℕ, ℤ, Option, Some, None, is_some, List, [], ◌∷◌, ◌++◌}
 use Rattle.dbl_pgmsg.specs.declared.messages.Message.{Message}
 use Rattle.dbl_pgmsg.specs.Grammar.{Spells}
 use Rattle.dbl_table.specs.declared.table.TableInfo.{TableInfo}
@@ -52,6 +53,6 @@ pub record IsReplayed (options : ReplayOptions) (now : ℤ) (bs : List (List ℕ
   pub commits : lines ≡ lines_in options.identity infos (commits_of infos (onto [] messages)) now
   pub ends : EndsLog options (onto [] messages) rest end
 
--- what is written of a log are the lines of all commits that its messages state up to the first fault
+-- what is written of a log message by message are exactly the lines of all commits that its messages state before the first fault
 abbrev pub CommitsAreWritten : Type 0
-CommitsAreWritten = (options : ReplayOptions) (now : ℤ) (bs : List (List ℕ)) (lines : List (List ℕ)) (end : Option LogFault) → LogWrites options now [] bs lines end → IsReplayed options now bs lines end
+CommitsAreWritten = (options : ReplayOptions) (now : ℤ) (bs : List (List ℕ)) (lines : List (List ℕ)) (end : Option LogFault) → LogWrites options now [] bs lines end ↔ IsReplayed options now bs lines end

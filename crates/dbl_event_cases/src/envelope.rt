@@ -95,10 +95,14 @@ fn pieces(alloc: Global, arguments: &str, known: Vec<TableInfo>) -> Result<Strin
     let writer = EventWriter::make(alloc, identity, known)?;
     let commits = items::commits(alloc, arguments)?;
     let commit = commits.last().context("no commit")?;
+    counts(alloc, &writer, commit, now_of(arguments)?)
+}
+
+fn counts(alloc: Global, writer: &EventWriter, commit: &Commit, now_ms: i64) -> Result<String> {
     if !writer.suits(commit) {
         bail!("doesn't suit the writer");
     }
-    let mut left = writer.records_left(alloc, commit, now_of(arguments)?)?;
+    let mut left = writer.records_left(alloc, commit, now_ms)?;
     let mut counts = Vec::new(alloc);
     for _ in 0..1000 {
         counts.push(left.next(alloc)?.len())?;
@@ -144,12 +148,24 @@ fn snapshot(alloc: Global, arguments: &str, known: Vec<TableInfo>) -> Result<Str
     let writer = EventWriter::make(alloc, identity, known)?;
     let commits = items::commits(alloc, arguments)?;
     let mark = commits.last().context("no mark")?;
-    let closed = closed(alloc, arguments)?;
-    if writer.suits_snapshot(&closed) {
-        said(
-            alloc,
-            writer.snapshot(alloc, &closed, mark, now_of(arguments)?),
-        )
+    window(
+        alloc,
+        &writer,
+        &closed(alloc, arguments)?,
+        mark,
+        now_of(arguments)?,
+    )
+}
+
+fn window(
+    alloc: Global,
+    writer: &EventWriter,
+    closed: &Closed,
+    mark: &Commit,
+    now_ms: i64,
+) -> Result<String> {
+    if writer.suits_snapshot(closed) {
+        said(alloc, writer.snapshot(alloc, closed, mark, now_ms))
     } else {
         Ok(String::from_str(alloc, "doesn't suit the writer")?)
     }

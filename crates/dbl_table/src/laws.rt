@@ -10,7 +10,7 @@ pub fn entries_have_one_info()
     ensures { EntriesHaveOneInfo }
 {}
 
-/// A catalogue entry whose columns' types are all known has an info exactly where it has no fault.
+/// A catalogue entry has an info exactly where it has no fault.
 pub fn capturable_entries_have_an_info()
     ensures { CapturableEntriesHaveAnInfo }
 {}

@@ -1,0 +1,73 @@
+-- What a consumer's cell can be: after a stop inside a repeat its cells come from different positions, and its state is no
+-- state of the source. Each cell still is that of the source at some moment of a span. Source: own.
+use Rattle.std.specs.Prelude.{◌≡◌, ℕ, ◌≤◌, Option, Some, None, IsSome, List, map}
+use Rattle.dbl_record.specs.declared.acts.HeldCell.{HeldCell}
+use Rattle.dbl_record.specs.declared.acts.HeldCell.TheVariants.{Known, Unknown}
+use Rattle.dbl_record.specs.declared.record.Record.{Record}
+use Rattle.dbl_record.specs.Consumers.{HeldCells, held_at, consumer}
+use Rattle.dbl_record.specs.Reading.{as_line}
+use Rattle.dbl_table.specs.declared.identity.Identity.{Identity}
+use Rattle.dbl_table.specs.declared.row.Key.{Key}
+use Rattle.dbl_table.specs.declared.table.TableInfo.{TableInfo}
+use Rattle.dbl_table.specs.declared.change.Change.{Change}
+use Rattle.dbl_table.specs.declared.change.Commit.{Commit}
+use Rattle.dbl_table.specs.Infos.{column_of}
+use Rattle.dbl_table.specs.Rows.{rows_at, all_changes}
+use Rattle.dbl_history.specs.Image.{Names, image_at}
+use Rattle.dbl_ageing.specs.Moments.{span_end}
+use Rattle.dbl_ageing.specs.KnownKeys.{IsKnown}
+
+-- the row that a consumer of these records holds at a topic and a key's text, and its cell in a column
+abbrev pub held_row : Identity → List Record → List ℕ → List ℕ → Option HeldCells
+held_row identity records topic text = consumer identity.placeholder (map as_line records) topic text
+
+abbrev pub held_cell : Identity → List Record → List ℕ → List ℕ → List ℕ → Option HeldCell
+held_cell identity records topic text column = held_at (held_row identity records topic text) column
+
+-- The cell's JSON text at the source at a moment, and none where there is no row or no such column. With the moment last, it is
+-- the life of one cell.
+abbrev pub source_cell : List TableInfo → List Change → ℕ → Key → List ℕ → ℕ → Option (List ℕ)
+source_cell infos changes table key column moment = image_at infos (rows_at infos changes moment) table key column
+
+-- the source's cell is this at some moment of a span
+pub record Occurs (life : ℕ → Option (List ℕ)) (from to : ℕ) (cell : Option (List ℕ)) : Type 0 where
+  pub moment : ℕ
+  pub not_before : from ≤ moment
+  pub not_after : moment ≤ to
+  pub is : life moment ≡ cell
+
+-- A cell that a consumer holds is aged within a span. A known text is the cell's at some moment of the span. An unknown cell was
+-- there at some moment of it, with some text. Where nothing is held, or an unknown cell, and the key is known, the cell wasn't
+-- there at some moment of it.
+abbrev pub IsAgedCell : Type 0 → (ℕ → Option (List ℕ)) → ℕ → ℕ → Option HeldCell → Type 0
+IsAgedCell is_known life from to None = is_known → Occurs life from to None
+IsAgedCell is_known life from to (Some (Known text)) = Occurs life from to (Some text)
+IsAgedCell is_known life from to (Some Unknown) =
+    ((text : List ℕ) × Occurs life from to (Some text)) × (is_known → Occurs life from to None)
+
+-- Each cell that a consumer of the records holds is aged within this span, at each captured table, key and column, and at each
+-- name that no column has. The keys are those known at the span's end.
+pub record AreAged (identity : Identity) (infos : List TableInfo) (changes : List Change) (start from to : ℕ)
+    (records : List Record) : Type 0 where
+  pub each : (topic text : List ℕ) (table : ℕ) (key : Key) (column : List ℕ) → Names identity infos topic text table key
+      → IsAgedCell (IsKnown identity infos changes start records to table key) (source_cell infos changes table key column) from to
+      (held_cell identity records topic text column)
+
+-- Records are aged at a moment where they are within the span from it.
+abbrev pub IsAged : Identity → List TableInfo → List Commit → ℕ → List Record → ℕ → Type 0
+IsAged identity infos commits start records from =
+    AreAged identity infos (all_changes commits) start from (span_end infos commits start records from) records
+
+-- ---- rows, of which the cells alone can't tell one without cells from none
+
+-- the row is at the topic and text of a captured table and a key, and has a cell in each column of that table
+pub record IsNamedRow (identity : Identity) (infos : List TableInfo) (topic text : List ℕ) (cells : HeldCells) : Type 0 where
+  pub table : ℕ
+  pub key : Key
+  pub names : Names identity infos topic text table key
+  pub columns : (column : List ℕ) → IsSome (column_of names.info.columns column) → IsSome (held_at (Some cells) column)
+
+-- so is each row that a consumer of the records holds
+pub record AreNamed (identity : Identity) (infos : List TableInfo) (records : List Record) : Type 0 where
+  pub each : (topic text : List ℕ) (cells : HeldCells) → held_row identity records topic text ≡ Some cells
+      → IsNamedRow identity infos topic text cells

@@ -1,0 +1,11 @@
+pub mod Commits
+pub mod Moments
+pub mod KnownKeys
+pub mod Ages
+pub mod Windows
+pub mod ChangeLaws
+pub mod SnapshotLaws
+pub mod RowLaws
+pub mod Agreements
+pub mod CaughtLaws
+pub mod PlainAges

@@ -1,0 +1,87 @@
+-- What aged cells come to for whole rows.
+use Rattle.std.specs.Prelude.{◌≡◌, ◌⊎◌, ℕ, ℤ, ◌≤◌, Some, None, IsSome, List, [], ◌++◌, take}
+use Rattle.std.specs.List.{AllByRecursion}
+use Rattle.dbl_record.specs.declared.acts.HeldCell.TheVariants.{Known, Unknown}
+use Rattle.dbl_record.specs.declared.record.Record.{Record}
+use Rattle.dbl_table.specs.declared.identity.Identity.{Identity}
+use Rattle.dbl_table.specs.declared.row.Key.{Key}
+use Rattle.dbl_table.specs.declared.table.TableInfo.{TableInfo}
+use Rattle.dbl_table.specs.declared.change.Commit.{Commit}
+use Rattle.dbl_event.specs.declared.closed.Closed.{Closed}
+use Rattle.dbl_table.specs.Rows.{all_changes, rows}
+use Rattle.dbl_history.specs.Ranges.{IsCommitInRange, IsMomentInRange}
+use Rattle.dbl_history.specs.Image.{Names}
+use Rattle.dbl_event.specs.SnapshotLists.{IsSnapshot}
+use Rattle.dbl_ageing.specs.Commits.{AreFitCommits, IsNext}
+use Rattle.dbl_ageing.specs.Moments.{span_end}
+use Rattle.dbl_ageing.specs.KnownKeys.{IsKnown}
+use Rattle.dbl_ageing.specs.Ages.{held_row, held_cell, source_cell, Occurs, IsAged, AreNamed}
+use Rattle.dbl_ageing.specs.ChangeLaws.{IsRecordOf}
+
+-- the source has no row at a table and key at some moment of a span
+pub record WasAbsent (infos : List TableInfo) (commits : List Commit) (from to : ℕ) (table : ℕ) (key : Key) : Type 0 where
+  pub moment : ℕ
+  pub not_before : from ≤ moment
+  pub not_after : moment ≤ to
+  pub absent : rows infos commits moment table key ≡ None
+
+-- A known key whose row a consumer of aged records lacks, or in whose row it holds an unknown cell, has no row at some moment of
+-- the span.
+abbrev pub LackedRowsWereAbsent : Type 0
+LackedRowsWereAbsent = (identity : Identity) (infos : List TableInfo) (commits : List Commit) (start from : ℕ)
+    (records : List Record) (topic text : List ℕ) (table : ℕ) (key : Key)
+    → AreFitCommits infos commits → IsAged identity infos commits start records from
+    → Names identity infos topic text table key
+    → IsKnown identity infos (all_changes commits) start records (span_end infos commits start records from) table key
+    → (held_row identity records topic text ≡ None)
+    ⊎ ((column : List ℕ) × (held_cell identity records topic text column ≡ Some Unknown))
+    → WasAbsent infos commits from (span_end infos commits start records from) table key
+
+-- the source has a row at a table and key at some moment of a span
+pub record WasThere (infos : List TableInfo) (commits : List Commit) (from to : ℕ) (table : ℕ) (key : Key) : Type 0 where
+  pub moment : ℕ
+  pub not_before : from ≤ moment
+  pub not_after : moment ≤ to
+  pub present : IsSome (rows infos commits moment table key)
+
+-- A row in which a consumer of aged records holds an unknown cell was in the source at some moment of the span.
+abbrev pub UnknownRowsWereThere : Type 0
+UnknownRowsWereThere = (identity : Identity) (infos : List TableInfo) (commits : List Commit) (start from : ℕ)
+    (records : List Record) (topic text : List ℕ) (table : ℕ) (key : Key) (column : List ℕ)
+    → IsAged identity infos commits start records from → Names identity infos topic text table key
+    → held_cell identity records topic text column ≡ Some Unknown
+    → WasThere infos commits from (span_end infos commits start records from) table key
+
+-- Each known cell that it holds is that cell of the source at some moment of the span.
+abbrev pub KnownCellsWereSo : Type 0
+KnownCellsWereSo = (identity : Identity) (infos : List TableInfo) (commits : List Commit) (start from : ℕ)
+    (records : List Record) (topic key_text : List ℕ) (table : ℕ) (key : Key) (column text : List ℕ)
+    → IsAged identity infos commits start records from → Names identity infos topic key_text table key
+    → held_cell identity records topic key_text column ≡ Some (Known text)
+    → Occurs (source_cell infos (all_changes commits) table key column) from (span_end infos commits start records from)
+    (Some text)
+
+-- ---- each held row is at a captured table and key, and has a cell in each of its columns
+
+-- with any records of a commit's events
+abbrev pub EventsKeepNames : Type 0
+EventsKeepNames = (identity : Identity) (infos : List TableInfo)
+    (commits before : List Commit) (commit : Commit) (later : List Commit) (records more : List Record)
+    → IsNext infos commits before commit later → AllByRecursion (IsRecordOf identity infos commit) more
+    → AreNamed identity infos records → AreNamed identity infos (records ++ more)
+
+-- and with any prefix of a closed window's
+abbrev pub SnapshotsKeepNames : Type 0
+SnapshotsKeepNames = (identity : Identity) (infos : List TableInfo) (closed : Closed) (mark : Commit) (now : ℤ)
+    (records snapshot : List Record) (n : ℕ)
+    → IsCommitInRange mark → IsMomentInRange now → IsSnapshot identity infos closed mark now snapshot
+    → AreNamed identity infos records → AreNamed identity infos (records ++ take n snapshot)
+
+-- no record, no row
+abbrev pub NoRecordsAreNamed : Type 0
+NoRecordsAreNamed = (identity : Identity) (infos : List TableInfo) → AreNamed identity infos []
+
+-- and no record is aged at the start
+abbrev pub NoRecordsAreAged : Type 0
+NoRecordsAreAged = (identity : Identity) (infos : List TableInfo) (commits : List Commit) (start : ℕ)
+    → IsAged identity infos commits start [] start

@@ -1,0 +1,28 @@
+//! What a cell of a consumer can be while records repeat: laws over the definitions.
+#![tactic(auto)]
+
+mod laws;
+mod moment_laws;
+mod plain_ages;
+mod row_laws;
+mod step_laws;
+
+pub use laws::{
+    age_goes_back, age_stays_as_histories_grow, aged_records_agree, changes_move_age,
+    commits_move_age, no_records_are_aged, parts_of_commits_keep_age, parts_of_snapshots_keep_age,
+    records_of_a_change_keep_age, silent_commits_move_age,
+};
+pub use moment_laws::{
+    events_stand_for_changes, fit_histories_have_fit_commits, later_places_stand_later,
+    marks_stand_for_commits, records_reach_their_top, told_bounds_are_told,
+};
+pub use plain_ages::{covers, is_aged_cell, is_touched, occurs};
+pub use row_laws::{
+    events_keep_names, known_cells_were_so, lacked_rows_were_absent, no_records_are_named,
+    snapshots_keep_names, unknown_rows_were_there,
+};
+pub use step_laws::{
+    commits_are_caught, earlier_moments_are_caught, longer_histories_are_caught,
+    parts_of_commits_are_caught, parts_of_snapshots_are_caught, silent_commits_are_caught,
+    starts_are_caught,
+};

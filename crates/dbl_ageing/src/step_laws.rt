@@ -1,0 +1,37 @@
+//! What a session keeps of its records, step by step.
+ghost use Rattle.dbl_ageing.specs.CaughtLaws.{StartsAreCaught, EarlierMomentsAreCaught, PartsOfCommitsAreCaught, CommitsAreCaught, SilentCommitsAreCaught, PartsOfSnapshotsAreCaught, LongerHistoriesAreCaught};
+
+/// A first session begins with it.
+pub fn starts_are_caught()
+    ensures { StartsAreCaught }
+{}
+
+/// It is so at each earlier moment, where an offset may stand.
+pub fn earlier_moments_are_caught()
+    ensures { EarlierMomentsAreCaught }
+{}
+
+/// A prefix of the next commit's records keeps it.
+pub fn parts_of_commits_are_caught()
+    ensures { PartsOfCommitsAreCaught }
+{}
+
+/// All of them keep it, at the moment behind the commit.
+pub fn commits_are_caught()
+    ensures { CommitsAreCaught }
+{}
+
+/// A commit that has no records keeps it by itself, at the moment behind it.
+pub fn silent_commits_are_caught()
+    ensures { SilentCommitsAreCaught }
+{}
+
+/// A prefix of the records of a window that is right at its high mark keeps it.
+pub fn parts_of_snapshots_are_caught()
+    ensures { PartsOfSnapshotsAreCaught }
+{}
+
+/// So do other clients' commits behind every record.
+pub fn longer_histories_are_caught()
+    ensures { LongerHistoriesAreCaught }
+{}

@@ -1,0 +1,78 @@
+-- What the definitions come to.
+use Rattle.std.specs.Prelude.{◌≡◌, ◌≤◌, ℕ, is_some, not, Option, Some, List, [], ◌∷◌, ◌++◌, length}
+use Rattle.dbl_base.specs.declared.lsn.Lsn.{Lsn}
+use Rattle.dbl_pgmsg.specs.declared.messages.Message.{Message}
+use Rattle.dbl_table.specs.declared.table.TableName.{TableName}
+use Rattle.dbl_table.specs.declared.table.RawRow.{RawRow}
+use Rattle.dbl_table.specs.declared.table.TableInfo.{TableInfo}
+use Rattle.dbl_table.specs.declared.row.Key.{Key}
+use Rattle.dbl_table.specs.declared.change.Commit.{Commit}
+use Rattle.dbl_table.specs.Infos.{number_of}
+use Rattle.dbl_table.specs.Rows.{rows, moment_of}
+use Rattle.dbl_history.specs.History.{History, IsRising}
+use Rattle.dbl_history.specs.Typed.{typed}
+use Rattle.dbl_history.specs.Fit.{AreInfosOf}
+use Rattle.dbl_commit.specs.Past.{begin_of}
+use Rattle.dbl_commit.specs.Stated.{is_empty, commits_of}
+use Rattle.dbl_commit.specs.Blocks.{onto, States, IsAccepted}
+use Rattle.dbl_commit.specs.BegunCommits.{BeginsNext}
+use Rattle.dbl_honest.specs.Standings.{Reading, Standing}
+use Rattle.dbl_honest.specs.Growth.{Grows, Marks, marks_in}
+use Rattle.dbl_honest.specs.Stated.{to_state, ReadsRight, IsReadRight}
+use Rattle.dbl_honest.specs.Selected.{rows_behind, AreAnswered}
+use Rattle.dbl_honest.specs.Calls.{HasReadAll}
+
+-- what a history grew to goes on growing
+abbrev pub GrownHistoriesGrow : Type 0
+GrownHistoriesGrow = (a b c : History) → Grows a b → Grows b c → Grows a c
+
+-- the rows at a position stay what they were, however the history grows
+abbrev pub GrownHistoriesKeepRows : Type 0
+GrownHistoriesKeepRows = (infos : List TableInfo) (old new : History) (place : ℕ) → Grows old new → place ≤ length old.commits → rows_behind infos new place ≡ rows_behind infos old place
+
+-- the rows behind the first so many commits are those at the moment behind these commits
+abbrev pub RowsBehindAreRows : Type 0
+RowsBehindAreRows = (infos : List TableInfo) (history : History) (place : ℕ) → rows_behind infos history place ≡ rows infos (typed infos history) (moment_of (typed infos history) place 0)
+
+-- other sessions write no mark
+abbrev pub OthersWriteNoMark : Type 0
+OthersWriteNoMark = (old new : History) → Grows old new → marks_in new.commits ≡ marks_in old.commits
+
+-- a mark that was written is the one mark more
+abbrev pub MarksAreWrittenOnce : Type 0
+MarksAreWrittenOnce = (value : List ℕ) (old new : History) → Marks value old new → marks_in new.commits ≡ marks_in old.commits ++ value ∷ []
+
+-- Messages without a fault, in order: transactions that state the first of these commits, and a rest, which isn't empty exactly
+-- where a transaction is open, and then begins the next commit.
+pub record AreFirstBlocks (infos : List TableInfo) (commits : List Commit) (ms : List Message) : Type 0 where
+  pub list : List Message
+  pub rest : List Message
+  pub in_order : onto [] list ≡ ms
+  pub later : List Commit
+  pub states : States infos list (commits_of infos ms) rest
+  pub stated : commits ≡ commits_of infos ms ++ later
+  pub is_open : is_some (begin_of ms) ≡ not (is_empty rest)
+  pub next : BeginsNext infos ms later
+
+-- what was read rightly and has no fault is such
+abbrev pub ReadMessagesAreBlocks : Type 0
+ReadMessagesAreBlocks = (infos : List TableInfo) (after : Lsn) (commits : List Commit) (ms : List Message) → ReadsRight infos after commits ms → IsAccepted infos after ms → AreFirstBlocks infos commits ms
+
+-- an LSN parts a history: what messages read behind it have to state are its last commits
+abbrev pub HistoriesPartAtAnLsn : Type 0
+HistoriesPartAtAnLsn = (infos : List TableInfo) (after : Lsn) (history : History) → IsRising history → (before : List Commit) × (typed infos history ≡ before ++ to_state infos after history)
+
+-- what was read rightly stays right, however the history grows
+abbrev pub ReadersGoOn : Type 0
+ReadersGoOn = (infos : List TableInfo) (after : Lsn) (old new : History) (ms : List Message) → Grows old new → ReadsRight infos after (to_state infos after old) ms → ReadsRight infos after (to_state infos after new) ms
+
+-- where all was read, the messages state every commit behind the start that stood at the call, and then perhaps others
+abbrev pub AllReadIsAllStated : Type 0
+AllReadIsAllStated = (infos : List TableInfo) (s t : Standing) (reading : Reading) → Grows s.history t.history → t.reading ≡ Some reading → AreInfosOf t.history infos → IsReadRight t.history reading
+    → IsAccepted infos reading.after reading.messages → HasReadAll s t
+    → (more : List Commit) × (commits_of infos reading.messages ≡ to_state infos reading.after s.history ++ more)
+
+-- Before the first commit a captured table has no rows: an answer with one isn't right, whatever was asked.
+abbrev pub NoRowsBeforeTheFirstCommit : Type 0
+NoRowsBeforeTheFirstCommit = (history : History) (from upto : ℕ) (name : TableName) (above : Option Key) (limit : ℕ) (rows : List RawRow) (infos : List TableInfo) (table : ℕ)
+    → history.commits ≡ [] → AreInfosOf history infos → number_of infos name ≡ Some table → AreAnswered history from upto name above limit rows → rows ≡ []

@@ -1,0 +1,12 @@
+pub mod LogLemmas
+pub mod SentLemmas
+pub mod PlaceLemmas
+pub mod RelationLemmas
+pub mod CellTexts
+pub mod ThemselvesLemmas
+pub mod ChangeLemmas
+pub mod FairLemmas
+pub mod InsideLemmas
+pub mod ReaderLemmas
+pub mod RowTexts
+pub mod FitLogLemmas

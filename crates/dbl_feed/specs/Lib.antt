@@ -1,0 +1,10 @@
+pub mod Numbers
+pub mod Relations
+pub mod Sent
+pub mod Texts
+pub mod TextRows
+pub mod RawChanges
+pub mod Histories
+pub mod Fair
+pub mod FitLogs
+pub mod Laws

@@ -3,30 +3,27 @@
 use crate::many::repeated;
 use anyhow::{Result, bail};
 use dbl_base::Text;
+use dbl_case_items::words;
 use dbl_cli::command;
 use std::alloc::Global;
 
-/// What a case of this family answers.
-pub fn answer(alloc: Global, call: &str, arguments: &str) -> Result<String> {
+/// Writes what a case of this family answers.
+pub fn answer(alloc: Global, shown: &mut String, call: &str, arguments: &str) -> Result<()> {
     match call {
-        "words" => spelled(alloc, &words(alloc, arguments)?),
-        "many" => spelled(alloc, &words(alloc, repeated(alloc, arguments)?.as_str())?),
-        "none" => spelled(alloc, &Vec::new(alloc)),
+        "words" => line(alloc, shown, arguments),
+        "many" => line(alloc, shown, repeated(alloc, arguments)?.as_str()),
+        "none" => line(alloc, shown, ""),
         _ => bail!("no such call"),
     }
 }
 
-fn words(alloc: Global, line: &str) -> Result<Vec<Text>> {
-    let mut words = Vec::new(alloc);
-    for word in line.split(' ') {
-        words.push(Text::of(alloc, if word == "''" { "" } else { word })?)?;
-    }
-    Ok(words)
+fn line(alloc: Global, shown: &mut String, line: &str) -> Result<()> {
+    spelled(alloc, shown, &words::all(alloc, line)?)
 }
 
-fn spelled(alloc: Global, words: &Vec<Text>) -> Result<String> {
+fn spelled(alloc: Global, shown: &mut String, words: &Vec<Text>) -> Result<()> {
     match command(alloc, words) {
-        Ok(command) => Ok(format!(in alloc; "{command:?}")?),
-        Err(error) => Ok(format!(in alloc; "{error}")?),
+        Ok(command) => words::told(shown, &command),
+        Err(error) => words::said(shown, &error),
     }
 }

@@ -1,17 +1,18 @@
 //! What a consumer holds after records, each written `TOPIC KEY VALUE`.
 
-use anyhow::{Context, Result, bail};
+use anyhow::{Result, bail};
 use dbl_base::{MemOutput, Text};
-use dbl_consume::{ConsumeError, Consumer};
+use dbl_case_items::words;
+use dbl_consume::{ConsumeError, Consumer, Row, Table, Tables};
 use serde_json::Value;
 use std::alloc::Global;
 
-/// What a case of this family answers.
-pub fn answer(alloc: Global, call: &str, arguments: &str) -> Result<String> {
+/// Writes what a case of this family answers.
+pub fn answer(alloc: Global, shown: &mut String, call: &str, arguments: &str) -> Result<()> {
     match call {
-        "texts" => held(alloc, arguments, false),
-        "values" => held(alloc, arguments, true),
-        "cell" => cell(alloc, arguments),
+        "texts" => held(alloc, shown, arguments, false),
+        "values" => held(alloc, shown, arguments, true),
+        "cell" => cell(alloc, shown, arguments),
         _ => bail!("no such call"),
     }
 }
@@ -21,62 +22,126 @@ fn consumer(alloc: Global) -> Result<Consumer> {
     Ok(Consumer::make(alloc, placeholder)?)
 }
 
-// What is answered to a record, by its texts or by the values that were read of them.
-fn take(
+// What is answered to a record.
+type Answered = Result<(), ConsumeError>;
+
+// By its texts.
+fn by_texts(
     alloc: Global,
     consumer: &mut Consumer,
-    record: &str,
-    read: bool,
-) -> Result<Result<(), ConsumeError>> {
-    let mut parts = record.splitn(3, ' ');
-    let topic = Text::of(alloc, parts.next().context("no topic")?)?;
-    let key = parts.next().context("no key")?;
-    let value = parts.next().context("no value")?;
-    if read {
-        let key = Value::from_str(alloc, key)?;
-        let value = Value::from_str(alloc, value)?;
-        return Ok(consumer.apply_values(&topic, &key, &value));
-    }
-    Ok(consumer.apply(&topic, &Text::of(alloc, key)?, &Text::of(alloc, value)?))
+    topic: &Text,
+    key: &str,
+    value: &str,
+) -> Result<Answered> {
+    let key = Text::of(alloc, key)?;
+    let value = Text::of(alloc, value)?;
+    Ok(consumer.apply(topic, &key, &value))
 }
 
-fn printed(alloc: Global, consumer: &Consumer) -> Result<String> {
+// By the values that were read of its texts.
+fn by_values(
+    alloc: Global,
+    consumer: &mut Consumer,
+    topic: &Text,
+    key: &str,
+    value: &str,
+) -> Result<Answered> {
+    let key = Value::from_str(alloc, key)?;
+    let value = Value::from_str(alloc, value)?;
+    Ok(consumer.apply_values(topic, &key, &value))
+}
+
+fn take(alloc: Global, consumer: &mut Consumer, record: &str, read: bool) -> Result<Answered> {
+    let (topic, rest) = words::parted(record, " ");
+    let (key, value) = words::parted(rest, " ");
+    let topic = Text::of(alloc, topic)?;
+    if read {
+        by_values(alloc, consumer, &topic, key, value)
+    } else {
+        by_texts(alloc, consumer, &topic, key, value)
+    }
+}
+
+// Behind what was answered to the records before.
+fn said(shown: &mut String, answered: &Answered) -> Result<()> {
+    if !shown.is_empty() {
+        words::add(shown, ", ")?;
+    }
+    match answered {
+        Ok(()) => words::add(shown, "taken"),
+        Err(error) => words::said(shown, error),
+    }
+}
+
+fn take_each(
+    alloc: Global,
+    shown: &mut String,
+    consumer: &mut Consumer,
+    records: &str,
+    read: bool,
+) -> Result<()> {
+    for record in records.split(" | ") {
+        said(shown, &take(alloc, consumer, record, read)?)?;
+    }
+    Ok(())
+}
+
+fn printed(alloc: Global, shown: &mut String, consumer: &Consumer) -> Result<()> {
     let mut output = MemOutput::make(alloc, Vec::new(alloc));
     consumer.print(&mut output)?;
-    Ok(String::from_utf8(output.bytes().clone()?)?)
+    rows(shown, output.bytes())
+}
+
+fn rows(shown: &mut String, bytes: &[u8]) -> Result<()> {
+    let rows = str::from_utf8(bytes)?.trim_end();
+    if !rows.is_empty() {
+        words::line(shown)?;
+    }
+    words::add(shown, rows)
 }
 
 // What is answered to each record, and the rows that are held at the end.
-fn held(alloc: Global, records: &str, read: bool) -> Result<String> {
+fn held(alloc: Global, shown: &mut String, records: &str, read: bool) -> Result<()> {
     let mut consumer = consumer(alloc)?;
-    let mut answers = Vec::new(alloc);
-    for record in records.split(" | ") {
-        answers.push(match take(alloc, &mut consumer, record, read)? {
-            Ok(()) => String::from_str(alloc, "taken")?,
-            Err(error) => format!(in alloc; "{error}")?,
-        })?;
-    }
-    let answers = answers.join(alloc, ", ")?;
-    let rows = printed(alloc, &consumer)?;
-    let shown = format!(in alloc; "{answers}\n{rows}")?;
-    Ok(String::from_str(alloc, shown.trim_end())?)
+    take_each(alloc, shown, &mut consumer, records, read)?;
+    printed(alloc, shown, &consumer)
 }
 
-// What is held of the cell `TOPIC KEY COLUMN` after the records behind it.
-fn cell(alloc: Global, arguments: &str) -> Result<String> {
-    let (place, records) = arguments.split_once(" | ").context("no record")?;
-    let mut consumer = consumer(alloc)?;
+fn taken(alloc: Global, consumer: &mut Consumer, record: &str) -> Result<()> {
+    Ok(take(alloc, consumer, record, false)??)
+}
+
+fn take_all(alloc: Global, consumer: &mut Consumer, records: &str) -> Result<()> {
     for record in records.split(" | ") {
-        take(alloc, &mut consumer, record, false)??;
+        taken(alloc, consumer, record)?;
     }
-    let mut words = place.split(' ');
-    let topic = Text::of(alloc, words.next().context("no topic")?)?;
-    let key = Text::of(alloc, words.next().context("no key")?)?;
-    let column = Text::of(alloc, words.next().context("no column")?)?;
-    let row = consumer
-        .tables()
-        .get(&topic)
-        .and_then(|table| table.get(&key));
-    let cell = row.and_then(|cells| cells.get(&column));
-    Ok(format!(in alloc; "{cell:?}")?)
+    Ok(())
+}
+
+// What is held of the cell `TOPIC KEY COLUMN` after the records behind it, each of which is taken.
+fn cell(alloc: Global, shown: &mut String, arguments: &str) -> Result<()> {
+    let (place, records) = words::parted(arguments, " | ");
+    let mut consumer = consumer(alloc)?;
+    take_all(alloc, &mut consumer, records)?;
+    in_tables(alloc, shown, consumer.tables(), place)
+}
+
+fn in_tables(alloc: Global, shown: &mut String, tables: &Tables, place: &str) -> Result<()> {
+    let (topic, rest) = words::parted(place, " ");
+    match tables.get(&Text::of(alloc, topic)?) {
+        Some(table) => in_table(alloc, shown, table, rest),
+        None => words::add(shown, "None"),
+    }
+}
+
+fn in_table(alloc: Global, shown: &mut String, table: &Table, place: &str) -> Result<()> {
+    let (key, column) = words::parted(place, " ");
+    match table.get(&Text::of(alloc, key)?) {
+        Some(row) => in_row(alloc, shown, row, column),
+        None => words::add(shown, "None"),
+    }
+}
+
+fn in_row(alloc: Global, shown: &mut String, row: &Row, column: &str) -> Result<()> {
+    words::told(shown, &row.get(&Text::of(alloc, column)?))
 }

@@ -4,48 +4,48 @@
 mod cli;
 mod consume;
 mod envelope;
-mod items;
 mod many;
 mod model;
 mod script;
-mod shown;
 mod txn;
 mod workload;
 
+use anyhow::{Result, bail};
+use dbl_case_items::words;
 use std::alloc::Global;
 
-fn family(alloc: Global, family: &str, call: &str, arguments: &str) -> anyhow::Result<String> {
+// Writes what the case of this name answers.
+fn answer(alloc: Global, shown: &mut String, name: &str, arguments: &str) -> Result<()> {
+    let (family, rest) = words::parted(name, " ");
+    let (call, _) = words::parted(rest, " ");
     match family {
-        "cli" => cli::answer(alloc, call, arguments),
-        "consume" => consume::answer(alloc, call, arguments),
-        "envelope" => envelope::answer(alloc, call, arguments),
-        "gen" => workload::answer(alloc, call, arguments),
-        "model" => model::answer(alloc, call, arguments),
-        "script" => script::answer(alloc, call, arguments),
-        "txn" => txn::answer(alloc, call, arguments),
-        _ => anyhow::bail!("no such family"),
+        "cli" => cli::answer(alloc, shown, call, arguments),
+        "consume" => consume::answer(alloc, shown, call, arguments),
+        "envelope" => envelope::answer(alloc, shown, call, arguments),
+        "gen" => workload::answer(alloc, shown, call, arguments),
+        "model" => model::answer(alloc, shown, call, arguments),
+        "script" => script::answer(alloc, shown, call, arguments),
+        "txn" => txn::answer(alloc, shown, call, arguments),
+        _ => bail!("no such family"),
     }
 }
 
-fn answer(alloc: Global, name: &str, arguments: &str) -> anyhow::Result<String> {
-    let mut words = name.split(' ');
-    let first = words.next().unwrap_or("");
-    let call = words.next().unwrap_or("");
-    family(alloc, first, call, arguments)
+// The same as a text whose further lines are set in.
+fn text(alloc: Global, name: &str, arguments: &str) -> Result<String> {
+    let mut shown = String::new(alloc);
+    answer(alloc, &mut shown, name, arguments)?;
+    Ok(shown.replace(alloc, "\n", "\n  ")?)
 }
 
-fn main(rt: HostRuntime) -> anyhow::Result<()> {
+fn main(rt: HostRuntime) -> Result<()> {
     for line in rt.lines(rt.alloc()) {
         let line = line?;
         if line.is_empty() || line.starts_with('#') {
             continue;
         }
-        let (name, arguments) = line.split_once(": ").unwrap_or((line.as_str(), ""));
-        match answer(rt.alloc(), name, arguments) {
-            Ok(text) => {
-                let text = text.replace(rt.alloc(), "\n", "\n  ")?;
-                println!(rt; "{name}: {text}")?;
-            }
+        let (name, arguments) = words::parted(line.as_str(), ": ");
+        match text(rt.alloc(), name, arguments) {
+            Ok(text) => println!(rt; "{name}: {text}")?,
             Err(error) => println!(rt; "{name}: no answer: {error}")?,
         }
     }

@@ -1,20 +1,25 @@
 //! Texts that are long by repetition.
 
-use anyhow::{Context, Result, bail};
+use anyhow::Result;
+use dbl_case_items::words;
 use std::alloc::Global;
 use std::fmt::Write;
 
 /// Of `COUNT | FIRST | EACH`: the first, and so many of the other, in each of which `#` is its number, from 0.
 pub fn repeated(alloc: Global, arguments: &str) -> Result<String> {
-    let mut parts = arguments.splitn(3, " | ");
-    let count = parts.next().context("no count")?.parse::<u32>()?;
-    let mut text = String::from_str(alloc, parts.next().context("no first")?)?;
-    let (before, behind) = match parts.next().context("no other")?.split_once('#') {
-        Some(parts) => parts,
-        None => bail!("no number"),
-    };
-    for number in 0..count {
-        write!(&mut text, "{before}{number}{behind}")?;
-    }
+    let (count, rest) = words::parted(arguments, " | ");
+    let (first, each) = words::parted(rest, " | ");
+    let count = count.parse()?;
+    let mut text = String::new(alloc);
+    text.push_str(first)?;
+    repeat(&mut text, count, each)?;
     Ok(text)
+}
+
+fn repeat(text: &mut String, count: u32, each: &str) -> Result<()> {
+    let (before, behind) = words::parted(each, "#");
+    for number in 0..count {
+        write!(text, "{before}{number}{behind}")?;
+    }
+    Ok(())
 }

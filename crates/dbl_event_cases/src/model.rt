@@ -1,159 +1,234 @@
 //! Captured tables, keys, and rows at a moment.
 
-use crate::{items, shown};
-use anyhow::{Context, Result, bail};
+use anyhow::{Result, bail};
 use dbl_base::{Seq, Text};
+use dbl_case_items::{items, shown, words};
 use dbl_history::{image_text, key_fits, row_at};
-use dbl_table::{Commit, Identity, Key, RawRow, TableInfo, compare};
-use dbl_value::Val;
+use dbl_table::{Commit, Identity, Key, RawRow, RawTable, Row, TableInfo, TableName, compare};
 use std::alloc::Global;
+use std::fmt::Write;
 
-/// What a case of this family answers.
-pub fn answer(alloc: Global, call: &str, arguments: &str) -> Result<String> {
+/// Writes what a case of this family answers.
+pub fn answer(alloc: Global, shown: &mut String, call: &str, arguments: &str) -> Result<()> {
     match call {
-        "name" => name(alloc, arguments),
-        "table" => table(alloc, arguments),
-        "texts" => texts(alloc, arguments),
-        "keys" => keys(alloc, arguments),
-        "fits" => fits(alloc, arguments),
-        "identity" => identity(alloc, arguments),
-        "rows" => rows(alloc, arguments),
+        "name" => name(alloc, shown, arguments),
+        "table" => table(alloc, shown, arguments),
+        "texts" => texts(alloc, shown, arguments),
+        "keys" => keys(alloc, shown, arguments),
+        "fits" => fits(alloc, shown, arguments),
+        "identity" => identity(alloc, shown, arguments),
+        "rows" => rows(alloc, shown, arguments),
         _ => bail!("no such call"),
     }
 }
 
-fn name(alloc: Global, word: &str) -> Result<String> {
-    let name = items::table_name(alloc, word)?.copy(alloc)?;
-    let good = name.is_good();
-    let watermark = name.is_watermark();
-    Ok(format!(in alloc; "{name}, good {good}, watermark {watermark}")?)
+fn name(alloc: Global, shown: &mut String, word: &str) -> Result<()> {
+    let name = items::table_name(alloc, word)?;
+    named(shown, &name.copy(alloc)?)
 }
 
-fn table_text(alloc: Global, info: &TableInfo) -> Result<String> {
-    let name = &info.name;
-    let mut shown = format!(in alloc; "{name},")?;
-    for column in info.columns.items() {
-        let name = &column.name;
-        let ty = column.ty;
-        shown.push_str(format!(in alloc; " {name} {ty:?},")?.as_str())?;
-    }
-    let key = info.key.items();
-    shown.push_str(format!(in alloc; " key {key:?}")?.as_str())?;
-    Ok(shown)
+fn named(shown: &mut String, name: &TableName) -> Result<()> {
+    let good = name.is_good();
+    let watermark = name.is_watermark();
+    write!(shown, "{name}, good {good}, watermark {watermark}")?;
+    Ok(())
 }
 
 // The info of a table, copied, or why it can't be captured.
-fn table(alloc: Global, arguments: &str) -> Result<String> {
-    match TableInfo::make(alloc, &items::raw_table(alloc, arguments)?.copy(alloc)?) {
-        Ok(info) => table_text(alloc, &info.copy(alloc)?),
-        Err(error) => Ok(format!(in alloc; "{error}")?),
+fn table(alloc: Global, shown: &mut String, arguments: &str) -> Result<()> {
+    copied_raw(alloc, shown, &items::raw_table(alloc, arguments)?)
+}
+
+fn copied_raw(alloc: Global, shown: &mut String, raw: &RawTable) -> Result<()> {
+    made(alloc, shown, &raw.copy(alloc)?)
+}
+
+fn made(alloc: Global, shown: &mut String, raw: &RawTable) -> Result<()> {
+    match TableInfo::make(alloc, raw) {
+        Ok(info) => copied(alloc, shown, &info),
+        Err(error) => words::said(shown, &error),
     }
 }
 
-/// Values: null where the word is `~`, a number where it is one, else a text.
-pub fn values(alloc: Global, words: &str) -> Result<Seq<Val>> {
-    let mut cells = Vec::new(alloc);
-    for word in words.split(' ') {
-        cells.push(match word.parse() {
-            Ok(number) => Val::Int(number),
-            Err(_) if word == "~" => Val::Null,
-            Err(_) => Val::Text(items::text(alloc, word)?),
-        })?;
+fn copied(alloc: Global, shown: &mut String, info: &TableInfo) -> Result<()> {
+    described(shown, &info.copy(alloc)?)
+}
+
+fn described(shown: &mut String, info: &TableInfo) -> Result<()> {
+    words::said(shown, &info.name)?;
+    words::add(shown, ",")?;
+    for column in info.columns.items() {
+        let name = &column.name;
+        let ty = column.ty;
+        write!(shown, " {name} {ty:?},")?;
     }
-    Ok(Seq::make(cells))
+    words::add(shown, " key ")?;
+    words::told(shown, info.key.items())
 }
 
 pub fn key(alloc: Global, words: &str) -> Result<Key> {
     Ok(Key {
-        cells: values(alloc, words)?,
+        cells: Seq::make(words::all(alloc, words)?),
     })
 }
 
 // How the first of two keys stands to a copy of the other.
-fn keys(alloc: Global, arguments: &str) -> Result<String> {
-    let (first, other) = arguments.split_once(" | ").context("no other key")?;
-    let order = compare(&key(alloc, first)?, &key(alloc, other)?.copy(alloc)?);
-    Ok(format!(in alloc; "{order:?}")?)
+fn keys(alloc: Global, shown: &mut String, arguments: &str) -> Result<()> {
+    let (first, other) = words::parted(arguments, " | ");
+    let other = key(alloc, other)?;
+    compared(alloc, shown, first, &other.copy(alloc)?)
+}
+
+fn compared(alloc: Global, shown: &mut String, first: &str, other: &Key) -> Result<()> {
+    let order = compare(&key(alloc, first)?, other);
+    words::told(shown, &order)
 }
 
 // A row of texts, copied: null where the word is `~`.
-fn texts(alloc: Global, words: &str) -> Result<String> {
-    let mut cells = Vec::new(alloc);
-    for word in words.split(' ') {
-        cells.push(match word {
-            "~" => None,
-            _ => Some(items::text(alloc, word)?),
-        })?;
+fn texts(alloc: Global, shown: &mut String, words: &str) -> Result<()> {
+    let cells = Seq::make(words::all(alloc, words)?);
+    let row = RawRow { cells };
+    listed(shown, &row.copy(alloc)?)
+}
+
+fn listed(shown: &mut String, row: &RawRow) -> Result<()> {
+    let mut mark = "";
+    for cell in row.cells.items() {
+        let text = match cell {
+            Some(text) => text.as_str(),
+            None => "null",
+        };
+        write!(shown, "{mark}{text}")?;
+        mark = ", ";
     }
-    let row = RawRow {
-        cells: Seq::make(cells),
-    };
-    let mut shown = Vec::new(alloc);
-    for cell in row.copy(alloc)?.cells.items() {
-        shown.push(match cell {
-            Some(text) => format!(in alloc; "{text}")?,
-            None => String::from_str(alloc, "null")?,
-        })?;
-    }
-    Ok(shown.join(alloc, ", ")?)
+    Ok(())
 }
 
 // Whether a key is one of the table.
-fn fits(alloc: Global, arguments: &str) -> Result<String> {
-    let (table, words) = arguments.split_once(" | ").context("no key")?;
-    let info = TableInfo::make(alloc, &items::raw_table(alloc, table)?)?;
-    let fits = key_fits(&info, &key(alloc, words)?);
-    Ok(format!(in alloc; "{fits}")?)
+fn fits(alloc: Global, shown: &mut String, arguments: &str) -> Result<()> {
+    let (table, words) = words::parted(arguments, " | ");
+    let info = items::table(alloc, table)?;
+    words::said(shown, &key_fits(&info, &key(alloc, words)?))
 }
 
 /// A prefix, a database's name and a placeholder, with slashes between them.
 pub fn identity_of(alloc: Global, fields: &str) -> Result<Identity> {
+    let prefix = words::text(alloc, items::field(fields, 0))?;
+    let db = words::text(alloc, items::field(fields, 1))?;
+    let placeholder = words::text(alloc, items::field(fields, 2))?;
     Ok(Identity {
-        prefix: items::text(alloc, items::field(fields, 0))?,
-        db: items::text(alloc, items::field(fields, 1))?,
-        placeholder: items::text(alloc, items::field(fields, 2))?,
+        prefix,
+        db,
+        placeholder,
     })
 }
 
-fn identity(alloc: Global, arguments: &str) -> Result<String> {
-    let copied = identity_of(alloc, arguments)?.copy(alloc)?;
-    let prefix = &copied.prefix;
-    let db = &copied.db;
-    let placeholder = &copied.placeholder;
-    let good = copied.is_good();
-    Ok(format!(in alloc; "prefix {prefix}, db {db}, placeholder {placeholder}, good {good}")?)
+fn identity(alloc: Global, shown: &mut String, arguments: &str) -> Result<()> {
+    let identity = identity_of(alloc, arguments)?;
+    identified(shown, &identity.copy(alloc)?)
+}
+
+fn identified(shown: &mut String, identity: &Identity) -> Result<()> {
+    let prefix = &identity.prefix;
+    let db = &identity.db;
+    let placeholder = &identity.placeholder;
+    let good = identity.is_good();
+    write!(
+        shown,
+        "prefix {prefix}, db {db}, placeholder {placeholder}, good {good}"
+    )?;
+    Ok(())
+}
+
+// Where something is looked for: a moment, a table and a key.
+#[derive(Drop)]
+struct Wanted {
+    moment: u64,
+    table: u32,
+    key: Key,
+}
+
+fn read_wanted(alloc: Global, fields: &str) -> Result<Wanted> {
+    let moment = items::field(fields, 0).parse()?;
+    let table = items::field(fields, 1).parse()?;
+    let key = key(alloc, items::field(fields, 2))?;
+    Ok(Wanted { moment, table, key })
+}
+
+fn copied_row(alloc: Global, shown: &mut String, row: &Row) -> Result<()> {
+    shown::row(alloc, shown, &row.copy(alloc)?.cells)
+}
+
+fn row(
+    alloc: Global,
+    shown: &mut String,
+    infos: &Vec<TableInfo>,
+    commits: &Vec<Commit>,
+    wanted: &Wanted,
+) -> Result<()> {
+    match row_at(
+        alloc,
+        infos,
+        commits,
+        wanted.moment,
+        wanted.table,
+        &wanted.key,
+    )? {
+        Some(row) => copied_row(alloc, shown, &row),
+        None => words::add(shown, " no row"),
+    }
+}
+
+fn image(
+    alloc: Global,
+    shown: &mut String,
+    infos: &Vec<TableInfo>,
+    commits: &Vec<Commit>,
+    wanted: &Wanted,
+    column: &Text,
+) -> Result<()> {
+    let Wanted { moment, table, key } = wanted;
+    match image_text(alloc, infos, commits, *moment, *table, key, column)? {
+        Some(text) => write!(shown, ", {text}")?,
+        None => (),
+    }
+    Ok(())
 }
 
 // The row at a moment, and the JSON text of one of its cells.
 fn at(
     alloc: Global,
+    shown: &mut String,
     infos: &Vec<TableInfo>,
     commits: &Vec<Commit>,
     fields: &str,
-) -> Result<String> {
-    let moment = items::field(fields, 0).parse()?;
-    let table = items::field(fields, 1).parse()?;
-    let key = key(alloc, items::field(fields, 2))?;
+) -> Result<()> {
+    write!(shown, "{fields}:")?;
+    let wanted = read_wanted(alloc, fields)?;
+    row(alloc, shown, infos, commits, &wanted)?;
     let column = Text::of(alloc, items::field(fields, 3))?;
-    let row = match row_at(alloc, infos, commits, moment, table, &key)? {
-        Some(row) => shown::row(alloc, &row.copy(alloc)?.cells)?,
-        None => String::from_str(alloc, " no row")?,
-    };
-    match image_text(alloc, infos, commits, moment, table, &key, &column)? {
-        Some(text) => Ok(format!(in alloc; "{fields}:{row}, {text}")?),
-        None => Ok(format!(in alloc; "{fields}:{row}")?),
+    image(alloc, shown, infos, commits, &wanted, &column)
+}
+
+fn each(
+    alloc: Global,
+    shown: &mut String,
+    infos: &Vec<TableInfo>,
+    commits: &Vec<Commit>,
+    arguments: &str,
+) -> Result<()> {
+    for item in arguments.split(" | ") {
+        if let Some(fields) = item.strip_prefix("at/") {
+            words::line(shown)?;
+            at(alloc, shown, infos, commits, fields)?;
+        }
     }
+    Ok(())
 }
 
 // What stands at each `at/MOMENT/TABLE/KEY/COLUMN`.
-fn rows(alloc: Global, arguments: &str) -> Result<String> {
+fn rows(alloc: Global, shown: &mut String, arguments: &str) -> Result<()> {
     let infos = items::tables(alloc, arguments)?;
     let commits = items::commits(alloc, arguments)?;
-    let mut lines = Vec::new(alloc);
-    for item in arguments.split(" | ") {
-        if let Some(fields) = item.strip_prefix("at/") {
-            lines.push(at(alloc, &infos, &commits, fields)?)?;
-        }
-    }
-    Ok(lines.join(alloc, "\n")?)
+    each(alloc, shown, &infos, &commits, arguments)
 }

@@ -2,50 +2,63 @@
 
 use crate::many::repeated;
 use anyhow::{Result, bail};
-use dbl_script::{Script, ScriptError, parse};
+use dbl_case_items::words;
+use dbl_script::{Script, parse};
 use std::alloc::Global;
+use std::fmt::Write;
 
-/// What a case of this family answers.
-pub fn answer(alloc: Global, call: &str, arguments: &str) -> Result<String> {
+/// Writes what a case of this family answers.
+pub fn answer(alloc: Global, shown: &mut String, call: &str, arguments: &str) -> Result<()> {
     match call {
-        "text" => {
-            let text = arguments.replace(alloc, "\\n", "\n")?;
-            said(alloc, parse(alloc, text.as_bytes()))
-        }
-        "bytes" => said(
-            alloc,
-            parse(alloc, hex::decode(alloc, arguments)?.as_slice()),
-        ),
-        "many" => {
-            let text = arguments.replace(alloc, "\\n", "\n")?;
-            counted(
-                alloc,
-                parse(alloc, repeated(alloc, text.as_str())?.as_bytes()),
-            )
-        }
-        "lines" => {
-            let text = "\n".repeat(alloc, arguments.parse()?)?;
-            counted(alloc, parse(alloc, text.as_bytes()))
-        }
+        "text" => text(alloc, shown, arguments),
+        "bytes" => bytes(alloc, shown, arguments),
+        "many" => many(alloc, shown, arguments),
+        "lines" => ends(alloc, shown, arguments),
         _ => bail!("no such call"),
     }
 }
 
-fn said(alloc: Global, answer: Result<Script, ScriptError>) -> Result<String> {
-    match answer {
-        Ok(script) => Ok(format!(in alloc; "{script:?}")?),
-        Err(error) => Ok(format!(in alloc; "{error}")?),
+// The lines of an argument.
+fn lines(alloc: Global, arguments: &str) -> Result<String> {
+    Ok(arguments.replace(alloc, "\\n", "\n")?)
+}
+
+fn text(alloc: Global, shown: &mut String, arguments: &str) -> Result<()> {
+    said(alloc, shown, lines(alloc, arguments)?.as_str().as_bytes())
+}
+
+fn bytes(alloc: Global, shown: &mut String, digits: &str) -> Result<()> {
+    said(alloc, shown, &hex::decode(alloc, digits)?)
+}
+
+fn many(alloc: Global, shown: &mut String, arguments: &str) -> Result<()> {
+    let text = lines(alloc, repeated(alloc, arguments)?.as_str())?;
+    counted(alloc, shown, text.as_str())
+}
+
+fn ends(alloc: Global, shown: &mut String, count: &str) -> Result<()> {
+    let text = "\n".repeat(alloc, count.parse()?)?;
+    counted(alloc, shown, text.as_str())
+}
+
+fn said(alloc: Global, shown: &mut String, bytes: &[u8]) -> Result<()> {
+    match parse(alloc, bytes) {
+        Ok(script) => words::told(shown, &script),
+        Err(error) => words::said(shown, &error),
     }
 }
 
-fn counted(alloc: Global, answer: Result<Script, ScriptError>) -> Result<String> {
-    match answer {
-        Ok(script) => {
-            let tables = script.tables.items().len();
-            let rows = script.rows.items().len();
-            let steps = script.steps.items().len();
-            Ok(format!(in alloc; "tables {tables}, rows {rows}, steps {steps}")?)
-        }
-        Err(error) => Ok(format!(in alloc; "{error}")?),
+fn counted(alloc: Global, shown: &mut String, text: &str) -> Result<()> {
+    match parse(alloc, text.as_bytes()) {
+        Ok(script) => counts(shown, &script),
+        Err(error) => words::said(shown, &error),
     }
+}
+
+fn counts(shown: &mut String, script: &Script) -> Result<()> {
+    let tables = script.tables.items().len();
+    let rows = script.rows.items().len();
+    let steps = script.steps.items().len();
+    write!(shown, "tables {tables}, rows {rows}, steps {steps}")?;
+    Ok(())
 }

@@ -1,28 +1,42 @@
 //! Workloads made from a number.
 
-use anyhow::{Context, Result, bail};
+use anyhow::{Result, bail};
+use dbl_case_items::words;
 use dbl_gen::script;
 use dbl_script::parse;
 use std::alloc::Global;
+use std::fmt::Write;
 
-/// What a case of the family `gen` answers.
-pub fn answer(alloc: Global, call: &str, arguments: &str) -> Result<String> {
+/// Writes what a case of the family `gen` answers.
+pub fn answer(alloc: Global, shown: &mut String, call: &str, arguments: &str) -> Result<()> {
     match call {
-        "workload" => workload(alloc, arguments),
+        "workload" => of_words(alloc, shown, arguments),
         _ => bail!("no such call"),
     }
 }
 
-// The workload of `NUMBER ROWS GROUPS`, and whether it is one.
-fn workload(alloc: Global, arguments: &str) -> Result<String> {
-    let mut words = arguments.split(' ');
-    let number = words.next().context("no number")?.parse()?;
-    let rows = words.next().context("no rows")?.parse()?;
-    let groups = words.next().context("no groups")?.parse()?;
+fn of_words(alloc: Global, shown: &mut String, arguments: &str) -> Result<()> {
+    let (number, rest) = words::parted(arguments, " ");
+    let (rows, groups) = words::parted(rest, " ");
+    workload(
+        alloc,
+        shown,
+        number.parse()?,
+        rows.parse()?,
+        groups.parse()?,
+    )
+}
+
+fn workload(alloc: Global, shown: &mut String, number: u64, rows: u32, groups: u32) -> Result<()> {
     if rows > 400_000 || groups > 90_000 {
         bail!("too many");
     }
-    let text = script(alloc, number, rows, groups)?;
-    let read = parse(alloc, text.as_str().as_bytes()).is_ok();
-    Ok(format!(in alloc; "{text}read {read}")?)
+    told(alloc, shown, script(alloc, number, rows, groups)?.as_str())
+}
+
+// The workload, and whether it is one.
+fn told(alloc: Global, shown: &mut String, text: &str) -> Result<()> {
+    let read = parse(alloc, text.as_bytes()).is_ok();
+    write!(shown, "{text}read {read}")?;
+    Ok(())
 }

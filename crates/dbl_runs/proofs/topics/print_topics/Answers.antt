@@ -1,0 +1,24 @@
+use Rattle.std.proofs.Common.{inr}
+use Rattle.dbl_runs.specs.declared.error.RunError.TheVariants.{Failed}
+use Rattle.dbl_runs.specs.declared.error.Store.TheVariants.{Topics}
+use Rattle.dbl_runs.proofs.Answering.{no_topics_run, topics_run}
+use Rattle.dbl_runs.proofs.ErrorLaws.{no_output}
+use Rattle.dbl_runs.proofs.Kept.{err_one, keeps_told}
+use Rattle.dbl_runs.proofs.topics.print_topics.Goals as goal
+
+pub returns-in-Ok-clause-told : goal.returns-in-Ok-clause-told
+returns-in-Ok-clause-told g c bytes told =
+    let opened = c.in-Ok.ensures.opened bytes told in
+    topics_run bytes opened.0 c.put_groups-end.result _ _ opened.1 (c.put_groups-end.ensures.told opened.0 opened.2)
+
+pub returns-in-Err-clause-told : goal.returns-in-Err-clause-told
+returns-in-Err-clause-told g c bytes told = no_topics_run bytes c.in-Err.field-0.error _ (c.in-Err.ensures.refused bytes told)
+
+pub returns-in-Err-clause-keeps : goal.returns-in-Err-clause-keeps
+returns-in-Err-clause-keeps g c = keeps_told g.D.Disk.seen g.D.Disk.may_leave g.D.Disk.faults (Failed Topics) c.in-Err.field-0.error _ _ c.in-Err.ensures.keeps
+
+pub returns-in-Err-clause-kinds : goal.returns-in-Err-clause-kinds
+returns-in-Err-clause-kinds g c = inr c.in-Err.ensures.kinds
+
+pub returns-in-Err-clause-output_failed : goal.returns-in-Err-clause-output_failed
+returns-in-Err-clause-output_failed g c = λ e. absurd (no_output Topics c.in-Err.field-0.error c.in-Err.ensures.kinds (err_one c.in-Err.field-0.error _ e))

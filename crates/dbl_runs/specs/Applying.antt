@@ -1,0 +1,36 @@
+-- For private clauses: the steps of `offsets` and `apply` behind the opening of the stores.
+use Rattle.std.specs.Prelude.{◌≡◌, ℕ, Option, Some, None, Result, Ok, Err, List, map}
+use Rattle.dbl_record.specs.declared.record.Record.{Record}
+use Rattle.dbl_record.specs.Consumers.{HeldCells, consumer}
+use Rattle.dbl_record.specs.Cuts.{joined}
+use Rattle.dbl_record.specs.Reading.{as_line}
+use Rattle.dbl_consume.specs.Printing.{HeldRow, AreRowsOf, row_line}
+use Rattle.dbl_offset.specs.declared.offset.Offset.{Offset}
+use Rattle.dbl_runs.specs.declared.error.RunError.{RunError}
+use Rattle.dbl_runs.specs.declared.error.RunError.TheVariants.{NotStarted, BadEntry}
+use Rattle.dbl_runs.specs.declared.error.Store.TheVariants.{Topics}
+use Rattle.dbl_runs.specs.Answers.{first_refused, offset_lines}
+use Rattle.dbl_runs.specs.Consuming.{IsFirstBad}
+use Rattle.dbl_runs.specs.Ends.{End, Ends, IsCut}
+
+-- the text of this offset, if there is one, was to be written
+abbrev pub TellsOffset : Option Offset → End → Option (List ℕ) → Option (List ℕ) → Type 0
+TellsOffset None end before after = (end ≡ Err NotStarted) × (after ≡ before)
+TellsOffset (Some offset) end before after = Ends (Ok (offset_lines offset)) end before after
+
+-- the lines of the rows that are held were to be written
+pub record PrintedRows (held : List ℕ → List ℕ → Option HeldCells) (end : End) (before after : Option (List ℕ)) : Type 0 where
+  pub rows : List HeldRow
+  pub are : AreRowsOf held rows
+  pub ends : Ends (Ok (map row_line rows)) end before after
+
+-- the log of these groups was applied by this placeholder
+pub data AppliesGroups (placeholder : List ℕ) (groups : List (List Record)) (end : End) (before after : Option (List ℕ)) : Type 0 where
+  stopped : IsCut end → after ≡ before → AppliesGroups placeholder groups end before after
+  bad : (error : RunError) → end ≡ Err error → IsFirstBad placeholder groups error → after ≡ before → AppliesGroups placeholder groups end before after
+  printed : first_refused placeholder groups ≡ None → PrintedRows (consumer placeholder (map as_line (joined groups))) end before after → AppliesGroups placeholder groups end before after
+
+-- the same by an offset, if there is one
+abbrev pub Applies : List (List Record) → Option Offset → End → Option (List ℕ) → Option (List ℕ) → Type 0
+Applies groups None end before after = (end ≡ Err NotStarted) × (after ≡ before)
+Applies groups (Some offset) end before after = AppliesGroups offset.identity.placeholder groups end before after

@@ -1,0 +1,79 @@
+-- How a command ends that only reads the stores: what it has written, and what it leaves of the disks. Source: own.
+use Rattle.std.specs.Prelude.{◌≡◌, ℕ, ◌≤◌, Option, Some, Result, Ok, Err, List, take}
+use Rattle.dbl_base.specs.Lines.{lines_text}
+use Rattle.dbl_base.specs.Streams.{Rose}
+use Rattle.dbl_journal.specs.Stored.{IsSteady}
+use Rattle.dbl_consume.specs.Printing.{Wrote, WroteFront}
+use Rattle.dbl_runs.specs.declared.error.RunError.{RunError}
+use Rattle.dbl_runs.specs.declared.error.RunError.TheVariants.{OutputFailed, Memory, Failed, NotStarted, NotAStore, BadEntry}
+use Rattle.dbl_runs.specs.declared.error.Store.{Store}
+use Rattle.dbl_runs.specs.Answers.{Answer}
+
+-- how a command ended
+abbrev pub End : Type 0
+End = Result (Unit {0}) RunError
+
+-- some first lines were written
+abbrev pub WroteFirst : List (List ℕ) → Option (List ℕ) → Option (List ℕ) → Type 0
+WroteFirst lines before after = (n : ℕ) × Wrote before after (lines_text (take n lines))
+
+-- lines were being written when this error came: the output may have taken a front of their text, and where memory was wanting
+-- or a disk failed, it has some first lines
+abbrev pub CutsLines : List (List ℕ) → RunError → Option (List ℕ) → Option (List ℕ) → Type 0
+CutsLines lines OutputFailed before after = WroteFront before after (lines_text lines)
+CutsLines lines Memory before after = WroteFirst lines before after
+CutsLines lines (Failed store) before after = WroteFirst lines before after
+CutsLines lines error before after = ⊥
+
+-- a run of this answer ended so
+abbrev pub Ends : Answer → End → Option (List ℕ) → Option (List ℕ) → Type 0
+Ends (Ok lines) (Ok done) before after = Wrote before after (lines_text lines)
+Ends (Ok lines) (Err error) before after = CutsLines lines error before after
+Ends (Err error) (Ok done) before after = ⊥
+Ends (Err error) (Err told) before after = (told ≡ error) × (after ≡ before)
+
+-- memory was wanting, or a disk failed
+abbrev pub IsOutside : RunError → Type 0
+IsOutside Memory = Unit {0}
+IsOutside (Failed store) = Unit {0}
+IsOutside error = ⊥
+
+abbrev pub IsCut : End → Type 0
+IsCut (Ok done) = ⊥
+IsCut (Err error) = IsOutside error
+
+-- What a run of a command writes that has these answers. Before it has an answer memory may be wanting or a disk fail; then
+-- nothing was written.
+pub data Runs (Answers : Answer → Type 0) (end : End) (before after : Option (List ℕ)) : Type 0 where
+  answered : (answer : Answer) → Answers answer → Ends answer end before after → Runs Answers end before after
+  cut : IsCut end → after ≡ before → Runs Answers end before after
+
+-- the errors that have to do with this store alone, whatever its disk tells
+abbrev pub IsErrorOf : Store → RunError → Type 0
+IsErrorOf store Memory = Unit {0}
+IsErrorOf store (Failed other) = other ≡ store
+IsErrorOf store (NotAStore other at) = other ≡ store
+IsErrorOf store (BadEntry other index) = other ≡ store
+IsErrorOf store error = ⊥
+
+-- what a store holds isn't what the command wants
+abbrev pub IsRefusal : RunError → Type 0
+IsRefusal NotStarted = Unit {0}
+IsRefusal (NotAStore store at) = Unit {0}
+IsRefusal (BadEntry store index) = Unit {0}
+IsRefusal error = ⊥
+
+-- What is left of a disk that was only read. A read gives the same, and each image was one before: so it is no longer than it
+-- was. It is told to have failed only where its count of faults rose, and where it tells its bytes, wherever the count rose.
+pub record Keeps
+    {D : Type 0}
+    (seen : D → Option (List ℕ))
+    (may_leave : D → List ℕ → Type 0)
+    (faults : D → ℕ)
+    (failed : Type 0)
+    (old new : D) : Type 0 where
+  pub same : seen new ≡ seen old
+  pub images : (image : List ℕ) → may_leave new image → may_leave old image
+  pub later : faults old ≤ faults new
+  pub cause : failed → Rose (faults old) (faults new)
+  pub steady : ¬ failed → IsSteady seen faults old new

@@ -1,0 +1,7 @@
+pub mod Stores
+pub mod Errors
+pub mod Answers
+pub mod Ends
+pub mod Consuming
+pub mod Applying
+pub mod Laws

@@ -1,0 +1,114 @@
+use dbl_consume::{ConsumeError, PrintError};
+use dbl_journal::JournalError;
+use dbl_offset::OffsetError;
+use dbl_topic::TopicError;
+use std::alloc::{AllocError, AllocFailed};
+use std::fmt;
+use thiserror::Error;
+
+/// A store of the program, each on a disk of its own.
+#[derive(Clone, Copy, Debug, PartialEq, Eq)]
+pub enum Store {
+    Topics,
+    Offsets,
+}
+
+impl fmt::Display for Store {
+    ghost use Rattle.std.specs.Prelude.{Some};
+    ghost use Rattle.dbl_runs.specs.Errors.{store_name};
+
+    ghost output = { λ store. Some (store_name store) };
+
+    fn fmt<W: fmt::Write>(&self, f: &mut fmt::Formatter<W>) -> fmt::Result {
+        match self {
+            Store::Topics => f.write_str("topics"),
+            Store::Offsets => f.write_str("offsets"),
+        }
+    }
+}
+
+/// Why a command over the stores writes no text, or not all of it.
+#[derive(Clone, Copy, Debug, PartialEq, Eq, Error)]
+pub enum RunError {
+    #[error("output failed")]
+    OutputFailed,
+    #[error("out of memory")]
+    Memory,
+    /// A disk failed.
+    #[error("{store} failed")]
+    Failed { store: Store },
+    /// No offset is stored.
+    #[error("not started")]
+    NotStarted,
+    /// The disk holds no journal: the first byte of the magic that is missing or wrong, the missing gate, or the gate of the
+    /// entry that is cut or too long.
+    #[error("not a store: {store} at {at}")]
+    NotAStore { store: Store, at: u64 },
+    /// The number, counted from 0, of the first entry that isn't one of the store, or whose record the consumer refuses.
+    #[error("bad entry {index} in {store}")]
+    BadEntry { store: Store, index: u64 },
+}
+
+impl From<AllocError> for RunError {
+    ghost use Rattle.std.specs.Prelude.{◌≡◌};
+    ghost use Rattle.dbl_runs.specs.declared.error.RunError.TheVariants.{Memory};
+
+    ghost from_gives = { λ _ e. e ≡ Memory };
+
+    fn from(_error: AllocError) -> RunError {
+        RunError::Memory
+    }
+}
+
+impl From<PrintError> for RunError {
+    ghost use Rattle.std.specs.Prelude.{◌≡◌};
+    ghost use Rattle.dbl_runs.specs.Errors.{print_error};
+
+    ghost from_gives = { λ e f. f ≡ print_error e };
+
+    fn from(error: PrintError) -> RunError {
+        match error {
+            PrintError::Failed => RunError::OutputFailed,
+            PrintError::Memory => RunError::Memory,
+        }
+    }
+}
+
+impl From<TopicError> for RunError {
+    ghost use Rattle.std.specs.Prelude.{◌≡◌};
+    ghost use Rattle.dbl_runs.specs.Errors.{topic_error};
+
+    ghost from_gives = { λ e f. f ≡ topic_error e };
+
+    // Of a log that is opened or read there is no other fault.
+    fn from(error: TopicError) -> RunError {
+        let store = Store::Topics;
+        match error {
+            TopicError::Journal(JournalError::Failed) => RunError::Failed { store },
+            TopicError::Journal(JournalError::NotAJournal { at }) => RunError::NotAStore {
+                store,
+                at,
+            },
+            TopicError::BadEntry { index } => RunError::BadEntry { store, index },
+            TopicError::Journal(_) | TopicError::Memory => RunError::Memory,
+        }
+    }
+}
+
+impl From<OffsetError> for RunError {
+    ghost use Rattle.std.specs.Prelude.{◌≡◌};
+    ghost use Rattle.dbl_runs.specs.Errors.{offset_error};
+
+    ghost from_gives = { λ e f. f ≡ offset_error e };
+
+    // Of a store that is opened there is no other fault.
+    fn from(error: OffsetError) -> RunError {
+        let store = Store::Offsets;
+        match error {
+            OffsetError::Failed => RunError::Failed { store },
+            OffsetError::NotAStore { at } => RunError::NotAStore { store, at },
+            OffsetError::BadOffset { index } => RunError::BadEntry { store, index },
+            OffsetError::TooLong { .. } | OffsetError::Memory => RunError::Memory,
+        }
+    }
+}

@@ -1,0 +1,30 @@
+//! Laws of the stores and of the answers. The functions do nothing: their contracts are the laws.
+
+ghost use Rattle.std.specs.Prelude.{◌≡◌, ℕ, Option, Some, List};
+ghost use Rattle.dbl_record.specs.declared.record.Record.{Record};
+ghost use Rattle.dbl_journal.specs.Stored.{OnDisk};
+ghost use Rattle.dbl_topic.specs.Held.{HoldsGroups};
+ghost use Rattle.dbl_offset.specs.declared.offset.Offset.{Offset};
+ghost use Rattle.dbl_offset.specs.Stores.{Holds, StoreOn, disk_of};
+ghost use Rattle.dbl_runs.specs.Stores.{ReadAs};
+ghost use Rattle.dbl_runs.specs.Laws.{ApplyAnswersOnce, OffsetsAnswerOnce, StoresAreReadOnce, TopicsAnswerOnce};
+
+use dbl_disk::Disk;
+
+/// The bytes of the disks are read as one pair of stores at most.
+pub fn stores_are_read_once()
+    ensures { StoresAreReadOnce }
+{}
+
+/// The disks of a log that holds groups and of a store that holds an offset, or none, are read as these.
+pub fn held_stores_are_read<T: Disk, F: Disk>()
+    ensures { (log : OnDisk T) (store : StoreOn F) (groups : List (List Record)) (offset : Option Offset) → HoldsGroups T.seen T.may_leave log groups → Holds F.seen F.may_leave store offset →
+        (t f : List ℕ) × (T.seen log.disk ≡ Some t) × (F.seen (disk_of store) ≡ Some f) × ReadAs t f (record { groups = groups; offset = offset }) }
+{}
+
+/// Each command that only reads the stores has one answer at most, whatever their disks' bytes are.
+pub fn answers_are_one()
+    ensures topics { TopicsAnswerOnce }
+    ensures offsets { OffsetsAnswerOnce }
+    ensures apply { ApplyAnswersOnce }
+{}

@@ -71,6 +71,9 @@ wide_cell info cells column wide named = let cell = wide_item info cells column 
 
 -- ---- rows of a fit history
 
+never : (now in_row : Option (List ℕ)) (text : List ℕ) → now ≡ in_row → in_row ≡ Some text → now ≡ None → ⊥
+never now in_row text here there gone = cc
+
 module _ (identity : Identity) (infos : List TableInfo) (commits : List Commit) (facts : AreFitCommits infos commits) (topic text : List ℕ) (table : ℕ) (key : Key) (names : Names identity infos topic text table key) where
   -- where a column's cell isn't there, no row is
   no_row : (moment : ℕ) (column : List ℕ) → IsSome (column_of names.info.columns column) → source_cell infos (all_changes commits) table key column moment ≡ None → rows infos commits moment table key ≡ None
@@ -85,8 +88,7 @@ module _ (identity : Identity) (infos : List TableInfo) (commits : List Commit) 
           let there = wide_cell names.info cells column (own.wide ∙ ap width info_is) named in
           let cell : source_cell infos (all_changes commits) table key column moment ≡ text_in names.info (Some cells) column =
           image-text infos (rows infos commits moment) table names.info key column names.captured ∙ ap (λ (o : Option (List Val)). text_in names.info o column) is in
-          let contra : Some there.0 ≡ None = sym there.1 ∙ (sym cell ∙ gone) in
-          cc
+          absurd (never (source_cell infos (all_changes commits) table key column moment) (text_in names.info (Some cells) column) there.0 cell there.1 gone)
 
   -- a cell that is there is in a column of the table
   named_column : (moment : ℕ) (column cell : List ℕ) → source_cell infos (all_changes commits) table key column moment ≡ Some cell → IsSome (column_of names.info.columns column)

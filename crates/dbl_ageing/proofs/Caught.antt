@@ -1,6 +1,7 @@
 -- The steps of a session, each keeping what it keeps of its records.
-use Rattle.std.proofs.Common.{◌≡◌, ◌∙◌, ◌+◌, ◌≤◌, ◌<◌, ℕ, zero, suc, ℤ, max, Bool, true, false, List, [], ◌∷◌, ◌++◌, Option, Some, None, length, take, map, refl, sym, ap, subst, arith, append_assoc, append-nil, length-append, le_refl, le_trans}
+use Rattle.std.proofs.Common.{◌≡◌, ◌∙◌, ◌+◌, ◌≤◌, ◌<◌, ℕ, zero, suc, ℤ, max, Bool, true, false, List, [], ◌∷◌, ◌++◌, Option, Some, None, length, take, map, flat_map, refl, sym, ap, subst, arith, append_assoc, append-nil, length-append, le_refl, le_trans}
 use Rattle.std.specs.Prelude.{nat_le, if◌then◌else◌, option_map, unwrap_or, slice_get}
+use Rattle.std.specs.Option.{option_or}
 use Rattle.std.specs.List.{AllByRecursion}
 use Rattle.std.proofs.lemmas.Bool.Decides.{nat_tests}
 use Rattle.std.proofs.lemmas.List.{take_all}
@@ -15,12 +16,12 @@ use Rattle.dbl_history.specs.Ranges.{IsMomentInRange}
 use Rattle.dbl_history.proofs.FitsInfosLemmas.{some_value}
 use Rattle.dbl_history.proofs.MomentLemmas.{positions_are}
 use Rattle.dbl_history.proofs.RowLemmas.{all_changes-append, rows_at-longer}
-use Rattle.dbl_event.specs.Events.{events_of}
+use Rattle.dbl_event.specs.Events.{notices, events_of}
 use Rattle.dbl_event.specs.EventJson.{print, envelopes}
-use Rattle.dbl_event.specs.Clashes.{clash_of}
+use Rattle.dbl_event.specs.Clashes.{notice_clash, first_found, clash_of}
 use Rattle.dbl_event.specs.Snapshots.{chunk_records}
 use Rattle.dbl_agreement.specs.Laws.{Holds}
-use Rattle.dbl_agreement.proofs.CellEvents.{events_change_cells}
+use Rattle.dbl_agreement.proofs.CellEvents.{found_parts, events_change_cells}
 use Rattle.dbl_agreement.proofs.Held.{at_place}
 use Rattle.dbl_ageing.specs.Commits.{moment_after, AreFitCommits, IsNext}
 use Rattle.dbl_ageing.specs.Moments.{changes_through, place_moment, record_moment, reach}
@@ -118,7 +119,7 @@ module _ (identity : Identity) (infos : List TableInfo) (before : List Commit) (
         (subst (λ (l : List Record). length (all_changes before ++ earlier) ≤ reach infos cs start l) (sym (append-nil records)) reached)
     rest_reach earlier (c ∷ others) is does records reached =
         let parts = first_does identity infos before commit later facts now earlier c others does in
-        let rs : List Record = chunk identity infos before commit later facts earlier c others is now parts.0 in
+        let rs : List Record = chunk identity infos before commit later facts earlier c others is now in
         let more : List Record = rest_records identity infos before commit later facts now (earlier ++ c ∷ []) others in
         let far : reach infos cs start (records ++ rs) ≡ max (reach infos cs start records) (length (all_changes before ++ earlier) + 1) = chunk_reach identity infos before commit later facts earlier c others is now parts.0 start records in
         let here : length (all_changes before ++ (earlier ++ c ∷ [])) ≤ reach infos cs start (records ++ rs) =
@@ -132,6 +133,13 @@ module _ (identity : Identity) (infos : List TableInfo) (before : List Commit) (
       where
         next_reached : (q p far later : ℕ) → later ≡ max far (p + 1) → q ≡ p + 1 → q ≤ later
         next_reached q p far later is e = omega (arith, is, e)
+
+found_first : {A B : Type 0} (f : A → Option B) (n : ℕ) (xs : List A) → first_found f xs ≡ None → first_found f (take n xs) ≡ None
+found_first f zero xs none = refl
+found_first f (suc n) [] none = refl
+found_first f (suc n) (x ∷ xs) none =
+    let parts = found_parts f x xs none in
+    ap (λ (o : Option _). option_or o (first_found f (take n xs))) parts.0 ∙ found_first f n xs parts.1
 
 -- with any prefix, from what all of them come to
 agrees_parts : (identity : Identity) (infos : List TableInfo) (commits before : List Commit) (commit : Commit) (later : List Commit) (start : ℕ) (records : List Record) (now : ℤ) (n : ℕ) → IsNext infos commits before commit later → clash_of identity infos commit ≡ None → IsMomentInRange now
@@ -153,7 +161,7 @@ agrees_parts identity infos commits before commit later start records now n next
 
 pub parts_of_commits_are_caught : PartsOfCommitsAreCaught
 parts_of_commits_are_caught identity infos commits before commit later start records now n next clear in_time from caught = record {
-  aged = parts_keep_age identity infos commits before commit later start (moment_after before) records now n next clear in_time (le_refl (moment_after before)) (here_reached (moment_after before) (reach infos commits start records)) caught.aged;
+  aged = parts_keep_age identity infos commits before commit later start (moment_after before) records now n next in_time (found_first (notice_clash identity.placeholder) n (flat_map (notices infos) (changes_of commit)) clear) (le_refl (moment_after before)) (here_reached (moment_after before) (reach infos commits start records)) caught.aged;
   reached = le_trans caught.reached (reach-more infos commits start records (take n (envelopes identity infos commit now)));
   agrees = agrees_parts identity infos commits before commit later start records now n next clear in_time from caught;
   named = events_keep_names identity infos commits before commit later records (take n (envelopes identity infos commit now)) next (all_take (IsRecordOf identity infos commit) n (envelopes identity infos commit now) (envelopes_are_of identity infos commit now in_time)) caught.named;

@@ -1,5 +1,5 @@
 -- The laws of changes and commits.
-use Rattle.std.proofs.Common.{◌≡◌, ◌∙◌, ◌+◌, ◌-◌, ◌≤◌, ◌<◌, ℕ, ℤ, List, [], ◌∷◌, ◌++◌, Some, None, length, take, drop, map, flat_map, refl, sym, ap, subst, arith, append_assoc, append-nil, length-append}
+use Rattle.std.proofs.Common.{◌≡◌, ◌∙◌, ◌+◌, ◌-◌, ◌≤◌, ◌<◌, ℕ, zero, suc, ℤ, List, [], ◌∷◌, ◌++◌, Some, None, length, take, drop, map, flat_map, refl, sym, ap, subst, arith, append_assoc, append-nil, length-append}
 use Rattle.std.specs.Prelude.{slice_get, slice_range}
 use Rattle.std.specs.List.{AllByRecursion}
 use Rattle.std.proofs.lemmas.Grind.{flat_map-append}
@@ -15,17 +15,18 @@ use Rattle.dbl_history.specs.Ranges.{IsMomentInRange}
 use Rattle.dbl_history.proofs.FitsInfosLemmas.{some_value}
 use Rattle.dbl_history.proofs.RowLemmas.{all_changes-append}
 use Rattle.dbl_table.proofs.Lists.{slice_get-lt}
-use Rattle.dbl_event.specs.Events.{Notice, Event, notices, numbered, events_of}
+use Rattle.dbl_event.specs.Events.{Notice, Event, is_nil, notices, numbered, events_of}
 use Rattle.dbl_event.specs.EventJson.{print, envelopes}
-use Rattle.dbl_event.specs.Clashes.{clash_of}
+use Rattle.dbl_event.specs.Clashes.{notice_clash, first_found, clash_of}
 use Rattle.dbl_agreement.specs.Cells.{notice_op}
-use Rattle.dbl_agreement.proofs.CellEvents.{events_change_cells}
+use Rattle.dbl_agreement.proofs.CellEvents.{IsKeyedNotice, event_op, all_keyed, found_parts, clear_after, events_change_cells}
+use Rattle.dbl_agreement.proofs.Notices.{NoticeFits, commit_tells}
 use Rattle.dbl_agreement.proofs.Consumers.{all_left, all_right}
 use Rattle.dbl_agreement.proofs.Held.{at_place}
 use Rattle.dbl_ageing.specs.Commits.{moment_after, AreFitCommits}
 use Rattle.dbl_ageing.specs.Moments.{record_moment, reach, span_end}
 use Rattle.dbl_ageing.specs.Ages.{IsAged}
-use Rattle.dbl_ageing.specs.ChangeLaws.{IsRecordOf, events_through, records_of_change, RecordsOfAChangeKeepAge, PartsOfCommitsKeepAge, ChangesMoveAge, CommitsMoveAge, SilentCommitsMoveAge}
+use Rattle.dbl_ageing.specs.ChangeLaws.{IsRecordOf, IsClearRecordOf, events_through, records_of_change, RecordsOfAChangeKeepAge, PartsOfCommitsKeepAge, ChangesMoveAge, CommitsMoveAge, SilentCommitsMoveAge}
 use Rattle.dbl_ageing.proofs.Lists.{take_front_one}
 use Rattle.dbl_ageing.proofs.KnownKeys.{IsQuiet}
 use Rattle.dbl_ageing.proofs.Held.{item_op, placed, numbered-append, DoesAsTold}
@@ -53,18 +54,48 @@ length-placed : (position ordinal : ℕ) (ns others : List Notice) → length (p
 length-placed position ordinal [] others = refl
 length-placed position ordinal (n ∷ ns) others = let rest = length-placed position (ordinal + 1) ns others in omega (arith, rest)
 
-module _ (identity : Identity) (infos : List TableInfo) (before : List Commit) (commit : Commit) (later : List Commit) (facts : AreFitCommits infos (before ++ commit ∷ later)) (clear : clash_of identity infos commit ≡ None) where
+module _ (identity : Identity) (infos : List TableInfo) (before : List Commit) (commit : Commit) (later : List Commit) (facts : AreFitCommits infos (before ++ commit ∷ later)) where
   abbrev cs : List Commit
   cs = before ++ commit ∷ later
 
-  all_do : (now : ℤ) → IsMomentInRange now → AllByRecursion (DoesAsTold identity commit now) (events_of infos commit)
-  all_do now in_time = events_change_cells identity infos commit now (commit_in_range identity infos before commit later facts) in_time clear
+  abbrev told : List Notice
+  told = flat_map (notices infos) (changes_of commit)
+
+  all_fit : AllByRecursion NoticeFits told
+  all_fit = (commit_tells infos commit (commit_in_range identity infos before commit later facts)).fit
+
+  keyed : AllByRecursion IsKeyedNotice told
+  keyed = all_keyed infos (changes_of commit)
+
+  module _ (now : ℤ) (in_time : IsMomentInRange now) where
+    -- an event does as it tells where none of its cells is the placeholder
+    one_does : (e : Event) → NoticeFits e.notice → IsKeyedNotice e.notice → notice_clash identity.placeholder e.notice ≡ None → DoesAsTold identity commit now e
+    one_does e fits its_key clear = λ topic text column.
+        event_op identity commit now (commit_in_range identity infos before commit later facts) in_time e.notice.info e.notice.key e.notice.content topic text column fits.key fits.content its_key (clear_after identity.placeholder e.notice clear)
+
+    -- so do the first events, and those of one change
+    first_do : (position ordinal n : ℕ) (ns : List Notice) → AllByRecursion NoticeFits ns → AllByRecursion IsKeyedNotice ns → first_found (notice_clash identity.placeholder) (take n ns) ≡ None
+        → AllByRecursion (DoesAsTold identity commit now) (take n (numbered position ordinal ns))
+    first_do position ordinal zero ns fits keys clear = tt
+    first_do position ordinal (suc n) [] fits keys clear = tt
+    first_do position ordinal (suc n) (x ∷ ns) fits keys clear =
+        let parts = found_parts (notice_clash identity.placeholder) x (take n ns) clear in
+        (one_does (record { notice = x; position = position; ordinal = ordinal; last = is_nil ns }) fits.0 keys.0 parts.0, first_do position (ordinal + 1) n ns fits.1 keys.1 parts.1)
+
+    placed_do : (position ordinal : ℕ) (ns others : List Notice) → AllByRecursion NoticeFits ns → AllByRecursion IsKeyedNotice ns → first_found (notice_clash identity.placeholder) ns ≡ None
+        → AllByRecursion (DoesAsTold identity commit now) (placed position ordinal ns others)
+    placed_do position ordinal [] others fits keys clear = tt
+    placed_do position ordinal (x ∷ ns) others fits keys clear =
+        let parts = found_parts (notice_clash identity.placeholder) x ns clear in
+        (one_does (record { notice = x; position = position; ordinal = ordinal; last = is_nil (ns ++ others) }) fits.0 keys.0 parts.0, placed_do position (ordinal + 1) ns others fits.1 keys.1 parts.1)
 
   -- ---- one record of a change
 
-  record_keeps : (start from moment : ℕ) (records : List Record) (item : Record) → IsRecordOf identity infos commit item → record_moment infos cs item ≡ moment + 1 → from ≤ moment → moment ≤ span_end infos cs start records from
+  record_keeps : (start from moment : ℕ) (records : List Record) (item : Record) → IsClearRecordOf identity infos commit item → record_moment infos cs item ≡ moment + 1 → from ≤ moment → moment ≤ span_end infos cs start records from
       → IsAged identity infos cs start records from → IsAged identity infos cs start (records ++ item ∷ []) from
-  record_keeps start from moment records item is at low reached aged =
+  record_keeps start from moment records item clear at low reached aged =
+      let is : IsRecordOf identity infos commit item = clear.is in
+      let here_told : slice_get told is.number ≡ Some is.event.notice = numbered_notice commit.lsn.0 0 told is.number is.event is.stands in
       let found = of_change infos (changes_of commit) is.number is.event.notice (numbered_notice commit.lsn.0 0 (flat_map (notices infos) (changes_of commit)) is.number is.event is.stands) in
       let f = front identity infos before commit later facts found.earlier found.change found.others found.spelled in
       let stands : slice_get (events_of infos commit) (length (flat_map (notices infos) found.earlier) + found.place) ≡ Some is.event = subst (λ (n : ℕ). slice_get (events_of infos commit) n ≡ Some is.event) found.number_is is.stands in
@@ -74,8 +105,9 @@ module _ (identity : Identity) (infos : List TableInfo) (before : List Commit) (
       let size : length f ≡ length (all_changes before) + length found.earlier = length-append (all_changes before) found.earlier in
       let same : moment ≡ length f = same_moment (length f) (length (all_changes before)) (length found.earlier) moment size (sym its ∙ at) in
       let here : record_moment infos cs item ≡ length f + 1 = next_moment (length f) (length (all_changes before)) (length found.earlier) (record_moment infos cs item) size its in
-      let does : DoesAsTold identity commit is.now is.event =
-      some_value (slice_get (events_of infos commit) is.number) (DoesAsTold identity commit is.now) is.event (at_place (DoesAsTold identity commit is.now) (events_of infos commit) is.number (all_do is.now is.in_range)) is.stands in
+      let does : DoesAsTold identity commit is.now is.event = one_does is.now is.in_range is.event
+          (some_value (slice_get told is.number) NoticeFits is.event.notice (at_place NoticeFits told is.number all_fit) here_told)
+          (some_value (slice_get told is.number) IsKeyedNotice is.event.notice (at_place IsKeyedNotice told is.number keyed) here_told) clear.clear in
       let at_c = rows_from infos no_rows f in
       let part : IsItemPart identity infos f found.change (back identity infos before commit later facts found.earlier found.change found.others found.spelled) (fit_flat identity infos before commit later facts found.earlier found.change found.others found.spelled) item =
       (λ topic text table key column names.
@@ -90,7 +122,7 @@ module _ (identity : Identity) (infos : List TableInfo) (before : List Commit) (
       (subst (λ (m : ℕ). from ≤ m) same low) (subst (λ (m : ℕ). m ≤ span_end infos cs start records from) same reached) aged
 
   -- any of them
-  records_keep : (start from moment : ℕ) (records more : List Record) → AllByRecursion (λ item. IsRecordOf identity infos commit item × (record_moment infos cs item ≡ moment + 1)) more → from ≤ moment → moment ≤ span_end infos cs start records from
+  records_keep : (start from moment : ℕ) (records more : List Record) → AllByRecursion (λ item. IsClearRecordOf identity infos commit item × (record_moment infos cs item ≡ moment + 1)) more → from ≤ moment → moment ≤ span_end infos cs start records from
       → IsAged identity infos cs start records from → IsAged identity infos cs start (records ++ more) from
   records_keep start from moment records [] are low reached aged = subst (λ (l : List Record). IsAged identity infos cs start l from) (sym (append-nil records)) aged
   records_keep start from moment records (item ∷ more) are low reached aged =
@@ -105,18 +137,19 @@ module _ (identity : Identity) (infos : List TableInfo) (before : List Commit) (
   after_all = ap length (all_changes-append before (commit ∷ []) ∙ ap (λ (l : List Change). all_changes before ++ l) (append-nil (changes_of commit)))
 
   module _ (now : ℤ) (in_time : IsMomentInRange now) where
-    part_keeps : (start from : ℕ) (records : List Record) (n : ℕ) → from ≤ moment_after before → moment_after before ≤ span_end infos cs start records from → IsAged identity infos cs start records from
+    part_keeps : (start from : ℕ) (records : List Record) (n : ℕ) → first_found (notice_clash identity.placeholder) (take n told) ≡ None → from ≤ moment_after before → moment_after before ≤ span_end infos cs start records from → IsAged identity infos cs start records from
         → IsAged identity infos cs start (records ++ take n (envelopes identity infos commit now)) from
-    part_keeps start from records n low reached aged =
+    part_keeps start from records n clear low reached aged =
         let none : length (all_changes before) ≡ length (all_changes before ++ []) = ap length (sym (append-nil (all_changes before))) in
-        torn identity infos before commit later facts now [] (changes_of commit) refl (all_do now in_time) start from records
+        torn identity infos before commit later facts now [] (changes_of commit) refl start from records
         (subst (λ (m : ℕ). from ≤ m) none low) (subst (λ (m : ℕ). m ≤ span_end infos cs start records from) none reached) aged n
+        (first_do now in_time commit.lsn.0 0 n told all_fit keyed clear)
 
-    whole_moves : (start : ℕ) (records : List Record) → IsAged identity infos cs start records (moment_after before) → IsAged identity infos cs start (records ++ envelopes identity infos commit now) (moment_after (before ++ commit ∷ []))
-    whole_moves start records aged =
+    whole_moves : (start : ℕ) (records : List Record) → clash_of identity infos commit ≡ None → IsAged identity infos cs start records (moment_after before) → IsAged identity infos cs start (records ++ envelopes identity infos commit now) (moment_after (before ++ commit ∷ []))
+    whole_moves start records clear aged =
         let none : length (all_changes before) ≡ length (all_changes before ++ []) = ap length (sym (append-nil (all_changes before))) in
         subst (IsAged identity infos cs start (records ++ envelopes identity infos commit now)) (sym after_all)
-        (delivered identity infos before commit later facts now [] (changes_of commit) refl (all_do now in_time) start records (subst (IsAged identity infos cs start records) none aged))
+        (delivered identity infos before commit later facts now [] (changes_of commit) refl (events_change_cells identity infos commit now (commit_in_range identity infos before commit later facts) in_time clear) start records (subst (IsAged identity infos cs start records) none aged))
 
     -- ---- the records of one change
 
@@ -168,17 +201,19 @@ module _ (identity : Identity) (infos : List TableInfo) (before : List Commit) (
           ∙ middle (map put xs) (map put own) (map put zs) (events_through infos commit (length earlier)) (events_through infos commit (length earlier + 1))
           (through_first ∙ sym long) (through_next ∙ (ap (λ (k : ℕ). k + length (notices infos c)) (sym through_first) ∙ ap (λ (k : ℕ). events_through infos commit (length earlier) + k) (sym own_long)))
 
-      own_do : AllByRecursion (DoesAsTold identity commit now) own
-      own_do =
-          let xs : List Event = placed commit.lsn.0 0 (flat_map (notices infos) earlier) (notices infos c ++ flat_map (notices infos) others) in
-          let zs : List Event = numbered commit.lsn.0 (counted + length (notices infos c)) (flat_map (notices infos) others) in
-          let all : AllByRecursion (DoesAsTold identity commit now) (xs ++ (own ++ zs)) = subst (AllByRecursion (DoesAsTold identity commit now)) parted (all_do now in_time) in
-          all_left (DoesAsTold identity commit now) own zs (all_right (DoesAsTold identity commit now) xs (own ++ zs) all)
+      -- what holds of each event of the commit holds of its own
+      own_all : (P : Notice → Type 0) → AllByRecursion P told → AllByRecursion P (notices infos c)
+      own_all P all =
+          all_left P (notices infos c) (flat_map (notices infos) others)
+          (all_right P (flat_map (notices infos) earlier) (notices infos c ++ flat_map (notices infos) others)
+          (subst (AllByRecursion P) (ap (flat_map (notices infos)) is ∙ flat_map-append (notices infos) earlier (c ∷ others)) all))
 
-      change_moves : (start : ℕ) (records : List Record) → IsAged identity infos cs start records (moment_after before + length earlier)
+      change_moves : (start : ℕ) (records : List Record) → first_found (notice_clash identity.placeholder) (notices infos c) ≡ None → IsAged identity infos cs start records (moment_after before + length earlier)
           → IsAged identity infos cs start (records ++ records_of_change identity infos commit now (length earlier)) (moment_after before + length earlier + 1)
-      change_moves start records aged =
+      change_moves start records clear aged =
           let size : length (all_changes before ++ earlier) ≡ length (all_changes before) + length earlier = length-append (all_changes before) earlier in
+          let own_do : AllByRecursion (DoesAsTold identity commit now) own =
+          placed_do now in_time commit.lsn.0 counted (notices infos c) (flat_map (notices infos) others) (own_all NoticeFits all_fit) (own_all IsKeyedNotice keyed) clear in
           let moved : IsAged identity infos cs start (records ++ map (print identity commit now) own) (length (all_changes before ++ earlier) + 1) =
           chunk_all identity infos before commit later facts earlier c others is now own_do start records (subst (IsAged identity infos cs start records) (sym size) aged) in
           subst (λ (l : List Record). IsAged identity infos cs start (records ++ l) (moment_after before + length earlier + 1)) (sym its_records)
@@ -207,34 +242,34 @@ module _ (identity : Identity) (infos : List TableInfo) (before : List Commit) (
 -- ---- the laws, of a commit that is the next one
 
 pub records_keep_age : RecordsOfAChangeKeepAge
-records_keep_age identity infos commits before commit later start from moment records more next clear are low reached aged =
+records_keep_age identity infos commits before commit later start from moment records more next are low reached aged =
     let facts : AreFitCommits infos (before ++ commit ∷ later) = subst (AreFitCommits infos) next.spelled next.fit in
     subst (λ (l : List Commit). IsAged identity infos l start (records ++ more) from) (sym next.spelled)
-    (records_keep identity infos before commit later facts clear start from moment records more
-    (subst (λ (l : List Commit). AllByRecursion (λ item. IsRecordOf identity infos commit item × (record_moment infos l item ≡ moment + 1)) more) next.spelled are)
+    (records_keep identity infos before commit later facts start from moment records more
+    (subst (λ (l : List Commit). AllByRecursion (λ item. IsClearRecordOf identity infos commit item × (record_moment infos l item ≡ moment + 1)) more) next.spelled are)
     low (subst (λ (l : List Commit). moment ≤ span_end infos l start records from) next.spelled reached)
     (subst (λ (l : List Commit). IsAged identity infos l start records from) next.spelled aged))
 
 pub parts_keep_age : PartsOfCommitsKeepAge
-parts_keep_age identity infos commits before commit later start from records now n next clear in_time low reached aged =
+parts_keep_age identity infos commits before commit later start from records now n next in_time clear low reached aged =
     let facts : AreFitCommits infos (before ++ commit ∷ later) = subst (AreFitCommits infos) next.spelled next.fit in
     subst (λ (l : List Commit). IsAged identity infos l start (records ++ take n (envelopes identity infos commit now)) from) (sym next.spelled)
-    (part_keeps identity infos before commit later facts clear now in_time start from records n
+    (part_keeps identity infos before commit later facts now in_time start from records n clear
     low (subst (λ (l : List Commit). moment_after before ≤ span_end infos l start records from) next.spelled reached)
     (subst (λ (l : List Commit). IsAged identity infos l start records from) next.spelled aged))
 
 pub changes_move_age : ChangesMoveAge
-changes_move_age identity infos commits before commit later earlier change others start records now next clear in_time is aged =
+changes_move_age identity infos commits before commit later earlier change others start records now next in_time clear is aged =
     let facts : AreFitCommits infos (before ++ commit ∷ later) = subst (AreFitCommits infos) next.spelled next.fit in
     subst (λ (l : List Commit). IsAged identity infos l start (records ++ records_of_change identity infos commit now (length earlier)) (moment_after before + length earlier + 1)) (sym next.spelled)
-    (change_moves identity infos before commit later facts clear now in_time earlier change others is start records
+    (change_moves identity infos before commit later facts now in_time earlier change others is start records clear
     (subst (λ (l : List Commit). IsAged identity infos l start records (moment_after before + length earlier)) next.spelled aged))
 
 pub commits_move_age : CommitsMoveAge
 commits_move_age identity infos commits before commit later start records now next clear in_time aged =
     let facts : AreFitCommits infos (before ++ commit ∷ later) = subst (AreFitCommits infos) next.spelled next.fit in
     subst (λ (l : List Commit). IsAged identity infos l start (records ++ envelopes identity infos commit now) (moment_after (before ++ commit ∷ []))) (sym next.spelled)
-    (whole_moves identity infos before commit later facts clear now in_time start records
+    (whole_moves identity infos before commit later facts now in_time start records clear
     (subst (λ (l : List Commit). IsAged identity infos l start records (moment_after before)) next.spelled aged))
 
 pub silent_commits_move_age : SilentCommitsMoveAge

@@ -1,7 +1,7 @@
 -- The records of a commit's changes, one change behind the other.
-use Rattle.std.proofs.Common.{◌≡◌, ◌∙◌, inl, inr, ◌+◌, ◌≤◌, ◌<◌, ℕ, zero, suc, ℤ, max, List, [], ◌∷◌, ◌++◌, length, take, map, flat_map, sym, ap, subst, arith, append_assoc, append-nil, length-append}
+use Rattle.std.proofs.Common.{◌≡◌, ◌∙◌, inl, inr, ◌+◌, ◌≤◌, ◌<◌, ℕ, zero, suc, ℤ, max, List, [], ◌∷◌, ◌++◌, length, take, map, flat_map, sym, ap, subst, arith, append_assoc, append-nil, length-append, le_refl}
 use Rattle.std.specs.List.{AllByRecursion}
-use Rattle.std.proofs.lemmas.List.{map-append, take-append-le}
+use Rattle.std.proofs.lemmas.List.{map-append, length-map, take-append-le, take_all}
 use Rattle.std.proofs.Math.Seq.{take-append-add}
 use Rattle.dbl_record.specs.declared.record.Record.{Record}
 use Rattle.dbl_table.specs.declared.identity.Identity.{Identity}
@@ -126,11 +126,14 @@ module _ (identity : Identity) (infos : List TableInfo) (before : List Commit) (
         span_on (length front) from (reach infos commits start records) (record_moment infos commits item) (reach infos commits start (records ++ item ∷ [])) far reached in
         subst (λ (l : List Record). IsAged identity infos commits start l from) (append_assoc records (item ∷ []) rs) (some start from rs (records ++ item ∷ []) parts.1 low further now)
 
-    -- ---- all its records, made at one time
+    -- ---- its records, made at one time
 
-    module _ (now : ℤ) (does : AllByRecursion (DoesAsTold identity commit now) (placed commit.lsn.0 (length (flat_map (notices infos) earlier)) (notices infos c) (flat_map (notices infos) others))) where
+    module _ (now : ℤ) where
+      abbrev own_events : List Event
+      own_events = placed commit.lsn.0 (length (flat_map (notices infos) earlier)) (notices infos c) (flat_map (notices infos) others)
+
       abbrev pub chunk : List Record
-      chunk = map (print identity commit now) (placed commit.lsn.0 (length (flat_map (notices infos) earlier)) (notices infos c) (flat_map (notices infos) others))
+      chunk = map (print identity commit now) own_events
 
       chunk_at : AreAt infos commits (length front + 1) chunk
       chunk_at = each_place identity commit now (λ place. place_moment infos commits place ≡ length front + 1) commit.lsn.0 (length (flat_map (notices infos) earlier)) (notices infos c) (flat_map (notices infos) others)
@@ -140,40 +143,48 @@ module _ (identity : Identity) (infos : List TableInfo) (before : List Commit) (
           ∙ sum_next (length (all_changes before)) (length earlier) (length front) (length-append (all_changes before) earlier))))
 
       chunk_quiet : AllByRecursion (IsQuiet identity) chunk
-      chunk_quiet = all_quiet identity commit now (placed commit.lsn.0 (length (flat_map (notices infos) earlier)) (notices infos c) (flat_map (notices infos) others))
+      chunk_quiet = all_quiet identity commit now own_events
 
-      pub chunk_parts : AllByRecursion IsPartRecord chunk
-      chunk_parts = all_three (IsItemPart identity infos front c back fit_flat) (IsQuiet identity) (λ item. record_moment infos commits item ≡ length front + 1) chunk
-          (item_parts identity commit now infos (rows_from infos no_rows front) c commit.lsn.0 (length (flat_map (notices infos) earlier)) (notices infos c) (flat_map (notices infos) others) does
+      -- some first of them
+      pub first_parts : (n : ℕ) → AllByRecursion (DoesAsTold identity commit now) (take n own_events) → AllByRecursion IsPartRecord (take n chunk)
+      first_parts n does = all_three (IsItemPart identity infos front c back fit_flat) (IsQuiet identity) (λ item. record_moment infos commits item ≡ length front + 1) (take n chunk)
+          (item_parts identity commit now infos (rows_from infos no_rows front) c commit.lsn.0 (length (flat_map (notices infos) earlier)) n (notices infos c) (flat_map (notices infos) others) does
           (λ topic text table key column names. parts_named identity infos (rows_from infos no_rows front) c topic text table key names column facts.distinct fit_c))
-          chunk_quiet chunk_at
+          (all_take (IsQuiet identity) n chunk chunk_quiet) (all_take (λ item. record_moment infos commits item ≡ length front + 1) n chunk chunk_at)
 
-      chunk_does : DoAll identity infos front c back fit_flat chunk
+    -- ---- all of them
+
+    module _ (now : ℤ) (does : AllByRecursion (DoesAsTold identity commit now) (placed commit.lsn.0 (length (flat_map (notices infos) earlier)) (notices infos c) (flat_map (notices infos) others))) where
+      chunk_does : DoAll identity infos front c back fit_flat (chunk now)
       chunk_does topic text table key column names held =
           held_placed identity commit now topic text column commit.lsn.0 (length (flat_map (notices infos) earlier)) (notices infos c) (flat_map (notices infos) others) held does
           ∙ changes_change_cells identity infos (rows_from infos no_rows front) c topic text table key names column held facts.distinct fit_c
 
-      chunk_some : 0 < length chunk
+      chunk_some : 0 < length (chunk now)
       chunk_some = some_printed (notices infos c) (tells_some infos (rows_from infos no_rows front) c fit_c)
         where
           some_printed : (ns : List Notice) → 0 < length ns → 0 < length (map (print identity commit now) (placed commit.lsn.0 (length (flat_map (notices infos) earlier)) ns (flat_map (notices infos) others)))
           some_printed [] lt = lt
           some_printed (n ∷ ns) lt = omega arith
 
+      pub chunk_parts : AllByRecursion IsPartRecord (chunk now)
+      chunk_parts = subst (AllByRecursion IsPartRecord) (take_all (length (chunk now)) (chunk now) (le_refl (length (chunk now))))
+          (first_parts now (length (chunk now)) (all_take (DoesAsTold identity commit now) (length (chunk now)) (own_events now) does))
+
       -- how far they reach
-      pub chunk_reach : (start : ℕ) (records : List Record) → reach infos commits start (records ++ chunk) ≡ max (reach infos commits start records) (length front + 1)
-      chunk_reach start records = reach-append infos commits start records chunk ∙ reach_at infos commits (length front + 1) (reach infos commits start records) chunk chunk_some chunk_at
+      pub chunk_reach : (start : ℕ) (records : List Record) → reach infos commits start (records ++ chunk now) ≡ max (reach infos commits start records) (length front + 1)
+      chunk_reach start records = reach-append infos commits start records (chunk now) ∙ reach_at infos commits (length front + 1) (reach infos commits start records) (chunk now) chunk_some (chunk_at now)
 
       -- with all of them the age moves on
-      pub chunk_all : (start : ℕ) (records : List Record) → IsAged identity infos commits start records (length front) → IsAged identity infos commits start (records ++ chunk) (length front + 1)
+      pub chunk_all : (start : ℕ) (records : List Record) → IsAged identity infos commits start records (length front) → IsAged identity infos commits start (records ++ chunk now) (length front + 1)
       chunk_all start records aged =
           let end : ℕ = span_end infos commits start records (length front) in
           let flat : AreAged identity infos (front ++ c ∷ back) start (length front) end records = subst (λ (l : List Change). AreAged identity infos l start (length front) end records) (spelled earlier (c ∷ others) is) aged in
-          let moved : AreAged identity infos (front ++ c ∷ back) start (length front + 1) (max end (length front + 1)) (records ++ chunk) =
-          all identity infos front c back fit_flat start end records chunk (here_reached (length front) (reach infos commits start records)) chunk_does chunk_quiet flat in
-          aged_to identity infos (all_changes commits) start (length front + 1) (max end (length front + 1)) (span_end infos commits start (records ++ chunk) (length front + 1)) (records ++ chunk)
-          (span_moved (length front) (reach infos commits start records) (reach infos commits start (records ++ chunk)) (chunk_reach start records))
-          (subst (λ (l : List Change). AreAged identity infos l start (length front + 1) (max end (length front + 1)) (records ++ chunk)) (sym (spelled earlier (c ∷ others) is)) moved)
+          let moved : AreAged identity infos (front ++ c ∷ back) start (length front + 1) (max end (length front + 1)) (records ++ chunk now) =
+          all identity infos front c back fit_flat start end records (chunk now) (here_reached (length front) (reach infos commits start records)) chunk_does (chunk_quiet now) flat in
+          aged_to identity infos (all_changes commits) start (length front + 1) (max end (length front + 1)) (span_end infos commits start (records ++ chunk now) (length front + 1)) (records ++ chunk now)
+          (span_moved (length front) (reach infos commits start records) (reach infos commits start (records ++ chunk now)) (chunk_reach start records))
+          (subst (λ (l : List Change). AreAged identity infos l start (length front + 1) (max end (length front + 1)) (records ++ chunk now)) (sym (spelled earlier (c ∷ others) is)) moved)
 
   -- ---- changes of the commit from one on
 
@@ -233,25 +244,35 @@ module _ (identity : Identity) (infos : List TableInfo) (before : List Commit) (
         subst (λ (l : List Record). IsAged identity infos commits start l (length (all_changes before ++ (earlier ++ c ∷ others)))) list (subst (IsAged identity infos commits start ((records ++ rs) ++ more)) end rest)
 
     -- with some first records of them
-    pub torn : (earlier rest : List Change) → changes_of commit ≡ earlier ++ rest → AllDo earlier rest → (start from : ℕ) (records : List Record) → from ≤ length (all_changes before ++ earlier)
-        → length (all_changes before ++ earlier) ≤ span_end infos commits start records from → IsAged identity infos commits start records from → (n : ℕ) → IsAged identity infos commits start (records ++ take n (rest_records earlier rest)) from
-    torn earlier [] is does start from records low reached aged zero = subst (λ (l : List Record). IsAged identity infos commits start l from) (sym (append-nil records)) aged
-    torn earlier [] is does start from records low reached aged (suc n) = subst (λ (l : List Record). IsAged identity infos commits start l from) (sym (append-nil records)) aged
-    torn earlier (c ∷ others) is does start from records low reached aged n =
-        let parts = first_does earlier c others does in
-        let rs : List Record = map (print identity commit now) (placed commit.lsn.0 (length (flat_map (notices infos) earlier)) (notices infos c) (flat_map (notices infos) others)) in
+    pub torn : (earlier rest : List Change) → changes_of commit ≡ earlier ++ rest → (start from : ℕ) (records : List Record) → from ≤ length (all_changes before ++ earlier)
+        → length (all_changes before ++ earlier) ≤ span_end infos commits start records from → IsAged identity infos commits start records from
+        → (n : ℕ) → AllByRecursion (DoesAsTold identity commit now) (take n (rest_events earlier rest)) → IsAged identity infos commits start (records ++ take n (rest_records earlier rest)) from
+    torn earlier [] is start from records low reached aged zero does = subst (λ (l : List Record). IsAged identity infos commits start l from) (sym (append-nil records)) aged
+    torn earlier [] is start from records low reached aged (suc n) does = subst (λ (l : List Record). IsAged identity infos commits start l from) (sym (append-nil records)) aged
+    torn earlier (c ∷ others) is start from records low reached aged n does =
+        let es : List Event = placed commit.lsn.0 (length (flat_map (notices infos) earlier)) (notices infos c) (flat_map (notices infos) others) in
+        let rs : List Record = map (print identity commit now) es in
+        let later_events : List Event = rest_events (earlier ++ c ∷ []) others in
         let more : List Record = rest_records (earlier ++ c ∷ []) others in
+        let size : length rs ≡ length es = length-map es (print identity commit now) in
+        let works : AllByRecursion (DoesAsTold identity commit now) (take n (es ++ later_events)) = subst (λ (l : List Event). AllByRecursion (DoesAsTold identity commit now) (take n l)) (first_events earlier c others) does in
         let listed : take n (rest_records earlier (c ∷ others)) ≡ take n (rs ++ more) = ap (take n) (first_records earlier c others) in
-        subst (λ (l : List Record). IsAged identity infos commits start (records ++ l) from) (sym listed) (elim (le_or_more n (length rs)) [
-          | inl le ↦ subst (λ (l : List Record). IsAged identity infos commits start (records ++ l) from) (sym (take-append-le n rs more le))
-              (some earlier c others is start from (take n rs) records (all_take (IsPartRecord earlier c others is) n rs (chunk_parts earlier c others is now parts.0)) low reached aged)
+        subst (λ (l : List Record). IsAged identity infos commits start (records ++ l) from) (sym listed) (elim (le_or_more n (length es)) [
+          | inl le ↦ subst (λ (l : List Record). IsAged identity infos commits start (records ++ l) from) (sym (take-append-le n rs more (subst (λ (k : ℕ). n ≤ k) (sym size) le)))
+              (some earlier c others is start from (take n rs) records
+              (first_parts earlier c others is now n (subst (AllByRecursion (DoesAsTold identity commit now)) (take-append-le n es later_events le) works)) low reached aged)
           | inr most ↦ (
-              let here : IsAged identity infos commits start (records ++ rs) from = some earlier c others is start from rs records (chunk_parts earlier c others is now parts.0) low reached aged in
+              let parted : AllByRecursion (DoesAsTold identity commit now) (es ++ take most.0 later_events) =
+              subst (AllByRecursion (DoesAsTold identity commit now)) (ap (λ (x : ℕ). take x (es ++ later_events)) most.1 ∙ take-append-add es later_events most.0) works in
+              let own : AllByRecursion (DoesAsTold identity commit now) es = all_left (DoesAsTold identity commit now) es (take most.0 later_events) parted in
+              let here : IsAged identity infos commits start (records ++ rs) from = some earlier c others is start from rs records (chunk_parts earlier c others is now own) low reached aged in
               let further : length (all_changes before ++ (earlier ++ c ∷ [])) ≤ span_end infos commits start (records ++ rs) from =
-              span_next (length (all_changes before ++ earlier)) (length (all_changes before ++ (earlier ++ c ∷ []))) from (reach infos commits start records) (reach infos commits start (records ++ rs)) (chunk_reach earlier c others is now parts.0 start records) (next_moment earlier c) in
+              span_next (length (all_changes before ++ earlier)) (length (all_changes before ++ (earlier ++ c ∷ []))) from (reach infos commits start records) (reach infos commits start (records ++ rs)) (chunk_reach earlier c others is now own start records) (next_moment earlier c) in
               let rest : IsAged identity infos commits start ((records ++ rs) ++ take most.0 more) from =
-              torn (earlier ++ c ∷ []) others (next_is earlier c others is) parts.1 start from (records ++ rs) (no_later from (length (all_changes before ++ earlier)) (length (all_changes before ++ (earlier ++ c ∷ []))) low (next_moment earlier c)) further here most.0 in
+              torn (earlier ++ c ∷ []) others (next_is earlier c others is) start from (records ++ rs) (no_later from (length (all_changes before ++ earlier)) (length (all_changes before ++ (earlier ++ c ∷ []))) low (next_moment earlier c)) further here most.0
+              (all_right (DoesAsTold identity commit now) es (take most.0 later_events) parted) in
+              let n_is : n ≡ length rs + most.0 = most.1 ∙ ap (λ (k : ℕ). k + most.0) (sym size) in
               let list : (records ++ rs) ++ take most.0 more ≡ records ++ take n (rs ++ more) =
-              append_assoc records rs (take most.0 more) ∙ ap (λ (l : List Record). records ++ l) (sym (take-append-add rs more most.0) ∙ ap (λ (x : ℕ). take x (rs ++ more)) (sym most.1)) in
+              append_assoc records rs (take most.0 more) ∙ ap (λ (l : List Record). records ++ l) (sym (take-append-add rs more most.0) ∙ ap (λ (x : ℕ). take x (rs ++ more)) (sym n_is)) in
               subst (λ (l : List Record). IsAged identity infos commits start l from) list rest)
         ])

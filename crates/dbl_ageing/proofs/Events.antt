@@ -1,5 +1,5 @@
 -- Which change an event is of, and what is so of the records of one change.
-use Rattle.std.proofs.Common.{◌≡◌, ◌∙◌, inl, inr, ◌+◌, ◌-◌, ◌≤◌, ◌<◌, ℕ, zero, suc, ℤ, List, [], ◌∷◌, ◌++◌, Bool, true, false, cond, Option, Some, None, length, map, flat_map, refl, sym, ap, subst, arith, length-append}
+use Rattle.std.proofs.Common.{◌≡◌, ◌∙◌, inl, inr, ◌+◌, ◌-◌, ◌≤◌, ◌<◌, ℕ, zero, suc, ℤ, List, [], ◌∷◌, ◌++◌, Bool, true, false, cond, Option, Some, None, length, take, map, flat_map, refl, sym, ap, subst, arith, length-append}
 use Rattle.std.specs.Prelude.{option_map, unwrap_or, slice_get}
 use Rattle.std.specs.List.{AllByRecursion}
 use Rattle.std.proofs.lemmas.Bool.{cases_lt}
@@ -118,12 +118,13 @@ module _ (identity : Identity) (commit : Commit) (now : ℤ) where
   all_quiet [] = tt
   all_quiet (e ∷ es) = (event_quiet e, all_quiet es)
 
-  -- where each notice is a part of a change, so is each record
-  pub item_parts : (infos : List TableInfo) (at : Rows) (c : Change) (position ordinal : ℕ) (ns others : List Notice) → AllByRecursion (DoesAsTold identity commit now) (placed position ordinal ns others)
+  -- where each notice is a part of a change, so are the first records
+  pub item_parts : (infos : List TableInfo) (at : Rows) (c : Change) (position ordinal count : ℕ) (ns others : List Notice) → AllByRecursion (DoesAsTold identity commit now) (take count (placed position ordinal ns others))
       → ((topic text : List ℕ) (table : ℕ) (key : Key) (column : List ℕ) (names : Names identity infos topic text table key) → AllByRecursion (λ n. IsPartOf names.info column (effect_of infos c table key) (at table key) (notice_op identity n topic text column)) ns)
-      → AllByRecursion (λ item. (topic text : List ℕ) (table : ℕ) (key : Key) (column : List ℕ) (names : Names identity infos topic text table key) → IsPartOf names.info column (effect_of infos c table key) (at table key) (item_op identity item topic text column)) (map (print identity commit now) (placed position ordinal ns others))
-  item_parts infos at c position ordinal [] others does parts = tt
-  item_parts infos at c position ordinal (n ∷ ns) others does parts = (
+      → AllByRecursion (λ item. (topic text : List ℕ) (table : ℕ) (key : Key) (column : List ℕ) (names : Names identity infos topic text table key) → IsPartOf names.info column (effect_of infos c table key) (at table key) (item_op identity item topic text column)) (take count (map (print identity commit now) (placed position ordinal ns others)))
+  item_parts infos at c position ordinal zero ns others does parts = tt
+  item_parts infos at c position ordinal (suc count) [] others does parts = tt
+  item_parts infos at c position ordinal (suc count) (n ∷ ns) others does parts = (
     λ topic text table key column names. subst (IsPartOf names.info column (effect_of infos c table key) (at table key)) (sym (does.0 topic text column)) (parts topic text table key column names).0,
-    item_parts infos at c position (ordinal + 1) ns others does.1 (λ topic text table key column names. (parts topic text table key column names).1),
+    item_parts infos at c position (ordinal + 1) count ns others does.1 (λ topic text table key column names. (parts topic text table key column names).1),
   )

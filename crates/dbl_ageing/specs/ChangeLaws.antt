@@ -10,7 +10,7 @@ use Rattle.dbl_table.specs.Rows.{changes_of}
 use Rattle.dbl_history.specs.Ranges.{IsMomentInRange}
 use Rattle.dbl_event.specs.Events.{Event, notices, events_of}
 use Rattle.dbl_event.specs.EventJson.{print, envelopes}
-use Rattle.dbl_event.specs.Clashes.{clash_of}
+use Rattle.dbl_event.specs.Clashes.{notice_clash, first_found, clash_of}
 use Rattle.dbl_ageing.specs.Commits.{moment_after, IsNext}
 use Rattle.dbl_ageing.specs.Moments.{record_moment, span_end}
 use Rattle.dbl_ageing.specs.Ages.{IsAged}
@@ -23,6 +23,11 @@ pub record IsRecordOf (identity : Identity) (infos : List TableInfo) (commit : C
   pub now : ℤ
   pub in_range : IsMomentInRange now
   pub printed : item ≡ print identity commit now event
+
+-- the same, and none of its event's cells is the placeholder
+pub record IsClearRecordOf (identity : Identity) (infos : List TableInfo) (commit : Commit) (item : Record) : Type 0 where
+  pub is : IsRecordOf identity infos commit item
+  pub clear : notice_clash identity.placeholder is.event.notice ≡ None
 
 -- how many events the first changes of a commit tell
 abbrev pub events_through : List TableInfo → Commit → ℕ → ℕ
@@ -41,8 +46,8 @@ abbrev pub RecordsOfAChangeKeepAge : Type 0
 RecordsOfAChangeKeepAge = (identity : Identity) (infos : List TableInfo)
     (commits before : List Commit) (commit : Commit) (later : List Commit)
     (start from moment : ℕ) (records more : List Record)
-    → IsNext infos commits before commit later → clash_of identity infos commit ≡ None
-    → AllByRecursion (λ item. IsRecordOf identity infos commit item × (record_moment infos commits item ≡ moment + 1)) more
+    → IsNext infos commits before commit later
+    → AllByRecursion (λ item. IsClearRecordOf identity infos commit item × (record_moment infos commits item ≡ moment + 1)) more
     → from ≤ moment → moment ≤ span_end infos commits start records from
     → IsAged identity infos commits start records from → IsAged identity infos commits start (records ++ more) from
 
@@ -51,7 +56,8 @@ abbrev pub PartsOfCommitsKeepAge : Type 0
 PartsOfCommitsKeepAge = (identity : Identity) (infos : List TableInfo)
     (commits before : List Commit) (commit : Commit) (later : List Commit)
     (start from : ℕ) (records : List Record) (now : ℤ) (n : ℕ)
-    → IsNext infos commits before commit later → clash_of identity infos commit ≡ None → IsMomentInRange now
+    → IsNext infos commits before commit later → IsMomentInRange now
+    → first_found (notice_clash identity.placeholder) (take n (flat_map (notices infos) (changes_of commit))) ≡ None
     → from ≤ moment_after before → moment_after before ≤ span_end infos commits start records from
     → IsAged identity infos commits start records from
     → IsAged identity infos commits start (records ++ take n (envelopes identity infos commit now)) from
@@ -63,7 +69,8 @@ abbrev pub ChangesMoveAge : Type 0
 ChangesMoveAge = (identity : Identity) (infos : List TableInfo)
     (commits before : List Commit) (commit : Commit) (later : List Commit)
     (earlier : List Change) (change : Change) (others : List Change) (start : ℕ) (records : List Record) (now : ℤ)
-    → IsNext infos commits before commit later → clash_of identity infos commit ≡ None → IsMomentInRange now
+    → IsNext infos commits before commit later → IsMomentInRange now
+    → first_found (notice_clash identity.placeholder) (notices infos change) ≡ None
     → changes_of commit ≡ earlier ++ change ∷ others
     → IsAged identity infos commits start records (moment_after before + length earlier)
     → IsAged identity infos commits start (records ++ records_of_change identity infos commit now (length earlier))

@@ -106,8 +106,8 @@ module _ (identity : Identity) (infos : List TableInfo) (before : List Commit) (
       let same : moment ≡ length f = same_moment (length f) (length (all_changes before)) (length found.earlier) moment size (sym its ∙ at) in
       let here : record_moment infos cs item ≡ length f + 1 = next_moment (length f) (length (all_changes before)) (length found.earlier) (record_moment infos cs item) size its in
       let does : DoesAsTold identity commit is.now is.event = one_does is.now is.in_range is.event
-          (some_value (slice_get told is.number) NoticeFits is.event.notice (at_place NoticeFits told is.number all_fit) here_told)
-          (some_value (slice_get told is.number) IsKeyedNotice is.event.notice (at_place IsKeyedNotice told is.number keyed) here_told) clear.clear in
+      (some_value (slice_get told is.number) NoticeFits is.event.notice (at_place NoticeFits told is.number all_fit) here_told)
+      (some_value (slice_get told is.number) IsKeyedNotice is.event.notice (at_place IsKeyedNotice told is.number keyed) here_told) clear.clear in
       let at_c = rows_from infos no_rows f in
       let part : IsItemPart identity infos f found.change (back identity infos before commit later facts found.earlier found.change found.others found.spelled) (fit_flat identity infos before commit later facts found.earlier found.change found.others found.spelled) item =
       (λ topic text table key column names.

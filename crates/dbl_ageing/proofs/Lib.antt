@@ -14,6 +14,4 @@ pub mod Changes
 pub mod Snapshot
 pub mod Rows
 pub mod Named
-pub mod Agree
-pub mod Caught
 pub mod PlainLemmas

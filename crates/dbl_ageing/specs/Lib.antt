@@ -6,6 +6,4 @@ pub mod Windows
 pub mod ChangeLaws
 pub mod SnapshotLaws
 pub mod RowLaws
-pub mod Agreements
-pub mod CaughtLaws
 pub mod PlainAges

@@ -5,7 +5,6 @@ mod laws;
 mod moment_laws;
 mod plain_ages;
 mod row_laws;
-mod step_laws;
 
 pub use laws::{
     age_goes_back, age_stays_as_histories_grow, aged_records_agree, changes_move_age,
@@ -20,9 +19,4 @@ pub use plain_ages::{covers, is_aged_cell, is_touched, occurs};
 pub use row_laws::{
     events_keep_names, known_cells_were_so, lacked_rows_were_absent, no_records_are_named,
     snapshots_keep_names, unknown_rows_were_there,
-};
-pub use step_laws::{
-    commits_are_caught, earlier_moments_are_caught, longer_histories_are_caught,
-    parts_of_commits_are_caught, parts_of_snapshots_are_caught, silent_commits_are_caught,
-    starts_are_caught,
 };

@@ -27,9 +27,9 @@ use Rattle.dbl_ageing.specs.Commits.{moment_after, AreFitCommits, IsNext}
 use Rattle.dbl_ageing.specs.Moments.{changes_through, place_moment, record_moment, reach}
 use Rattle.dbl_ageing.specs.KnownKeys.{IsKnown}
 use Rattle.dbl_ageing.specs.Ages.{held_row, IsAged, AreNamed}
-use Rattle.dbl_ageing.specs.Agreements.{Agrees, IsCaught}
+use Rattle.dbl_faithful.specs.Agreements.{Agrees, IsCaught}
 use Rattle.dbl_ageing.specs.ChangeLaws.{IsRecordOf}
-use Rattle.dbl_ageing.specs.CaughtLaws.{StartsAreCaught, EarlierMomentsAreCaught, PartsOfCommitsAreCaught, CommitsAreCaught, SilentCommitsAreCaught, PartsOfSnapshotsAreCaught, LongerHistoriesAreCaught}
+use Rattle.dbl_faithful.specs.CaughtLaws.{StartsAreCaught, EarlierMomentsAreCaught, PartsOfCommitsAreCaught, CommitsAreCaught, SilentCommitsAreCaught, PartsOfSnapshotsAreCaught, LongerHistoriesAreCaught}
 use Rattle.dbl_ageing.proofs.Lists.{all_take}
 use Rattle.dbl_ageing.proofs.Moments.{AreAbovePosition, place_moment-at, changes_through-most, marks_stand, reach-more, reach-longer}
 use Rattle.dbl_ageing.proofs.Spans.{known_shorter, goes_back, stays_in_longer}
@@ -38,7 +38,7 @@ use Rattle.dbl_ageing.proofs.Changes.{silent_same, parts_keep_age, commits_move_
 use Rattle.dbl_ageing.proofs.Snapshot.{parts_of_snapshots_keep_age}
 use Rattle.dbl_ageing.proofs.Named.{no_records_are_named, events_keep_names, snapshots_keep_names}
 use Rattle.dbl_ageing.proofs.Spans.{no_records_are_aged}
-use Rattle.dbl_ageing.proofs.Agree.{agrees_more, commit_run, chunk_run}
+use Rattle.dbl_faithful.proofs.Agree.{agrees_more, commit_run, chunk_run}
 
 -- ---- lists
 

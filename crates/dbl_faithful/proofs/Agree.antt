@@ -23,7 +23,7 @@ use Rattle.dbl_ageing.specs.Commits.{AreFitCommits}
 use Rattle.dbl_ageing.specs.Moments.{record_moment, reach}
 use Rattle.dbl_ageing.specs.KnownKeys.{IsKnown}
 use Rattle.dbl_ageing.specs.Ages.{held_row, IsAged, AreNamed}
-use Rattle.dbl_ageing.specs.Agreements.{Agrees}
+use Rattle.dbl_faithful.specs.Agreements.{Agrees}
 use Rattle.dbl_ageing.proofs.Lists.{slice_get-front, slice_get-behind}
 use Rattle.dbl_ageing.proofs.Moments.{later_places, reach-one, reach_under}
 use Rattle.dbl_ageing.proofs.Rows.{aged_records_agree}

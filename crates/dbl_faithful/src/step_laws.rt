@@ -1,5 +1,5 @@
 //! What a session keeps of its records, step by step.
-ghost use Rattle.dbl_ageing.specs.CaughtLaws.{StartsAreCaught, EarlierMomentsAreCaught, PartsOfCommitsAreCaught, CommitsAreCaught, SilentCommitsAreCaught, PartsOfSnapshotsAreCaught, LongerHistoriesAreCaught};
+ghost use Rattle.dbl_faithful.specs.CaughtLaws.{StartsAreCaught, EarlierMomentsAreCaught, PartsOfCommitsAreCaught, CommitsAreCaught, SilentCommitsAreCaught, PartsOfSnapshotsAreCaught, LongerHistoriesAreCaught};
 
 /// A first session begins with it.
 pub fn starts_are_caught()

@@ -15,7 +15,7 @@ use Rattle.dbl_event.specs.SnapshotLists.{IsSnapshot}
 use Rattle.dbl_ageing.specs.Commits.{moment_after, IsNext}
 use Rattle.dbl_ageing.specs.KnownKeys.{AreToldUpTo}
 use Rattle.dbl_ageing.specs.Windows.{IsRightWindow}
-use Rattle.dbl_ageing.specs.Agreements.{IsCaught}
+use Rattle.dbl_faithful.specs.Agreements.{IsCaught}
 
 -- no records, at the start
 abbrev pub StartsAreCaught : Type 0

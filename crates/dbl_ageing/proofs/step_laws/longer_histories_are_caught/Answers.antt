@@ -1,5 +1,0 @@
-use Rattle.dbl_ageing.proofs.Caught.{longer_histories_are_caught}
-use Rattle.dbl_ageing.proofs.step_laws.longer_histories_are_caught.Goals as goal
-
-pub returns : goal.returns
-returns c = longer_histories_are_caught

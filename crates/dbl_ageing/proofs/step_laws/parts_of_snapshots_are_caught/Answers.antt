@@ -1,5 +1,0 @@
-use Rattle.dbl_ageing.proofs.Caught.{parts_of_snapshots_are_caught}
-use Rattle.dbl_ageing.proofs.step_laws.parts_of_snapshots_are_caught.Goals as goal
-
-pub returns : goal.returns
-returns c = parts_of_snapshots_are_caught

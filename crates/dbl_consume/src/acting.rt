@@ -7,7 +7,7 @@ ghost use Rattle.serde_json.specs.Written.{has_float};
 ghost use Rattle.serde_json.specs.View.{view, members_view};
 ghost use Rattle.dbl_record.specs.declared.acts.ConsumeError.TheVariants.{Memory, NoKey, BadJson};
 ghost use Rattle.dbl_record.specs.Acts as spec;
-ghost use Rattle.dbl_record.specs.Acts.{json_in};
+ghost use Rattle.dbl_record.specs.Acts.{json_in, or_error};
 ghost use Rattle.dbl_consume.specs.Answers.{Answers};
 
 use dbl_base::{Seq, Text};
@@ -258,6 +258,21 @@ fn value_of(alloc: Global, text: &Text) -> Result<Value, ConsumeError>
     }
 }
 
+// By a key that was read, and by the text of the value.
+fn act_by_key(
+    alloc: Global,
+    placeholder: &Text,
+    key: &Value,
+    value: &Text,
+) -> Result<Act, ConsumeError>
+    ensures { Answers (or_error BadJson (λ v. spec.act_of_data placeholder.now (spec.unwrapped (view key.now)) (spec.unwrapped v)) (json_in value.now)) result }
+{
+    match value_of(alloc, value) {
+        Ok(value) => act_of(alloc, placeholder, unwrapped(key), unwrapped(&value)),
+        Err(error) => Err(error),
+    }
+}
+
 /// What a record does, by its texts.
 #[tactic(auto, unfolding(dbl_record::specs::Acts::act_of))]
 pub(crate) fn act(
@@ -273,10 +288,7 @@ pub(crate) fn act(
         return Ok(Act::Nothing);
     }
     match value_of(alloc, key) {
-        Ok(key) => match value_of(alloc, value) {
-            Ok(value) => act_of(alloc, placeholder, unwrapped(&key), unwrapped(&value)),
-            Err(error) => Err(error),
-        },
+        Ok(key) => act_by_key(alloc, placeholder, &key, value),
         Err(error) => Err(error),
     }
 }

@@ -1,19 +1,18 @@
 -- What commands answer, by what was read.
-use Rattle.std.proofs.Common.{◌≡◌, ◌∙◌, ◌⊎◌, ℕ, Option, Some, None, Ok, Err, List, map, refl, sym, ap, subst, inl, inr}
+use Rattle.std.proofs.Common.{◌≡◌, ◌⊎◌, ℕ, Option, Some, None, Ok, Err, List, map, refl, sym, subst, inl, inr}
 use Rattle.dbl_record.specs.declared.record.Record.{Record}
-use Rattle.dbl_record.specs.Consumers.{consumer, consumer_of}
+use Rattle.dbl_record.specs.Consumers.{consumer_of}
 use Rattle.dbl_record.specs.Cuts.{joined}
-use Rattle.dbl_record.specs.Reading.{as_line}
 use Rattle.dbl_consume.specs.Printing.{row_line}
 use Rattle.dbl_topic.specs.Logs.{IsLog}
 use Rattle.dbl_offset.specs.declared.offset.Offset.{Offset}
 use Rattle.dbl_offset.specs.Stores.{IsStore}
 use Rattle.dbl_runs.specs.declared.error.RunError.{RunError}
 use Rattle.dbl_runs.specs.declared.error.RunError.TheVariants.{NotStarted}
-use Rattle.dbl_runs.specs.Answers.{Answer, AnswersApply, AnswersOffsets, AnswersTopics, HasNoOffset, IsNoLog, first_refused, no_log, no_offset, offset_lines, refused, topic_lines}
+use Rattle.dbl_runs.specs.Answers.{AnswersApply, AnswersOffsets, AnswersTopics, HasNoOffset, IsNoLog, first_refused, no_log, no_offset, offset_lines, refused, topic_lines}
 use Rattle.dbl_runs.specs.Applying.{Applies, AppliesGroups, PrintedRows, TellsOffset, bad, printed, stopped}
-use Rattle.dbl_runs.specs.Consuming.{HasTaken, RefusesAt, readings_of}
-use Rattle.dbl_runs.specs.Ends.{End, Ends, IsCut, IsOutside, Runs, answered, cut}
+use Rattle.dbl_runs.specs.Consuming.{RefusesAt, readings_of}
+use Rattle.dbl_runs.specs.Ends.{End, Ends, IsOutside, Runs, answered, cut}
 
 -- ---- errors of opening
 

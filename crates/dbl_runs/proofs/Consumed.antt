@@ -1,5 +1,5 @@
 -- Groups of records that a consumer takes one after another.
-use Rattle.std.proofs.Common.{◌≡◌, ◌∙◌, ◌⊎◌, ℕ, ◌+◌, ◌<◌, ◌≤◌, List, [], ◌∷◌, ◌++◌, Bool, true, false, ◌&&◌, cond, Option, Some, None, length, map, drop, take, append_assoc, append-nil, refl, sym, ap, subst, arith, inl, inr}
+use Rattle.std.proofs.Common.{◌≡◌, ◌∙◌, ◌⊎◌, ℕ, ◌+◌, ◌≤◌, List, [], ◌∷◌, ◌++◌, true, false, ◌&&◌, cond, Some, length, map, drop, append_assoc, append-nil, refl, sym, ap, subst, inl, inr}
 use Rattle.std.specs.Prelude.{slice_get}
 use Rattle.std.proofs.lemmas.List.{map-append}
 use Rattle.dbl_record.specs.declared.record.Record.{Record}
@@ -12,7 +12,7 @@ use Rattle.dbl_runs.specs.declared.error.RunError.{RunError}
 use Rattle.dbl_runs.specs.declared.error.RunError.TheVariants.{Memory, Failed, BadEntry}
 use Rattle.dbl_runs.specs.declared.error.Store.TheVariants.{Topics}
 use Rattle.dbl_runs.specs.Answers.{accepts, first_refused, first_refused_from, takes}
-use Rattle.dbl_runs.specs.Consuming.{HasTaken, IsFirstBad, RefusesAt, readings_of}
+use Rattle.dbl_runs.specs.Consuming.{HasTaken, RefusesAt, readings_of}
 use Rattle.dbl_runs.specs.Ends.{IsErrorOf, IsOutside}
 use Rattle.dbl_runs.proofs.Left.{next_got, nothing_left}
 

@@ -11,7 +11,7 @@ use Rattle.dbl_offset.specs.declared.error.OffsetError.TheVariants as offset
 use Rattle.dbl_consume.specs.declared.error.PrintError.{PrintError}
 use Rattle.dbl_consume.specs.declared.error.PrintError.TheVariants as print
 use Rattle.dbl_runs.specs.declared.error.RunError.{RunError}
-use Rattle.dbl_runs.specs.declared.error.RunError.TheVariants.{OutputFailed, Memory, Failed, NotStarted, NotAStore, BadEntry}
+use Rattle.dbl_runs.specs.declared.error.RunError.TheVariants.{OutputFailed, Memory, Failed}
 use Rattle.dbl_runs.specs.declared.error.Store.{Store}
 use Rattle.dbl_runs.specs.declared.error.Store.TheVariants.{Topics, Offsets}
 use Rattle.dbl_runs.specs.Answers.{HasNoOffset, IsNoLog}

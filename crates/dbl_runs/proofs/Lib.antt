@@ -6,3 +6,4 @@ pub mod Consumed
 pub mod Answering
 pub mod OnceLaws
 pub mod OffsetTexts
+pub mod StandLaws

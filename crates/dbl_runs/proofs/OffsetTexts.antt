@@ -1,6 +1,6 @@
 -- The text of an offset, piece by piece.
-use Rattle.std.proofs.Common.{◌≡◌, ◌∙◌, ℕ, zero, suc, ◌+◌, ◌<◌, Bool, true, false, cond, Option, Some, None, Ok, Err, OnOk, IfErr, List, [], ◌∷◌, ◌++◌, map, length, drop, get_or, codes, refl, sym, ap, subst, append_assoc, arith}
-use Rattle.std.specs.List.{AllZip, zip}
+use Rattle.std.proofs.Common.{◌≡◌, ◌∙◌, ℕ, zero, suc, ◌+◌, ◌<◌, true, false, cond, Option, Ok, Err, OnOk, IfErr, List, [], ◌∷◌, ◌++◌, map, length, drop, get_or, codes, refl, sym, ap, subst, append_assoc, arith}
+use Rattle.std.specs.List.{AllZip}
 use Rattle.std.proofs.lemmas.List.{drop_more, length-map}
 use Rattle.dbl_base.specs.Lines.{lines_text}
 use Rattle.dbl_value.specs.declared.column_type.PgType.{PgType}
@@ -12,7 +12,6 @@ use Rattle.dbl_table.specs.Tables.{full_name}
 use Rattle.dbl_history.specs.declared.cursor.Cursor.{Cursor}
 use Rattle.dbl_history.specs.Fit.{AreOf, IsKeyOf}
 use Rattle.dbl_consume.specs.Printing.{Wrote, WroteFront}
-use Rattle.dbl_runs.specs.declared.error.RunError.{RunError}
 use Rattle.dbl_runs.specs.declared.error.RunError.TheVariants.{OutputFailed}
 use Rattle.dbl_runs.specs.Answers.{last_text, state_text, table_line}
 use Rattle.dbl_runs.specs.Ends.{CutsLines, End, Ends}

@@ -1,11 +1,10 @@
 -- Stores are read in one way, and each command has one answer.
-use Rattle.std.proofs.Common.{◌≡◌, ◌∙◌, ◌⊎◌, ℕ, Option, Some, None, Ok, Err, List, map, refl, sym, ap, subst, inl, inr}
+use Rattle.std.proofs.Common.{◌≡◌, ◌∙◌, ℕ, Some, None, Ok, Err, List, map, refl, sym, ap, subst}
 use Rattle.dbl_record.specs.declared.record.Record.{Record}
-use Rattle.dbl_record.specs.Acts.{act}
 use Rattle.dbl_record.specs.Consumers.{consumer}
 use Rattle.dbl_record.specs.Cuts.{joined}
 use Rattle.dbl_record.specs.Reading.{as_line}
-use Rattle.dbl_consume.specs.Printing.{AreRowsOf, HeldRow, row_line}
+use Rattle.dbl_consume.specs.Printing.{AreRowsOf, row_line}
 use Rattle.dbl_consume.proofs.RowLemmas.{rows_are_one}
 use Rattle.dbl_journal.specs.Form.{IsFaultAt}
 use Rattle.dbl_journal.proofs.Reading.{one_fault}
@@ -18,8 +17,7 @@ use Rattle.dbl_offset.proofs.StoreLaws.{no_bad_offset, no_fault, not_both, one_b
 use Rattle.dbl_runs.specs.declared.error.RunError.{RunError}
 use Rattle.dbl_runs.specs.declared.error.RunError.TheVariants.{OutputFailed, Memory, Failed, NotStarted, NotAStore, BadEntry}
 use Rattle.dbl_runs.specs.declared.error.Store.TheVariants.{Topics, Offsets}
-use Rattle.dbl_runs.specs.Stores.{ReadAs, Stores}
-use Rattle.dbl_runs.specs.Answers.{Answer, AnswersApply, AnswersOffsets, AnswersTopics, AppliesNot, HasNoOffset, IsNoLog, PrintsConsumer, RefusesGroup, first_refused, no_log, no_offset, offset_lines, refused, topic_lines}
+use Rattle.dbl_runs.specs.Answers.{AppliesNot, HasNoOffset, IsNoLog, PrintsConsumer, RefusesGroup, first_refused, no_log, no_offset, offset_lines, refused, topic_lines}
 use Rattle.dbl_runs.specs.Laws.{ApplyAnswersOnce, OffsetsAnswerOnce, StoresAreReadOnce, TopicsAnswerOnce}
 
 pub stores_once : StoresAreReadOnce

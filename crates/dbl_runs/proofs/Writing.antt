@@ -2,7 +2,6 @@
 use Rattle.std.proofs.Common.{◌≡◌, ◌∙◌, ℕ, ◌+◌, ◌≤◌, Option, Some, List, [], ◌++◌, drop, length, map, sym, ap, append-nil, subst}
 use Rattle.std.specs.Prelude.{slice_get}
 use Rattle.std.proofs.lemmas.List.{map-append}
-use Rattle.dbl_base.specs.Lines.{lines_text}
 use Rattle.dbl_consume.specs.declared.error.PrintError.{PrintError}
 use Rattle.dbl_consume.specs.declared.error.PrintError.TheVariants as print
 use Rattle.dbl_consume.specs.Gathering.{IsGathered}

@@ -1,5 +1,5 @@
 -- For private clauses: the steps of `offsets` and `apply` behind the opening of the stores.
-use Rattle.std.specs.Prelude.{◌≡◌, ℕ, Option, Some, None, Result, Ok, Err, List, map}
+use Rattle.std.specs.Prelude.{◌≡◌, ℕ, Option, Some, None, Ok, Err, List, map}
 use Rattle.dbl_record.specs.declared.record.Record.{Record}
 use Rattle.dbl_record.specs.Consumers.{HeldCells, consumer}
 use Rattle.dbl_record.specs.Cuts.{joined}
@@ -7,8 +7,7 @@ use Rattle.dbl_record.specs.Reading.{as_line}
 use Rattle.dbl_consume.specs.Printing.{HeldRow, AreRowsOf, row_line}
 use Rattle.dbl_offset.specs.declared.offset.Offset.{Offset}
 use Rattle.dbl_runs.specs.declared.error.RunError.{RunError}
-use Rattle.dbl_runs.specs.declared.error.RunError.TheVariants.{NotStarted, BadEntry}
-use Rattle.dbl_runs.specs.declared.error.Store.TheVariants.{Topics}
+use Rattle.dbl_runs.specs.declared.error.RunError.TheVariants.{NotStarted}
 use Rattle.dbl_runs.specs.Answers.{first_refused, offset_lines}
 use Rattle.dbl_runs.specs.Consuming.{IsFirstBad}
 use Rattle.dbl_runs.specs.Ends.{End, Ends, IsCut}

@@ -1,5 +1,5 @@
 -- For private clauses: a consumer of a topic log's groups.
-use Rattle.std.specs.Prelude.{◌≡◌, ◌⊎◌, ℕ, Option, Some, None, List, map}
+use Rattle.std.specs.Prelude.{◌≡◌, ◌⊎◌, ℕ, Some, None, List, map}
 use Rattle.dbl_record.specs.declared.record.Record.{Record}
 use Rattle.dbl_record.specs.Acts.{Reading, reading_of}
 use Rattle.dbl_record.specs.Cuts.{joined}

@@ -1,5 +1,5 @@
 -- The stores, as their disks' bytes are read.
-use Rattle.std.specs.Prelude.{◌≡◌, ℕ, Option, Some, List}
+use Rattle.std.specs.Prelude.{ℕ, Option, List}
 use Rattle.dbl_record.specs.declared.record.Record.{Record}
 use Rattle.dbl_topic.specs.Logs.{IsLog}
 use Rattle.dbl_offset.specs.declared.offset.Offset.{Offset}

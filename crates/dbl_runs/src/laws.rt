@@ -7,7 +7,7 @@ ghost use Rattle.dbl_topic.specs.Held.{HoldsGroups};
 ghost use Rattle.dbl_offset.specs.declared.offset.Offset.{Offset};
 ghost use Rattle.dbl_offset.specs.Stores.{Holds, StoreOn, disk_of};
 ghost use Rattle.dbl_runs.specs.Stores.{ReadAs};
-ghost use Rattle.dbl_runs.specs.Laws.{ApplyAnswersOnce, OffsetsAnswerOnce, StoresAreReadOnce, TopicsAnswerOnce};
+ghost use Rattle.dbl_runs.specs.Laws.{ApplyAnswersOnce, ApplyAnswersStand, OffsetsAnswerOnce, OffsetsAnswersStand, StoresAreReadOnce, TopicsAnswerOnce, TopicsAnswersStand};
 
 use dbl_disk::Disk;
 
@@ -27,4 +27,11 @@ pub fn answers_are_one()
     ensures topics { TopicsAnswerOnce }
     ensures offsets { OffsetsAnswerOnce }
     ensures apply { ApplyAnswersOnce }
+{}
+
+/// Each of these commands has an answer, whatever their disks' bytes are.
+pub fn answers_stand()
+    ensures topics { TopicsAnswersStand }
+    ensures offsets { OffsetsAnswersStand }
+    ensures apply { ApplyAnswersStand }
 {}

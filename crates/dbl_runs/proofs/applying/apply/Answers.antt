@@ -1,6 +1,5 @@
 use Rattle.std.proofs.Common.{subst}
 use Rattle.dbl_runs.specs.Applying.{Applies}
-use Rattle.dbl_runs.specs.declared.error.RunError.TheVariants.{Failed}
 use Rattle.dbl_runs.specs.declared.error.Store.TheVariants.{Topics, Offsets}
 use Rattle.dbl_runs.proofs.Answering.{apply_run, no_log_run, no_store_run}
 use Rattle.dbl_runs.proofs.ErrorLaws.{no_output}

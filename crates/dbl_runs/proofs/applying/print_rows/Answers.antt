@@ -1,6 +1,5 @@
 use Rattle.std.proofs.Common.{map}
 use Rattle.dbl_consume.specs.Printing.{row_line}
-use Rattle.dbl_runs.proofs.ErrorLaws.{print_kind}
 use Rattle.dbl_runs.proofs.Writing.{print_cuts}
 use Rattle.dbl_runs.proofs.applying.print_rows.Goals as goal
 

@@ -1,10 +1,6 @@
-use Rattle.std.proofs.Common.{ap, subst, inl}
-use Rattle.dbl_consume.specs.Holdings.{placeholder_of}
-use Rattle.dbl_runs.specs.Consuming.{HasTaken, RefusesAt}
-use Rattle.dbl_runs.specs.Ends.{IsErrorOf, IsOutside}
-use Rattle.dbl_runs.specs.declared.error.RunError.TheVariants.{Failed}
-use Rattle.dbl_runs.specs.declared.error.Store.TheVariants.{Topics}
-use Rattle.dbl_runs.proofs.Kept.{err_one, keeps_itself, keeps_never, keeps_ok, keeps_retold}
+use Rattle.std.proofs.Common.{subst, inl}
+use Rattle.dbl_runs.specs.Consuming.{HasTaken}
+use Rattle.dbl_runs.proofs.Kept.{err_one, keeps_itself, keeps_never, keeps_ok}
 use Rattle.dbl_runs.proofs.Consumed.{wanting_kind, wanting_outside, wanting_running}
 use Rattle.dbl_runs.proofs.consuming.consume.Goals as goal
 

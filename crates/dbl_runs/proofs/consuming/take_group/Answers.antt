@@ -1,10 +1,10 @@
-use Rattle.std.proofs.Common.{◌≡◌, ◌∙◌, ◌<◌, ◌≤◌, ◌+◌, ◌++◌, [], true, false, take, drop, length, ap, subst, refl, sym, arith, append-nil}
+use Rattle.std.proofs.Common.{◌≡◌, ◌∙◌, ◌<◌, ◌≤◌, ◌+◌, ◌++◌, true, take, drop, length, ap, subst, refl, sym, arith, append-nil}
 use Rattle.std.specs.List.{slice_index_or}
 use Rattle.std.proofs.lemmas.List.{take_all}
 use Rattle.dbl_consume.specs.Holdings.{Took, placeholder_of}
 use Rattle.dbl_runs.specs.Answers.{accepts, takes}
 use Rattle.dbl_runs.specs.Consuming.{readings_of}
-use Rattle.dbl_runs.proofs.Consumed.{one_more, takes_more, takes_not}
+use Rattle.dbl_runs.proofs.Consumed.{one_more, takes_more}
 use Rattle.dbl_runs.proofs.Left.{next_item, next_taken, nothing_left}
 use Rattle.dbl_runs.proofs.consuming.take_group.Goals as goal
 

@@ -1,4 +1,4 @@
-use Rattle.std.proofs.Common.{◌∙◌, ◌≤◌, length, ap, refl, arith, inl}
+use Rattle.std.proofs.Common.{◌∙◌, ap, refl, arith, inl}
 use Rattle.dbl_journal.specs.Stored.{OnDisk, count_of}
 use Rattle.dbl_topic.proofs.HeldLaws.{counted_held}
 use Rattle.dbl_consume.specs.Holdings.{placeholder_of}

@@ -1,6 +1,5 @@
-use Rattle.std.proofs.Common.{◌∙◌, ◌++◌, ◌∷◌, [], ap, codes, refl, sym}
+use Rattle.std.proofs.Common.{◌∙◌, ap, codes, sym}
 use Rattle.std.proofs.lemmas.Result.{IfOk-weaker}
-use Rattle.dbl_table.specs.Tables.{full_name}
 use Rattle.dbl_runs.specs.Answers.{last_text}
 use Rattle.dbl_runs.proofs.OffsetTexts.{done_line, key_long, open_line}
 use Rattle.dbl_runs.proofs.offsets.table_text.Goals as goal

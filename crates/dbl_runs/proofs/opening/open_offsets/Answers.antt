@@ -1,4 +1,3 @@
-use Rattle.std.proofs.Common.{ap}
 use Rattle.dbl_runs.proofs.ErrorLaws.{no_offset_told, offset_failed, offset_kind, offset_tells}
 use Rattle.dbl_runs.proofs.Kept.{keeps_failed}
 use Rattle.dbl_runs.proofs.opening.open_offsets.Goals as goal

@@ -1,4 +1,3 @@
-use Rattle.std.proofs.Common.{ap}
 use Rattle.dbl_runs.proofs.ErrorLaws.{no_log_told, topic_failed, topic_kind, topic_tells}
 use Rattle.dbl_runs.proofs.Kept.{keeps_failed}
 use Rattle.dbl_runs.proofs.opening.open_topics.Goals as goal

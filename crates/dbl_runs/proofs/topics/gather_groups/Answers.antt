@@ -1,6 +1,5 @@
-use Rattle.std.proofs.Common.{◌≡◌, ◌∙◌, ◌+◌, List, drop, length, refl, ap, subst, arith, inr}
+use Rattle.std.proofs.Common.{◌∙◌, ◌+◌, drop, refl, ap, subst, arith, inr}
 use Rattle.dbl_journal.specs.Stored.{OnDisk, count_of}
-use Rattle.dbl_record.specs.declared.record.Record.{Record}
 use Rattle.dbl_consume.specs.Gathering.{IsGathered}
 use Rattle.dbl_topic.proofs.HeldLaws.{counted_held}
 use Rattle.dbl_runs.specs.Answers.{topic_lines}

@@ -1,10 +1,5 @@
-use Rattle.std.proofs.Common.{ap, arith, refl}
 use Rattle.dbl_consume.proofs.PrintingLemmas.{all_written}
 use Rattle.dbl_runs.specs.Answers.{topic_lines}
-use Rattle.dbl_runs.specs.declared.error.RunError.TheVariants.{Failed}
-use Rattle.dbl_runs.specs.declared.error.Store.TheVariants.{Topics}
-use Rattle.dbl_runs.proofs.ErrorLaws.{print_failed, print_fails_none, print_kind, print_kind_of}
-use Rattle.dbl_runs.proofs.Kept.{err_one, failed_with, keeps_never, keeps_ok, keeps_retold}
 use Rattle.dbl_runs.proofs.Writing.{rest_cuts}
 use Rattle.dbl_runs.proofs.topics.put_groups.Goals as goal
 

@@ -21,6 +21,7 @@ use Rattle.dbl_journal.specs.Form.{HasBadMagic, HasNoBody, IsBroken, IsClosed, I
 use Rattle.dbl_journal.proofs.Appends.{length-body, length-magic}
 use Rattle.dbl_journal.proofs.Scans.{differs_at, has_magic}
 use Rattle.dbl_topic.specs.Logs.{AreLogEntries, IsLog, IsLogEntry}
+use Rattle.dbl_pgmsg.specs.Faults.{AreBytes}
 use Rattle.dbl_offset.specs.declared.offset.Offset.{Offset}
 use Rattle.dbl_offset.specs.Offsets as offsets
 use Rattle.dbl_offset.specs.Reading.{whole}
@@ -30,7 +31,7 @@ use Rattle.dbl_runs.specs.declared.error.RunError.{RunError}
 use Rattle.dbl_runs.specs.declared.error.RunError.TheVariants.{NotStarted, NotAStore, BadEntry}
 use Rattle.dbl_runs.specs.declared.error.Store.TheVariants.{Topics, Offsets}
 use Rattle.dbl_runs.specs.Answers.{Answer, AnswersApply, HasNoOffset, IsNoLog, first_refused, no_log, no_offset, offset_lines, refused, topic_lines}
-use Rattle.dbl_runs.specs.Laws.{ApplyAnswersStand, AreBytes, OffsetsAnswersStand, TopicsAnswersStand}
+use Rattle.dbl_runs.specs.Laws.{ApplyAnswersStand, OffsetsAnswersStand, TopicsAnswersStand}
 
 -- ---- bytes
 

@@ -1,6 +1,6 @@
 -- Laws of the stores and of the answers.
-use Rattle.std.specs.Prelude.{◌≡◌, ◌<◌, ◌^◌, ℕ, List}
-use Rattle.std.specs.List.{AllByRecursion}
+use Rattle.std.specs.Prelude.{◌≡◌, ℕ, List}
+use Rattle.dbl_pgmsg.specs.Faults.{AreBytes}
 use Rattle.dbl_runs.specs.Stores.{Stores, ReadAs}
 use Rattle.dbl_runs.specs.Answers.{Answer, AnswersTopics, AnswersOffsets, AnswersApply}
 
@@ -17,10 +17,6 @@ OffsetsAnswerOnce = (bytes : List ℕ) (first second : Answer) → AnswersOffset
 
 abbrev pub ApplyAnswersOnce : Type 0
 ApplyAnswersOnce = (topics offsets : List ℕ) (first second : Answer) → AnswersApply topics offsets first → AnswersApply topics offsets second → first ≡ second
-
--- numbers that are bytes
-abbrev pub AreBytes : List ℕ → Type 0
-AreBytes bytes = AllByRecursion (λ b. b < 2 ^ 8) bytes
 
 -- `topics` has an answer, whatever the disk's bytes are
 abbrev pub TopicsAnswersStand : Type 0

@@ -32,16 +32,21 @@ pub fn apply<T: Disk, F: Disk, O: Output>(
     output: &mut O,
 ) -> Applied<T, F>
     // Of disks that tell their bytes, what is written and answered is what they are read as.
-    ensures told { (t f : List ℕ) → T.seen topics ≡ Some t → F.seen offsets ≡ Some f → Runs (AnswersApply t f) result.end (O.written output.old) (O.written output.new) }
+    ensures told { (t f : List ℕ) → T.seen topics ≡ Some t → F.seen offsets ≡ Some f →
+        Runs (AnswersApply t f) result.end (O.written output.old) (O.written output.new) }
 
     // Where the topics disk holds no log, the offsets disk isn't touched.
-    ensures unopened { (t : List ℕ) → T.seen topics ≡ Some t → ((groups : List (List Record)) → ¬ IsLog t groups) → result.offsets ≡ offsets }
+    ensures unopened { (t : List ℕ) → T.seen topics ≡ Some t →
+        ((groups : List (List Record)) → ¬ IsLog t groups) → result.offsets ≡ offsets }
 
     // Whatever the disks tell, they are only read.
-    ensures keeps_topics { Keeps T.seen T.may_leave T.faults (result.end ≡ Err (RunError.Failed Store.Topics)) topics result.topics }
-    ensures keeps_offsets { Keeps F.seen F.may_leave F.faults (result.end ≡ Err (RunError.Failed Store.Offsets)) offsets result.offsets }
+    ensures keeps_topics { Keeps T.seen T.may_leave T.faults
+        (result.end ≡ Err (RunError.Failed Store.Topics)) topics result.topics }
+    ensures keeps_offsets { Keeps F.seen F.may_leave F.faults
+        (result.end ≡ Err (RunError.Failed Store.Offsets)) offsets result.offsets }
     ensures unwritten { IfErr result.end (λ error. IsRefusal error → output.new ≡ output.old) }
-    ensures output_failed { result.end ≡ Err RunError.OutputFailed → Rose (O.faults output.old) (O.faults output.new) }
+    ensures output_failed { result.end ≡ Err RunError.OutputFailed →
+        Rose (O.faults output.old) (O.faults output.new) }
     ensures output_later { O.faults output.old ≤ O.faults output.new }
 {
     let mut log = match open_topics(alloc, topics) {
@@ -79,11 +84,17 @@ fn print_consumer<D: Disk, O: Output>(
     output: &mut O,
 ) -> Result<(), RunError>
     requires { IsTrue log.old.live }
-    ensures told { (groups : List (List Record)) → HoldsGroups D.seen D.may_leave log.old groups → Applies groups (option_map (λ offset. offset.now) loaded.entry) result (O.written output.old) (O.written output.new) }
-    ensures keeps { Keeps D.seen D.may_leave D.faults (result ≡ Err (RunError.Failed Store.Topics)) log.old.disk log.new.disk }
-    ensures kinds { IfErr result (λ error. (error ≡ RunError.OutputFailed) ⊎ ((error ≡ RunError.NotStarted) ⊎ IsErrorOf Store.Topics error)) }
+    ensures told { (groups : List (List Record)) → HoldsGroups D.seen D.may_leave log.old groups →
+        Applies groups (option_map (λ offset. offset.now) loaded.entry) result
+        (O.written output.old) (O.written output.new) }
+    ensures keeps { Keeps D.seen D.may_leave D.faults
+        (result ≡ Err (RunError.Failed Store.Topics)) log.old.disk log.new.disk }
+    ensures kinds { IfErr result
+        (λ error. (error ≡ RunError.OutputFailed) ⊎
+        ((error ≡ RunError.NotStarted) ⊎ IsErrorOf Store.Topics error)) }
     ensures unwritten { IfErr result (λ error. IsRefusal error → output.new ≡ output.old) }
-    ensures output_failed { result ≡ Err RunError.OutputFailed → Rose (O.faults output.old) (O.faults output.new) }
+    ensures output_failed { result ≡ Err RunError.OutputFailed →
+        Rose (O.faults output.old) (O.faults output.new) }
     ensures output_later { O.faults output.old ≤ O.faults output.new }
 {
     match loaded {
@@ -100,11 +111,15 @@ fn print_groups<D: Disk, O: Output>(
     output: &mut O,
 ) -> Result<(), RunError>
     requires { IsTrue log.old.live }
-    ensures told { (groups : List (List Record)) → HoldsGroups D.seen D.may_leave log.old groups → AppliesGroups placeholder.now groups result (O.written output.old) (O.written output.new) }
-    ensures keeps { Keeps D.seen D.may_leave D.faults (result ≡ Err (RunError.Failed Store.Topics)) log.old.disk log.new.disk }
-    ensures kinds { IfErr result (λ error. (error ≡ RunError.OutputFailed) ⊎ IsErrorOf Store.Topics error) }
+    ensures told { (groups : List (List Record)) → HoldsGroups D.seen D.may_leave log.old groups →
+        AppliesGroups placeholder.now groups result (O.written output.old) (O.written output.new) }
+    ensures keeps { Keeps D.seen D.may_leave D.faults
+        (result ≡ Err (RunError.Failed Store.Topics)) log.old.disk log.new.disk }
+    ensures kinds { IfErr result
+        (λ error. (error ≡ RunError.OutputFailed) ⊎ IsErrorOf Store.Topics error) }
     ensures unwritten { IfErr result (λ error. IsRefusal error → output.new ≡ output.old) }
-    ensures output_failed { result ≡ Err RunError.OutputFailed → Rose (O.faults output.old) (O.faults output.new) }
+    ensures output_failed { result ≡ Err RunError.OutputFailed →
+        Rose (O.faults output.old) (O.faults output.new) }
     ensures output_later { O.faults output.old ≤ O.faults output.new }
 {
     match consume(alloc, log, placeholder) {
@@ -115,9 +130,13 @@ fn print_groups<D: Disk, O: Output>(
 
 // Prints the rows that are held.
 fn print_rows<O: Output>(held: &Consumer, output: &mut O) -> Result<(), RunError>
-    ensures told { (taken : List Reading) → Took taken held.now → PrintedRows (consumer_of (placeholder_of held.now) taken) result (O.written output.old) (O.written output.new) }
-    ensures kinds { IfErr result (λ error. (error ≡ RunError.OutputFailed) ⊎ (error ≡ RunError.Memory)) }
-    ensures output_failed { result ≡ Err RunError.OutputFailed → Rose (O.faults output.old) (O.faults output.new) }
+    ensures told { (taken : List Reading) → Took taken held.now →
+        PrintedRows (consumer_of (placeholder_of held.now) taken) result (O.written output.old)
+        (O.written output.new) }
+    ensures kinds { IfErr result
+        (λ error. (error ≡ RunError.OutputFailed) ⊎ (error ≡ RunError.Memory)) }
+    ensures output_failed { result ≡ Err RunError.OutputFailed →
+        Rose (O.faults output.old) (O.faults output.new) }
     ensures output_later { O.faults output.old ≤ O.faults output.new }
 {
     match held.print(output) {

@@ -33,9 +33,11 @@ fn text_or<'a>(text: &'a Option<Text>, null: &'a Text) -> &'a Text
 
 fn take_record(held: &mut Consumer, item: &Record, null: &Text) -> Result<(), ConsumeError>
     requires { null.now ≡ codes "null" }
-    ensures took { (taken : List Reading) → Took taken held.old → OnOk result (Took (taken ++ reading_of (as_line item.now) ∷ []) held.new) }
+    ensures took { (taken : List Reading) → Took taken held.old →
+        OnOk result (Took (taken ++ reading_of (as_line item.now) ∷ []) held.new) }
     ensures accepted { OnOk result (accepts (placeholder_of held.old) item.now ≡ true) }
-    ensures refused { IfErr result (λ error. error ≢ Memory → accepts (placeholder_of held.old) item.now ≡ false) }
+    ensures refused { IfErr result (λ error. error ≢ Memory →
+        accepts (placeholder_of held.old) item.now ≡ false) }
     ensures placeholder { placeholder_of held.new ≡ placeholder_of held.old }
 {
     let key = text_or(&item.key, null);
@@ -54,9 +56,13 @@ fn take_group(
     number: u64,
 ) -> Result<(), RunError>
     requires { null.now ≡ codes "null" }
-    ensures took { (taken : List Reading) → Took taken held.old → OnOk result (Took (taken ++ readings_of group.now.items) held.new) }
+    ensures took { (taken : List Reading) → Took taken held.old →
+        OnOk result (Took (taken ++ readings_of group.now.items) held.new) }
     ensures taken { OnOk result (takes (placeholder_of held.old) group.now.items ≡ true) }
-    ensures refused { IfErr result (λ error. (error ≡ RunError.Memory) ⊎ ((error ≡ RunError.BadEntry Store.Topics number) × (takes (placeholder_of held.old) group.now.items ≡ false))) }
+    ensures refused { IfErr result
+        (λ error. (error ≡ RunError.Memory) ⊎
+        ((error ≡ RunError.BadEntry Store.Topics number) ×
+        (takes (placeholder_of held.old) group.now.items ≡ false))) }
     ensures placeholder { placeholder_of held.new ≡ placeholder_of held.old }
 {
     'records: for item in group {
@@ -97,8 +103,11 @@ fn take_groups<D: Disk>(
     requires live { IsTrue log.old.live }
     requires null { null.now ≡ codes "null" }
     requires empty { Took [] held.old }
-    ensures told { (groups : List (List Record)) → HoldsGroups D.seen D.may_leave log.old groups → MatchResult result (λ done. HasTaken (placeholder_of held.old) groups held.new) (RefusesAt (placeholder_of held.old) groups) }
-    ensures keeps { Keeps D.seen D.may_leave D.faults (result ≡ Err (RunError.Failed Store.Topics)) log.old.disk log.new.disk }
+    ensures told { (groups : List (List Record)) → HoldsGroups D.seen D.may_leave log.old groups →
+        MatchResult result (λ done. HasTaken (placeholder_of held.old) groups held.new)
+        (RefusesAt (placeholder_of held.old) groups) }
+    ensures keeps { Keeps D.seen D.may_leave D.faults
+        (result ≡ Err (RunError.Failed Store.Topics)) log.old.disk log.new.disk }
     ensures kinds { IfErr result (IsErrorOf Store.Topics) }
 {
     'each: for number in 0..log.groups() {
@@ -121,8 +130,10 @@ pub(crate) fn consume<D: Disk>(
     placeholder: &Text,
 ) -> Result<Consumer, RunError>
     requires { IsTrue log.old.live }
-    ensures told { (groups : List (List Record)) → HoldsGroups D.seen D.may_leave log.old groups → MatchResult result (HasTaken placeholder.now groups) (RefusesAt placeholder.now groups) }
-    ensures keeps { Keeps D.seen D.may_leave D.faults (result ≡ Err (RunError.Failed Store.Topics)) log.old.disk log.new.disk }
+    ensures told { (groups : List (List Record)) → HoldsGroups D.seen D.may_leave log.old groups →
+        MatchResult result (HasTaken placeholder.now groups) (RefusesAt placeholder.now groups) }
+    ensures keeps { Keeps D.seen D.may_leave D.faults
+        (result ≡ Err (RunError.Failed Store.Topics)) log.old.disk log.new.disk }
     ensures kinds { IfErr result (IsErrorOf Store.Topics) }
 {
     let null = match Text::of(alloc, "null") {

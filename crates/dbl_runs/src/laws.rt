@@ -18,7 +18,9 @@ pub fn stores_are_read_once()
 
 /// The disks of a log that holds groups and of a store that holds an offset, or none, are read as these.
 pub fn held_stores_are_read<T: Disk, F: Disk>()
-    ensures { (log : OnDisk T) (store : StoreOn F) (groups : List (List Record)) (offset : Option Offset) → HoldsGroups T.seen T.may_leave log groups → Holds F.seen F.may_leave store offset →
+    ensures { (log : OnDisk T) (store : StoreOn F) (groups : List (List Record))
+        (offset : Option Offset) → HoldsGroups T.seen T.may_leave log groups →
+        Holds F.seen F.may_leave store offset →
         (t f : List ℕ) × (T.seen log.disk ≡ Some t) × (F.seen (disk_of store) ≡ Some f) × ReadAs t f (record { groups = groups; offset = offset }) }
 {}
 

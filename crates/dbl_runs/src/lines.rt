@@ -17,9 +17,12 @@ pub(crate) const BUFFER_LENGTH: usize = 69_632;
 
 // Writes what the buffer holds, and empties it.
 fn flush<O: Output>(output: &mut O, buffer: &mut Vec<u8>) -> Result<(), PrintError>
-    ensures wrote { OnOk result (Wrote (O.written output.old) (O.written output.new) buffer.old.items) }
+    ensures wrote { OnOk result
+        (Wrote (O.written output.old) (O.written output.new) buffer.old.items) }
     ensures emptied { OnOk result (buffer.new.items ≡ []) }
-    ensures front { IfErr result (λ error. (error ≡ Failed) × WroteFront (O.written output.old) (O.written output.new) buffer.old.items) }
+    ensures front { IfErr result
+        (λ error. (error ≡ Failed) ×
+        WroteFront (O.written output.old) (O.written output.new) buffer.old.items) }
     ensures cause { result ≡ Err Failed → Rose (O.faults output.old) (O.faults output.new) }
     ensures later { O.faults output.old ≤ O.faults output.new }
 {
@@ -35,7 +38,9 @@ fn flush<O: Output>(output: &mut O, buffer: &mut Vec<u8>) -> Result<(), PrintErr
 /// Writes what the buffer holds, if it holds anything.
 pub(crate) fn flush_rest<O: Output>(output: &mut O, mut buffer: Vec<u8>) -> Result<(), PrintError>
     ensures wrote { OnOk result (Wrote (O.written output.old) (O.written output.new) buffer.items) }
-    ensures front { IfErr result (λ error. (error ≡ Failed) × WroteFront (O.written output.old) (O.written output.new) buffer.items) }
+    ensures front { IfErr result
+        (λ error. (error ≡ Failed) ×
+        WroteFront (O.written output.old) (O.written output.new) buffer.items) }
     ensures cause { result ≡ Err Failed → Rose (O.faults output.old) (O.faults output.new) }
     ensures later { O.faults output.old ≤ O.faults output.new }
 {
@@ -47,7 +52,8 @@ pub(crate) fn flush_rest<O: Output>(output: &mut O, mut buffer: Vec<u8>) -> Resu
 
 // Writes what the buffer holds where that is much.
 fn flush_much<O: Output>(output: &mut O, mut buffer: Vec<u8>) -> Result<Vec<u8>, PrintError>
-    ensures gathers { Gathers (λ filled. filled.items) [] buffer.items (O.written output.old) result (O.written output.new) }
+    ensures gathers { Gathers (λ filled. filled.items) [] buffer.items (O.written output.old) result
+        (O.written output.new) }
     ensures cause { result ≡ Err Failed → Rose (O.faults output.old) (O.faults output.new) }
     ensures later { O.faults output.old ≤ O.faults output.new }
 {
@@ -62,7 +68,9 @@ fn flush_much<O: Output>(output: &mut O, mut buffer: Vec<u8>) -> Result<Vec<u8>,
 
 // Puts a newline behind a line, and writes the buffer where it holds much.
 fn end_line<O: Output>(output: &mut O, mut buffer: Vec<u8>) -> Result<Vec<u8>, PrintError>
-    ensures gathers { (bytes line : List ℕ) → buffer.items ≡ bytes ++ line → Gathers (λ filled. filled.items) (line ∷ []) bytes (O.written output.old) result (O.written output.new) }
+    ensures gathers { (bytes line : List ℕ) → buffer.items ≡ bytes ++ line →
+        Gathers (λ filled. filled.items) (line ∷ []) bytes (O.written output.old) result
+        (O.written output.new) }
     ensures cause { result ≡ Err Failed → Rose (O.faults output.old) (O.faults output.new) }
     ensures later { O.faults output.old ≤ O.faults output.new }
 {
@@ -78,7 +86,8 @@ fn put_record<O: Output>(
     buffer: Vec<u8>,
     item: &Record,
 ) -> Result<Vec<u8>, PrintError>
-    ensures gathers { Gathers (λ filled. filled.items) (line_of item.now ∷ []) buffer.items (O.written output.old) result (O.written output.new) }
+    ensures gathers { Gathers (λ filled. filled.items) (line_of item.now ∷ []) buffer.items
+        (O.written output.old) result (O.written output.new) }
     ensures cause { result ≡ Err Failed → Rose (O.faults output.old) (O.faults output.new) }
     ensures later { O.faults output.old ≤ O.faults output.new }
 {
@@ -94,7 +103,8 @@ pub(crate) fn put_records<O: Output>(
     buffer: Vec<u8>,
     records: &Vec<Record>,
 ) -> Result<Vec<u8>, PrintError>
-    ensures gathers { Gathers (λ filled. filled.items) (map line_of records.now.items) buffer.items (O.written output.old) result (O.written output.new) }
+    ensures gathers { Gathers (λ filled. filled.items) (map line_of records.now.items) buffer.items
+        (O.written output.old) result (O.written output.new) }
     ensures cause { result ≡ Err Failed → Rose (O.faults output.old) (O.faults output.new) }
     ensures later { O.faults output.old ≤ O.faults output.new }
 {

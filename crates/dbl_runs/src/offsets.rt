@@ -24,13 +24,18 @@ use std::alloc::{AllocError, Global};
 /// Writes the text of the offset on a disk: its numbers, and how far each table's snapshot has come. It begins with a sync.
 pub fn print_offset<D: Disk, O: Output>(alloc: Global, disk: D, output: &mut O) -> Ended<D>
     // Of a disk that tells its bytes, what is written and answered is what they are read as.
-    ensures told { (bytes : List ℕ) → D.seen disk ≡ Some bytes → Runs (AnswersOffsets bytes) result.end (O.written output.old) (O.written output.new) }
+    ensures told { (bytes : List ℕ) → D.seen disk ≡ Some bytes →
+        Runs (AnswersOffsets bytes) result.end (O.written output.old) (O.written output.new) }
 
     // Whatever the disk tells, it is only read, and the error has to do with it or with the output.
-    ensures keeps { Keeps D.seen D.may_leave D.faults (result.end ≡ Err (RunError.Failed Store.Offsets)) disk result.disk }
-    ensures kinds { IfErr result.end (λ error. (error ≡ RunError.OutputFailed) ⊎ ((error ≡ RunError.NotStarted) ⊎ IsErrorOf Store.Offsets error)) }
+    ensures keeps { Keeps D.seen D.may_leave D.faults
+        (result.end ≡ Err (RunError.Failed Store.Offsets)) disk result.disk }
+    ensures kinds { IfErr result.end
+        (λ error. (error ≡ RunError.OutputFailed) ⊎
+        ((error ≡ RunError.NotStarted) ⊎ IsErrorOf Store.Offsets error)) }
     ensures unwritten { IfErr result.end (λ error. IsRefusal error → output.new ≡ output.old) }
-    ensures output_failed { result.end ≡ Err RunError.OutputFailed → Rose (O.faults output.old) (O.faults output.new) }
+    ensures output_failed { result.end ≡ Err RunError.OutputFailed →
+        Rose (O.faults output.old) (O.faults output.new) }
     ensures output_later { O.faults output.old ≤ O.faults output.new }
 {
     match open_offsets(alloc, disk) {
@@ -55,11 +60,15 @@ fn print_loaded<O: Output>(
     output: &mut O,
 ) -> Result<(), RunError>
     requires { IfSome loaded (λ offset. IsOffset offset.now) }
-    ensures told { TellsOffset (option_map (λ offset. offset.now) loaded.entry) result (O.written output.old) (O.written output.new) }
-    ensures kinds { IfErr result (λ error. (error ≡ RunError.OutputFailed) ⊎ ((error ≡ RunError.NotStarted) ⊎ IsErrorOf Store.Offsets error)) }
+    ensures told { TellsOffset (option_map (λ offset. offset.now) loaded.entry) result
+        (O.written output.old) (O.written output.new) }
+    ensures kinds { IfErr result
+        (λ error. (error ≡ RunError.OutputFailed) ⊎
+        ((error ≡ RunError.NotStarted) ⊎ IsErrorOf Store.Offsets error)) }
     ensures running { (store : Store) → result ≢ Err (RunError.Failed store) }
     ensures unwritten { IfErr result (λ error. IsRefusal error → output.new ≡ output.old) }
-    ensures output_failed { result ≡ Err RunError.OutputFailed → Rose (O.faults output.old) (O.faults output.new) }
+    ensures output_failed { result ≡ Err RunError.OutputFailed →
+        Rose (O.faults output.old) (O.faults output.new) }
     ensures output_later { O.faults output.old ≤ O.faults output.new }
 {
     match loaded {
@@ -71,9 +80,12 @@ fn print_loaded<O: Output>(
 // Writes the text of an offset.
 fn print_text<O: Output>(alloc: Global, offset: &Offset, output: &mut O) -> Result<(), RunError>
     requires { IsOffset offset.now }
-    ensures told { Ends (Ok (offset_lines offset.now)) result (O.written output.old) (O.written output.new) }
-    ensures kinds { IfErr result (λ error. (error ≡ RunError.OutputFailed) ⊎ (error ≡ RunError.Memory)) }
-    ensures output_failed { result ≡ Err RunError.OutputFailed → Rose (O.faults output.old) (O.faults output.new) }
+    ensures told { Ends (Ok (offset_lines offset.now)) result (O.written output.old)
+        (O.written output.new) }
+    ensures kinds { IfErr result
+        (λ error. (error ≡ RunError.OutputFailed) ⊎ (error ≡ RunError.Memory)) }
+    ensures output_failed { result ≡ Err RunError.OutputFailed →
+        Rose (O.faults output.old) (O.faults output.new) }
     ensures output_later { O.faults output.old ≤ O.faults output.new }
 {
     match offset_text(alloc, offset) {
@@ -84,8 +96,11 @@ fn print_text<O: Output>(alloc: Global, offset: &Offset, output: &mut O) -> Resu
 
 fn write_text<O: Output>(text: &str, output: &mut O) -> Result<(), RunError>
     ensures wrote { OnOk result (Wrote (O.written output.old) (O.written output.new) text.now) }
-    ensures front { IfErr result (λ error. (error ≡ RunError.OutputFailed) × WroteFront (O.written output.old) (O.written output.new) text.now) }
-    ensures output_failed { result ≡ Err RunError.OutputFailed → Rose (O.faults output.old) (O.faults output.new) }
+    ensures front { IfErr result
+        (λ error. (error ≡ RunError.OutputFailed) ×
+        WroteFront (O.written output.old) (O.written output.new) text.now) }
+    ensures output_failed { result ≡ Err RunError.OutputFailed →
+        Rose (O.faults output.old) (O.faults output.new) }
     ensures output_later { O.faults output.old ≤ O.faults output.new }
 {
     match output.write(text.as_bytes()) {
@@ -123,7 +138,8 @@ fn with_tables(
 ) -> Result<String, AllocError>
     requires long { length cursors.now ≡ length infos.now }
     requires are { AreCursorsOf infos.now cursors.now }
-    ensures { IfOk result (λ all. string_bytes all ≡ string_bytes text ++ lines_text (map table_line (zip infos.now cursors.now))) }
+    ensures { IfOk result (λ all. string_bytes all ≡
+        string_bytes text ++ lines_text (map table_line (zip infos.now cursors.now))) }
 {
     let mut all = text;
     'tables: for place in 0..infos.len() {
@@ -136,7 +152,8 @@ fn with_tables(
 // The line of a table with its newline.
 fn table_text(alloc: Global, info: &TableInfo, cursor: &Cursor) -> Result<String, AllocError>
     requires { IsCursorOf info.now cursor.now }
-    ensures { IfOk result (λ text. string_bytes text ≡ table_line (info.now, cursor.now) ++ 10 ∷ []) }
+    ensures { IfOk result
+        (λ text. string_bytes text ≡ table_line (info.now, cursor.now) ++ 10 ∷ []) }
 {
     let table = &info.name;
     if cursor.done {

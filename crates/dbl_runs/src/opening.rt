@@ -20,9 +20,12 @@ pub(crate) fn open_topics<D: Disk>(
     alloc: Global,
     disk: D,
 ) -> Result<TopicLog<D>, Refused<D, RunError>>
-    ensures opened { (bytes : List ℕ) → D.seen disk ≡ Some bytes → IfOk result (λ log. (groups : List (List Record)) × IsLog bytes groups × HoldsGroups D.seen D.may_leave log groups) }
+    ensures opened { (bytes : List ℕ) → D.seen disk ≡ Some bytes →
+        IfOk result (λ log. (groups : List (List Record)) × IsLog bytes groups ×
+        HoldsGroups D.seen D.may_leave log groups) }
     ensures live { IfOk result (λ log. IsTrue log.live) }
-    ensures refused { (bytes : List ℕ) → D.seen disk ≡ Some bytes → IfErr result (λ refused. IsOutside refused.error ⊎ IsNoLog bytes refused.error) }
+    ensures refused { (bytes : List ℕ) → D.seen disk ≡ Some bytes →
+        IfErr result (λ refused. IsOutside refused.error ⊎ IsNoLog bytes refused.error) }
     ensures kinds { IfErr result (λ refused. IsErrorOf Store.Topics refused.error) }
     ensures keeps { MatchResult result (λ log. Keeps D.seen D.may_leave D.faults ⊥ disk log.disk)
         (λ refused. Keeps D.seen D.may_leave D.faults (refused.error ≡ RunError.Failed Store.Topics) disk refused.disk) }
@@ -41,11 +44,14 @@ pub(crate) fn open_offsets<D: Disk>(
     alloc: Global,
     disk: D,
 ) -> Result<OffsetStore<D>, Refused<D, RunError>>
-    ensures opened { (bytes : List ℕ) → D.seen disk ≡ Some bytes → IfOk result (λ store. IsStore bytes store.offset) }
+    ensures opened { (bytes : List ℕ) → D.seen disk ≡ Some bytes →
+        IfOk result (λ store. IsStore bytes store.offset) }
     ensures live { IfOk result IsLive }
-    ensures refused { (bytes : List ℕ) → D.seen disk ≡ Some bytes → IfErr result (λ refused. IsOutside refused.error ⊎ HasNoOffset bytes refused.error) }
+    ensures refused { (bytes : List ℕ) → D.seen disk ≡ Some bytes →
+        IfErr result (λ refused. IsOutside refused.error ⊎ HasNoOffset bytes refused.error) }
     ensures kinds { IfErr result (λ refused. IsErrorOf Store.Offsets refused.error) }
-    ensures keeps { MatchResult result (λ store. Keeps D.seen D.may_leave D.faults ⊥ disk (disk_of store))
+    ensures keeps { MatchResult result
+        (λ store. Keeps D.seen D.may_leave D.faults ⊥ disk (disk_of store))
         (λ refused. Keeps D.seen D.may_leave D.faults (refused.error ≡ RunError.Failed Store.Offsets) disk refused.disk) }
 {
     match OffsetStore::open(alloc, disk) {
@@ -64,12 +70,16 @@ pub(crate) fn read_group<D: Disk>(
 ) -> Result<Vec<Record>, RunError>
     requires live { IsTrue log.old.live }
     requires within { number < count_of log.old }
-    ensures found { (groups : List (List Record)) → HoldsGroups D.seen D.may_leave log.old groups → IfOk result (λ group. slice_get groups number ≡ Some group.items) }
-    ensures cut { (groups : List (List Record)) → HoldsGroups D.seen D.may_leave log.old groups → IfErr result IsOutside }
-    ensures holds { (groups : List (List Record)) → HoldsGroups D.seen D.may_leave log.old groups → HoldsGroups D.seen D.may_leave log.new groups }
+    ensures found { (groups : List (List Record)) → HoldsGroups D.seen D.may_leave log.old groups →
+        IfOk result (λ group. slice_get groups number ≡ Some group.items) }
+    ensures cut { (groups : List (List Record)) → HoldsGroups D.seen D.may_leave log.old groups →
+        IfErr result IsOutside }
+    ensures holds { (groups : List (List Record)) → HoldsGroups D.seen D.may_leave log.old groups →
+        HoldsGroups D.seen D.may_leave log.new groups }
     ensures kinds { IfErr result (IsErrorOf Store.Topics) }
     ensures same { log.new ≡ record log.old { disk = log.new.disk } }
-    ensures keeps { Keeps D.seen D.may_leave D.faults (result ≡ Err (RunError.Failed Store.Topics)) log.old.disk log.new.disk }
+    ensures keeps { Keeps D.seen D.may_leave D.faults
+        (result ≡ Err (RunError.Failed Store.Topics)) log.old.disk log.new.disk }
 {
     match log.group(number) {
         Ok(group) => Ok(group),

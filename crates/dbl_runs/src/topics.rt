@@ -19,12 +19,16 @@ use std::alloc::Global;
 /// the memory of one group and a buffer.
 pub fn print_topics<D: Disk, O: Output>(alloc: Global, disk: D, output: &mut O) -> Ended<D>
     // Of a disk that tells its bytes, what is written and answered is what they are read as.
-    ensures told { (bytes : List ℕ) → D.seen disk ≡ Some bytes → Runs (AnswersTopics bytes) result.end (O.written output.old) (O.written output.new) }
+    ensures told { (bytes : List ℕ) → D.seen disk ≡ Some bytes →
+        Runs (AnswersTopics bytes) result.end (O.written output.old) (O.written output.new) }
 
     // Whatever the disk tells, it is only read, and the error has to do with it or with the output.
-    ensures keeps { Keeps D.seen D.may_leave D.faults (result.end ≡ Err (RunError.Failed Store.Topics)) disk result.disk }
-    ensures kinds { IfErr result.end (λ error. (error ≡ RunError.OutputFailed) ⊎ IsErrorOf Store.Topics error) }
-    ensures output_failed { result.end ≡ Err RunError.OutputFailed → Rose (O.faults output.old) (O.faults output.new) }
+    ensures keeps { Keeps D.seen D.may_leave D.faults
+        (result.end ≡ Err (RunError.Failed Store.Topics)) disk result.disk }
+    ensures kinds { IfErr result.end
+        (λ error. (error ≡ RunError.OutputFailed) ⊎ IsErrorOf Store.Topics error) }
+    ensures output_failed { result.end ≡ Err RunError.OutputFailed →
+        Rose (O.faults output.old) (O.faults output.new) }
     ensures output_later { O.faults output.old ≤ O.faults output.new }
 {
     match open_topics(alloc, disk) {
@@ -49,10 +53,14 @@ fn put_groups<D: Disk, O: Output>(
     output: &mut O,
 ) -> Result<(), RunError>
     requires { IsTrue log.old.live }
-    ensures told { (groups : List (List Record)) → HoldsGroups D.seen D.may_leave log.old groups → Ends (Ok (topic_lines groups)) result (O.written output.old) (O.written output.new) }
-    ensures keeps { Keeps D.seen D.may_leave D.faults (result ≡ Err (RunError.Failed Store.Topics)) log.old.disk log.new.disk }
-    ensures kinds { IfErr result (λ error. (error ≡ RunError.OutputFailed) ⊎ IsErrorOf Store.Topics error) }
-    ensures output_failed { result ≡ Err RunError.OutputFailed → Rose (O.faults output.old) (O.faults output.new) }
+    ensures told { (groups : List (List Record)) → HoldsGroups D.seen D.may_leave log.old groups →
+        Ends (Ok (topic_lines groups)) result (O.written output.old) (O.written output.new) }
+    ensures keeps { Keeps D.seen D.may_leave D.faults
+        (result ≡ Err (RunError.Failed Store.Topics)) log.old.disk log.new.disk }
+    ensures kinds { IfErr result
+        (λ error. (error ≡ RunError.OutputFailed) ⊎ IsErrorOf Store.Topics error) }
+    ensures output_failed { result ≡ Err RunError.OutputFailed →
+        Rose (O.faults output.old) (O.faults output.new) }
     ensures output_later { O.faults output.old ≤ O.faults output.new }
 {
     match gather_groups(alloc, log, output) {
@@ -71,12 +79,16 @@ fn gather_groups<D: Disk, O: Output>(
     output: &mut O,
 ) -> Result<Vec<u8>, RunError>
     requires { IsTrue log.old.live }
-    ensures told { (groups : List (List Record)) → HoldsGroups D.seen D.may_leave log.old groups → MatchResult result
+    ensures told { (groups : List (List Record)) → HoldsGroups D.seen D.may_leave log.old groups →
+        MatchResult result
         (λ filled. IsGathered (O.written output.old) (O.written output.new) filled.items [] (topic_lines groups))
         (λ error. CutsLines (topic_lines groups) error (O.written output.old) (O.written output.new)) }
-    ensures keeps { Keeps D.seen D.may_leave D.faults (result ≡ Err (RunError.Failed Store.Topics)) log.old.disk log.new.disk }
-    ensures kinds { IfErr result (λ error. (error ≡ RunError.OutputFailed) ⊎ IsErrorOf Store.Topics error) }
-    ensures output_failed { result ≡ Err RunError.OutputFailed → Rose (O.faults output.old) (O.faults output.new) }
+    ensures keeps { Keeps D.seen D.may_leave D.faults
+        (result ≡ Err (RunError.Failed Store.Topics)) log.old.disk log.new.disk }
+    ensures kinds { IfErr result
+        (λ error. (error ≡ RunError.OutputFailed) ⊎ IsErrorOf Store.Topics error) }
+    ensures output_failed { result ≡ Err RunError.OutputFailed →
+        Rose (O.faults output.old) (O.faults output.new) }
     ensures output_later { O.faults output.old ≤ O.faults output.new }
 {
     let mut filled = match Vec::with_capacity(alloc, BUFFER_LENGTH) {

@@ -1,5 +1,5 @@
--- For private clauses: the errors of the parts, as those of a command.
-use Rattle.std.specs.Prelude.{ℕ, List, codes}
+-- The errors of a command: the status and the line of each, and those of the parts that it is made of.
+use Rattle.std.specs.Prelude.{ℕ, ◌++◌, List, codes, decimal}
 use Rattle.dbl_journal.specs.declared.error.JournalError.TheVariants as journal
 use Rattle.dbl_topic.specs.declared.error.TopicError.{TopicError}
 use Rattle.dbl_topic.specs.declared.error.TopicError.TheVariants as topic
@@ -8,7 +8,7 @@ use Rattle.dbl_offset.specs.declared.error.OffsetError.TheVariants as offset
 use Rattle.dbl_consume.specs.declared.error.PrintError.{PrintError}
 use Rattle.dbl_consume.specs.declared.error.PrintError.TheVariants as print
 use Rattle.dbl_runs.specs.declared.error.RunError.{RunError}
-use Rattle.dbl_runs.specs.declared.error.RunError.TheVariants.{OutputFailed, Memory, Failed, NotAStore, BadEntry}
+use Rattle.dbl_runs.specs.declared.error.RunError.TheVariants.{OutputFailed, Memory, Failed, NotStarted, NotAStore, BadEntry}
 use Rattle.dbl_runs.specs.declared.error.Store.{Store}
 use Rattle.dbl_runs.specs.declared.error.Store.TheVariants.{Topics, Offsets}
 
@@ -16,6 +16,27 @@ use Rattle.dbl_runs.specs.declared.error.Store.TheVariants.{Topics, Offsets}
 abbrev pub store_name : Store → List ℕ
 store_name Topics = codes "topics"
 store_name Offsets = codes "offsets"
+
+-- the program's exit status
+abbrev pub error_status : RunError → ℕ
+error_status OutputFailed = 11
+error_status Memory = 12
+error_status (Failed Topics) = 8
+error_status (Failed Offsets) = 9
+error_status NotStarted = 4
+error_status (NotAStore store at) = 14
+error_status (BadEntry store index) = 14
+
+-- the error's line, without its newline
+abbrev pub error_line : RunError → List ℕ
+error_line OutputFailed = codes "dblog: output failed"
+error_line Memory = codes "dblog: out of memory"
+error_line (Failed store) = codes "dblog: " ++ store_name store ++ codes " failed"
+error_line NotStarted = codes "dblog: not started"
+error_line (NotAStore store at) = codes "dblog: not a store: " ++ store_name store ++ codes " at " ++ decimal at
+error_line (BadEntry store index) = codes "dblog: bad entry " ++ decimal index ++ codes " in " ++ store_name store
+
+-- ---- for private clauses: the errors of the parts
 
 abbrev pub print_error : PrintError → RunError
 print_error print.Failed = OutputFailed

@@ -1,8 +1,13 @@
-use dbl_consume::{ConsumeError, PrintError};
+ghost use Rattle.std.specs.Prelude.{◌≡◌, ◌∷◌, [], IfOk};
+ghost use Rattle.std.specs.String.{string_bytes};
+ghost use Rattle.dbl_base.specs.Lines.{lines_text};
+ghost use Rattle.dbl_runs.specs.Errors.{error_line, error_status};
+
+use dbl_consume::PrintError;
 use dbl_journal::JournalError;
 use dbl_offset::OffsetError;
 use dbl_topic::TopicError;
-use std::alloc::{AllocError, AllocFailed};
+use std::alloc::{AllocError, Global};
 use std::fmt;
 use thiserror::Error;
 
@@ -47,6 +52,45 @@ pub enum RunError {
     /// The number, counted from 0, of the first entry that isn't one of the store, or whose record the consumer refuses.
     #[error("bad entry {index} in {store}")]
     BadEntry { store: Store, index: u64 },
+}
+
+impl RunError {
+    /// The program's exit status.
+    pub fn status(self) -> u8
+        ensures { result ≡ error_status self }
+    {
+        match self {
+            RunError::OutputFailed => 11,
+            RunError::Memory => 12,
+            RunError::Failed {
+                store: Store::Topics,
+            } => 8,
+            RunError::Failed {
+                store: Store::Offsets,
+            } => 9,
+            RunError::NotStarted => 4,
+            RunError::NotAStore { .. } | RunError::BadEntry { .. } => 14,
+        }
+    }
+
+    /// The error's line with its newline. That of a failed output can't be written any more.
+    pub fn text(self, alloc: Global) -> Result<String, AllocError>
+        ensures { IfOk result (λ text. string_bytes text ≡ lines_text (error_line self ∷ [])) }
+    {
+        let line = match self {
+            RunError::OutputFailed => "dblog: output failed\n",
+            RunError::Memory => "dblog: out of memory\n",
+            RunError::NotStarted => "dblog: not started\n",
+            RunError::Failed { store } => return format!(in alloc; "dblog: {store} failed\n"),
+            RunError::NotAStore { store, at } => return format!(in alloc;
+                "dblog: not a store: {store} at {at}\n"
+            ),
+            RunError::BadEntry { store, index } => return format!(in alloc;
+                "dblog: bad entry {index} in {store}\n"
+            ),
+        };
+        String::from_str(alloc, line)
+    }
 }
 
 impl From<AllocError> for RunError {

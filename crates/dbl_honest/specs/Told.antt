@@ -21,15 +21,17 @@ pub record Told : Type 0 where
   pub answer : Answer
   pub read : List (List ℕ)
 
--- who tells goes on telling, and these were read besides, the newest first
+-- who tells goes on telling, and these were read besides, the newest first; who tells nothing begins no list of what was read
 abbrev pub IsTakenBy : List (List ℕ) → Option Told → Option Told → Type 0
-IsTakenBy more None new = Unit {0}
+IsTakenBy more None None = Unit {0}
+IsTakenBy more None (Some new) = ⊥
 IsTakenBy more (Some old) None = ⊥
 IsTakenBy more (Some old) (Some new) = new.read ≡ more ++ old.read
 
--- who tells goes on telling, and nothing has been read since
+-- who tells goes on telling, and nothing has been read since; nor has it where one begins to tell
 abbrev pub IsTakenAnew : Option Told → Option Told → Type 0
-IsTakenAnew None new = Unit {0}
+IsTakenAnew None None = Unit {0}
+IsTakenAnew None (Some new) = new.read ≡ []
 IsTakenAnew (Some old) None = ⊥
 IsTakenAnew (Some old) (Some new) = new.read ≡ []
 

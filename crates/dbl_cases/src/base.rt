@@ -3,64 +3,81 @@
 use crate::words;
 use anyhow::{Result, bail};
 use dbl_base::{
-    Bytes, Lsn, MemInput, MemOutput, Output, Seq, Text, next_line, passes_over, read_all,
+    Bytes, Failed, Lsn, MemInput, MemOutput, Output, Seq, Text, next_line, passes_over, read_all,
 };
 use std::alloc::Global;
+use std::fmt::Write;
 
-/// What a case of this family answers.
-pub fn answer(alloc: Global, call: &str, arguments: &str) -> Result<String> {
+/// Writes what a case of this family answers.
+pub fn answer(alloc: Global, shown: &mut String, call: &str, arguments: &str) -> Result<()> {
     match call {
-        "text" => text(alloc, arguments),
-        "order" => order(alloc, arguments),
-        "list" => list(alloc, arguments),
-        "lsn" => words::said(alloc, &Lsn(arguments.parse::<u64>()?)),
-        "line" => line(alloc, arguments),
-        "input" => input(alloc, arguments),
-        "output" => output(alloc, arguments),
+        "text" => text(alloc, shown, arguments),
+        "order" => order(alloc, shown, arguments),
+        "list" => list(alloc, shown, arguments),
+        "lsn" => lsn(shown, arguments),
+        "line" => line(alloc, shown, arguments),
+        "input" => input(alloc, shown, arguments),
+        "output" => output(alloc, shown, arguments),
         _ => bail!("no such call"),
     }
 }
 
 // A text, its copy by Display, and what it was made of.
-fn text(alloc: Global, arguments: &str) -> Result<String> {
-    let text = Text::make(words::said(alloc, &arguments)?);
-    let copy = text.copy(alloc)?;
-    let same = copy == Text::of(alloc, arguments)?;
-    copied(alloc, &copy, same, text.into_string().as_str())
+fn text(alloc: Global, shown: &mut String, arguments: &str) -> Result<()> {
+    let text = Text::of(alloc, arguments)?;
+    copied(shown, &text.copy(alloc)?, &text)?;
+    words::add(shown, text.into_string().as_str())?;
+    words::add(shown, "]")
 }
 
-fn copied(alloc: Global, copy: &Text, same: bool, string: &str) -> Result<String> {
-    Ok(format!(in alloc; "{:?} [{copy}], equal: {same}, [{string}]", copy.as_str())?)
+fn copied(shown: &mut String, copy: &Text, text: &Text) -> Result<()> {
+    let same = copy == text;
+    words::told(shown, &copy.as_str())?;
+    write!(shown, " [{copy}], equal: {same}, [")?;
+    Ok(())
 }
 
-fn order(alloc: Global, arguments: &str) -> Result<String> {
+fn order(alloc: Global, shown: &mut String, arguments: &str) -> Result<()> {
     let (a, b) = words::first(arguments);
     let a = Text::of(alloc, a)?;
-    let b = Text::of(alloc, b)?;
-    Ok(format!(in alloc; "{:?}", a.cmp(&b))?)
+    ordered(shown, &a, &Text::of(alloc, b)?)
 }
 
-fn list(alloc: Global, arguments: &str) -> Result<String> {
+fn ordered(shown: &mut String, a: &Text, b: &Text) -> Result<()> {
+    words::told(shown, &a.cmp(b))
+}
+
+fn list(alloc: Global, shown: &mut String, arguments: &str) -> Result<()> {
     let list = Seq::make(words::numbers(alloc, arguments)?);
-    let items = format!(in alloc; "{:?}", list.items())?;
-    Ok(format!(in alloc; "{items} {:?}", list.into_items())?)
+    words::told(shown, list.items())?;
+    words::add(shown, " ")?;
+    words::told(shown, &list.into_items())
+}
+
+fn lsn(shown: &mut String, number: &str) -> Result<()> {
+    words::said(shown, &Lsn(number.parse()?))
 }
 
 // The first line, whether it is passed over, and the rest.
-fn line(alloc: Global, arguments: &str) -> Result<String> {
+fn line(alloc: Global, shown: &mut String, arguments: &str) -> Result<()> {
     let text = words::json_text(alloc, arguments)?;
+    line_of(shown, text.as_str().as_bytes())
+}
+
+fn line_of(shown: &mut String, text: &[u8]) -> Result<()> {
     if text.is_empty() {
         bail!("no line");
     }
-    let (line, rest) = next_line(text.as_str().as_bytes());
+    let (line, rest) = next_line(text);
+    lines(shown, line, rest)
+}
+
+fn lines(shown: &mut String, line: &[u8], rest: &[u8]) -> Result<()> {
     let over = passes_over(line);
-    let line = words::text(alloc, line)?;
-    let rest = words::text(alloc, rest)?;
-    Ok(format!(in alloc;
-        "{:?}, passed over: {over}, {:?}",
-        line.as_str(),
-        rest.as_str()
-    )?)
+    let line = str::from_utf8(line)?;
+    let rest = str::from_utf8(rest)?;
+    write!(shown, "{line:?}, passed over: {over}, {rest:?}")?;
+    Ok(())
 }
 
 fn sevens(alloc: Global, count: usize) -> Result<Vec<u8>> {
@@ -68,37 +85,60 @@ fn sevens(alloc: Global, count: usize) -> Result<Vec<u8>> {
 }
 
 // So many sevens are read to their end, over an input whose listed calls fail.
-fn input(alloc: Global, arguments: &str) -> Result<String> {
+fn input(alloc: Global, shown: &mut String, arguments: &str) -> Result<()> {
     let (count, fails) = words::parted(arguments, " fails ");
     let count = words::size(count)?;
     let fails = words::numbers(alloc, fails)?;
     let mut input = MemInput::make(sevens(alloc, count)?, fails);
-    match read_all(alloc, &mut input) {
-        Ok(bytes) => compared(alloc, &bytes, count),
-        Err(error) => words::said(alloc, &error),
+    read(alloc, shown, &mut input, count)
+}
+
+fn read(alloc: Global, shown: &mut String, input: &mut MemInput, count: usize) -> Result<()> {
+    match read_all(alloc, input) {
+        Ok(bytes) => compared(alloc, shown, &bytes, count),
+        Err(error) => words::said(shown, &error),
     }
 }
 
 // How many bytes there are, and whether they are so many sevens.
-fn compared(alloc: Global, bytes: &Bytes, count: usize) -> Result<String> {
+fn compared(alloc: Global, shown: &mut String, bytes: &Bytes, count: usize) -> Result<()> {
     let same = *bytes == Bytes::make(sevens(alloc, count)?);
-    Ok(format!(in alloc; "{} bytes, as they were: {same}", bytes.items().len())?)
+    let length = bytes.items().len();
+    write!(shown, "{length} bytes, as they were: {same}")?;
+    Ok(())
 }
 
 // Pieces are written to an output whose listed calls fail.
-fn output(alloc: Global, arguments: &str) -> Result<String> {
+fn output(alloc: Global, shown: &mut String, arguments: &str) -> Result<()> {
     let (pieces, fails) = words::parted(arguments, " fails ");
     let mut output = MemOutput::make(alloc, words::numbers(alloc, fails)?);
-    written(alloc, &mut output, pieces)
+    written(shown, &mut output, pieces)?;
+    held(shown, output.bytes())
 }
 
-// What each write answers, and the bytes that are held then.
-fn written(alloc: Global, output: &mut MemOutput, pieces: &str) -> Result<String> {
-    let mut answer = String::new(alloc);
+// What each write answers.
+fn written(shown: &mut String, output: &mut MemOutput, pieces: &str) -> Result<()> {
     for piece in pieces.split(' ') {
-        let written = words::outcome(alloc, output.write(piece.as_bytes()))?;
-        words::add(&mut answer, written.as_str())?;
+        outcome(shown, output.write(piece.as_bytes()))?;
     }
-    words::add(&mut answer, words::text(alloc, output.bytes())?.as_str())?;
-    Ok(answer)
+    Ok(())
+}
+
+fn outcome(shown: &mut String, written: Result<(), Failed>) -> Result<()> {
+    if !shown.is_empty() {
+        words::add(shown, "; ")?;
+    }
+    match written {
+        Ok(()) => words::add(shown, "ok"),
+        Err(error) => words::said(shown, &error),
+    }
+}
+
+// The bytes that are held then, where there are any.
+fn held(shown: &mut String, bytes: &[u8]) -> Result<()> {
+    if bytes.is_empty() {
+        return Ok(());
+    }
+    words::add(shown, "; ")?;
+    words::add(shown, str::from_utf8(bytes)?)
 }

@@ -14,17 +14,23 @@ mod words;
 use anyhow::{Result, bail};
 use std::alloc::Global;
 
-// What the case of this name answers.
-fn answer(alloc: Global, name: &str, arguments: &str) -> Result<String> {
+// Writes what the case of this name answers.
+fn answer(alloc: Global, shown: &mut String, name: &str, arguments: &str) -> Result<()> {
     let (family, rest) = words::first(name);
     let (call, _) = words::first(rest);
     match family {
-        "base" => base::answer(alloc, call, arguments),
-        "record" => record::answer(alloc, call, arguments),
-        "pgmsg" => pgmsg::answer(alloc, call, arguments),
-        "value" => value::answer(alloc, call, arguments),
+        "base" => base::answer(alloc, shown, call, arguments),
+        "record" => record::answer(alloc, shown, call, arguments),
+        "pgmsg" => pgmsg::answer(alloc, shown, call, arguments),
+        "value" => value::answer(alloc, shown, call, arguments),
         _ => bail!("no such family"),
     }
+}
+
+fn text(alloc: Global, name: &str, arguments: &str) -> Result<String> {
+    let mut shown = String::new(alloc);
+    answer(alloc, &mut shown, name, arguments)?;
+    Ok(shown)
 }
 
 fn main(rt: HostRuntime) -> Result<()> {
@@ -34,7 +40,7 @@ fn main(rt: HostRuntime) -> Result<()> {
             continue;
         }
         let (name, arguments) = words::parted(line.as_str(), ": ");
-        match answer(rt.alloc(), name, arguments) {
+        match text(rt.alloc(), name, arguments) {
             Ok(text) => println!(rt; "{name}: {text}")?,
             Err(error) => println!(rt; "{name}: no answer: {error}")?,
         }

@@ -9,32 +9,33 @@ use dbl_record::{
 };
 use serde_json::Value;
 use std::alloc::Global;
+use std::fmt::Write;
 
-/// What a case of this family answers.
-pub fn answer(alloc: Global, call: &str, arguments: &str) -> Result<String> {
+/// Writes what a case of this family answers.
+pub fn answer(alloc: Global, shown: &mut String, call: &str, arguments: &str) -> Result<()> {
     match call {
-        "line" | "append" | "length" => of_record(alloc, call, &parsed(alloc, arguments)?),
-        "read" => told(alloc, arguments),
-        "group" => written(alloc, &records(alloc, arguments)?),
-        _ => of_bytes(alloc, call, &words::bytes(alloc, arguments)?),
+        "line" | "append" | "length" => of_record(alloc, shown, call, &parsed(alloc, arguments)?),
+        "read" => told(alloc, shown, arguments),
+        "group" => of_group(alloc, shown, arguments),
+        _ => of_bytes(alloc, shown, call, &words::bytes(alloc, arguments)?),
     }
 }
 
 // What a call answers to a record.
-fn of_record(alloc: Global, call: &str, record: &Record) -> Result<String> {
+fn of_record(alloc: Global, shown: &mut String, call: &str, record: &Record) -> Result<()> {
     match call {
-        "line" => Ok(line(alloc, record)?.into_string()),
-        "append" => appended(alloc, record),
-        _ => words::said(alloc, &record_length(record)),
+        "line" => words::add(shown, line(alloc, record)?.as_str()),
+        "append" => behind(alloc, shown, &record.copy(alloc)?),
+        _ => words::said(shown, &record_length(record)),
     }
 }
 
 // What a call answers to the bytes of a group.
-fn of_bytes(alloc: Global, call: &str, bytes: &[u8]) -> Result<String> {
+fn of_bytes(alloc: Global, shown: &mut String, call: &str, bytes: &[u8]) -> Result<()> {
     match call {
-        "ungroup" => ungrouped(alloc, bytes),
-        "turned" => turned(alloc, bytes),
-        "cut" => cut(alloc, bytes),
+        "ungroup" => ungrouped(alloc, shown, bytes),
+        "turned" => turned(alloc, shown, bytes),
+        "cut" => cut(alloc, shown, bytes),
         _ => bail!("no such call"),
     }
 }
@@ -53,14 +54,20 @@ fn number(value: &Value, name: &str) -> Result<u64> {
     }
 }
 
-// The record that a JSON object tells, with its fields as members.
-fn record_of(alloc: Global, value: &Value) -> Result<Record> {
+fn is_last(value: &Value) -> Result<bool> {
+    match value.get("last").and_then(|member| member.as_bool()) {
+        Some(truth) => Ok(truth),
+        None => bail!("no last"),
+    }
+}
+
+// The record of a topic that a JSON object tells, with its fields as members.
+fn record_at(alloc: Global, value: &Value, topic: Text) -> Result<Record> {
     let position = number(value, "position")?;
     let ordinal = number(value, "ordinal")?;
-    let last = value.get("last").and_then(|truth| truth.as_bool());
-    let last = last.context("no last")?;
+    let last = is_last(value)?;
     Ok(Record {
-        topic: optional(alloc, value, "topic")?.context("no topic")?,
+        topic,
         key: optional(alloc, value, "key")?,
         value: optional(alloc, value, "value")?,
         position,
@@ -71,109 +78,140 @@ fn record_of(alloc: Global, value: &Value) -> Result<Record> {
     })
 }
 
+fn record_of(alloc: Global, value: &Value) -> Result<Record> {
+    match optional(alloc, value, "topic")? {
+        Some(topic) => record_at(alloc, value, topic),
+        None => bail!("no topic"),
+    }
+}
+
 fn parsed(alloc: Global, arguments: &str) -> Result<Record> {
     record_of(alloc, &Value::from_str(alloc, arguments)?)
 }
 
 // The line of a copy behind another line.
-fn appended(alloc: Global, record: &Record) -> Result<String> {
-    let copy = record.copy(alloc)?;
-    behind(alloc, &copy)
-}
-
-fn behind(alloc: Global, record: &Record) -> Result<String> {
+fn behind(alloc: Global, shown: &mut String, record: &Record) -> Result<()> {
     let bytes = append_line(b"first, ".to_vec(alloc)?, record)?;
-    Ok(String::from_utf8(bytes)?)
+    words::add(shown, str::from_utf8(&bytes)?)
 }
 
 // A line's topic, key and value, read and parsed.
-fn told(alloc: Global, arguments: &str) -> Result<String> {
-    match read_line(alloc, &Text::of(alloc, arguments)?) {
-        Ok(read) => both(alloc, &read, &parse_line(alloc, arguments)?),
-        Err(error) => words::said(alloc, &error),
+fn told(alloc: Global, shown: &mut String, arguments: &str) -> Result<()> {
+    let text = Text::of(alloc, arguments)?;
+    match read_line(alloc, &text) {
+        Ok(read) => both(alloc, shown, &read, arguments),
+        Err(error) => words::said(shown, &error),
     }
 }
 
-fn both(alloc: Global, read: &Line, parsed: &ParsedLine) -> Result<String> {
-    let texts = format!(in alloc; "{} {} {}", read.topic, read.key, read.value)?;
-    let key = parsed.key().to_string(alloc)?;
-    let value = parsed.value().to_string(alloc)?;
-    Ok(format!(in alloc; "{texts} | {} {key} {value}", parsed.topic())?)
+fn both(alloc: Global, shown: &mut String, read: &Line, line: &str) -> Result<()> {
+    write!(shown, "{} {} {} | ", read.topic, read.key, read.value)?;
+    trees(alloc, shown, &parse_line(alloc, line)?)
+}
+
+fn trees(alloc: Global, shown: &mut String, parsed: &ParsedLine) -> Result<()> {
+    words::said(shown, parsed.topic())?;
+    tree(alloc, shown, parsed.key())?;
+    tree(alloc, shown, parsed.value())
+}
+
+fn tree(alloc: Global, shown: &mut String, value: &Value) -> Result<()> {
+    words::add(shown, " ")?;
+    words::add(shown, value.to_string(alloc)?.as_str())
 }
 
 // The records of a list of JSON objects.
-fn records(alloc: Global, arguments: &str) -> Result<Vec<Record>> {
-    let value = Value::from_str(alloc, arguments)?;
+fn records(alloc: Global, list: &Value) -> Result<Vec<Record>> {
     let mut records = Vec::new(alloc);
-    for item in value.as_array().context("no list")? {
+    for item in list.as_array().context("no list")? {
         records.push(record_of(alloc, item)?)?;
     }
     Ok(records)
 }
 
+fn of_group(alloc: Global, shown: &mut String, arguments: &str) -> Result<()> {
+    let list = Value::from_str(alloc, arguments)?;
+    written(alloc, shown, &records(alloc, &list)?)
+}
+
 // How many bytes a group has, which, and whether they are read as the same group.
-fn written(alloc: Global, group: &Vec<Record>) -> Result<String> {
+fn written(alloc: Global, shown: &mut String, group: &Vec<Record>) -> Result<()> {
     let length = group_length(group);
     if length > 100_000 {
         bail!("too long");
     }
     short_groups_have_a_form();
     let bytes = write_group(alloc, group)?;
-    let digits = words::digits(alloc, bytes.items())?;
-    let same = read_group(alloc, bytes.items())? == *group;
-    Ok(format!(in alloc; "{length} {digits}, read again: {same}")?)
+    write!(shown, "{length} ")?;
+    again(alloc, shown, group, bytes.items())
+}
+
+fn again(alloc: Global, shown: &mut String, group: &Vec<Record>, bytes: &[u8]) -> Result<()> {
+    words::digits(alloc, shown, bytes)?;
+    words::add(shown, ", read again: ")?;
+    words::said(shown, &(read_group(alloc, bytes)? == *group))
 }
 
 // What the bytes are read as.
-fn ungrouped(alloc: Global, bytes: &[u8]) -> Result<String> {
-    match read_group(alloc, bytes) {
-        Ok(group) => {
-            let written = write_group(alloc, &group)?;
-            let same = written.items().as_slice() == bytes;
-            Ok(format!(in alloc; "{} records, written again: {same}", group.len())?)
-        }
-        Err(error) => words::said(alloc, &error),
-    }
-}
-
-// What the bytes are read as: a group, which is written as these bytes or as others, or bad from a place on.
-fn reading(alloc: Global, bytes: &[u8]) -> Result<String> {
+fn ungrouped(alloc: Global, shown: &mut String, bytes: &[u8]) -> Result<()> {
     match read_group(alloc, bytes) {
         Ok(group) => {
             let same = write_group(alloc, &group)?.items().as_slice() == bytes;
-            words::said(alloc, if same { &"group" } else { &"other" })
+            counted(shown, group.len(), same)
         }
-        Err(RecordError::BadRecord { at }) => words::said(alloc, &at),
+        Err(error) => words::said(shown, &error),
+    }
+}
+
+fn counted(shown: &mut String, count: usize, same: bool) -> Result<()> {
+    write!(shown, "{count} records, written again: {same}")?;
+    Ok(())
+}
+
+// What the bytes are read as: a group, which is written as these bytes or as others, or bad from a place on.
+fn reading(alloc: Global, shown: &mut String, bytes: &[u8]) -> Result<()> {
+    words::add(shown, " ")?;
+    match read_group(alloc, bytes) {
+        Ok(group) => {
+            let same = write_group(alloc, &group)?.items().as_slice() == bytes;
+            told_same(shown, same)
+        }
+        Err(RecordError::BadRecord { at }) => words::said(shown, &at),
         Err(RecordError::Memory) => bail!("out of memory"),
     }
 }
 
+fn told_same(shown: &mut String, same: bool) -> Result<()> {
+    words::add(shown, if same { "group" } else { "other" })
+}
+
 // The readings of the bytes where the highest bit of the byte at a place is turned, place by place.
-fn turned(alloc: Global, bytes: &[u8]) -> Result<String> {
-    let mut answer = words::said(alloc, &"places")?;
+fn turned(alloc: Global, shown: &mut String, bytes: &[u8]) -> Result<()> {
+    words::add(shown, "places")?;
     for (at, byte) in bytes.iter().enumerate() {
         let mut other = bytes.to_vec(alloc)?;
         other[at] = *byte ^ 0x80;
-        answer.push(' ')?;
-        answer.push_str(reading(alloc, &other)?.as_str())?;
+        reading(alloc, shown, &other)?;
     }
-    Ok(answer)
+    Ok(())
 }
 
 // Whether each beginning of the bytes is bad at its length, and how they are with one byte more.
-fn cut(alloc: Global, bytes: &[u8]) -> Result<String> {
+fn cut(alloc: Global, shown: &mut String, bytes: &[u8]) -> Result<()> {
     for (at, _) in bytes.iter().enumerate() {
         if read_group(alloc, &bytes[..at]).err() != Some(RecordError::BadRecord { at: at as u64 }) {
-            return Ok(format!(in alloc; "something else at {at}")?);
+            write!(shown, "something else at {at}")?;
+            return Ok(());
         }
     }
-    longer(alloc, bytes)
+    let count = bytes.len();
+    write!(shown, "bad at each of {count} places, ")?;
+    longer(alloc, shown, bytes)
 }
 
 // How the bytes are read with one byte more.
-fn longer(alloc: Global, bytes: &[u8]) -> Result<String> {
+fn longer(alloc: Global, shown: &mut String, bytes: &[u8]) -> Result<()> {
     let mut longer = bytes.to_vec(alloc)?;
     longer.push(0)?;
-    let last = ungrouped(alloc, &longer)?;
-    Ok(format!(in alloc; "bad at each of {} places, {last}", bytes.len())?)
+    ungrouped(alloc, shown, &longer)
 }

@@ -6,83 +6,115 @@ use dbl_base::{Seq, Text};
 use dbl_value::{PgType, Val, ValueError, json, json_tree, of, oid, print, read, read_owned};
 use std::alloc::Global;
 use std::cmp::Ordering;
+use std::fmt::Write;
 
-/// What a case of this family answers.
-pub fn answer(alloc: Global, call: &str, arguments: &str) -> Result<String> {
+/// Writes what a case of this family answers.
+pub fn answer(alloc: Global, shown: &mut String, call: &str, arguments: &str) -> Result<()> {
     match call {
-        "oid" => named(alloc, arguments),
-        "read" => shown(alloc, arguments),
-        "json" => encoded(alloc, &value(alloc, arguments)?),
-        "order" => order(alloc, arguments),
+        "oid" => named(shown, arguments),
+        "read" => known(alloc, shown, arguments),
+        "json" => encoded(alloc, shown, &value(alloc, arguments)?),
+        "order" => order(alloc, shown, arguments),
         _ => bail!("no such call"),
     }
 }
 
 // The type of an OID, and the type's OID.
-fn named(alloc: Global, arguments: &str) -> Result<String> {
-    match of(arguments.parse::<u32>()?) {
-        Ok(ty) => Ok(format!(in alloc; "{ty:?} {}", oid(ty))?),
-        Err(error) => words::said(alloc, &error),
+fn named(shown: &mut String, number: &str) -> Result<()> {
+    match of(number.parse::<u32>()?) {
+        Ok(ty) => type_of(shown, ty),
+        Err(error) => words::said(shown, &error),
     }
 }
 
+fn type_of(shown: &mut String, ty: PgType) -> Result<()> {
+    let oid = oid(ty);
+    write!(shown, "{ty:?} {oid}")?;
+    Ok(())
+}
+
 // A text of a type: its value, printed, as JSON, and as a JSON tree.
-fn shown(alloc: Global, arguments: &str) -> Result<String> {
+fn known(alloc: Global, shown: &mut String, arguments: &str) -> Result<()> {
     let (number, text) = words::first(arguments);
     let ty = of(number.parse::<u32>()?)?;
     let text = Text::make(words::json_text(alloc, text)?);
-    match read(alloc, ty, &text) {
-        Ok(val) => told(alloc, ty, &val, text.as_str()),
-        Err(error) => refused(alloc, &error, read_owned(alloc, ty, text)),
+    read_by_both(alloc, shown, ty, &text)
+}
+
+fn read_by_both(alloc: Global, shown: &mut String, ty: PgType, text: &Text) -> Result<()> {
+    match read(alloc, ty, text) {
+        Ok(val) => told(alloc, shown, ty, text.as_str(), &val),
+        Err(error) => refused(alloc, shown, ty, text, &error),
     }
 }
 
 // Why a text is no value, by both ways to read it.
 fn refused(
     alloc: Global,
+    shown: &mut String,
+    ty: PgType,
+    text: &Text,
     error: &ValueError,
-    owned: std::result::Result<Val, ValueError>,
-) -> Result<String> {
+) -> Result<()> {
+    let owned = text.copy(alloc)?;
+    both(shown, error, &read_owned(alloc, ty, owned))
+}
+
+fn both(shown: &mut String, error: &ValueError, owned: &Result<Val, ValueError>) -> Result<()> {
     match owned {
         Ok(_) => bail!("read_owned reads it"),
-        Err(other) => Ok(format!(in alloc; "{error} | {other}")?),
+        Err(other) => write!(shown, "{error} | {other}")?,
     }
+    Ok(())
 }
 
 // A value as JSON.
-fn encoded(alloc: Global, val: &Val) -> Result<String> {
-    Ok(json(alloc, val)?.into_string())
+fn encoded(alloc: Global, shown: &mut String, val: &Val) -> Result<()> {
+    words::add(shown, json(alloc, val)?.as_str())
 }
 
 // The value of a text, printed, as JSON, and as a JSON tree of the value that was read before.
-fn told(alloc: Global, ty: PgType, before: &Val, text: &str) -> Result<String> {
+fn told(alloc: Global, shown: &mut String, ty: PgType, text: &str, before: &Val) -> Result<()> {
     let val = read_owned(alloc, ty, Text::of(alloc, text)?)?;
     let printed = Val::Text(print(alloc, ty, &val)?);
-    joined(alloc, &printed, &val.copy(alloc)?, before)
+    encoded(alloc, shown, &printed)?;
+    rest(alloc, shown, &val, before)
 }
 
-fn joined(alloc: Global, printed: &Val, copy: &Val, before: &Val) -> Result<String> {
-    let printed = encoded(alloc, printed)?;
-    let copied = encoded(alloc, copy)?;
-    let tree = json_tree(alloc, before)?.to_string(alloc)?;
-    Ok(format!(in alloc; "{printed} | {copied} | {tree}")?)
+fn rest(alloc: Global, shown: &mut String, val: &Val, before: &Val) -> Result<()> {
+    words::add(shown, " | ")?;
+    encoded(alloc, shown, &val.copy(alloc)?)?;
+    words::add(shown, " | ")?;
+    tree(alloc, shown, before)
+}
+
+fn tree(alloc: Global, shown: &mut String, val: &Val) -> Result<()> {
+    let tree = json_tree(alloc, val)?;
+    words::add(shown, tree.to_string(alloc)?.as_str())
 }
 
 // The value of a kind and of what stands behind it.
 fn value(alloc: Global, text: &str) -> Result<Val> {
     let (kind, rest) = words::first(text);
-    Ok(match kind {
-        "null" => Val::Null,
-        "bool" => Val::Bool(rest.parse::<bool>()?),
-        "int" => Val::Int(rest.parse::<i64>()?),
-        "text" => Val::Text(Text::of(alloc, rest)?),
-        "bytes" => Val::Bytes(Seq::make(words::bytes(alloc, rest)?)),
-        "date" => Val::Date(rest.parse::<i32>()?),
-        "time" => Val::Time(rest.parse::<i64>()?),
-        "stamp" => Val::Stamp(rest.parse::<i64>()?),
-        "stamptz" => Val::StampTz(rest.parse::<i64>()?),
+    match kind {
+        "null" => Ok(Val::Null),
+        "bool" => Ok(Val::Bool(rest.parse()?)),
+        "text" => Ok(Val::Text(Text::of(alloc, rest)?)),
+        "bytes" => Ok(Val::Bytes(Seq::make(words::bytes(alloc, rest)?))),
+        "date" => Ok(Val::Date(rest.parse()?)),
+        _ => moment(kind, rest.parse()?),
+    }
+}
+
+// The value of a kind that is a number.
+fn moment(kind: &str, number: i64) -> Result<Val> {
+    match kind {
+        "int" => Ok(Val::Int(number)),
+        "time" => Ok(Val::Time(number)),
+        "stamp" => Ok(Val::Stamp(number)),
+        "stamptz" => Ok(Val::StampTz(number)),
         _ => bail!("no such kind"),
-    })
+    }
 }
 
 // How two values compare; `?` where `==` says something else.
@@ -105,22 +137,22 @@ fn values(alloc: Global, arguments: &str) -> Result<Vec<Val>> {
 }
 
 // A value compared with each.
-fn signs(alloc: Global, a: &Val, values: &[Val]) -> Result<String> {
-    let mut signs = String::new(alloc);
+fn signs(shown: &mut String, a: &Val, values: &[Val]) -> Result<()> {
     for b in values {
-        signs.push(sign(a, b))?;
+        shown.push(sign(a, b))?;
     }
-    Ok(signs)
+    Ok(())
+}
+
+fn all_signs(shown: &mut String, values: &[Val]) -> Result<()> {
+    for a in values {
+        signs(shown, a, values)?;
+        words::add(shown, " ")?;
+    }
+    words::add(shown, ".")
 }
 
 // Each of some values compared with each.
-fn order(alloc: Global, arguments: &str) -> Result<String> {
-    let values = values(alloc, arguments)?;
-    let mut answer = String::new(alloc);
-    for a in &values {
-        answer.push_str(signs(alloc, a, &values)?.as_str())?;
-        answer.push(' ')?;
-    }
-    answer.push('.')?;
-    Ok(answer)
+fn order(alloc: Global, shown: &mut String, arguments: &str) -> Result<()> {
+    all_signs(shown, &values(alloc, arguments)?)
 }

@@ -1,9 +1,9 @@
-//! The words of a case.
+//! The words of a case, and the text of its answer.
 
 use anyhow::{Result, bail};
 use serde_json::Value;
 use std::alloc::Global;
-use std::fmt::Display;
+use std::fmt::{Debug, Display, Write};
 
 /// What stands before the first mark, and what stands behind it.
 pub fn parted<'a>(text: &'a str, mark: &'a str) -> (&'a str, &'a str) {
@@ -36,35 +36,32 @@ pub fn numbers(alloc: Global, text: &str) -> Result<Vec<u64>> {
     Ok(numbers)
 }
 
-/// Adds a part of an answer behind the others.
-pub fn add(answer: &mut String, part: &str) -> Result<()> {
-    if !answer.is_empty() && !part.is_empty() {
-        answer.push_str("; ")?;
-    }
-    answer.push_str(part)?;
+/// Adds a part of the answer.
+pub fn add(shown: &mut String, part: &str) -> Result<()> {
+    shown.push_str(part)?;
     Ok(())
 }
 
-/// The text of something.
-pub fn said<T: Display>(alloc: Global, what: &T) -> Result<String> {
-    Ok(format!(in alloc; "{what}")?)
+/// Adds the text of something.
+pub fn said<T: Display>(shown: &mut String, what: &T) -> Result<()> {
+    write!(shown, "{what}")?;
+    Ok(())
 }
 
-/// `ok`, or the fault.
-pub fn outcome<E: Display + Drop>(
-    alloc: Global,
-    answered: std::result::Result<(), E>,
-) -> Result<String> {
-    match answered {
-        Ok(()) => said(alloc, &"ok"),
-        Err(error) => said(alloc, &error),
-    }
+/// Adds each field of something.
+pub fn told<T: Debug>(shown: &mut String, what: &T) -> Result<()> {
+    write!(shown, "{what:?}")?;
+    Ok(())
 }
 
 /// The text of a JSON string.
 pub fn json_text(alloc: Global, json: &str) -> Result<String> {
-    match Value::from_str(alloc, json)?.as_str() {
-        Some(text) => said(alloc, &text),
+    string_of(alloc, &Value::from_str(alloc, json)?)
+}
+
+fn string_of(alloc: Global, value: &Value) -> Result<String> {
+    match value.as_str() {
+        Some(text) => Ok(String::from_str(alloc, text)?),
         None => bail!("no JSON string"),
     }
 }
@@ -74,12 +71,7 @@ pub fn bytes(alloc: Global, digits: &str) -> Result<Vec<u8>> {
     Ok(hex::decode(alloc, digits)?)
 }
 
-/// The hexadecimal digits of bytes.
-pub fn digits(alloc: Global, bytes: &[u8]) -> Result<String> {
-    Ok(hex::encode(alloc, bytes)?)
-}
-
-/// A text of bytes.
-pub fn text(alloc: Global, bytes: &[u8]) -> Result<String> {
-    Ok(String::from_utf8(bytes.to_vec(alloc)?)?)
+/// Adds the hexadecimal digits of bytes.
+pub fn digits(alloc: Global, shown: &mut String, bytes: &[u8]) -> Result<()> {
+    add(shown, hex::encode(alloc, bytes)?.as_str())
 }

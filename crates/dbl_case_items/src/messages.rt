@@ -69,10 +69,10 @@ fn insert(alloc: Global, fields: &str) -> Result<Message> {
 }
 
 fn old_tuple(alloc: Global, kind: &str, words: &str) -> Result<OldTuple> {
-    let tuple = tuple(alloc, words)?;
     match kind {
-        "K" => Ok(OldTuple::Key(tuple)),
-        _ => Ok(OldTuple::Whole(tuple)),
+        "K" => Ok(OldTuple::Key(tuple(alloc, words)?)),
+        "O" => Ok(OldTuple::Whole(tuple(alloc, words)?)),
+        _ => bail!("neither a whole old row nor a key"),
     }
 }
 

@@ -1,8 +1,10 @@
 -- What was read rightly: it stays right while the history grows, and it is transactions and an unfinished one.
 use Rattle.std.proofs.Common.{◌≡◌, ◌∙◌, ◌≤◌, ◌<◌, ℕ, List, [], ◌∷◌, ◌++◌, length, map, take, drop, refl, sym, ap, subst, arith, append_assoc}
+use Rattle.std.specs.List.{AllByRecursion}
 use Rattle.std.specs.Prelude.{Bool, true, false, cond, Option, Some, None, IfSome, IsSomeAnd, is_some, not, nat_lt, slice_get}
 use Rattle.std.proofs.lemmas.List.{length-map, map-append, take-append-le, take-append-drop, take_at}
 use Rattle.std.proofs.lemmas.List.Elements.{filter-append}
+use Rattle.std.proofs.lemmas.Bool.{ltb-false}
 use Rattle.std.proofs.lemmas.Bool.Decides.{nat_tests}
 use Rattle.dbl_base.specs.declared.lsn.Lsn.{Lsn}
 use Rattle.dbl_pgmsg.specs.declared.messages.Message.{Message}
@@ -106,18 +108,28 @@ all_behind after low (c ∷ cs) le rising =
     let lt : nat_lt after.0 c.lsn.0 ≡ true = grind (arith, nat_tests, le, rising.0) in
     at_once after c cs true lt ∙ ap (λ (l : List RawCommit). c ∷ l) (all_behind after c.lsn.0 cs (omega (arith, le, rising.0)) rising.1)
 
-parted : (after : Lsn) (low : ℕ) (cs : List RawCommit) → AreRising low (map (λ (c : RawCommit). c.lsn.0) cs) → (before : List RawCommit) × (cs ≡ before ++ commits_after after cs)
-parted after low [] rising = ([], refl)
+-- the commits of a list with an LSN up to this one stand first
+abbrev PartsAt : Lsn → List RawCommit → Type 0
+PartsAt after cs = (before : List RawCommit) × (cs ≡ before ++ commits_after after cs) × AllByRecursion (λ (c : RawCommit). c.lsn.0 ≤ after.0) before
+
+parted : (after : Lsn) (low : ℕ) (cs : List RawCommit) → AreRising low (map (λ (c : RawCommit). c.lsn.0) cs) → PartsAt after cs
+parted after low [] rising = ([], refl, tt)
 parted after low (c ∷ cs) rising = by (nat_lt after.0 c.lsn.0) refl (parted after c.lsn.0 cs rising.1)
   where
-    by : (b : Bool) → nat_lt after.0 c.lsn.0 ≡ b → ((before : List RawCommit) × (cs ≡ before ++ commits_after after cs)) → (before : List RawCommit) × (c ∷ cs ≡ before ++ commits_after after (c ∷ cs))
+    by : (b : Bool) → nat_lt after.0 c.lsn.0 ≡ b → PartsAt after cs → PartsAt after (c ∷ cs)
     by true is rest =
         let lt : after.0 < c.lsn.0 = grind (arith, nat_tests) in
-        ([], sym (at_once after c cs true is ∙ ap (λ (l : List RawCommit). c ∷ l) (all_behind after c.lsn.0 cs (omega (arith, lt)) rising.1)))
+        ([], sym (at_once after c cs true is ∙ ap (λ (l : List RawCommit). c ∷ l) (all_behind after c.lsn.0 cs (omega (arith, lt)) rising.1)), tt)
     by false is rest =
-        (c ∷ rest.0, ap (λ (l : List RawCommit). c ∷ l) rest.1 ∙ ap (λ (l : List RawCommit). c ∷ rest.0 ++ l) (sym (at_once after c cs false is)))
+        let le : c.lsn.0 ≤ after.0 = ltb-false after.0 c.lsn.0 is in
+        (c ∷ rest.0, ap (λ (l : List RawCommit). c ∷ l) rest.1 ∙ ap (λ (l : List RawCommit). c ∷ rest.0 ++ l) (sym (at_once after c cs false is)), (le, rest.2))
+
+-- what is read of them has their LSNs
+typed_upto : (infos : List TableInfo) (after : Lsn) (cs : List RawCommit) → AllByRecursion (λ (c : RawCommit). c.lsn.0 ≤ after.0) cs → AllByRecursion (λ (c : Commit). c.lsn.0 ≤ after.0) (map (typed_commit infos) cs)
+typed_upto infos after [] all = tt
+typed_upto infos after (c ∷ cs) all = (all.0, typed_upto infos after cs all.1)
 
 pub parts_at : HistoriesPartAtAnLsn
 parts_at infos after history rising =
     let p = parted after 0 history.commits rising in
-    (map (typed_commit infos) p.0, ap (map (typed_commit infos)) p.1 ∙ map-append (typed_commit infos) p.0 (commits_after after history.commits))
+    (map (typed_commit infos) p.0, ap (map (typed_commit infos)) p.1 ∙ map-append (typed_commit infos) p.0 (commits_after after history.commits), typed_upto infos after p.0 p.2)

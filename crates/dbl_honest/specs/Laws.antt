@@ -1,5 +1,6 @@
 -- What the definitions come to.
-use Rattle.std.specs.Prelude.{◌≡◌, ◌≤◌, ℕ, is_some, not, Option, Some, List, [], ◌∷◌, ◌++◌, length}
+use Rattle.std.specs.Prelude.{◌≡◌, ◌≤◌, ℕ, is_some, not, Option, Some, IfSome, List, [], ◌∷◌, ◌++◌, length, map, slice_get}
+use Rattle.std.specs.List.{AllByRecursion}
 use Rattle.dbl_base.specs.declared.lsn.Lsn.{Lsn}
 use Rattle.dbl_pgmsg.specs.declared.messages.Message.{Message}
 use Rattle.dbl_table.specs.declared.table.TableName.{TableName}
@@ -11,7 +12,7 @@ use Rattle.dbl_table.specs.Infos.{number_of}
 use Rattle.dbl_table.specs.Rows.{rows, moment_of}
 use Rattle.dbl_history.specs.History.{History, IsRising}
 use Rattle.dbl_history.specs.Typed.{typed}
-use Rattle.dbl_history.specs.Fit.{AreInfosOf}
+use Rattle.dbl_history.specs.Fit.{IsKeyOf, AreInfosOf}
 use Rattle.dbl_commit.specs.Past.{begin_of}
 use Rattle.dbl_commit.specs.Stated.{is_empty, commits_of}
 use Rattle.dbl_commit.specs.Blocks.{onto, States, IsAccepted}
@@ -19,7 +20,7 @@ use Rattle.dbl_commit.specs.BegunCommits.{BeginsNext}
 use Rattle.dbl_honest.specs.Standings.{Reading, Standing}
 use Rattle.dbl_honest.specs.Growth.{Grows, Marks, marks_in}
 use Rattle.dbl_honest.specs.Stated.{to_state, ReadsRight, IsReadRight}
-use Rattle.dbl_honest.specs.Selected.{rows_behind, AreAnswered}
+use Rattle.dbl_honest.specs.Selected.{rows_behind, keyed_row, AreRowsAt, AreAnswered}
 use Rattle.dbl_honest.specs.Calls.{HasReadAll}
 
 -- what a history grew to goes on growing
@@ -58,9 +59,11 @@ pub record AreFirstBlocks (infos : List TableInfo) (commits : List Commit) (ms :
 abbrev pub ReadMessagesAreBlocks : Type 0
 ReadMessagesAreBlocks = (infos : List TableInfo) (after : Lsn) (commits : List Commit) (ms : List Message) → ReadsRight infos after commits ms → IsAccepted infos after ms → AreFirstBlocks infos commits ms
 
--- an LSN parts a history: what messages read behind it have to state are its last commits
+-- An LSN parts a history: what messages read behind it have to state are its last commits, and the commits before these are those
+-- up to the LSN.
 abbrev pub HistoriesPartAtAnLsn : Type 0
-HistoriesPartAtAnLsn = (infos : List TableInfo) (after : Lsn) (history : History) → IsRising history → (before : List Commit) × (typed infos history ≡ before ++ to_state infos after history)
+HistoriesPartAtAnLsn = (infos : List TableInfo) (after : Lsn) (history : History) → IsRising history
+    → (before : List Commit) × (typed infos history ≡ before ++ to_state infos after history) × AllByRecursion (λ (commit : Commit). commit.lsn.0 ≤ after.0) before
 
 -- what was read rightly stays right, however the history grows
 abbrev pub ReadersGoOn : Type 0
@@ -71,6 +74,13 @@ abbrev pub AllReadIsAllStated : Type 0
 AllReadIsAllStated = (infos : List TableInfo) (s t : Standing) (reading : Reading) → Grows s.history t.history → t.reading ≡ Some reading → AreInfosOf t.history infos → IsReadRight t.history reading
     → IsAccepted infos reading.after reading.messages → HasReadAll s t
     → (more : List Commit) × (commits_of infos reading.messages ≡ to_state infos reading.after s.history ++ more)
+
+-- Rows of two places are no answer: at one place, above one key of the table's key types or from the first on, and to one limit,
+-- there is one answer alone, read by the table's columns. Above another key there is none.
+abbrev pub AnswersAtAPlaceAreOne : Type 0
+AnswersAtAPlaceAreOne = (history : History) (place : ℕ) (name : TableName) (above : Option Key) (limit : ℕ) (rows others : List RawRow) (infos : List TableInfo) (table : ℕ) (info : TableInfo)
+    → AreInfosOf history infos → number_of infos name ≡ Some table → slice_get infos table ≡ Some info → AreRowsAt history place name above limit rows → AreRowsAt history place name above limit others
+    → (IfSome above (IsKeyOf info) → map (keyed_row infos table info) rows ≡ map (keyed_row infos table info) others) × ((¬ IfSome above (IsKeyOf info)) → rows ≡ others)
 
 -- Before the first commit a captured table has no rows: an answer with one isn't right, whatever was asked.
 abbrev pub NoRowsBeforeTheFirstCommit : Type 0

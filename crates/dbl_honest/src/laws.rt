@@ -1,6 +1,6 @@
 //! Laws of histories that grow, and of what is read of them. The functions do nothing: their contracts are the laws.
 
-ghost use Rattle.dbl_honest.specs.Laws.{GrownHistoriesGrow, GrownHistoriesKeepRows, RowsBehindAreRows, OthersWriteNoMark, MarksAreWrittenOnce, ReadMessagesAreBlocks, HistoriesPartAtAnLsn, ReadersGoOn, AllReadIsAllStated, NoRowsBeforeTheFirstCommit};
+ghost use Rattle.dbl_honest.specs.Laws.{GrownHistoriesGrow, GrownHistoriesKeepRows, RowsBehindAreRows, OthersWriteNoMark, MarksAreWrittenOnce, ReadMessagesAreBlocks, HistoriesPartAtAnLsn, ReadersGoOn, AllReadIsAllStated, AnswersAtAPlaceAreOne, NoRowsBeforeTheFirstCommit};
 
 /// A history that grew and grew again has grown.
 pub fn grown_histories_grow()
@@ -33,7 +33,7 @@ pub fn read_messages_are_blocks()
     ensures { ReadMessagesAreBlocks }
 {}
 
-/// The commits behind an LSN are the last ones of a history.
+/// The commits behind an LSN are the last ones of a history, and those before them are the ones up to it.
 pub fn histories_part_at_an_lsn()
     ensures { HistoriesPartAtAnLsn }
 {}
@@ -46,6 +46,11 @@ pub fn readers_go_on()
 /// A reader that has read all has read every commit that stood at the call.
 pub fn all_read_is_all_stated()
     ensures { AllReadIsAllStated }
+{}
+
+/// At one place there is one answer alone, so that rows of two places are none.
+pub fn answers_at_a_place_are_one()
+    ensures { AnswersAtAPlaceAreOne }
 {}
 
 /// Before the first commit no answer with a row of a captured table is right.

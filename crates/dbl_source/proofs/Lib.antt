@@ -1,0 +1,11 @@
+pub mod PlayLemmas
+pub mod CallLemmas
+pub mod PlannedLemmas
+mod NewLemmas
+pub mod ReadingLemmas
+pub mod KeptLemmas
+pub mod EntryLemmas
+pub mod StepLemmas
+pub mod StartLemmas
+pub mod ReadCallLemmas
+pub mod AddedLemmas

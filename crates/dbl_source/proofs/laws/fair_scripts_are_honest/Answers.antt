@@ -1,0 +1,4 @@
+use Rattle.dbl_source.proofs.laws.fair_scripts_are_honest.Goals as goal
+
+pub returns : goal.returns
+returns c = λ source. (λ honest. honest, λ fair. fair)

@@ -1,0 +1,18 @@
+-- What it comes to that a script is honest.
+use Rattle.std.specs.Prelude.{ℕ, List, map}
+use Rattle.std.specs.List.{AllByRecursion}
+use Rattle.dbl_pgmsg.specs.Grammar.{Fits}
+use Rattle.dbl_table.specs.declared.table.RawTable.{RawTable}
+use Rattle.dbl_table.specs.declared.table.RawRow.{RawRow}
+use Rattle.dbl_history.specs.Ranges.{IsEntryInRange}
+use Rattle.dbl_feed.specs.Relations.{catalogue, all_relations}
+use Rattle.dbl_feed.specs.Fair.{AreNamed}
+use Rattle.dbl_source.specs.declared.moves.Move.{Move}
+use Rattle.dbl_source.specs.Played.{keyed_table, new_played}
+use Rattle.dbl_source.specs.Steps.{WasFair}
+
+-- A source that has been asked nothing was honest so far, whatever its script will bring, where its tables can be told apart and have
+-- Relations with a spelling.
+abbrev pub NewSourcesAreFair : Type 0
+NewSourcesAreFair = (raws : List RawTable) (moves : List Move) (rows : List (List RawRow)) (fails : List ℕ) → AllByRecursion IsEntryInRange (catalogue (map keyed_table raws)) → AreNamed (map keyed_table raws)
+    → AllByRecursion Fits (all_relations (map keyed_table raws)) → WasFair (new_played raws moves rows fails)

@@ -1,0 +1,107 @@
+-- A source that is played from a script as a `Source`, and how its `read` answers.
+use Rattle.std.specs.Prelude.{◌≡◌, ◌⊎◌, ℕ, ◌<◌, ◌≤◌, IsTrue, is_some, Option, Some, IsSomeAnd, Result, Err, IsErr, slice_get, List, ◌∷◌, ◌++◌, length, map}
+use Rattle.std.specs.Ordering.{nat_cmp}
+use Rattle.std.specs.BTreeSet.{BTreeSet, contains}
+use Rattle.dbl_pgmsg.specs.declared.messages.Message.{Message}
+use Rattle.dbl_pgmsg.specs.Grammar.{Fits, Spells}
+use Rattle.dbl_honest.specs.Standings.{Standing, Left, left_of}
+use Rattle.dbl_commit.specs.Past.{relation_of}
+use Rattle.dbl_feed.specs.declared.logged.LogTable.{LogTable}
+use Rattle.dbl_feed.specs.declared.logged.Logged.{Logged}
+use Rattle.dbl_feed.specs.declared.logged.Logged.TheVariants.{Changes}
+use Rattle.dbl_feed.specs.declared.place.Place.{Place}
+use Rattle.dbl_feed.specs.Sent.{sent_after, index_of, told_at, IsPlaceIn}
+use Rattle.dbl_source.specs.declared.asked.Asked.{Asked}
+use Rattle.dbl_source.specs.declared.error.SourceError.{SourceError}
+use Rattle.dbl_source.specs.declared.error.SourceError.TheVariants.{Failed, Memory}
+use Rattle.dbl_source.specs.Moves.{commit_limit}
+use Rattle.dbl_source.specs.Fairness.{IsFair}
+use Rattle.dbl_source.specs.Played.{Played, standing_of, IsFull, IsListed, called, released, with_fault}
+
+-- it can be used, and stands for this
+abbrev pub StandsFor : Played → Standing → Type 0
+StandsFor s t = IsTrue s.live × (t ≡ standing_of s)
+
+-- a stop leaves what it stands for, also where it can't be used
+abbrev pub MayLeave : Played → Left → Type 0
+MayLeave s l = l ≡ left_of (standing_of s)
+
+-- its script has been honest so far
+abbrev pub WasFair : Played → Type 0
+WasFair s = IsFair s.tables s.log s.asked s.rows
+
+-- the message that a reader at this place reads next; none at the end of the log
+abbrev pub next_message : Played → Place → Option Message
+next_message s place = slice_get (sent_after s.tables place.after s.log) (length (told_at s.tables s.log place))
+
+-- the next message has no spelling
+abbrev pub IsUnfit : Played → Type 0
+IsUnfit s = (place : Place) × (s.place ≡ Some place) × IsSomeAnd (next_message s place) (λ message. ¬ Fits message)
+
+-- A read fails as every call does, and where the next message has no spelling.
+pub record ReadsAsPlanned {T : Type 0} (old new : Played) (result : Result T SourceError) : Type 0 where
+  pub full : IsFull 0 old → result ≡ Err Failed
+  pub listed : IsListed old → IsErr result
+  pub unfit : IsUnfit (released old) → IsErr result
+  pub failed : result ≡ Err Failed → (IsFull 0 old × (new ≡ with_fault (called old))) ⊎ (IsListed old × (¬ IsFull 0 old) × (new ≡ with_fault (released old))) ⊎ (IsUnfit (released old) × (new ≡ with_fault (released old)))
+
+-- ---- for private clauses and what is kept
+
+-- What a played source always keeps: fewer than 2^40 commits; each select so far returned when there were no more commits than
+-- now; and the reader, where there is one, is at a place of the log.
+pub record IsKept (s : Played) : Type 0 where
+  pub few : length s.log < commit_limit
+  pub before : (n : ℕ) (question : Asked) → slice_get s.asked n ≡ Some question → question.upto ≤ length s.log
+  pub placed : (p : Place) → s.place ≡ Some p → IsPlaceIn s.log p
+
+-- at most so many commits of other clients stand behind the log
+pub record IsBehind (old new : List Logged) (most : ℕ) : Type 0 where
+  pub more : List (List Message)
+  pub is : new ≡ old ++ map Changes more
+  pub few : length more ≤ most
+
+-- other clients committed, and what a reader, a confirm and a select have made of the source is as it was
+pub record WentOn (old new : Played) : Type 0 where
+  pub more : List (List Message)
+  pub log : new.log ≡ old.log ++ map Changes more
+  pub tables : new.tables ≡ old.tables
+  pub rows : new.rows ≡ old.rows
+  pub asked : new.asked ≡ old.asked
+  pub confirmed : new.confirmed ≡ old.confirmed
+  pub place : new.place ≡ old.place
+  pub last : new.last ≡ old.last
+
+-- a reader at this place has no more messages
+abbrev pub IsAtEnd : List Logged → Place → Type 0
+IsAtEnd log place = length log ≤ index_of place
+
+-- these bytes are the next message, and the reader stands behind it now; the rest is as it was
+pub record IsReadBy (old new : Played) (bytes : List ℕ) : Type 0 where
+  pub place : Place
+  pub was : old.place ≡ Some place
+  pub next : Place
+  pub is : new ≡ record old { place = Some next }
+  pub same : next.after ≡ place.after
+  pub message : Message
+  pub spelled : Spells bytes message
+  pub told : told_at old.tables old.log next ≡ message ∷ told_at old.tables old.log place
+
+-- nothing is left to be read, and nothing changed
+pub record IsUnmoved (old new : Played) : Type 0 where
+  pub is : new ≡ old
+  pub ends : (place : Place) → old.place ≡ Some place → IsAtEnd old.log place
+
+-- what one more message is read of: where it has no spelling a fault is counted, and else nothing changed
+abbrev pub FailsToRead : Played → Played → SourceError → Type 0
+FailsToRead old new e = ((e ≡ Memory) × (new ≡ old)) ⊎ ((e ≡ Failed) × (new ≡ with_fault old) × IsUnfit old)
+
+-- the set has the OIDs of the tables that were described since the start
+abbrev pub Describes : BTreeSet ℕ → List Message → Type 0
+Describes described past = (oid : ℕ) → contains nat_cmp described oid ≡ is_some (relation_of oid past)
+
+-- what holds of the parts of each played source
+pub record IsPlayed (tables : List LogTable) (log : List Logged) (asked : List Asked) (place : Option Place) (described : BTreeSet ℕ) : Type 0 where
+  pub few : length log < commit_limit
+  pub before : (n : ℕ) (question : Asked) → slice_get asked n ≡ Some question → question.upto ≤ length log
+  pub placed : (p : Place) → place ≡ Some p → IsPlaceIn log p
+  pub recalled : (p : Place) → place ≡ Some p → Describes described (told_at tables log p)

@@ -1,0 +1,18 @@
+//! When a played source is honest. The functions do nothing: their contracts are the laws.
+
+ghost use Rattle.std.specs.Prelude.{◌↔◌};
+ghost use Rattle.dbl_source.specs.Played.{Played};
+ghost use Rattle.dbl_source.specs.Steps.{WasFair};
+ghost use Rattle.dbl_source.specs.Laws.{NewSourcesAreFair};
+
+use crate::{ScriptedSource, Source};
+
+/// A played source is honest exactly where its script was fair so far.
+pub fn fair_scripts_are_honest()
+    ensures { (source : Played) → ⟦<ScriptedSource as Source>⟧.honest source ↔ WasFair source }
+{}
+
+/// A played source that has been asked nothing was honest so far.
+pub fn new_sources_are_fair()
+    ensures { NewSourcesAreFair }
+{}

@@ -1,0 +1,17 @@
+//! Sources of changes: what a connector asks of a database, and a source that plays other clients' commits from a script.
+#![tactic(auto)]
+
+mod asked;
+mod error;
+mod laws;
+mod moves;
+mod reading;
+mod scripted;
+mod source;
+
+pub use dbl_honest::Started;
+pub use error::SourceError;
+pub use laws::{fair_scripts_are_honest, new_sources_are_fair};
+pub use moves::{COMMIT_LIMIT, Move, has_room};
+pub use scripted::ScriptedSource;
+pub use source::Source;

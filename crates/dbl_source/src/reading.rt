@@ -1,0 +1,225 @@
+//! The next message of a commit that is being read, and how far its reader is behind it.
+
+ghost use Rattle.std.specs.Prelude.{◌≡◌, ◌⊎◌, ◌+◌, ◌<◌, ◌^◌, ℕ, List, take, false, true, Some, None, IfOk, IfErr, MatchOption, slice_get};
+ghost use Rattle.dbl_pgmsg.specs.declared.messages.Message.{Message};
+ghost use Rattle.dbl_pgmsg.specs.Grammar.{Fits, Spells};
+ghost use Rattle.dbl_feed.specs.declared.logged.LogTable.{LogTable};
+ghost use Rattle.dbl_feed.specs.declared.logged.Logged.{Logged};
+ghost use Rattle.dbl_feed.specs.Sent.{described_in, oids_of, messages_in, onto_relations, index_of, told_at, IsPlaceIn};
+ghost use Rattle.dbl_source.specs.Steps.{Describes};
+ghost use Rattle.dbl_source.specs.Readings.{IsMissing, LeadsTo, Steps};
+
+use crate::SourceError;
+use dbl_base::Bytes;
+use dbl_feed::{
+    LogTable, Logged, Place, begin_message, commit_message, mark_message, oid_at, relation_at,
+};
+use dbl_pgmsg::{Message, encode};
+use std::alloc::Global;
+use std::collections::BTreeSet;
+
+/// What is read next: its bytes, where the reader is behind it, and the table that it describes.
+#[derive(Debug, Drop)]
+pub(crate) struct Step {
+    pub bytes: Bytes,
+    pub place: Place,
+    pub described: Option<u32>,
+}
+
+/// The Relation of a table that a change names and that wasn't described yet. `table` counts the tables up to it.
+#[derive(Debug, Drop)]
+struct Missing {
+    relation: Message,
+    oid: u32,
+    table: usize,
+}
+
+fn described_by(message: &Message) -> Option<u32>
+    ensures { result ≡ described_in message.now }
+{
+    match message {
+        Message::Relation { oid, .. } => Some(*oid),
+        _ => None,
+    }
+}
+
+// A message that has no spelling is a fault of the script.
+fn step_to(alloc: Global, message: &Message, place: Place) -> Result<Step, SourceError>
+    ensures leads { IfOk result (LeadsTo message.now place) }
+    ensures fault { IfErr result (λ e. (e ≡ SourceError.Memory) ⊎ ((e ≡ SourceError.Failed) × (¬ Fits message.now))) }
+{
+    if !message.fits() {
+        return Err(SourceError::Failed);
+    }
+    let Ok(bytes) = encode(alloc, message) else {
+        return Err(SourceError::Memory);
+    };
+    Ok(Step {
+        bytes,
+        place,
+        described: described_by(message),
+    })
+}
+
+// The first table from a place on, of those that the change names, that has a Relation and wasn't described.
+fn next_missing(
+    alloc: Global,
+    tables: &[LogTable],
+    described: &BTreeSet<u32>,
+    message: &Message,
+    from: usize,
+) -> Result<Option<Missing>, SourceError>
+    ensures next { (base : List Message) → Describes described.now (onto_relations tables.now (take from (oids_of message.now)) base) → IfOk result (λ found. MatchOption found
+        (onto_relations tables.now (oids_of message.now) base ≡ onto_relations tables.now (take from (oids_of message.now)) base)
+        (IsMissing tables.now (oids_of message.now) from base)) }
+    ensures memory { IfErr result (λ e. e ≡ SourceError.Memory) }
+{
+    let mut table = from;
+    while let Some(oid) = oid_at(message, table) {
+        table += 1;
+        if described.contains(&oid) {
+            continue;
+        }
+        if let Some(relation) = relation_at(alloc, tables, oid)? {
+            return Ok(Some(Missing {
+                relation,
+                oid,
+                table,
+            }));
+        }
+    }
+    Ok(None)
+}
+
+// The commit begins.
+fn first_step(alloc: Global, place: Place, number: u64) -> Result<Step, SourceError>
+    requires { number < 2 ^ 41 }
+    ensures { (tables : List LogTable) (log : List Logged) (entry : Logged) → number ≡ index_of place + 1 → place.begun ≡ false → slice_get log (index_of place) ≡ Some entry
+        → IsPlaceIn log place → Steps tables log place result }
+{
+    step_to(
+        alloc,
+        &begin_message(number),
+        Place {
+            after: place.after,
+            commits: place.commits,
+            begun: true,
+            change: 0,
+            table: 0,
+        },
+    )
+}
+
+// A change is read, or the Relation of one of its tables before it.
+fn change_step(
+    alloc: Global,
+    tables: &[LogTable],
+    described: &BTreeSet<u32>,
+    place: Place,
+    message: &Message,
+) -> Result<Step, SourceError>
+    requires { place.change + 1 < 2 ^ 64 }
+    ensures { (log : List Logged) (entry : Logged) → place.begun ≡ true → slice_get log (index_of place) ≡ Some entry → slice_get (messages_in entry) place.change ≡ Some message.now
+        → IsPlaceIn log place → Describes described.now (told_at tables.now log place) → Steps tables.now log place result }
+{
+    match next_missing(alloc, tables, described, message, place.table)? {
+        Some(
+            Missing {
+                relation,
+                oid: _,
+                table,
+            },
+        ) => step_to(
+            alloc,
+            &relation,
+            Place {
+                after: place.after,
+                commits: place.commits,
+                begun: true,
+                change: place.change,
+                table,
+            },
+        ),
+        None => step_to(
+            alloc,
+            message,
+            Place {
+                after: place.after,
+                commits: place.commits,
+                begun: true,
+                change: place.change + 1,
+                table: 0,
+            },
+        ),
+    }
+}
+
+// The commit ends.
+fn last_step(alloc: Global, place: Place, number: u64) -> Result<Step, SourceError>
+    requires number { number < 2 ^ 41 }
+    requires place { place.commits + 1 < 2 ^ 64 }
+    ensures { (tables : List LogTable) (log : List Logged) (entry : Logged) → number ≡ index_of place + 1 → place.begun ≡ true → slice_get log (index_of place) ≡ Some entry
+        → slice_get (messages_in entry) place.change ≡ None → IsPlaceIn log place → Steps tables log place result }
+{
+    step_to(
+        alloc,
+        &commit_message(number),
+        Place {
+            after: place.after,
+            commits: place.commits + 1,
+            begun: false,
+            change: 0,
+            table: 0,
+        },
+    )
+}
+
+// The change at this place, or the end.
+fn inner_step(
+    alloc: Global,
+    tables: &[LogTable],
+    entry: &Logged,
+    described: &BTreeSet<u32>,
+    place: Place,
+    number: u64,
+) -> Result<Step, SourceError>
+    requires number { number < 2 ^ 41 }
+    requires place { place.commits + 1 < 2 ^ 64 }
+    ensures { (log : List Logged) → number ≡ index_of place + 1 → place.begun ≡ true → slice_get log (index_of place) ≡ Some entry.now → IsPlaceIn log place
+        → Describes described.now (told_at tables.now log place) → Steps tables.now log place result }
+{
+    match entry {
+        Logged::Changes(messages) => match messages.items().get(place.change) {
+            Some(message) => change_step(alloc, tables, described, place, message),
+            None => last_step(alloc, place, number),
+        },
+        Logged::Mark(value) => {
+            if place.change > 0 {
+                return last_step(alloc, place, number);
+            }
+            let message = mark_message(alloc, value)?;
+            change_step(alloc, tables, described, place, &message)
+        }
+    }
+}
+
+/// What is read next of the commit with this number, which is the entry.
+pub(crate) fn next_step(
+    alloc: Global,
+    tables: &[LogTable],
+    entry: &Logged,
+    described: &BTreeSet<u32>,
+    place: Place,
+    number: u64,
+) -> Result<Step, SourceError>
+    requires number { number < 2 ^ 41 }
+    requires place { place.commits + 1 < 2 ^ 64 }
+    ensures { (log : List Logged) → number ≡ index_of place + 1 → slice_get log (index_of place) ≡ Some entry.now → IsPlaceIn log place
+        → Describes described.now (told_at tables.now log place) → Steps tables.now log place result }
+{
+    if place.begun {
+        inner_step(alloc, tables, entry, described, place, number)
+    } else {
+        first_step(alloc, place, number)
+    }
+}

@@ -30,14 +30,14 @@ use Rattle.dbl_ageing.proofs.Rows.{aged_records_agree}
 
 -- ---- lists
 
-slice_get-take : {X : Type 0} (n : ℕ) (xs : List X) (j : ℕ) (x : X) → slice_get (take n xs) j ≡ Some x → slice_get xs j ≡ Some x
+pub slice_get-take : {X : Type 0} (n : ℕ) (xs : List X) (j : ℕ) (x : X) → slice_get (take n xs) j ≡ Some x → slice_get xs j ≡ Some x
 slice_get-take zero xs j x at = cc
 slice_get-take (suc n) [] j x at = cc
 slice_get-take (suc n) (y ∷ xs) zero x at = at
 slice_get-take (suc n) (y ∷ xs) (suc j) x at = slice_get-take n xs j x at
 
 -- a front that has the last item is the whole list
-take_whole : {X : Type 0} (n : ℕ) (xs : List X) (j : ℕ) (x : X) → slice_get (take n xs) j ≡ Some x → j + 1 ≡ length xs → take n xs ≡ xs
+pub take_whole : {X : Type 0} (n : ℕ) (xs : List X) (j : ℕ) (x : X) → slice_get (take n xs) j ≡ Some x → j + 1 ≡ length xs → take n xs ≡ xs
 take_whole zero xs j x at e = cc
 take_whole (suc n) [] j x at e = cc
 take_whole (suc zero) (y ∷ []) zero x at e = refl
@@ -83,9 +83,10 @@ before_under infos commits item [] before = tt
 before_under infos commits item (r ∷ rs) before = (later_places infos commits (place_of r) (place_of item) before.0, before_under infos commits item rs before.1)
 
 module _ (identity : Identity) (infos : List TableInfo) (commits : List Commit) (facts : AreFitCommits infos commits) (start : ℕ) where
-  -- with any front of such records, whose position's moment is this, and with all of which the records are aged there
+  -- With any front of such records, whose position's moment is this. Where one of the front says that it is the last, the records are
+  -- aged there with all of them.
   pub agrees_more : (records rs : List Record) (position m n : ℕ) → IsRun position rs → ((j : ℕ) (item : Record) → slice_get rs j ≡ Some item → record_moment infos commits item ≤ m) → moment_at commits position ≡ m → start ≤ m
-      → IsAged identity infos commits start (records ++ rs) m → AreNamed identity infos (records ++ rs) → Agrees identity infos commits start records → Agrees identity infos commits start (records ++ take n rs)
+      → ((j : ℕ) (item : Record) → slice_get (take n rs) j ≡ Some item → item.last ≡ true → IsAged identity infos commits start (records ++ rs) m) → AreNamed identity infos (records ++ rs) → Agrees identity infos commits start records → Agrees identity infos commits start (records ++ take n rs)
   agrees_more records rs position m n run most is from aged named agrees = record {
     each = λ i item at fresh last topic text table key names known. elim (cases_lt i (length records)) [
       | inl early ↦ (
@@ -120,7 +121,7 @@ module _ (identity : Identity) (infos : List TableInfo) (commits : List Commit) 
           (subst (λ (l : List Record). IsKnown identity infos (all_changes commits) start l (moment_at commits item.position) table key) listed known) in
           subst (λ (l : List Record). Holds (held_row identity l topic text) (image_row infos (rows infos commits (moment_at commits item.position)) table key)) (sym listed)
           (subst (λ (k : ℕ). Holds (held_row identity (records ++ rs) topic text) (image_row infos (rows infos commits k) table key)) (sym moment)
-          (aged_records_agree identity infos commits start m (records ++ rs) topic text table key facts aged named low names known_there)))
+          (aged_records_agree identity infos commits start m (records ++ rs) topic text table key facts (aged j item at_front last) named low names known_there)))
     ];
   }
 

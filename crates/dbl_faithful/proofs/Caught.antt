@@ -1,10 +1,10 @@
 -- The steps of a session, each keeping what it keeps of its records.
-use Rattle.std.proofs.Common.{◌≡◌, ◌∙◌, ◌+◌, ◌≤◌, ◌<◌, ℕ, zero, suc, ℤ, max, Bool, true, false, List, [], ◌∷◌, ◌++◌, Option, Some, None, length, take, map, flat_map, refl, sym, ap, subst, arith, append_assoc, append-nil, length-append, le_refl, le_trans}
+use Rattle.std.proofs.Common.{◌≡◌, ◌∙◌, ◌+◌, ◌≤◌, ◌<◌, ℕ, zero, suc, ℤ, max, Bool, true, false, List, [], ◌∷◌, ◌++◌, Option, Some, None, length, take, flat_map, refl, sym, ap, subst, arith, append_assoc, append-nil, length-append, le_refl, le_trans}
 use Rattle.std.specs.Prelude.{nat_le, if◌then◌else◌, option_map, unwrap_or, slice_get}
 use Rattle.std.specs.Option.{option_or}
 use Rattle.std.specs.List.{AllByRecursion}
 use Rattle.std.proofs.lemmas.Bool.Decides.{nat_tests}
-use Rattle.std.proofs.lemmas.List.{take_all}
+use Rattle.std.proofs.lemmas.List.{length-map, take_all}
 use Rattle.dbl_record.specs.declared.record.Record.{Record}
 use Rattle.dbl_table.specs.declared.identity.Identity.{Identity}
 use Rattle.dbl_table.specs.declared.table.TableInfo.{TableInfo}
@@ -16,7 +16,7 @@ use Rattle.dbl_history.specs.Ranges.{IsMomentInRange}
 use Rattle.dbl_history.proofs.FitsInfosLemmas.{some_value}
 use Rattle.dbl_history.proofs.MomentLemmas.{positions_are}
 use Rattle.dbl_history.proofs.RowLemmas.{all_changes-append, rows_at-longer}
-use Rattle.dbl_event.specs.Events.{notices, events_of}
+use Rattle.dbl_event.specs.Events.{Notice, notices, numbered, events_of}
 use Rattle.dbl_event.specs.EventJson.{print, envelopes}
 use Rattle.dbl_event.specs.Clashes.{notice_clash, first_found, clash_of}
 use Rattle.dbl_event.specs.Snapshots.{chunk_records}
@@ -38,22 +38,8 @@ use Rattle.dbl_ageing.proofs.Changes.{silent_same, parts_keep_age, commits_move_
 use Rattle.dbl_ageing.proofs.Snapshot.{parts_of_snapshots_keep_age}
 use Rattle.dbl_ageing.proofs.Named.{no_records_are_named, events_keep_names, snapshots_keep_names}
 use Rattle.dbl_ageing.proofs.Spans.{no_records_are_aged}
-use Rattle.dbl_faithful.proofs.Agree.{agrees_more, commit_run, chunk_run}
-
--- ---- lists
-
--- what is so of the item at each place is so of each item
-all_by_place : {X : Type 0} (P : X → Type 0) (xs : List X) → ((j : ℕ) (x : X) → slice_get xs j ≡ Some x → P x) → AllByRecursion P xs
-all_by_place P [] each = tt
-all_by_place P (x ∷ xs) each = (each 0 x refl, all_by_place P xs (λ j y at. each (suc j) y at))
-
-mapped_at : {X Y : Type 0} (f : X → Y) (xs : List X) (j : ℕ) (y : Y) → slice_get (map f xs) j ≡ Some y → (x : X) × (slice_get xs j ≡ Some x) × (y ≡ f x)
-mapped_at f [] j y at = cc
-mapped_at f (x ∷ xs) zero y at = (x, refl, same_some (f x) y at)
-  where
-    same_some : {Z : Type 0} (a b : Z) → Some a ≡ Some b → b ≡ a
-    same_some a b e = cc
-mapped_at f (x ∷ xs) (suc j) y at = mapped_at f xs j y at
+use Rattle.dbl_faithful.proofs.Items.{all_by_place, mapped, take_long}
+use Rattle.dbl_faithful.proofs.Agree.{slice_get-take, take_whole, agrees_more, commit_run, chunk_run}
 
 -- ---- the start, and earlier moments
 
@@ -87,7 +73,7 @@ earlier_moments_are_caught identity infos commits start from to records le caugh
 -- each is of it
 pub envelopes_are_of : (identity : Identity) (infos : List TableInfo) (commit : Commit) (now : ℤ) → IsMomentInRange now → AllByRecursion (IsRecordOf identity infos commit) (envelopes identity infos commit now)
 envelopes_are_of identity infos commit now in_time = all_by_place (IsRecordOf identity infos commit) (envelopes identity infos commit now) (λ j item at. (
-    let found = mapped_at (print identity commit now) (events_of infos commit) j item at in
+    let found = mapped (print identity commit now) (events_of infos commit) j item at in
     record { number = j; event = found.0; stands = found.1; now = now; in_range = in_time; printed = found.2 }))
 
 under_sum : (a b k w m : ℕ) → w ≡ a + k → k ≤ b → m ≡ a + b → w ≤ m
@@ -97,13 +83,13 @@ module _ (identity : Identity) (infos : List TableInfo) (before : List Commit) (
   abbrev cs : List Commit
   cs = before ++ commit ∷ later
 
-  after_size : moment_after (before ++ commit ∷ []) ≡ length (all_changes before) + length (changes_of commit)
+  pub after_size : moment_after (before ++ commit ∷ []) ≡ length (all_changes before) + length (changes_of commit)
   after_size =
       ap length (all_changes-append before (commit ∷ []) ∙ ap (λ (l : List Change). all_changes before ++ l) (append-nil (changes_of commit)))
       ∙ length-append (all_changes before) (changes_of commit)
 
   -- none stands for a moment behind the commit
-  envelope_under : (now : ℤ) (j : ℕ) (item : Record) → slice_get (envelopes identity infos commit now) j ≡ Some item → record_moment infos cs item ≤ moment_after (before ++ commit ∷ [])
+  pub envelope_under : (now : ℤ) (j : ℕ) (item : Record) → slice_get (envelopes identity infos commit now) j ≡ Some item → record_moment infos cs item ≤ moment_after (before ++ commit ∷ [])
   envelope_under now j item at =
       let position : item.position ≡ commit.lsn.0 = (commit_run identity infos commit now j item at).0 in
       under_sum (length (all_changes before)) (length (changes_of commit)) (changes_through infos (changes_of commit) item.ordinal) (record_moment infos cs item) (moment_after (before ++ commit ∷ []))
@@ -141,27 +127,49 @@ found_first f (suc n) (x ∷ xs) none =
     let parts = found_parts f x xs none in
     ap (λ (o : Option _). option_or o (first_found f (take n xs))) parts.0 ∙ found_first f n xs parts.1
 
+pub numbered_length : (position ordinal : ℕ) (ns : List Notice) → length (numbered position ordinal ns) ≡ length ns
+numbered_length position ordinal [] = refl
+numbered_length position ordinal (n ∷ ns) = ap suc (numbered_length position (ordinal + 1) ns)
+
+-- a commit has as many records as it tells events
+pub envelopes_length : (identity : Identity) (infos : List TableInfo) (commit : Commit) (now : ℤ) → length (envelopes identity infos commit now) ≡ length (flat_map (notices infos) (changes_of commit))
+envelopes_length identity infos commit now =
+    length-map (events_of infos commit) (print identity commit now) ∙ numbered_length commit.lsn.0 0 (flat_map (notices infos) (changes_of commit))
+
+-- where all of its records are in a prefix, none of them has the placeholder
+clear_whole : (identity : Identity) (infos : List TableInfo) (commit : Commit) (now : ℤ) (n : ℕ) → first_found (notice_clash identity.placeholder) (take n (flat_map (notices infos) (changes_of commit))) ≡ None
+    → take n (envelopes identity infos commit now) ≡ envelopes identity infos commit now → clash_of identity infos commit ≡ None
+clear_whole identity infos commit now n clear full =
+    let told : List Notice = flat_map (notices infos) (changes_of commit) in
+    let long : length (envelopes identity infos commit now) ≤ n = take_long n (envelopes identity infos commit now) (ap length full) in
+    let enough : length told ≤ n = subst (λ (k : ℕ). k ≤ n) (envelopes_length identity infos commit now) long in
+    ap (first_found (notice_clash identity.placeholder)) (sym (take_all n told enough)) ∙ clear
+
 -- with any prefix, from what all of them come to
-agrees_parts : (identity : Identity) (infos : List TableInfo) (commits before : List Commit) (commit : Commit) (later : List Commit) (start : ℕ) (records : List Record) (now : ℤ) (n : ℕ) → IsNext infos commits before commit later → clash_of identity infos commit ≡ None → IsMomentInRange now
+agrees_parts : (identity : Identity) (infos : List TableInfo) (commits before : List Commit) (commit : Commit) (later : List Commit) (start : ℕ) (records : List Record) (now : ℤ) (n : ℕ) → IsNext infos commits before commit later
+    → first_found (notice_clash identity.placeholder) (take n (flat_map (notices infos) (changes_of commit))) ≡ None → IsMomentInRange now
     → start ≤ moment_after before → IsCaught identity infos commits start records (moment_after before) → Agrees identity infos commits start (records ++ take n (envelopes identity infos commit now))
 agrees_parts identity infos commits before commit later start records now n next clear in_time from caught =
     let facts : AreFitCommits infos (before ++ commit ∷ later) = subst (AreFitCommits infos) next.spelled next.fit in
     let m : ℕ = moment_after (before ++ commit ∷ []) in
-    let most : (j : ℕ) (item : Record) → slice_get (envelopes identity infos commit now) j ≡ Some item → record_moment infos commits item ≤ m =
+    let es : List Record = envelopes identity infos commit now in
+    let most : (j : ℕ) (item : Record) → slice_get es j ≡ Some item → record_moment infos commits item ≤ m =
     (λ j item at. subst (λ (l : List Commit). record_moment infos l item ≤ m) (sym next.spelled) (envelope_under identity infos before commit later facts now j item at)) in
     let moment : moment_at commits commit.lsn.0 ≡ m = ap (λ (l : List Commit). moment_at l commit.lsn.0) next.spelled ∙ (positions_are before commit later facts.rise).1 in
     let low : start ≤ m = further start (moment_after before) m (length (changes_of commit)) from (after_size identity infos before commit later facts) in
-    agrees_more identity infos commits next.fit start records (envelopes identity infos commit now) commit.lsn.0 m n (commit_run identity infos commit now) most moment low
-    (commits_move_age identity infos commits before commit later start records now next clear in_time caught.aged)
-    (events_keep_names identity infos commits before commit later records (envelopes identity infos commit now) next (envelopes_are_of identity infos commit now in_time) caught.named)
+    let aged : (j : ℕ) (item : Record) → slice_get (take n es) j ≡ Some item → item.last ≡ true → IsAged identity infos commits start (records ++ es) m =
+    (λ j item at last. commits_move_age identity infos commits before commit later start records now next
+    (clear_whole identity infos commit now n clear (take_whole n es j item at ((commit_run identity infos commit now j item (slice_get-take n es j item at)).1 last))) in_time caught.aged) in
+    agrees_more identity infos commits next.fit start records es commit.lsn.0 m n (commit_run identity infos commit now) most moment low aged
+    (events_keep_names identity infos commits before commit later records es next (envelopes_are_of identity infos commit now in_time) caught.named)
     caught.agrees
   where
     further : (s a m k : ℕ) → s ≤ a → m ≡ a + k → s ≤ m
     further s a m k le size = omega (arith, le, size)
 
 pub parts_of_commits_are_caught : PartsOfCommitsAreCaught
-parts_of_commits_are_caught identity infos commits before commit later start records now n next clear in_time from caught = record {
-  aged = parts_keep_age identity infos commits before commit later start (moment_after before) records now n next in_time (found_first (notice_clash identity.placeholder) n (flat_map (notices infos) (changes_of commit)) clear) (le_refl (moment_after before)) (here_reached (moment_after before) (reach infos commits start records)) caught.aged;
+parts_of_commits_are_caught identity infos commits before commit later start records now n next in_time clear from caught = record {
+  aged = parts_keep_age identity infos commits before commit later start (moment_after before) records now n next in_time clear (le_refl (moment_after before)) (here_reached (moment_after before) (reach infos commits start records)) caught.aged;
   reached = le_trans caught.reached (reach-more infos commits start records (take n (envelopes identity infos commit now)));
   agrees = agrees_parts identity infos commits before commit later start records now n next clear in_time from caught;
   named = events_keep_names identity infos commits before commit later records (take n (envelopes identity infos commit now)) next (all_take (IsRecordOf identity infos commit) n (envelopes identity infos commit now) (envelopes_are_of identity infos commit now in_time)) caught.named;
@@ -180,7 +188,7 @@ commits_are_caught identity infos commits before commit later start records now 
     record {
       aged = commits_move_age identity infos commits before commit later start records now next clear in_time caught.aged;
       reached = subst (λ (l : List Commit). moment_after (before ++ commit ∷ []) ≤ reach infos l start (records ++ es)) (sym next.spelled) (subst (λ (k : ℕ). k ≤ reach infos (before ++ commit ∷ later) start (records ++ es)) size whole);
-      agrees = subst (λ (l : List Record). Agrees identity infos commits start (records ++ l)) (take_all (length es) es (le_refl (length es))) (agrees_parts identity infos commits before commit later start records now (length es) next clear in_time from caught);
+      agrees = subst (λ (l : List Record). Agrees identity infos commits start (records ++ l)) (take_all (length es) es (le_refl (length es))) (agrees_parts identity infos commits before commit later start records now (length es) next (found_first (notice_clash identity.placeholder) (length es) (flat_map (notices infos) (changes_of commit)) clear) in_time from caught);
       named = events_keep_names identity infos commits before commit later records es next (envelopes_are_of identity infos commit now in_time) caught.named;
     }
 
@@ -221,7 +229,7 @@ parts_of_snapshots_are_caught identity infos commits before mark later start low
       aged = parts_of_snapshots_keep_age identity infos commits before mark later start low above closed records snapshot now n next none in_time whole clear right behind told caught.aged;
       reached = le_trans caught.reached (reach-more infos commits start records (take n snapshot));
       agrees = subst (λ (l : List Record). Agrees identity infos commits start (records ++ take n l)) (sym listed)
-          (agrees_more identity infos commits next.fit start records chunk_is mark.lsn.0 m n run most moment (le_trans behind under) all_aged all_named caught.agrees);
+          (agrees_more identity infos commits next.fit start records chunk_is mark.lsn.0 m n run most moment (le_trans behind under) (λ j item at last. all_aged) all_named caught.agrees);
       named = snapshots_keep_names identity infos closed mark now records snapshot n (commit_in_range identity infos before mark later facts) in_time whole caught.named;
     }
 
@@ -234,7 +242,7 @@ moment_at-above : (more : List Commit) (p : ℕ) → AreAbovePosition p more →
 moment_at-above [] p above = refl
 moment_at-above (c ∷ more) p above = gt_step c.lsn.0 p (length (changes_of c) + moment_at more p) above.0
 
-moment_at-longer : (commits more : List Commit) (p : ℕ) → AreAbovePosition p more → moment_at (commits ++ more) p ≡ moment_at commits p
+pub moment_at-longer : (commits more : List Commit) (p : ℕ) → AreAbovePosition p more → moment_at (commits ++ more) p ≡ moment_at commits p
 moment_at-longer [] more p above = moment_at-above more p above
 moment_at-longer (c ∷ commits) more p above = ap (λ (n : ℕ). if nat_le c.lsn.0 p then length (changes_of c) + n else 0) (moment_at-longer commits more p above)
 
@@ -245,7 +253,7 @@ one_le false a n le = omega arith
 both_le : (a b c w : ℕ) → b ≤ c → w ≡ a + c → a + b ≤ w
 both_le a b c w le size = omega (arith, le, size)
 
-moment_at-most : (commits : List Commit) (p : ℕ) → moment_at commits p ≤ length (all_changes commits)
+pub moment_at-most : (commits : List Commit) (p : ℕ) → moment_at commits p ≤ length (all_changes commits)
 moment_at-most [] p = omega arith
 moment_at-most (c ∷ commits) p =
     one_le (nat_le c.lsn.0 p) (length (changes_of c) + moment_at commits p) (length (changes_of c ++ all_changes commits))

@@ -1,2 +1,13 @@
+pub mod Items
+pub mod RecordKinds
+pub mod Told
+pub mod News
 pub mod Agree
 pub mod Caught
+pub mod Prints
+pub mod Exact
+pub mod RightSnapshots
+pub mod Positions
+pub mod Reached
+pub mod CaughtUp
+pub mod Words

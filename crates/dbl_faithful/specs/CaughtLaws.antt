@@ -1,6 +1,6 @@
 -- The steps of a session, each of which keeps what it keeps of its records.
-use Rattle.std.specs.Prelude.{◌≡◌, ℕ, ℤ, ◌≤◌, ◌<◌, Option, None, List, [], ◌∷◌, ◌++◌, take}
-use Rattle.std.specs.List.{AllByRecursion}
+use Rattle.std.specs.Prelude.{◌≡◌, ℕ, ℤ, ◌≤◌, ◌<◌, Option, None, List, [], ◌∷◌, ◌++◌, take, flat_map}
+use Rattle.std.specs.List.{AllByRecursion, AllZip}
 use Rattle.dbl_record.specs.declared.record.Record.{Record}
 use Rattle.dbl_table.specs.declared.identity.Identity.{Identity}
 use Rattle.dbl_table.specs.declared.row.Key.{Key}
@@ -9,13 +9,15 @@ use Rattle.dbl_table.specs.declared.change.Commit.{Commit}
 use Rattle.dbl_event.specs.declared.closed.Closed.{Closed}
 use Rattle.dbl_table.specs.Rows.{changes_of, all_changes}
 use Rattle.dbl_history.specs.Ranges.{IsMomentInRange}
+use Rattle.dbl_event.specs.Events.{notices}
 use Rattle.dbl_event.specs.EventJson.{envelopes}
-use Rattle.dbl_event.specs.Clashes.{clash_of, snapshot_clash}
+use Rattle.dbl_event.specs.Clashes.{notice_clash, first_found, clash_of, snapshot_clash}
 use Rattle.dbl_event.specs.SnapshotLists.{IsSnapshot}
 use Rattle.dbl_ageing.specs.Commits.{moment_after, IsNext}
 use Rattle.dbl_ageing.specs.KnownKeys.{AreToldUpTo}
 use Rattle.dbl_ageing.specs.Windows.{IsRightWindow}
 use Rattle.dbl_faithful.specs.Agreements.{IsCaught}
+use Rattle.dbl_faithful.specs.ToldEvents.{told_of, IsClearPrint}
 
 -- no records, at the start
 abbrev pub StartsAreCaught : Type 0
@@ -28,16 +30,37 @@ EarlierMomentsAreCaught = (identity : Identity) (infos : List TableInfo) (commit
     (records : List Record)
     → from ≤ to → IsCaught identity infos commits start records to → IsCaught identity infos commits start records from
 
--- a prefix of the records of the next commit
+-- a prefix of the records of the next commit, none of which has the placeholder; of those behind it nothing is asked
 abbrev pub PartsOfCommitsAreCaught : Type 0
 PartsOfCommitsAreCaught = (identity : Identity) (infos : List TableInfo)
     (commits before : List Commit) (commit : Commit) (later : List Commit) (start : ℕ) (records : List Record) (now : ℤ) (n : ℕ)
-    → IsNext infos commits before commit later → clash_of identity infos commit ≡ None → IsMomentInRange now
+    → IsNext infos commits before commit later → IsMomentInRange now
+    → first_found (notice_clash identity.placeholder) (take n (flat_map (notices infos) (changes_of commit))) ≡ None
     → start ≤ moment_after before
     → IsCaught identity infos commits start records (moment_after before)
     → IsCaught identity infos commits start (records ++ take n (envelopes identity infos commit now)) (moment_after before)
 
--- all of them
+-- such records, each made at its own time
+abbrev pub PrintsAreCaught : Type 0
+PrintsAreCaught = (identity : Identity) (infos : List TableInfo)
+    (commits before : List Commit) (commit : Commit) (later : List Commit) (start n : ℕ) (records more : List Record)
+    → IsNext infos commits before commit later
+    → AllZip (IsClearPrint identity) (take n (told_of infos commit)) more
+    → start ≤ moment_after before
+    → IsCaught identity infos commits start records (moment_after before)
+    → IsCaught identity infos commits start (records ++ more) (moment_after before)
+
+-- and all of them, each made at its own time
+abbrev pub AllPrintsAreCaught : Type 0
+AllPrintsAreCaught = (identity : Identity) (infos : List TableInfo)
+    (commits before : List Commit) (commit : Commit) (later : List Commit) (start : ℕ) (records more : List Record)
+    → IsNext infos commits before commit later
+    → AllZip (IsClearPrint identity) (told_of infos commit) more
+    → start ≤ moment_after before
+    → IsCaught identity infos commits start records (moment_after before)
+    → IsCaught identity infos commits start (records ++ more) (moment_after (before ++ commit ∷ []))
+
+-- all of them, made at one time
 abbrev pub CommitsAreCaught : Type 0
 CommitsAreCaught = (identity : Identity) (infos : List TableInfo)
     (commits before : List Commit) (commit : Commit) (later : List Commit) (start : ℕ) (records : List Record) (now : ℤ)

@@ -1,2 +1,10 @@
 pub mod Agreements
+pub mod Kinds
+pub mod ToldEvents
 pub mod CaughtLaws
+pub mod ExactLogs
+pub mod ExactLaws
+pub mod RightSnapshots
+pub mod CaughtUp
+pub mod CaughtUpLaws
+pub mod Controls

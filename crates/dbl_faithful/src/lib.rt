@@ -1,10 +1,26 @@
-//! What a session keeps of the records of a topic log, step by step: laws over the definitions.
+//! What a topic log is, and what a session keeps of it, step by step: laws over the definitions.
 #![tactic(auto)]
 
+mod caught_up_laws;
+mod kind_laws;
+mod log_laws;
 mod step_laws;
 
+pub use caught_up_laws::{
+    caught_up_logs_are_right, commits_are_caught_up, longer_histories_are_caught_up,
+    put_logs_are_caught_up, sent_records_are_caught_up, silent_commits_are_caught_up,
+    snapshots_are_caught_up, starts_are_caught_up,
+};
+pub use kind_laws::{
+    events_are_changes, progress_is_neither, read_rows_are_rows, rows_are_no_changes,
+};
+pub use log_laws::{
+    cells_miss_empty_rows, complete_logs_are_images, done_logs_are_images,
+    exact_logs_have_one_count, gaps_spoil_exact_logs, news_are_fresh, positions_end_once,
+    repeats_are_earlier, snapshot_rows_overwrite_nothing,
+};
 pub use step_laws::{
-    commits_are_caught, earlier_moments_are_caught, longer_histories_are_caught,
-    parts_of_commits_are_caught, parts_of_snapshots_are_caught, silent_commits_are_caught,
-    starts_are_caught,
+    all_prints_are_caught, commits_are_caught, earlier_moments_are_caught,
+    longer_histories_are_caught, parts_of_commits_are_caught, parts_of_snapshots_are_caught,
+    prints_are_caught, silent_commits_are_caught, starts_are_caught,
 };

@@ -1,5 +1,5 @@
 //! What a session keeps of its records, step by step.
-ghost use Rattle.dbl_faithful.specs.CaughtLaws.{StartsAreCaught, EarlierMomentsAreCaught, PartsOfCommitsAreCaught, CommitsAreCaught, SilentCommitsAreCaught, PartsOfSnapshotsAreCaught, LongerHistoriesAreCaught};
+ghost use Rattle.dbl_faithful.specs.CaughtLaws.{StartsAreCaught, EarlierMomentsAreCaught, PartsOfCommitsAreCaught, PrintsAreCaught, AllPrintsAreCaught, CommitsAreCaught, SilentCommitsAreCaught, PartsOfSnapshotsAreCaught, LongerHistoriesAreCaught};
 
 /// A first session begins with it.
 pub fn starts_are_caught()
@@ -16,7 +16,17 @@ pub fn parts_of_commits_are_caught()
     ensures { PartsOfCommitsAreCaught }
 {}
 
-/// All of them keep it, at the moment behind the commit.
+/// So do such records that are each made at their own time.
+pub fn prints_are_caught()
+    ensures { PrintsAreCaught }
+{}
+
+/// With all of them, each made at its own time, it is kept at the moment behind the commit.
+pub fn all_prints_are_caught()
+    ensures { AllPrintsAreCaught }
+{}
+
+/// All of them that are made at one time keep it, at the moment behind the commit.
 pub fn commits_are_caught()
     ensures { CommitsAreCaught }
 {}

@@ -1,0 +1,268 @@
+-- Right snapshots stay right as records and commits are added, and a right window's records are right.
+use Rattle.std.proofs.Common.{◌≡◌, ◌∙◌, ◌⊎◌, inl, inr, ◌+◌, ◌≤◌, ◌<◌, ℕ, zero, suc, ℤ, Bool, true, false, cond, All, List, [], ◌∷◌, ◌++◌, Option, Some, None, length, filter, flat_map, refl, sym, ap, subst, arith, append_assoc, append-nil}
+use Rattle.std.specs.Prelude.{◌==◌, nat_lt, slice_get}
+use Rattle.std.specs.List.{AllByRecursion}
+use Rattle.std.proofs.lemmas.Bool.Decides.{Decides-eqb}
+use Rattle.std.proofs.lemmas.List.Elements.{filter-append}
+use Rattle.dbl_record.specs.declared.record.Record.{Record}
+use Rattle.dbl_record.specs.Places.{place_of, IsBefore, IsFresh}
+use Rattle.dbl_table.specs.declared.identity.Identity.{Identity}
+use Rattle.dbl_table.specs.declared.row.Key.{Key}
+use Rattle.dbl_table.specs.declared.row.Row.{Row}
+use Rattle.dbl_table.specs.declared.table.TableInfo.{TableInfo}
+use Rattle.dbl_table.specs.declared.change.Body.{Body}
+use Rattle.dbl_table.specs.declared.change.Change.{Change}
+use Rattle.dbl_table.specs.declared.change.Commit.{Commit}
+use Rattle.dbl_table.specs.Infos.{column_types}
+use Rattle.dbl_table.specs.Keys.{key_of}
+use Rattle.dbl_table.specs.Rows.{Rows, rows_at, changes_of, all_changes, rows, moment_at}
+use Rattle.dbl_table.proofs.Lists.{bool_case, slice_get-lt}
+use Rattle.dbl_history.specs.History.{AreRising}
+use Rattle.dbl_history.specs.Fit.{IsKeyOf}
+use Rattle.dbl_history.specs.FitsInfos.{AreCellsOf}
+use Rattle.dbl_history.specs.Ranges.{IsCommitInRange, IsMomentInRange}
+use Rattle.dbl_history.proofs.MomentLemmas.{lsns}
+use Rattle.dbl_history.proofs.RowLemmas.{all_changes-append, rows_at-longer}
+use Rattle.dbl_event.specs.Events.{Event, notices, numbered, events_of}
+use Rattle.dbl_event.specs.Snapshots.{read_record, read_records, progress_record}
+use Rattle.dbl_agreement.specs.Snapshots.{IsReadInRange}
+use Rattle.dbl_agreement.proofs.Prints.{event_numbered, lsn_one, through_in_range}
+use Rattle.dbl_ageing.proofs.Lists.{slice_get-seam}
+use Rattle.dbl_ageing.proofs.Snapshot.{cells_in_range}
+use Rattle.dbl_faithful.specs.Kinds.{is_change}
+use Rattle.dbl_faithful.specs.ToldEvents.{ToldEvent, told_behind, commits_behind}
+use Rattle.dbl_faithful.specs.RightSnapshots.{IsHighMark, records_at, IsRightSnapshot, AreSnapshotsRight}
+use Rattle.dbl_faithful.proofs.Caught.{moment_at-longer, moment_at-most}
+use Rattle.dbl_faithful.proofs.Exact.{AreBehind, put_more}
+use Rattle.dbl_faithful.proofs.Items.{first_some, at_left, at_cases, take_within, all_by_place, at_all, all_weaker, filter_none}
+use Rattle.dbl_faithful.proofs.RecordKinds.{read_rows_are_rows, progress_is_neither}
+use Rattle.dbl_faithful.proofs.Told.{IsToldAt, told_at, told_behind-append, all_filter}
+
+-- ---- tests of positions
+
+pub at_test : (a b : ℕ) → a ≡ b → (a == b) ≡ true
+at_test a b e = (Decides-eqb a b).1 e
+
+pub apart_test : (a b : ℕ) → (a ≡ b → ⊥) → (a == b) ≡ false
+apart_test a b never = elim (bool_case (a == b)) [
+  | inl is ↦ absurd (never ((Decides-eqb a b).0 is))
+  | inr isnt ↦ isnt
+]
+
+-- ---- the records of a position
+
+pub at-append : (position : ℕ) (xs ys : List Record) → records_at position (xs ++ ys) ≡ records_at position xs ++ records_at position ys
+at-append position xs ys = filter-append (λ (item : Record). item.position == position) xs ys
+
+-- none of other positions is among them
+pub at_others : (position : ℕ) (rs : List Record) → ((j : ℕ) (item : Record) → slice_get rs j ≡ Some item → item.position ≡ position → ⊥) → records_at position rs ≡ []
+at_others position rs never = filter_none (λ (item : Record). item.position == position) rs
+    (all_by_place (λ (item : Record). (item.position == position) ≡ false) rs (λ j item at. apart_test item.position position (never j item at)))
+
+-- an item that passes is among those that do
+pub filter_has : {X : Type 0} (p : X → Bool) (xs : List X) (k : ℕ) (x : X) → slice_get xs k ≡ Some x → p x ≡ true → (j : ℕ) × (slice_get (filter p xs) j ≡ Some x)
+filter_has p [] k x at passes = cc
+filter_has p (y ∷ xs) zero x at passes =
+    let same : y ≡ x = first_some y x at in
+    (0, ap (λ (b : Bool). slice_get (cond b (y ∷ filter p xs) (filter p xs)) 0) (ap p same ∙ passes) ∙ at)
+filter_has p (y ∷ xs) (suc k) x at passes = by (filter_has p xs k x at passes) (p y)
+  where
+    by : (j : ℕ) × (slice_get (filter p xs) j ≡ Some x) → (b : Bool) → (j : ℕ) × (slice_get (cond b (y ∷ filter p xs) (filter p xs)) j ≡ Some x)
+    by rest true = (suc rest.0, rest.1)
+    by rest false = rest
+
+-- and one among those is an item
+pub filter_from : {X : Type 0} (p : X → Bool) (xs : List X) (k : ℕ) (x : X) → slice_get (filter p xs) k ≡ Some x → (j : ℕ) × (slice_get xs j ≡ Some x)
+filter_from p [] k x at = cc
+filter_from p (y ∷ xs) k x at = by (λ n. filter_from p xs n x) (p y) k at
+  where
+    by : ((n : ℕ) → slice_get (filter p xs) n ≡ Some x → (j : ℕ) × (slice_get xs j ≡ Some x)) → (b : Bool) (n : ℕ) → slice_get (cond b (y ∷ filter p xs) (filter p xs)) n ≡ Some x → (j : ℕ) × (slice_get (y ∷ xs) j ≡ Some x)
+    by below true zero here = (0, here)
+    by below true (suc n) here = let rest = below n here in (suc rest.0, rest.1)
+    by below false n here = let rest = below n here in (suc rest.0, rest.1)
+
+-- ---- marks
+
+-- a mark has no changes
+pub mark_is_silent : (commit : Commit) → IsHighMark commit → changes_of commit ≡ []
+mark_is_silent commit high = ap (λ (b : Body). changes_of (record { lsn = commit.lsn; end_lsn = commit.end_lsn; time = commit.time; xid = commit.xid; body = b })) high.is
+
+-- an event stands at its commit's position
+pub event_position : (infos : List TableInfo) (commits : List Commit) (t : ToldEvent) → IsToldAt infos commits t → t.event.position ≡ t.commit.lsn.0
+event_position infos commits t at = (event_numbered t.commit.lsn.0 0 (flat_map (notices infos) (changes_of t.commit)) at.number t.event at.event_at).0
+
+-- so none stands at a mark's
+pub no_event_at_mark : (infos : List TableInfo) (start : ℕ) (commits before : List Commit) (mark : Commit) (later : List Commit) → AreRising 0 (lsns commits) → commits ≡ before ++ mark ∷ later → changes_of mark ≡ []
+    → (number : ℕ) (t : ToldEvent) → slice_get (told_behind infos start commits) number ≡ Some t → t.event.position ≡ mark.lsn.0 → ⊥
+no_event_at_mark infos start commits before mark later rise is none number t at same =
+    let found = told_at infos (commits_behind start commits) number t at in
+    let stands = filter_from (λ (c : Commit). nat_lt start c.lsn.0) commits found.place t.commit found.commit_at in
+    let marked : slice_get commits (length before) ≡ Some mark = ap (λ (l : List Commit). slice_get l (length before)) is ∙ slice_get-seam before mark later in
+    let lsn : t.commit.lsn.0 ≡ mark.lsn.0 = sym (event_position infos (commits_behind start commits) t found) ∙ same in
+    let place : stands.0 ≡ length before = lsn_one 0 commits stands.0 (length before) t.commit mark rise stands.1 marked lsn in
+    let one : t.commit ≡ mark = first_some t.commit mark (sym stands.1 ∙ (ap (slice_get commits) place ∙ marked)) in
+    let empty : events_of infos t.commit ≡ [] = ap (events_of infos) one ∙ ap (λ (l : List Change). numbered mark.lsn.0 0 (flat_map (notices infos) l)) none in
+    never (slice_get (events_of infos t.commit) found.number) t.event (ap (λ (l : List Event). slice_get l found.number) empty) found.event_at
+  where
+    never : (o : Option Event) (e : Event) → o ≡ None → o ≡ Some e → ⊥
+    never o e one two = cc
+
+-- ---- what right snapshots are to the events
+
+pub right_behind : (identity : Identity) (infos : List TableInfo) (start : ℕ) (commits : List Commit) (records : List Record) → AreRising 0 (lsns commits) → AreSnapshotsRight identity infos commits (told_behind infos start commits) records
+    → AreBehind identity (told_behind infos start commits) records
+right_behind identity infos start commits records rise right = record {
+  put = λ place item at other. (right.each place item at other).put;
+  apart = λ place item at other number t at_told same. (
+      let window = (right.each place item at other).window in
+      no_event_at_mark infos start commits window.before window.mark window.later rise window.spelled (mark_is_silent window.mark window.is_high) number t at_told (same ∙ sym window.position_is));
+}
+
+-- ---- more records
+
+pub fresh_kept : (records more : List Record) (place : ℕ) → IsFresh records place → IsFresh (records ++ more) place
+fresh_kept records more place fresh =
+    let lt : place < length records = slice_get-lt records place fresh.0 fresh.1 in (
+      fresh.0,
+      at_left records more place fresh.0 fresh.1,
+      subst (All (λ (earlier : Record). IsBefore (place_of earlier) (place_of fresh.0))) (sym (take_within place records more (at_most place (length records) lt))) fresh.2,
+    )
+  where
+    at_most : (a b : ℕ) → a < b → a ≤ b
+    at_most a b lt = omega (arith, lt)
+
+pub right_kept : (identity : Identity) (infos : List TableInfo) (commits : List Commit) (told : List ToldEvent) (records more : List Record) (place position : ℕ)
+    → ((j : ℕ) (item : Record) → slice_get more j ≡ Some item → item.position ≡ position → ⊥)
+    → IsRightSnapshot identity infos commits told records place position → IsRightSnapshot identity infos commits told (records ++ more) place position
+right_kept identity infos commits told records more place position others right = record {
+  fresh = fresh_kept records more place right.fresh;
+  window = record {
+    before = right.window.before;
+    mark = right.window.mark;
+    later = right.window.later;
+    spelled = right.window.spelled;
+    position_is = right.window.position_is;
+    is_high = right.window.is_high;
+    closed = right.window.closed;
+    now = right.window.now;
+    in_range = right.window.in_range;
+    snapshot = right.window.snapshot;
+    listed = right.window.listed;
+    count = right.window.count;
+    front = at-append position records more ∙ (ap (λ (l : List Record). records_at position records ++ l) (at_others position more others) ∙ (append-nil (records_at position records) ∙ right.window.front));
+    right = right.window.right;
+  };
+  put = λ number t at lt. put_more identity records more t (right.put number t at lt);
+}
+
+-- ---- more commits
+
+module _ (identity : Identity) (infos : List TableInfo) (commits more : List Commit) (records : List Record) (start far : ℕ) (placed : AllByRecursion (λ item. item.position ≤ far) records) (above : AllByRecursion (λ commit. (far < commit.lsn.0) × (start < commit.lsn.0)) more) where
+  over : (position : ℕ) → position ≤ far → AllByRecursion (λ commit. position < commit.lsn.0) more
+  over position le = all_weaker (λ (c : Commit). (far < c.lsn.0) × (start < c.lsn.0)) (λ (c : Commit). position < c.lsn.0) more (λ c lt. beyond position far c.lsn.0 le lt.0) above
+    where
+      beyond : (a b c : ℕ) → a ≤ b → b < c → a < c
+      beyond a b c le lt = omega (arith, le, lt)
+
+  -- the rows at a position are those that they were
+  same_rows : (position : ℕ) → position ≤ far → rows infos (commits ++ more) (moment_at (commits ++ more) position) ≡ rows infos commits (moment_at commits position)
+  same_rows position le =
+      ap (λ (n : ℕ). rows infos (commits ++ more) n) (moment_at-longer commits more position (over position le))
+      ∙ (ap (λ (l : List Change). rows_at infos l (moment_at commits position)) (all_changes-append commits more)
+      ∙ rows_at-longer infos (all_changes commits) (all_changes more) (moment_at commits position) (moment_at-most commits position))
+
+  -- the events of the new commits stand behind every record
+  new_events : (number : ℕ) (t : ToldEvent) → slice_get (told_behind infos start more) number ≡ Some t → far < t.event.position
+  new_events number t at =
+      let found = told_at infos (commits_behind start more) number t at in
+      let lsn : (far < t.commit.lsn.0) × (start < t.commit.lsn.0) =
+      at_all (λ (c : Commit). (far < c.lsn.0) × (start < c.lsn.0)) (commits_behind start more) found.place t.commit (all_filter (λ (c : Commit). (far < c.lsn.0) × (start < c.lsn.0)) (λ (c : Commit). nat_lt start c.lsn.0) more above) found.commit_at in
+      subst (λ (p : ℕ). far < p) (sym (event_position infos (commits_behind start more) t found)) lsn.0
+
+  pub right_longer : AreSnapshotsRight identity infos commits (told_behind infos start commits) records → AreSnapshotsRight identity infos (commits ++ more) (told_behind infos start (commits ++ more)) records
+  right_longer right = record {
+    each = λ place item at other. (
+        let old = right.each place item at other in
+        let le : item.position ≤ far = at_all (λ (r : Record). r.position ≤ far) records place item placed at in
+        record {
+          fresh = old.fresh;
+          window = record {
+            before = old.window.before;
+            mark = old.window.mark;
+            later = old.window.later ++ more;
+            spelled = ap (λ (l : List Commit). l ++ more) old.window.spelled ∙ append_assoc old.window.before (old.window.mark ∷ old.window.later) more;
+            position_is = old.window.position_is;
+            is_high = old.window.is_high;
+            closed = old.window.closed;
+            now = old.window.now;
+            in_range = old.window.in_range;
+            snapshot = old.window.snapshot;
+            listed = old.window.listed;
+            count = old.window.count;
+            front = old.window.front;
+            right = subst (λ (at_position : Rows). AllByRecursion (λ (entry : Key × Row). at_position old.window.closed.table entry.0 ≡ Some entry.1.cells) old.window.closed.rows) (sym (same_rows item.position le)) old.window.right;
+          };
+          put = λ number t at_told lt. elim (at_cases (told_behind infos start commits) (told_behind infos start more) number t (ap (λ (l : List ToldEvent). slice_get l number) (sym (told_behind-append infos start commits more)) ∙ at_told)) [
+            | inl known ↦ old.put number t known lt
+            | inr new ↦ absurd (not_both far item.position t.event.position le lt (new_events new.0 t new.1))
+          ];
+        });
+  }
+    where
+      not_both : (far p q : ℕ) → p ≤ far → q < p → far < q → ⊥
+      not_both far p q le lt gt = omega (arith, le, lt, gt)
+
+-- ---- the records of one window
+
+zero_on : (o : ℕ) → o ≡ o + 0
+zero_on o = omega arith
+
+next_count : (o n : ℕ) → o + suc n ≡ o + 1 + n
+next_count o n = omega arith
+
+module _ (identity : Identity) (info : TableInfo) (mark : Commit) (now : ℤ) (through : Option Key) (done : Bool) where
+  -- the records of rows, and the progress behind them
+  abbrev pub listing : ℕ → ℕ → List (Key × Row) → List Record
+  listing ordinal last rows = read_records identity info mark now ordinal rows ++ progress_record identity info mark last through done ∷ []
+
+  -- they stand at the mark, one behind the other
+  pub listing_places : (ordinal : ℕ) (rows : List (Key × Row)) (j : ℕ) (item : Record) → slice_get (listing ordinal (ordinal + length rows) rows) j ≡ Some item → (item.position ≡ mark.lsn.0) × (item.ordinal ≡ ordinal + j)
+  listing_places ordinal [] zero item at =
+      let e : progress_record identity info mark (ordinal + 0) through done ≡ item = first_some (progress_record identity info mark (ordinal + 0) through done) item at in
+      (ap (λ (r : Record). r.position) (sym e), ap (λ (r : Record). r.ordinal) (sym e))
+  listing_places ordinal [] (suc j) item at = cc
+  listing_places ordinal (entry ∷ rows) zero item at =
+      let e : read_record identity info mark now ordinal entry ≡ item = first_some (read_record identity info mark now ordinal entry) item at in
+      (ap (λ (r : Record). r.position) (sym e), ap (λ (r : Record). r.ordinal) (sym e) ∙ zero_on ordinal)
+  listing_places ordinal (entry ∷ rows) (suc j) item at =
+      let rest = listing_places (ordinal + 1) rows j item (subst (λ (o : ℕ). slice_get (listing (ordinal + 1) o rows) j ≡ Some item) (next_count ordinal (length rows)) at) in
+      (rest.0, rest.1 ∙ sym (next_count ordinal j))
+
+  -- each is one of a row's, or the progress
+  pub listing_cases : (ordinal last : ℕ) (rows : List (Key × Row)) (j : ℕ) (item : Record) → slice_get (listing ordinal last rows) j ≡ Some item
+      → ((number : ℕ) × (entry : Key × Row) × (o : ℕ) × (slice_get rows number ≡ Some entry) × (item ≡ read_record identity info mark now o entry)) ⊎ (item ≡ progress_record identity info mark last through done)
+  listing_cases ordinal last [] zero item at = inr (sym (first_some (progress_record identity info mark last through done) item at))
+  listing_cases ordinal last [] (suc j) item at = cc
+  listing_cases ordinal last (entry ∷ rows) zero item at = inl (0, entry, ordinal, refl, sym (first_some (read_record identity info mark now ordinal entry) item at))
+  listing_cases ordinal last (entry ∷ rows) (suc j) item at = elim (listing_cases (ordinal + 1) last rows j item at) [
+    | inl found ↦ inl (suc found.0, found.1, found.2, found.3, found.4)
+    | inr progress ↦ inr progress
+  ]
+
+  -- and none is a change
+  pub listing_others : (ordinal last : ℕ) (rows : List (Key × Row)) → AllByRecursion (λ entry. IsReadInRange entry mark now) rows → (j : ℕ) (item : Record) → slice_get (listing ordinal last rows) j ≡ Some item → is_change item ≡ false
+  listing_others ordinal last rows ranges j item at = elim (listing_cases ordinal last rows j item at) [
+    | inl found ↦ (
+        let range : IsReadInRange found.1 mark now = at_all (λ (entry : Key × Row). IsReadInRange entry mark now) rows found.0 found.1 ranges found.3 in
+        ap is_change found.4 ∙ (read_rows_are_rows identity info mark now found.2 found.1 range).1)
+    | inr progress ↦ ap is_change progress ∙ (progress_is_neither identity info mark last through done).1
+  ]
+
+-- the rows of a window that fits are in range
+pub rows_in_range : (info : TableInfo) (mark : Commit) (now : ℤ) (rows : List (Key × Row)) → IsCommitInRange mark → IsMomentInRange now
+    → AllByRecursion (λ e. AreCellsOf (column_types info) e.1.cells × (key_of info e.1.cells ≡ e.0)) rows → AllByRecursion (λ entry. IsKeyOf info entry.0) rows → AllByRecursion (λ entry. IsReadInRange entry mark now) rows
+rows_in_range info mark now [] in_mark in_time fits keys = tt
+rows_in_range info mark now (entry ∷ rows) in_mark in_time fits keys = (
+  record { key_fits = through_in_range info (Some entry.0) keys.0; row_fits = cells_in_range (column_types info) entry.1.cells fits.0.0; commit_fits = in_mark; moment_fits = in_time },
+  rows_in_range info mark now rows in_mark in_time fits.1 keys.1,
+)

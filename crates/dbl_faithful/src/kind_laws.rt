@@ -1,0 +1,22 @@
+//! What records are told by: their topics and the letters of their values.
+ghost use Rattle.dbl_faithful.specs.Kinds.{EventsAreChanges, ReadRowsAreRows, ProgressIsNeither, RowsAreNoChanges};
+
+/// The records of a commit are changes.
+pub fn events_are_changes()
+    ensures { EventsAreChanges }
+{}
+
+/// The records of the rows that a snapshot read are rows.
+pub fn read_rows_are_rows()
+    ensures { ReadRowsAreRows }
+{}
+
+/// A progress record is neither.
+pub fn progress_is_neither()
+    ensures { ProgressIsNeither }
+{}
+
+/// A row is no change.
+pub fn rows_are_no_changes()
+    ensures { RowsAreNoChanges }
+{}

@@ -1,0 +1,95 @@
+-- What faithful stores come to, and how a session keeps them so.
+use Rattle.std.specs.Prelude.{◌≡◌, ℕ, ℤ, ◌<◌, Some, List, length, take, drop, slice_get}
+use Rattle.std.specs.List.{AllByRecursion, AllZip}
+use Rattle.dbl_base.specs.declared.lsn.Lsn.{Lsn}
+use Rattle.dbl_record.specs.declared.record.Record.{Record}
+use Rattle.dbl_record.specs.Places.{place_of, IsBefore}
+use Rattle.dbl_table.specs.declared.config.Config.{Config}
+use Rattle.dbl_table.specs.declared.identity.Identity.{Identity}
+use Rattle.dbl_table.specs.declared.table.TableInfo.{TableInfo}
+use Rattle.dbl_table.specs.declared.change.Commit.{Commit}
+use Rattle.dbl_history.specs.declared.cursor.Cursor.{Cursor}
+use Rattle.dbl_history.specs.History.{History}
+use Rattle.dbl_history.specs.Fit.{AreInfosOf, IsFitHistory}
+use Rattle.dbl_offset.specs.declared.offset.Offset.{Offset}
+use Rattle.dbl_event.specs.declared.closed.Closed.{Closed}
+use Rattle.dbl_event.specs.SnapshotLists.{IsSnapshot}
+use Rattle.dbl_ageing.specs.Commits.{AreFitCommits}
+use Rattle.dbl_ageing.specs.KnownKeys.{AreToldUpTo}
+use Rattle.dbl_faithful.specs.ToldEvents.{told_behind, IsPrint}
+use Rattle.dbl_faithful.specs.CaughtUp.{IsEndOf, IsCaughtUp}
+use Rattle.dbl_stores.specs.Stores.{Stores, IsCommitAt, IsPositionOf, top_position}
+use Rattle.dbl_stores.specs.Behind.{IsUnread, IsBehind}
+use Rattle.dbl_stores.specs.Faithful.{commits_of, IsFaithfulTo, IsUntouched}
+use Rattle.dbl_stores.specs.Onward.{GoesOnward, PlacesRise, Adds}
+
+-- ---- the beginning of a session
+
+-- what a session knows of its log at first: it has all of the commits up to the offset's LSN
+pub record BeginsCaughtUp (history : History) (records : List Record) (offset : Offset) : Type 0 where
+  pub before : List Commit
+  pub later : List Commit
+  pub ends : IsEndOf offset.lsn.0 before
+  pub up : IsCaughtUp offset.identity offset.infos (commits_of history offset) offset.start.0 (top_position records) before later 0 records
+
+-- so it is with faithful stores
+abbrev pub FaithfulStoresAreCaughtUp : Type 0
+FaithfulStoresAreCaughtUp = (history : History) (confirmed : Lsn) (records : List Record) (offset : Offset)
+    → IsFitHistory history → IsFaithfulTo history confirmed records offset → BeginsCaughtUp history records offset
+
+-- each key up to where a cursor stands was told, so that the next window may begin there
+abbrev pub CursorsWereTold : Type 0
+CursorsWereTold = (history : History) (confirmed : Lsn) (records : List Record) (offset : Offset) (table : ℕ) (info : TableInfo)
+    (cursor : Cursor)
+    → IsBehind history confirmed records offset → slice_get offset.infos table ≡ Some info → slice_get offset.cursors table ≡ Some cursor
+    → AreToldUpTo offset.identity offset.infos records table cursor.last
+
+-- each record of the log stands at a commit of the history, so new commits stand behind all of them
+abbrev pub FaithfulRecordsStand : Type 0
+FaithfulRecordsStand = (history : History) (confirmed : Lsn) (records : List Record) (offset : Offset) (place : ℕ) (item : Record)
+    → IsFaithfulTo history confirmed records offset → slice_get records place ≡ Some item → IsCommitAt history item.position
+
+-- ---- its end
+
+-- A log that is caught up is faithful to each offset that is behind it and not behind the delivered commits.
+abbrev pub CaughtUpStoresAreFaithful : Type 0
+CaughtUpStoresAreFaithful = (history : History) (confirmed : Lsn) (records : List Record) (offset : Offset)
+    (before later : List Commit) (far sent : ℕ)
+    → AllByRecursion (λ commit. offset.lsn.0 < commit.lsn.0) later
+    → IsBehind history confirmed records offset
+    → IsCaughtUp offset.identity offset.infos (commits_of history offset) offset.start.0 far before later sent records
+    → IsFaithfulTo history confirmed records offset
+
+-- The first offset of a connector is faithful at once, with nothing read of any table and its LSN at its start.
+abbrev pub FirstOffsetsAreFaithful : Type 0
+FirstOffsetsAreFaithful = (history : History) (confirmed : Lsn) (records : List Record) (offset : Offset)
+    → IsFitHistory history → IsUntouched history confirmed records → AreInfosOf history offset.infos
+    → IsPositionOf history offset.start.0 → offset.lsn.0 ≡ offset.start.0
+    → AllZip (λ info cursor. IsUnread cursor) offset.infos offset.cursors
+    → IsFaithfulTo history confirmed records offset
+
+-- ---- onward
+
+-- a session that does nothing goes onward
+abbrev pub StoresStayOnward : Type 0
+StoresStayOnward = (config : Config) (stores : Stores) → GoesOnward config stores stores
+
+-- what is appended twice is appended
+abbrev pub AddsGoOn : Type 0
+AddsGoOn = (from : ℕ) (a b c : List Record) (one : Adds from a b) (two : Adds from b c)
+    → AllByRecursion (λ item. AllByRecursion (λ later. IsBefore (place_of item) (place_of later)) two.more) one.more
+    → Adds from a c
+
+-- what was appended is one list
+abbrev pub AddsAreOne : Type 0
+AddsAreOne = (from : ℕ) (old new : List Record) (one two : Adds from old new) → one.more ≡ two.more
+
+-- The records that a session sends of its start's events rise, and so do those of a window.
+abbrev pub SentRecordsRise : Type 0
+SentRecordsRise = (identity : Identity) (infos : List TableInfo) (commits : List Commit) (start n : ℕ) (more : List Record)
+    → AreFitCommits infos commits
+    → AllZip (IsPrint identity) (take (length more) (drop n (told_behind infos start commits))) more → PlacesRise more
+
+abbrev pub WindowsRise : Type 0
+WindowsRise = (identity : Identity) (infos : List TableInfo) (closed : Closed) (mark : Commit) (now : ℤ) (snapshot : List Record)
+    (n : ℕ) → IsSnapshot identity infos closed mark now snapshot → PlacesRise (take n snapshot)

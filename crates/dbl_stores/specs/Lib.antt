@@ -1,0 +1,5 @@
+pub mod Stores
+pub mod Behind
+pub mod Faithful
+pub mod Onward
+pub mod Laws

@@ -10,7 +10,11 @@ use Rattle.dbl_cli.proofs.SayLemmas.{one_command}
 use Rattle.dbl_program.specs.declared.halt.Halt.TheVariants.{Usage, Memory}
 use Rattle.dbl_program.specs.Faults.{status_of, output_failed_status}
 use Rattle.dbl_program.specs.Run.{Answer, fault, MayEnd, whole, out_of_memory, Writes, Ends, Says, EndsAs, RunsReplaying, RunsApplying, FailsReading}
-use Rattle.dbl_program.specs.Means.{options_of, Answers, Means, usage, spelled, Runs, RunsCommand, InputFails, reads, TellsInput, IsCutShort, IsStatusOf}
+use Rattle.dbl_runs.specs.Answers.{Answer as StoreAnswer, AnswersTopics, AnswersOffsets, AnswersApply}
+use Rattle.dbl_runs.proofs.OnceLaws.{topics_once, offsets_once, apply_once}
+use Rattle.dbl_runs.specs.declared.error.Store.{Store}
+use Rattle.dbl_program.specs.Disks.{IsCutShort, EndsOrFails, IsAnswerOf, RunsStores, store_answer}
+use Rattle.dbl_program.specs.Means.{options_of, Given, Answers, Means, usage, spelled, Runs, RunsCommand, InputFails, reads, TellsInput, IsStatusOf}
 use Rattle.dbl_program.proofs.ApplyLaws.{applies_one}
 use Rattle.dbl_program.proofs.ApplyRunLemmas.{memory_outside, memory_written, says_is}
 use Rattle.dbl_program.proofs.ReplayRunLemmas.{outside_no_answer}
@@ -18,63 +22,73 @@ use Rattle.dbl_program.proofs.RunLemmas.{replays_one, says_ends, memory_ends, wr
 
 -- ---- one answer
 
--- a command has one answer
-pub answers_one : (c : Command) (now : ℤ) (bytes : List ℕ) (a b : Answer) → Answers c now bytes a → Answers c now bytes b → a ≡ b
-answers_one command.Init now bytes a b is is' = is ∙ sym is'
-answers_one command.Topics now bytes a b is is' = is ∙ sym is'
-answers_one command.Offsets now bytes a b is is' = is ∙ sym is'
-answers_one (command.Capture prefix db placeholder chunk every messages tables) now bytes a b is is' = is ∙ sym is'
-answers_one (command.Resume chunk every messages) now bytes a b is is' = is ∙ sym is'
-answers_one (command.Apply true placeholder) now bytes a b is is' = applies_one placeholder bytes a b is is'
-answers_one (command.Apply false placeholder) now bytes a b is is' = is ∙ sym is'
-answers_one (command.Replay prefix db placeholder keys) now bytes a b is is' = replays_one _ now bytes a b is is'
-answers_one (command.Gen number rows groups true) now bytes a b is is' = is ∙ sym is'
-answers_one (command.Gen number rows groups false) now bytes a b is is' = is ∙ sym is'
+-- a command over the stores has one answer
+stores_one : (Told : StoreAnswer → Type 0) → ((x y : StoreAnswer) → Told x → Told y → x ≡ y) → (a b : Answer) → IsAnswerOf Told a → IsAnswerOf Told b → a ≡ b
+stores_one Told one a b is is' = is.2 ∙ ap (λ (s : StoreAnswer). store_answer s) (one is.0 is'.0 is.1 is'.1) ∙ sym is'.2
 
--- words and bytes have one answer
-pub means_one : (words : List (List ℕ)) (now : ℤ) (bytes : List ℕ) (a b : Answer) → Means words now bytes a → Means words now bytes b → a ≡ b
-means_one words now bytes a b (usage none is) (usage none' is') = is ∙ sym is'
-means_one words now bytes a b (usage none is) (spelled c spells answers) = absurd (none c spells)
-means_one words now bytes a b (spelled c spells answers) (usage none is) = absurd (none c spells)
-means_one words now bytes a b (spelled c spells answers) (spelled d spells' answers') =
+-- a command has one answer
+pub answers_one : (c : Command) (now : ℤ) (given : Given) (a b : Answer) → Answers c now given a → Answers c now given b → a ≡ b
+answers_one command.Init now given a b is is' = is ∙ sym is'
+answers_one command.Topics now given a b is is' = stores_one (AnswersTopics given.topics) (topics_once given.topics) a b is is'
+answers_one command.Offsets now given a b is is' = stores_one (AnswersOffsets given.offsets) (offsets_once given.offsets) a b is is'
+answers_one (command.Capture prefix db placeholder chunk every messages tables) now given a b is is' = is ∙ sym is'
+answers_one (command.Resume chunk every messages) now given a b is is' = is ∙ sym is'
+answers_one (command.Apply true placeholder) now given a b is is' = applies_one placeholder given.input a b is is'
+answers_one (command.Apply false placeholder) now given a b is is' = stores_one (AnswersApply given.topics given.offsets) (apply_once given.topics given.offsets) a b is is'
+answers_one (command.Replay prefix db placeholder keys) now given a b is is' = replays_one _ now given.input a b is is'
+answers_one (command.Gen number rows groups true) now given a b is is' = is ∙ sym is'
+answers_one (command.Gen number rows groups false) now given a b is is' = is ∙ sym is'
+
+-- words and what is given have one answer
+pub means_one : (words : List (List ℕ)) (now : ℤ) (given : Given) (a b : Answer) → Means words now given a → Means words now given b → a ≡ b
+means_one words now given a b (usage none is) (usage none' is') = is ∙ sym is'
+means_one words now given a b (usage none is) (spelled c spells answers) = absurd (none c spells)
+means_one words now given a b (spelled c spells answers) (usage none is) = absurd (none c spells)
+means_one words now given a b (spelled c spells answers) (spelled d spells' answers') =
     let same = one_command words d c spells' spells in
-    answers_one c now bytes a b answers (subst (λ (k : Command). Answers k now bytes b) same answers')
+    answers_one c now given a b answers (subst (λ (k : Command). Answers k now given b) same answers')
 
 -- ---- a run over words
 
 -- as its command runs
-pub spelled_runs : (words : List (List ℕ)) (now : ℤ) (bytes : List ℕ) (status : ℕ) (before after : Option (List ℕ)) (c : Command) → Spells words c → RunsCommand c now bytes status before after → Runs words now bytes status before after
-spelled_runs words now bytes status before after c spells runs = record {
+pub spelled_runs : (words : List (List ℕ)) (now : ℤ) (given : Given) (failed : Store → Type 0) (status : ℕ) (before after : Option (List ℕ)) (c : Command) → Spells words c → RunsCommand c now given failed status before after
+    → Runs words now given failed status before after
+spelled_runs words now given failed status before after c spells runs = record {
   ended = ends;
-  meant = elim runs.meant [ inl outside ↦ inl outside | inr told ↦ inr (told.0, spelled c spells told.1, told.2) ];
+  meant = elim runs.meant [
+    | inl outside ↦ inl outside
+    | inr (inl disk) ↦ inr (inl disk)
+    | inr (inr told) ↦ inr (inr (told.0, spelled c spells told.1, told.2))
+  ];
 }
   where
-    ends : (answer : Answer) → Means words now bytes answer → Ends answer status before after
+    ends : (answer : Answer) → Means words now given answer → EndsOrFails failed answer status before after
     ends answer (usage none is) = absurd (none c spells)
-    ends answer (spelled d spells' answers) = runs.ended answer (subst (λ (k : Command). Answers k now bytes answer) (one_command words d c spells' spells) answers)
+    ends answer (spelled d spells' answers) = runs.ended answer (subst (λ (k : Command). Answers k now given answer) (one_command words d c spells' spells) answers)
 
-pub usage_runs : (words : List (List ℕ)) (now : ℤ) (bytes : List ℕ) (status : ℕ) (before after : Option (List ℕ)) → ((c : Command) → Spells words c → ⊥) → Says Usage status before after → Runs words now bytes status before after
-usage_runs words now bytes status before after none says = record {
-  ended = λ answer means. subst (λ (a : Answer). Ends a status before after) (means_one words now bytes (fault Usage) answer (usage none refl) means) (says_ends Usage status before after says);
+pub usage_runs : (words : List (List ℕ)) (now : ℤ) (given : Given) (failed : Store → Type 0) (status : ℕ) (before after : Option (List ℕ)) → ((c : Command) → Spells words c → ⊥) → Says Usage status before after
+    → Runs words now given failed status before after
+usage_runs words now given failed status before after none says = record {
+  ended = λ answer means. inl (subst (λ (a : Answer). Ends a status before after) (means_one words now given (fault Usage) answer (usage none refl) means) (says_ends Usage status before after says));
   meant = elim (says_is Usage status before after says) [
-    | inl is ↦ inr (fault Usage, usage none refl, sym is)
+    | inl is ↦ inr (inr (fault Usage, usage none refl, sym is))
     | inr (inl is) ↦ inl (inr (inl is))
     | inr (inr is) ↦ inl (inr (inr is))
   ];
 }
 
-pub memory_runs : (words : List (List ℕ)) (now : ℤ) (bytes : List ℕ) (status : ℕ) (before after : Option (List ℕ)) → Says Memory status before after → Runs words now bytes status before after
-memory_runs words now bytes status before after says = record {
-  ended = λ answer means. memory_ends answer status before after (memory_written status before after says);
+pub memory_runs : (words : List (List ℕ)) (now : ℤ) (given : Given) (failed : Store → Type 0) (status : ℕ) (before after : Option (List ℕ)) → Says Memory status before after → Runs words now given failed status before after
+memory_runs words now given failed status before after says = record {
+  ended = λ answer means. inl (memory_ends answer status before after (memory_written status before after says));
   meant = inl (memory_outside status before after says);
 }
 
 -- as its command runs, unless the input failed
-pub spelled_or_fails : (words : List (List ℕ)) (now : ℤ) (bytes : List ℕ) (was later : ℕ) (status : ℕ) (before after : Option (List ℕ)) (c : Command) → Spells words c
-    → RunsCommand c now bytes status before after ⊎ ((reads c ≡ true) × FailsReading was later status before after)
-    → Runs words now bytes status before after ⊎ InputFails words was later status before after
-spelled_or_fails words now bytes was later status before after c spells (inl runs) = inl (spelled_runs words now bytes status before after c spells runs)
-spelled_or_fails words now bytes was later status before after c spells (inr fails) = inr (record { command = c; spells = spells; reading = fails.0; fails = fails.1 })
+pub spelled_or_fails : (words : List (List ℕ)) (now : ℤ) (given : Given) (failed : Store → Type 0) (was later : ℕ) (status : ℕ) (before after : Option (List ℕ)) (c : Command) → Spells words c
+    → RunsCommand c now given failed status before after ⊎ ((reads c ≡ true) × FailsReading was later status before after)
+    → Runs words now given failed status before after ⊎ InputFails words was later status before after
+spelled_or_fails words now given failed was later status before after c spells (inl runs) = inl (spelled_runs words now given failed status before after c spells runs)
+spelled_or_fails words now given failed was later status before after c spells (inr fails) = inr (record { command = c; spells = spells; reading = fails.0; fails = fails.1 })
 
 -- what is said of the command that words spell holds of each that they spell
 pub as_spelled : (words : List (List ℕ)) (P : Command → Type 0) (c d : Command) → Spells words c → Spells words d → P c → P d
@@ -82,11 +96,12 @@ as_spelled words P c d spells spells' p = subst P (one_command words c d spells 
 
 -- ---- a run of a command
 
--- a command that doesn't read the input runs as its answer says
-pub ends_command : (c : Command) (now : ℤ) (bytes : List ℕ) (answer : Answer) (status : ℕ) (before after : Option (List ℕ)) → Answers c now bytes answer → EndsAs answer status before after → RunsCommand c now bytes status before after
-ends_command c now bytes answer status before after answers ends = record {
-  ended = λ other means. subst (λ (a : Answer). Ends a status before after) (answers_one c now bytes answer other answers means) ends.ended;
-  meant = elim ends.told [ inl outside ↦ inl outside | inr is ↦ inr (answer, answers, is) ];
+-- a command that reads nothing runs as its answer says
+pub ends_command : (c : Command) (now : ℤ) (given : Given) (failed : Store → Type 0) (answer : Answer) (status : ℕ) (before after : Option (List ℕ)) → Answers c now given answer → EndsAs answer status before after
+    → RunsCommand c now given failed status before after
+ends_command c now given failed answer status before after answers ends = record {
+  ended = λ other means. inl (subst (λ (a : Answer). Ends a status before after) (answers_one c now given answer other answers means) ends.ended);
+  meant = elim ends.told [ inl outside ↦ inl outside | inr is ↦ inr (inr (answer, answers, is)) ];
 }
 
 pub ends_alone : (answer other : Answer) (status : ℕ) (before after : Option (List ℕ)) → EndsAs answer status before after → other ≡ answer → EndsAs other status before after
@@ -105,12 +120,12 @@ cut_short status before after says = elim (says_is Memory status before after sa
 
 pub memory_status : (c : Command) (status : ℕ) (before after : Option (List ℕ)) → Says Memory status before after → IsStatusOf c status
 memory_status command.Init status before after says = inr (cut_short status before after says)
-memory_status command.Topics status before after says = inr (cut_short status before after says)
-memory_status command.Offsets status before after says = inr (cut_short status before after says)
+memory_status command.Topics status before after says = inr (inr (inr (cut_short status before after says)))
+memory_status command.Offsets status before after says = inr (inr (inr (inr (cut_short status before after says))))
 memory_status (command.Capture prefix db placeholder chunk every messages tables) status before after says = inr (cut_short status before after says)
 memory_status (command.Resume chunk every messages) status before after says = inr (cut_short status before after says)
 memory_status (command.Apply true placeholder) status before after says = inr (inr (memory_outside status before after says))
-memory_status (command.Apply false placeholder) status before after says = inr (cut_short status before after says)
+memory_status (command.Apply false placeholder) status before after says = inr (inr (inr (inr (inr (cut_short status before after says)))))
 memory_status (command.Replay prefix db placeholder keys) status before after says = inr (memory_outside status before after says)
 memory_status (command.Gen number rows groups true) status before after says = inr (cut_short status before after says)
 memory_status (command.Gen number rows groups false) status before after says = inr (cut_short status before after says)
@@ -139,22 +154,50 @@ memory_alone answer status before after says = record { ended = memory_ends answ
 
 -- ---- the commands that are built
 
-pub replay_command : (c : Command) (prefix db placeholder : List ℕ) (keys : List TableKey) (options : ReplayOptions) (now : ℤ) (bytes : List ℕ) (was later : ℕ) (status : ℕ) (before after : Option (List ℕ))
-    → c ≡ command.Replay prefix db placeholder keys → options ≡ options_of prefix db placeholder keys → RunsReplaying options now bytes status before after ⊎ FailsReading was later status before after
-    → RunsCommand c now bytes status before after ⊎ ((reads c ≡ true) × FailsReading was later status before after)
-replay_command c prefix db placeholder keys options now bytes was later status before after is same (inl runs) =
-    let as_given = subst (λ (o : ReplayOptions). RunsReplaying o now bytes status before after) same runs in
-    inl (subst (λ (k : Command). RunsCommand k now bytes status before after) (sym is) (record { ended = as_given.ended; meant = as_given.meant }))
-replay_command c prefix db placeholder keys options now bytes was later status before after is same (inr fails) = inr (ap reads is, fails)
+pub replay_command : (c : Command) (prefix db placeholder : List ℕ) (keys : List TableKey) (options : ReplayOptions) (now : ℤ) (given : Given) (failed : Store → Type 0) (was later : ℕ) (status : ℕ) (before after : Option (List ℕ))
+    → c ≡ command.Replay prefix db placeholder keys → options ≡ options_of prefix db placeholder keys → RunsReplaying options now given.input status before after ⊎ FailsReading was later status before after
+    → RunsCommand c now given failed status before after ⊎ ((reads c ≡ true) × FailsReading was later status before after)
+replay_command c prefix db placeholder keys options now given failed was later status before after is same (inl runs) =
+    let as_given = subst (λ (o : ReplayOptions). RunsReplaying o now given.input status before after) same runs in
+    inl (subst (λ (k : Command). RunsCommand k now given failed status before after) (sym is)
+    (record { ended = λ answer answers. inl (as_given.ended answer answers); meant = elim as_given.meant [ inl outside ↦ inl outside | inr told ↦ inr (inr told) ] }))
+replay_command c prefix db placeholder keys options now given failed was later status before after is same (inr fails) = inr (ap reads is, fails)
 
-pub apply_command : (c : Command) (placeholder : List ℕ) (now : ℤ) (bytes : List ℕ) (was later : ℕ) (status : ℕ) (before after : Option (List ℕ))
-    → c ≡ command.Apply true placeholder → RunsApplying placeholder bytes status before after ⊎ FailsReading was later status before after
-    → RunsCommand c now bytes status before after ⊎ ((reads c ≡ true) × FailsReading was later status before after)
-apply_command c placeholder now bytes was later status before after is (inl runs) =
-    inl (subst (λ (k : Command). RunsCommand k now bytes status before after) (sym is) (record { ended = runs.ended; meant = runs.meant }))
-apply_command c placeholder now bytes was later status before after is (inr fails) = inr (ap reads is, fails)
+pub apply_command : (c : Command) (placeholder : List ℕ) (now : ℤ) (given : Given) (failed : Store → Type 0) (was later : ℕ) (status : ℕ) (before after : Option (List ℕ))
+    → c ≡ command.Apply true placeholder → RunsApplying placeholder given.input status before after ⊎ FailsReading was later status before after
+    → RunsCommand c now given failed status before after ⊎ ((reads c ≡ true) × FailsReading was later status before after)
+apply_command c placeholder now given failed was later status before after is (inl runs) =
+    inl (subst (λ (k : Command). RunsCommand k now given failed status before after) (sym is)
+    (record { ended = λ answer answers. inl (runs.ended answer answers); meant = elim runs.meant [ inl outside ↦ inl outside | inr told ↦ inr (inr told) ] }))
+apply_command c placeholder now given failed was later status before after is (inr fails) = inr (ap reads is, fails)
 
 -- a command that stands alone
-pub alone_command : (c d : Command) (now : ℤ) (bytes : List ℕ) (answer : Answer) (status : ℕ) (before after : Option (List ℕ)) → c ≡ d → Answers d now bytes answer → EndsAs answer status before after → RunsCommand c now bytes status before after
-alone_command c d now bytes answer status before after is answers ends =
-    subst (λ (k : Command). RunsCommand k now bytes status before after) (sym is) (ends_command d now bytes answer status before after answers ends)
+pub alone_command : (c d : Command) (now : ℤ) (given : Given) (failed : Store → Type 0) (answer : Answer) (status : ℕ) (before after : Option (List ℕ)) → c ≡ d → Answers d now given answer → EndsAs answer status before after
+    → RunsCommand c now given failed status before after
+alone_command c d now given failed answer status before after is answers ends =
+    subst (λ (k : Command). RunsCommand k now given failed status before after) (sym is) (ends_command d now given failed answer status before after answers ends)
+
+-- a command over the stores, in which fewer disks can have failed
+pub stores_command : (c d : Command) (now : ℤ) (given : Given) (Told : StoreAnswer → Type 0) (few failed : Store → Type 0) (status : ℕ) (before after : Option (List ℕ)) → c ≡ d → ((s : Store) → few s → failed s)
+    → ((answer : Answer) → Answers d now given answer → IsAnswerOf Told answer) → ((answer : Answer) → IsAnswerOf Told answer → Answers d now given answer)
+    → RunsStores Told few status before after → RunsCommand c now given failed status before after
+stores_command c d now given Told few failed status before after is wider back forth runs = subst (λ (k : Command). RunsCommand k now given failed status before after) (sym is) spelled_out
+  where
+    widened : (answer : Answer) → EndsOrFails few answer status before after → EndsOrFails failed answer status before after
+    widened answer (inl ends) = inl ends
+    widened answer (inr fails) = inr (record { store = fails.store; cause = wider fails.store fails.cause; count = fails.count; writes = fails.writes })
+
+    ends : (answer : Answer) → Answers d now given answer → EndsOrFails failed answer status before after
+    ends answer answers =
+        let told = back answer answers in
+        subst (λ (a : Answer). EndsOrFails failed a status before after) (sym told.2) (widened (store_answer told.0) (runs.ended told.0 told.1))
+
+    spelled_out : RunsCommand d now given failed status before after
+    spelled_out = record {
+      ended = ends;
+      meant = elim runs.meant [
+        | inl outside ↦ inl outside
+        | inr (inl disk) ↦ inr (inl disk)
+        | inr (inr told) ↦ inr (inr (store_answer told.0, forth (store_answer told.0) (told.0, told.1, refl), told.2))
+      ];
+    }

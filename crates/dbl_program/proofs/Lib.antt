@@ -1,6 +1,11 @@
 pub mod ApplyLaws
 pub mod ApplyRunLemmas
 pub mod CommandLemmas
+pub mod DiskLemmas
+pub mod FinishLemmas
+pub mod RefusalLaws
 pub mod ReplayRunLemmas
 pub mod RunLemmas
 pub mod StandLemmas
+pub mod StatusLemmas
+pub mod StoreRunLemmas

@@ -73,7 +73,7 @@ transaction_known (txn.UnchangedCell name column) = inl (inr (inl refl))
 transaction_known (txn.NullKey name) = inl (inr (inl refl))
 transaction_known txn.BadMark = inl (inr (inl refl))
 
-end_known : (end : Option LogFault) → IsReplayStatus (end_status end)
+pub end_known : (end : Option LogFault) → IsReplayStatus (end_status end)
 end_known None = inl (inl refl)
 end_known (Some (log.Message number error)) = inl (inr (inl refl))
 end_known (Some (log.Transaction number error)) = transaction_known error

@@ -38,7 +38,10 @@ use Rattle.dbl_replay.specs.Captures.{capture_fault, entry_fault, room_fault, ta
 use Rattle.dbl_replay.specs.Lines.{without_spaces, bytes_in, message_in, messages_in, first_bad}
 use Rattle.dbl_replay.specs.Log.{lines_in, read_fault, IsLogFault, no_message, no_table, no_place, end_fault, LogWrites}
 use Rattle.dbl_program.specs.Run.{Answer, fault, done, line_fault, log_answer, Replays, too_long, bad_line, replayed, Applies, long_input, refused, applied}
-use Rattle.dbl_program.specs.Means.{made, not_built, options_of, Answers, Means, usage, spelled}
+use Rattle.dbl_runs.specs.Answers.{Answer as StoreAnswer, AnswersTopics, AnswersOffsets, AnswersApply}
+use Rattle.dbl_runs.proofs.StandLaws.{topics_stand, offsets_stand, apply_stands as consumer_stands}
+use Rattle.dbl_program.specs.Disks.{IsAnswerOf, store_answer}
+use Rattle.dbl_program.specs.Means.{made, not_built, options_of, Given, Answers, Means, usage, spelled}
 use Rattle.dbl_replay.proofs.CommitLaws.{commits_written}
 use Rattle.dbl_replay.proofs.CaptureLemmas.{captured_still, captured_more}
 
@@ -180,21 +183,25 @@ apply_stands placeholder bytes = by_length (within_or_not (length bytes))
     by_length (inl within) = by_lines within _ refl
     by_length (inr long) = (fault InputTooLong, long_input long refl)
 
-command_stands : (c : Command) (now : ℤ) (bytes : List ℕ) → (answer : Answer) × Answers c now bytes answer
-command_stands command.Init now bytes = (not_built, refl)
-command_stands command.Topics now bytes = (not_built, refl)
-command_stands command.Offsets now bytes = (not_built, refl)
-command_stands (command.Capture prefix db placeholder chunk every messages tables) now bytes = (not_built, refl)
-command_stands (command.Resume chunk every messages) now bytes = (not_built, refl)
-command_stands (command.Apply true placeholder) now bytes = apply_stands placeholder bytes
-command_stands (command.Apply false placeholder) now bytes = (not_built, refl)
-command_stands (command.Replay prefix db placeholder keys) now bytes = replay_stands (options_of prefix db placeholder keys) now bytes
-command_stands (command.Gen number rows groups true) now bytes = (not_built, refl)
-command_stands (command.Gen number rows groups false) now bytes = (made number rows groups, refl)
+stores_stand : (Told : StoreAnswer → Type 0) → (found : StoreAnswer) → Told found → (answer : Answer) × IsAnswerOf Told answer
+stores_stand Told found told = (store_answer found, (found, told, refl))
 
-pub means_stand : (words : List (List ℕ)) (now : ℤ) (bytes : List ℕ) → (answer : Answer) × Means words now bytes answer
-means_stand words now bytes = go (spelled_or_not words)
+command_stands : (c : Command) (now : ℤ) (given : Given) → AreBytes given.topics → AreBytes given.offsets → (answer : Answer) × Answers c now given answer
+command_stands command.Init now given t f = (not_built, refl)
+command_stands command.Topics now given t f = let found = topics_stand given.topics t in stores_stand (AnswersTopics given.topics) found.0 found.1
+command_stands command.Offsets now given t f = let found = offsets_stand given.offsets f in stores_stand (AnswersOffsets given.offsets) found.0 found.1
+command_stands (command.Capture prefix db placeholder chunk every messages tables) now given t f = (not_built, refl)
+command_stands (command.Resume chunk every messages) now given t f = (not_built, refl)
+command_stands (command.Apply true placeholder) now given t f = apply_stands placeholder given.input
+command_stands (command.Apply false placeholder) now given t f =
+    let found = consumer_stands given.topics given.offsets t f in stores_stand (AnswersApply given.topics given.offsets) found.0 found.1
+command_stands (command.Replay prefix db placeholder keys) now given t f = replay_stands (options_of prefix db placeholder keys) now given.input
+command_stands (command.Gen number rows groups true) now given t f = (not_built, refl)
+command_stands (command.Gen number rows groups false) now given t f = (made number rows groups, refl)
+
+pub means_stand : (words : List (List ℕ)) (now : ℤ) (given : Given) → AreBytes given.topics → AreBytes given.offsets → (answer : Answer) × Means words now given answer
+means_stand words now given t f = go (spelled_or_not words)
   where
-    go : ((c : Command) × Spelled words c) ⊎ ((c : Command) → Spelled words c → ⊥) → (answer : Answer) × Means words now bytes answer
-    go (inl found) = let answer = command_stands found.0 now bytes in (answer.0, spelled found.0 found.1 answer.1)
+    go : ((c : Command) × Spelled words c) ⊎ ((c : Command) → Spelled words c → ⊥) → (answer : Answer) × Means words now given answer
+    go (inl found) = let answer = command_stands found.0 now given t f in (answer.0, spelled found.0 found.1 answer.1)
     go (inr none) = (fault Usage, usage none refl)

@@ -1,14 +1,16 @@
--- What the words of a command line mean, with the bytes of the input.
-use Rattle.std.specs.Prelude.{◌≡◌, ◌⊎◌, ℕ, ℤ, Bool, true, false, Option, List, [], ◌∷◌, codes}
+-- What the words of a command line mean, with the bytes of the input and of the disks.
+use Rattle.std.specs.Prelude.{◌≡◌, ◌⊎◌, ℕ, ℤ, Bool, true, false, Option, Some, List, [], ◌∷◌, codes}
 use Rattle.dbl_table.specs.declared.table.TableKey.{TableKey}
 use Rattle.dbl_gen.specs.Workload.{workload_lines}
 use Rattle.dbl_cli.specs.declared.commands.Command.{Command}
-use Rattle.dbl_cli.specs.declared.commands.Command.TheVariants.{Replay, Apply, Gen}
+use Rattle.dbl_cli.specs.declared.commands.Command.TheVariants.{Init, Topics, Offsets, Capture, Resume, Replay, Apply, Gen}
 use Rattle.dbl_cli.specs.Commands.{Spells}
-use Rattle.dbl_program.specs.declared.halt.Halt.TheVariants.{Usage, Memory}
+use Rattle.dbl_program.specs.declared.halt.Halt.TheVariants.{Usage}
 use Rattle.dbl_replay.specs.declared.options.ReplayOptions.{ReplayOptions}
-use Rattle.dbl_program.specs.Faults.{status_of, output_failed_status}
-use Rattle.dbl_program.specs.Run.{Answer, fault, Replays, Applies, Ends, FailsReading, IsOutside, IsReplayAnswer, IsReplayStatus, IsApplyStatus}
+use Rattle.dbl_runs.specs.Answers.{AnswersTopics, AnswersOffsets, AnswersApply}
+use Rattle.dbl_runs.specs.declared.error.Store.{Store}
+use Rattle.dbl_program.specs.Disks.{EndsOrFails, IsAnswerOf, IsCutShort, IsDiskStatus, topics_status, offsets_status}
+use Rattle.dbl_program.specs.Run.{Answer, fault, Replays, Applies, FailsReading, IsOutside, IsReplayAnswer, IsReplayStatus, IsApplyStatus}
 
 -- the answer of `gen`: the lines of the workload, which are written at once
 abbrev pub made : ℕ → ℕ → ℕ → Answer
@@ -21,29 +23,72 @@ not_built = record { status = 16; lines = codes "dblog: not built" ∷ []; one_b
 abbrev pub options_of : List ℕ → List ℕ → List ℕ → List TableKey → ReplayOptions
 options_of prefix db placeholder keys = record { identity = record { prefix = prefix; db = db; placeholder = placeholder }; keys = keys }
 
--- what a command answers at a moment for these bytes of input
-abbrev pub Answers : Command → ℤ → List ℕ → Answer → Type 0
-Answers (Replay prefix db placeholder keys) now bytes answer = Replays (options_of prefix db placeholder keys) now bytes answer
-Answers (Apply true placeholder) now bytes answer = Applies placeholder bytes answer
-Answers (Gen number rows groups false) now bytes answer = answer ≡ made number rows groups
-Answers command now bytes answer = answer ≡ not_built
+-- what a run is given to read: what is left of the input, and the bytes of the disks of the topic log and of the offset
+pub record Given : Type 0 where
+  pub input : List ℕ
+  pub topics : List ℕ
+  pub offsets : List ℕ
 
--- what the program answers at a moment for these words and these bytes of input
-pub data Means (words : List (List ℕ)) (now : ℤ) (bytes : List ℕ) (answer : Answer) : Type 0 where
-  usage : ((command : Command) → Spells words command → ⊥) → answer ≡ fault Usage → Means words now bytes answer
-  spelled : (command : Command) → Spells words command → Answers command now bytes answer → Means words now bytes answer
+-- what a command answers at a moment for what it is given
+abbrev pub Answers : Command → ℤ → Given → Answer → Type 0
+Answers (Replay prefix db placeholder keys) now given answer = Replays (options_of prefix db placeholder keys) now given.input answer
+Answers (Apply true placeholder) now given answer = Applies placeholder given.input answer
+Answers (Apply false placeholder) now given answer = IsAnswerOf (AnswersApply given.topics given.offsets) answer
+Answers Topics now given answer = IsAnswerOf (AnswersTopics given.topics) answer
+Answers Offsets now given answer = IsAnswerOf (AnswersOffsets given.offsets) answer
+Answers (Gen number rows groups false) now given answer = answer ≡ made number rows groups
+Answers command now given answer = answer ≡ not_built
 
--- a run over these words and bytes at a moment ended so: as their answer does, and with no other status than the answer's, but for
--- the statuses of the outside
-pub record Runs (words : List (List ℕ)) (now : ℤ) (bytes : List ℕ) (status : ℕ) (before after : Option (List ℕ)) : Type 0 where
-  pub ended : (answer : Answer) → Means words now bytes answer → Ends answer status before after
-  pub meant : IsOutside status ⊎ ((answer : Answer) × Means words now bytes answer × (answer.status ≡ status))
+-- what the program answers at a moment for these words and what it is given
+pub data Means (words : List (List ℕ)) (now : ℤ) (given : Given) (answer : Answer) : Type 0 where
+  usage : ((command : Command) → Spells words command → ⊥) → answer ≡ fault Usage → Means words now given answer
+  spelled : (command : Command) → Spells words command → Answers command now given answer → Means words now given answer
+
+-- A run over these words and what is given at a moment ended so, in which only disks failed of which this holds: as their answer
+-- does, and with no other status than the answer's, but for those of the outside and of failed disks.
+pub record Runs (words : List (List ℕ)) (now : ℤ) (given : Given) (failed : Store → Type 0) (status : ℕ) (before after : Option (List ℕ)) : Type 0 where
+  pub ended : (answer : Answer) → Means words now given answer → EndsOrFails failed answer status before after
+  pub meant : IsOutside status ⊎ (IsDiskStatus status ⊎ ((answer : Answer) × Means words now given answer × (answer.status ≡ status)))
 
 -- the command reads the input
 abbrev pub reads : Command → Bool
 reads (Replay prefix db placeholder keys) = true
 reads (Apply lines placeholder) = lines
 reads command = false
+
+-- the command reads the disk of the topic log
+abbrev pub opens_topics : Command → Bool
+opens_topics Topics = true
+opens_topics (Apply false placeholder) = true
+opens_topics command = false
+
+-- the command reads the disk of the offset
+abbrev pub opens_offsets : Command → Bool
+opens_offsets Offsets = true
+opens_offsets (Apply false placeholder) = true
+opens_offsets command = false
+
+-- of what a command reads, the input and the disks tell what is given
+pub record AreTold (command : Command) (input topics offsets : Option (List ℕ)) (given : Given) : Type 0 where
+  pub input_is : reads command ≡ true → input ≡ Some given.input
+  pub topics_are : opens_topics command ≡ true → topics ≡ Some given.topics
+  pub offsets_are : opens_offsets command ≡ true → offsets ≡ Some given.offsets
+
+-- the same of the command that the words spell, if they spell one
+abbrev pub Tell : List (List ℕ) → Option (List ℕ) → Option (List ℕ) → Option (List ℕ) → Given → Type 0
+Tell words input topics offsets given = (command : Command) → Spells words command → AreTold command input topics offsets given
+
+-- the command is built
+abbrev pub is_built : Command → Bool
+is_built Init = false
+is_built (Capture prefix db placeholder chunk every messages tables) = false
+is_built (Resume chunk every messages) = false
+is_built (Gen number rows groups true) = false
+is_built command = true
+
+-- the words spell a command that isn't built
+abbrev pub SpellUnbuilt : List (List ℕ) → Type 0
+SpellUnbuilt words = (command : Command) × Spells words command × (is_built command ≡ false)
 
 -- a run over these words, whose input failed, ended so: they spell a command that reads it, and the line of that fault was to
 -- be written
@@ -53,10 +98,12 @@ pub record InputFails (words : List (List ℕ)) (was now : ℕ) (status : ℕ) (
   pub reading : reads command ≡ true
   pub fails : FailsReading was now status before after
 
--- a command that doesn't read the input has this answer
+-- a command that reads neither the input nor a disk has this answer
 abbrev pub StandsAlone : Command → Answer → Type 0
 StandsAlone (Replay prefix db placeholder keys) answer = ⊥
-StandsAlone (Apply true placeholder) answer = ⊥
+StandsAlone (Apply lines placeholder) answer = ⊥
+StandsAlone Topics answer = ⊥
+StandsAlone Offsets answer = ⊥
 StandsAlone (Gen number rows groups false) answer = answer ≡ made number rows groups
 StandsAlone command answer = answer ≡ not_built
 
@@ -66,18 +113,27 @@ TellsInput (Replay prefix db placeholder keys) status = IsReplayAnswer status
 TellsInput (Apply true placeholder) status = (status ≡ 0) ⊎ (status ≡ 13)
 TellsInput command status = ⊥
 
--- the output failed, or memory was wanting
-abbrev pub IsCutShort : ℕ → Type 0
-IsCutShort status = (status ≡ output_failed_status) ⊎ (status ≡ status_of Memory)
+-- the statuses of the commands over the stores, whatever the disks and the output tell
+abbrev pub IsTopicsStatus : ℕ → Type 0
+IsTopicsStatus status = (status ≡ 0) ⊎ ((status ≡ topics_status) ⊎ ((status ≡ 14) ⊎ IsCutShort status))
 
--- the statuses of a command, whatever the streams tell
+abbrev pub IsOffsetsStatus : ℕ → Type 0
+IsOffsetsStatus status = (status ≡ 0) ⊎ ((status ≡ 4) ⊎ ((status ≡ offsets_status) ⊎ ((status ≡ 14) ⊎ IsCutShort status)))
+
+abbrev pub IsRowsStatus : ℕ → Type 0
+IsRowsStatus status = (status ≡ topics_status) ⊎ IsOffsetsStatus status
+
+-- the statuses of a command, whatever the streams and the disks tell
 abbrev pub IsStatusOf : Command → ℕ → Type 0
 IsStatusOf (Replay prefix db placeholder keys) status = IsReplayStatus status
 IsStatusOf (Apply true placeholder) status = IsApplyStatus status
+IsStatusOf (Apply false placeholder) status = IsRowsStatus status
+IsStatusOf Topics status = IsTopicsStatus status
+IsStatusOf Offsets status = IsOffsetsStatus status
 IsStatusOf (Gen number rows groups false) status = (status ≡ 0) ⊎ IsCutShort status
 IsStatusOf command status = (status ≡ 16) ⊎ IsCutShort status
 
 -- for private clauses: a run of a command ended so
-pub record RunsCommand (command : Command) (now : ℤ) (bytes : List ℕ) (status : ℕ) (before after : Option (List ℕ)) : Type 0 where
-  pub ended : (answer : Answer) → Answers command now bytes answer → Ends answer status before after
-  pub meant : IsOutside status ⊎ ((answer : Answer) × Answers command now bytes answer × (answer.status ≡ status))
+pub record RunsCommand (command : Command) (now : ℤ) (given : Given) (failed : Store → Type 0) (status : ℕ) (before after : Option (List ℕ)) : Type 0 where
+  pub ended : (answer : Answer) → Answers command now given answer → EndsOrFails failed answer status before after
+  pub meant : IsOutside status ⊎ (IsDiskStatus status ⊎ ((answer : Answer) × Answers command now given answer × (answer.status ≡ status)))

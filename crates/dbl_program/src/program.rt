@@ -11,20 +11,24 @@ ghost use Rattle.dbl_cli.specs.declared.commands.Command.{Command};
 ghost use Rattle.dbl_cli.specs.Commands.{Spells};
 ghost use Rattle.dbl_cli.specs.Limits.{IsWithin};
 ghost use Rattle.dbl_program.specs.Run.{RunsLog};
-ghost use Rattle.dbl_program.specs.Means.{made, not_built, options_of, InputFails, Runs, RunsCommand, reads, StandsAlone, TellsInput, IsStatusOf};
-ghost use Rattle.dbl_program.specs.Run.{Answer, Writes, Says, FailsReading, HaltsReplaying, RunsReplaying, HaltsApplying, RunsApplying, EndsAs, PrintedAs, IsReplayAnswer, IsReplayStatus, IsApplyStatus, line_fault};
+ghost use Rattle.dbl_program.specs.Means.{made, not_built, options_of, AreTold, Given, InputFails, Runs, RunsCommand, SpellUnbuilt, Tell, reads, opens_offsets, opens_topics, StandsAlone, TellsInput, IsStatusOf};
+ghost use Rattle.dbl_program.specs.Disks.{IsOnlyRead, OfDisk, offsets_status, topics_status, wal_status};
+ghost use Rattle.dbl_record.specs.declared.record.Record.{Record};
+ghost use Rattle.dbl_topic.specs.Logs.{IsLog};
+ghost use Rattle.dbl_program.specs.Run.{Answer, Says, FailsReading, HaltsReplaying, RunsReplaying, HaltsApplying, RunsApplying, EndsAs, PrintedAs, IsReplayAnswer, IsReplayStatus, IsApplyStatus, line_fault};
 
+use crate::finished::Finished;
 use crate::halt::Halt;
+use crate::saying::{OUTPUT_FAILED, say, write_text};
+use crate::stores::{run_apply, run_offsets, run_topics};
 use dbl_base::{Bytes, Input, InputError, Output, Seq, Text, read_all};
 use dbl_cli::{CliError, Command};
 use dbl_consume::Consumer;
+use dbl_disk::Disk;
 use dbl_gen::script;
 use dbl_replay::{FaultAt, LineError, LineFault, PrintError, ReplayOptions, consume, print_log};
 use dbl_table::{Identity, TableKey};
 use std::alloc::Global;
-
-/// The exit status where the output failed.
-const OUTPUT_FAILED: u8 = 11;
 
 /// The exit status of a line that isn't applied.
 const BAD_INPUT: u8 = 13;
@@ -32,62 +36,131 @@ const BAD_INPUT: u8 = 13;
 /// The exit status of a command that isn't built yet.
 const NOT_BUILT: u8 = 16;
 
-const OUT_OF_MEMORY: &str = "dblog: out of memory\n";
-
-/// Runs the program on the words behind its name, at a moment in milliseconds since 1970, and answers its exit status.
-pub fn run<I: Input, O: Output>(
+/// Runs the program on the words behind its name, at a moment in milliseconds since 1970, over the disks of the source's log, of
+/// the topic log and of the offset. It answers the exit status and gives the disks back, whatever comes.
+pub fn run<I: Input, O: Output, W: Disk, T: Disk, F: Disk>(
     alloc: Global,
     words: &Vec<Text>,
     now_ms: i64,
     input: &mut I,
     output: &mut O,
-) -> u8
-    // What is written and answered is what the words and the input mean, unless the input failed.
-    ensures told { (bytes : List ℕ) → I.left input.old ≡ Some bytes → Runs words.now.items now_ms bytes result (O.written output.old) (O.written output.new)
-        ⊎ InputFails words.now.items (I.faults input.old) (I.faults input.new) result (O.written output.old) (O.written output.new) }
+    wal: W,
+    topics: T,
+    offsets: F,
+) -> Finished<W, T, F>
+    // What is written and answered is what the words mean with what they read: the input, and the bytes of the disks that the
+    // command opens. Only a failed input is told besides, or a failed disk, whose count of faults rose.
+    ensures told { (given : Given) →
+        Tell words.now.items (I.left input.old) (T.seen topics) (F.seen offsets) given →
+        Runs words.now.items now_ms given
+        (OfDisk (Rose (T.faults topics) (T.faults result.topics))
+        (Rose (F.faults offsets) (F.faults result.offsets)))
+        result.status (O.written output.old) (O.written output.new)
+        ⊎ InputFails words.now.items (I.faults input.old) (I.faults input.new) result.status
+        (O.written output.old) (O.written output.new) }
 
-    // Words that spell no command are usage, whether or not the input tells its bytes.
-    ensures usage { ((command : Command) → Spells words.now.items command → ⊥) → Says Halt.Usage result (O.written output.old) (O.written output.new) }
+    // Words that spell no command are usage, whatever the streams and the disks tell.
+    ensures usage { ((command : Command) → Spells words.now.items command → ⊥) →
+        Says Halt.Usage result.status (O.written output.old) (O.written output.new) }
 
-    // So is the answer of a command that doesn't read the input.
-    ensures alone { (command : Command) (answer : Answer) → Spells words.now.items command → StandsAlone command answer → EndsAs answer result (O.written output.old) (O.written output.new) }
+    // So is the answer of a command that reads neither the input nor a disk.
+    ensures alone { (command : Command) (answer : Answer) → Spells words.now.items command →
+        StandsAlone command answer →
+        EndsAs answer result.status (O.written output.old) (O.written output.new) }
 
     // Where the words spell no command that reads the input, nothing is read.
-    ensures unread { ((command : Command) → Spells words.now.items command → reads command ≡ false) → input.new ≡ input.old }
+    ensures unread { ((command : Command) → Spells words.now.items command → reads command ≡ false) →
+        input.new ≡ input.old }
 
     // An input within the limit is read to its end.
-    ensures whole { (bytes : List ℕ) (command : Command) → I.left input.old ≡ Some bytes → Spells words.now.items command → length bytes ≤ input_limit
-        → TellsInput command result → I.left input.new ≡ Some [] }
+    ensures whole { (bytes : List ℕ) (command : Command) → I.left input.old ≡ Some bytes →
+        Spells words.now.items command → length bytes ≤ input_limit →
+        TellsInput command result.status → I.left input.new ≡ Some [] }
 
-    // Whatever the streams tell, the status is one of the command's.
-    ensures status { (command : Command) → Spells words.now.items command → IsStatusOf command result }
+    // Whatever the streams and the disks tell, the status is one of the command's.
+    ensures status { (command : Command) → Spells words.now.items command →
+        IsStatusOf command result.status }
+    ensures unbuilt { result.status ≡ 16 → SpellUnbuilt words.now.items }
+    ensures input_failed { result.status ≡ status_of Halt.InputFailed →
+        Rose (I.faults input.old) (I.faults input.new) }
+    ensures output_failed { result.status ≡ output_failed_status →
+        Rose (O.faults output.old) (O.faults output.new) }
+    ensures wal_failed { result.status ≡ wal_status → Rose (W.faults wal) (W.faults result.wal) }
 
-    ensures input_failed { result ≡ status_of Halt.InputFailed → Rose (I.faults input.old) (I.faults input.new) }
-    ensures output_failed { result ≡ output_failed_status → Rose (O.faults output.old) (O.faults output.new) }
+    // A disk that the command doesn't read comes back as it was passed. `apply` doesn't read the offset where the disk of the
+    // topic log holds none.
+    ensures wal_stays { result.wal ≡ wal }
+    ensures topics_stay { ((command : Command) → Spells words.now.items command → opens_topics command ≡ false) →
+        result.topics ≡ topics }
+    ensures offsets_stay { ((command : Command) → Spells words.now.items command → opens_offsets command ≡ false) →
+        result.offsets ≡ offsets }
+    ensures unopened { (command : Command) (bytes : List ℕ) → Spells words.now.items command →
+        opens_topics command ≡ true → T.seen topics ≡ Some bytes →
+        ((groups : List (List Record)) → ¬ IsLog bytes groups) → result.offsets ≡ offsets }
+
+    // Whatever the disks tell, they are only read, and each has failed where the status says so.
+    ensures topics_read { IsOnlyRead T.seen T.may_leave T.faults
+        topics_status result.status topics result.topics }
+    ensures offsets_read { IsOnlyRead F.seen F.may_leave F.faults
+        offsets_status result.status offsets result.offsets }
 {
     match dbl_cli::command(alloc, words) {
-        Ok(command) => run_command(alloc, command, &now_ms, input, output),
-        Err(CliError::Usage) => say(alloc, Halt::Usage, output),
-        Err(CliError::Memory) => say(alloc, Halt::Memory, output),
+        Ok(command) => run_command(alloc, command, &now_ms, input, output, wal, topics, offsets),
+        Err(CliError::Usage) => Finished {
+            status: say(alloc, Halt::Usage, output),
+            wal,
+            topics,
+            offsets,
+        },
+        Err(CliError::Memory) => Finished {
+            status: say(alloc, Halt::Memory, output),
+            wal,
+            topics,
+            offsets,
+        },
     }
 }
 
-fn run_command<I: Input, O: Output>(
+fn run_command<I: Input, O: Output, W, T: Disk, F: Disk>(
     alloc: Global,
     command: Command,
     now_ms: &i64,
     input: &mut I,
     output: &mut O,
-) -> u8
+    wal: W,
+    topics: T,
+    offsets: F,
+) -> Finished<W, T, F>
     requires { IsWithin command }
-    ensures told { (bytes : List ℕ) → I.left input.old ≡ Some bytes → RunsCommand command now_ms.now bytes result (O.written output.old) (O.written output.new)
-        ⊎ ((reads command ≡ true) × FailsReading (I.faults input.old) (I.faults input.new) result (O.written output.old) (O.written output.new)) }
-    ensures alone { (answer : Answer) → StandsAlone command answer → EndsAs answer result (O.written output.old) (O.written output.new) }
+    ensures told { (given : Given) →
+        AreTold command (I.left input.old) (T.seen topics) (F.seen offsets) given →
+        RunsCommand command now_ms.now given
+        (OfDisk (Rose (T.faults topics) (T.faults result.topics))
+        (Rose (F.faults offsets) (F.faults result.offsets)))
+        result.status (O.written output.old) (O.written output.new)
+        ⊎ ((reads command ≡ true) × FailsReading (I.faults input.old) (I.faults input.new)
+        result.status (O.written output.old) (O.written output.new)) }
+    ensures alone { (answer : Answer) → StandsAlone command answer →
+        EndsAs answer result.status (O.written output.old) (O.written output.new) }
     ensures unread { reads command ≡ false → input.new ≡ input.old }
-    ensures whole { (bytes : List ℕ) → I.left input.old ≡ Some bytes → length bytes ≤ input_limit → TellsInput command result → I.left input.new ≡ Some [] }
-    ensures known { IsStatusOf command result }
-    ensures input_failed { result ≡ status_of Halt.InputFailed → Rose (I.faults input.old) (I.faults input.new) }
-    ensures output_failed { result ≡ output_failed_status → Rose (O.faults output.old) (O.faults output.new) }
+    ensures whole { (bytes : List ℕ) → I.left input.old ≡ Some bytes →
+        length bytes ≤ input_limit → TellsInput command result.status →
+        I.left input.new ≡ Some [] }
+    ensures known { IsStatusOf command result.status }
+    ensures input_failed { result.status ≡ status_of Halt.InputFailed →
+        Rose (I.faults input.old) (I.faults input.new) }
+    ensures output_failed { result.status ≡ output_failed_status →
+        Rose (O.faults output.old) (O.faults output.new) }
+    ensures wal_stays { result.wal ≡ wal }
+    ensures topics_stay { opens_topics command ≡ false → result.topics ≡ topics }
+    ensures offsets_stay { opens_offsets command ≡ false → result.offsets ≡ offsets }
+    ensures unopened { (bytes : List ℕ) → opens_topics command ≡ true →
+        T.seen topics ≡ Some bytes → ((groups : List (List Record)) → ¬ IsLog bytes groups) →
+        result.offsets ≡ offsets }
+    ensures topics_read { opens_topics command ≡ true → IsOnlyRead T.seen T.may_leave T.faults
+        topics_status result.status topics result.topics }
+    ensures offsets_read { opens_offsets command ≡ true → IsOnlyRead F.seen F.may_leave F.faults
+        offsets_status result.status offsets result.offsets }
 {
     match command {
         Command::Replay {
@@ -95,17 +168,27 @@ fn run_command<I: Input, O: Output>(
             db,
             placeholder,
             keys,
-        } => replay_lines(
-            alloc,
-            options_of(prefix, db, placeholder, keys),
-            now_ms,
-            input,
-            output,
-        ),
+        } => Finished {
+            status: replay_lines(
+                alloc,
+                options_of(prefix, db, placeholder, keys),
+                now_ms,
+                input,
+                output,
+            ),
+            wal,
+            topics,
+            offsets,
+        },
         Command::Apply {
             lines: true,
             placeholder,
-        } => apply_lines(alloc, placeholder, input, output),
+        } => Finished {
+            status: apply_lines(alloc, placeholder, input, output),
+            wal,
+            topics,
+            offsets,
+        },
         Command::Gen {
             number,
             rows,
@@ -113,17 +196,22 @@ fn run_command<I: Input, O: Output>(
             run: is_run,
         } => {
             if is_run {
-                say_not_built(output)
+                say_not_built(output, wal, topics, offsets)
             } else {
-                print_workload(alloc, number, rows, groups, output)
+                Finished {
+                    status: print_workload(alloc, number, rows, groups, output),
+                    wal,
+                    topics,
+                    offsets,
+                }
             }
         }
-        Command::Init => say_not_built(output),
-        Command::Topics => say_not_built(output),
-        Command::Offsets => say_not_built(output),
-        Command::Capture { .. } => say_not_built(output),
-        Command::Resume { .. } => say_not_built(output),
-        Command::Apply { .. } => say_not_built(output),
+        Command::Init => say_not_built(output, wal, topics, offsets),
+        Command::Topics => run_topics(alloc, output, wal, topics, offsets),
+        Command::Offsets => run_offsets(alloc, output, wal, topics, offsets),
+        Command::Capture { .. } => say_not_built(output, wal, topics, offsets),
+        Command::Resume { .. } => say_not_built(output, wal, topics, offsets),
+        Command::Apply { .. } => run_apply(alloc, output, wal, topics, offsets),
     }
 }
 
@@ -160,37 +248,26 @@ fn print_workload<O: Output>(
     }
 }
 
-// Writes the line of a command that isn't built yet, and answers its status.
-fn say_not_built<O: Output>(output: &mut O) -> u8
-    ensures ends { EndsAs not_built result (O.written output.old) (O.written output.new) }
-    ensures status { result ≢ status_of Halt.InputFailed }
-    ensures output_failed { result ≡ output_failed_status → Rose (O.faults output.old) (O.faults output.new) }
+// Writes the line of a command that isn't built yet.
+fn say_not_built<O: Output, W, T, F>(
+    output: &mut O,
+    wal: W,
+    topics: T,
+    offsets: F,
+) -> Finished<W, T, F>
+    ensures ends { EndsAs not_built result.status (O.written output.old) (O.written output.new) }
+    ensures status { result.status ≢ status_of Halt.InputFailed }
+    ensures output_failed { result.status ≡ output_failed_status →
+        Rose (O.faults output.old) (O.faults output.new) }
+    ensures wal_stays { result.wal ≡ wal }
+    ensures topics_stay { result.topics ≡ topics }
+    ensures offsets_stay { result.offsets ≡ offsets }
 {
-    write_text("dblog: not built\n", NOT_BUILT, output)
-}
-
-/// Writes the fault's line, and answers its status.
-pub fn say<O: Output>(alloc: Global, halt: Halt, output: &mut O) -> u8
-    ensures says { Says halt result (O.written output.old) (O.written output.new) }
-    ensures output_failed { result ≡ output_failed_status → Rose (O.faults output.old) (O.faults output.new) }
-    ensures later { O.faults output.old ≤ O.faults output.new }
-{
-    match halt.text(alloc) {
-        Ok(text) => write_text(text.as_str(), halt.status(), output),
-        Err(_) => write_text(OUT_OF_MEMORY, Halt::Memory.status(), output),
-    }
-}
-
-// Writes the text, and answers the status.
-fn write_text<O: Output>(text: &str, status: u8, output: &mut O) -> u8
-    requires { status ≢ output_failed_status }
-    ensures writes { Writes status text.now result (O.written output.old) (O.written output.new) }
-    ensures output_failed { result ≡ output_failed_status → Rose (O.faults output.old) (O.faults output.new) }
-    ensures later { O.faults output.old ≤ O.faults output.new }
-{
-    match output.write(text.as_bytes()) {
-        Ok(()) => status,
-        Err(_) => OUTPUT_FAILED,
+    Finished {
+        status: write_text("dblog: not built\n", NOT_BUILT, output),
+        wal,
+        topics,
+        offsets,
     }
 }
 

@@ -1,7 +1,8 @@
-//! The program `dblog`: the words, the clock and the standard streams that a run is made with.
+//! The program `dblog`: the words, the clock, the standard streams and the files that a run is made with.
 #![tactic(auto)]
 
 use dbl_base::{StdInput, StdOutput, Text};
+use dbl_disk::FileDisk;
 use dbl_program::{Halt, run, say};
 use std::alloc::AllocError;
 use std::env;
@@ -35,16 +36,24 @@ fn now_ms(rt: &impl Clock) -> i64 {
     }
 }
 
+// The stores are files of the current folder. A disk over a file opens it, and creates it where it is absent, at its first call,
+// so a command that doesn't read a store leaves its file alone.
 fn main(rt: HostRuntime) -> ExitCode {
     let mut output = StdOutput::make(io::writer(&rt));
     let status = match words(&rt) {
-        Ok(words) => run(
-            rt.alloc(),
-            &words,
-            now_ms(&rt),
-            &mut StdInput::make(rt.reader()),
-            &mut output,
-        ),
+        Ok(words) => {
+            let finished = run(
+                rt.alloc(),
+                &words,
+                now_ms(&rt),
+                &mut StdInput::make(rt.reader()),
+                &mut output,
+                FileDisk::make(&rt, "dblog.wal"),
+                FileDisk::make(&rt, "dblog.topics"),
+                FileDisk::make(&rt, "dblog.offsets"),
+            );
+            finished.status
+        }
         Err(AllocError) => say(rt.alloc(), Halt::Memory, &mut output),
     };
     ExitCode::from(status)

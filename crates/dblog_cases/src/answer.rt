@@ -18,6 +18,15 @@ impl Answer {
         self.text
     }
 
+    pub fn status(&self) -> u8 {
+        self.status
+    }
+
+    /// Whether the other one has the same status and the same text.
+    pub fn is_same(&self, other: &Answer) -> bool {
+        self.status == other.status && self.text.as_slice() == other.text.as_slice()
+    }
+
     pub fn tell_status<W: Write>(&self, writer: &mut W) -> io::Result<()> {
         let status = self.status;
         writeln!(writer, "status {status}")?;

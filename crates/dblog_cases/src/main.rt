@@ -1,11 +1,15 @@
-//! Runs the program `dblog` on the cases of standard input, over streams in memory, and writes what each run answers. The
-//! file `stdin` beside this folder has the form of a case.
+//! Runs the program `dblog` on the cases of standard input, over streams and disks in memory, and writes what each run answers.
+//! The file `stdin` beside this folder has the form of a case.
 #![tactic(auto)]
 
 mod answer;
+mod disks;
+mod fuses;
 mod run;
 mod step;
+mod sweep;
 mod transcript;
+mod trials;
 
 use crate::transcript::Transcript;
 use std::io::{self, BufRead, BufReader, BufWriter, Write};

@@ -1,5 +1,10 @@
 use crate::answer::Answer;
+use crate::disks::{Disks, Place};
+use crate::fuses::Fuses;
+use crate::sweep::Sweep;
 use dbl_base::{MemInput, MemOutput, Text};
+use dbl_disk::FuseDisk;
+use dbl_program::Finished;
 use std::alloc::{AllocError, Global};
 
 /// What a run of the program is made with.
@@ -11,6 +16,8 @@ pub struct Run {
     failing_reads: Vec<u64>,
     failing_writes: Vec<u64>,
     tail: Option<usize>,
+    fuses: Fuses,
+    sweep: Option<Sweep>,
 }
 
 impl Run {
@@ -23,6 +30,8 @@ impl Run {
             failing_reads: Vec::new(alloc),
             failing_writes: Vec::new(alloc),
             tail: None,
+            fuses: Fuses::none(),
+            sweep: None,
         };
         if !words.is_empty() {
             for word in words.split(' ') {
@@ -67,12 +76,68 @@ impl Run {
         Ok(())
     }
 
-    /// What the program answers.
-    pub fn perform(self, alloc: Global) -> Result<Answer, AllocError> {
+    pub fn set_fuse(&mut self, place: Place, calls: u64) {
+        self.fuses.set(place, calls);
+    }
+
+    pub fn set_sweep(&mut self, sweep: Sweep) {
+        self.sweep = Some(sweep);
+    }
+
+    /// What is changed in turn, where the run is made more than once.
+    pub fn sweep(&self) -> Option<Sweep> {
+        self.sweep
+    }
+
+    /// The same run once more.
+    pub fn again(&self, alloc: Global) -> Result<Run, AllocError> {
+        let mut words = Vec::new(alloc);
+        for word in &self.words {
+            words.push(word.copy(alloc)?)?;
+        }
+        Ok(Run {
+            words,
+            now_ms: self.now_ms,
+            input: self.input.clone()?,
+            failing_reads: self.failing_reads.clone()?,
+            failing_writes: self.failing_writes.clone()?,
+            tail: self.tail,
+            fuses: self.fuses,
+            sweep: self.sweep,
+        })
+    }
+
+    /// What the program answers, and the disks as it leaves them.
+    pub fn perform(self, alloc: Global, disks: Disks) -> Result<(Answer, Disks), AllocError> {
+        let Disks {
+            wal,
+            topics,
+            offsets,
+        } = disks;
         let mut input = MemInput::make(self.input, self.failing_reads);
         let mut output = MemOutput::make(alloc, self.failing_writes);
-        let status = dbl_program::run(alloc, &self.words, self.now_ms, &mut input, &mut output);
+        let finished = dbl_program::run(
+            alloc,
+            &self.words,
+            self.now_ms,
+            &mut input,
+            &mut output,
+            FuseDisk::make(wal, self.fuses.wal),
+            FuseDisk::make(topics, self.fuses.topics),
+            FuseDisk::make(offsets, self.fuses.offsets),
+        );
         let text = output.bytes().as_slice().to_vec(alloc)?;
-        Ok(Answer::make(status, text, self.tail))
+        let Finished {
+            status,
+            wal,
+            topics,
+            offsets,
+        } = finished;
+        let left = Disks {
+            wal: wal.into_inner(),
+            topics: topics.into_inner(),
+            offsets: offsets.into_inner(),
+        };
+        Ok((Answer::make(status, text, self.tail), left))
     }
 }

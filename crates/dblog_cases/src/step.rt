@@ -1,3 +1,7 @@
+use crate::disks::Place;
+use crate::sweep::Sweep;
+use dbl_disk::Choice;
+
 /// What a line of a case says.
 #[derive(Drop)]
 pub enum Step<'a> {
@@ -9,6 +13,10 @@ pub enum Step<'a> {
     Words { words: &'a str },
     /// A run begins whose input is what the run before it wrote, with these words.
     Piped { words: &'a str },
+    /// The disk holds these bytes, in hexadecimal, from now on.
+    Disk { place: Place, digits: &'a str },
+    /// The program and the machine stop, and this is left of the disks.
+    Crash { choice: Choice },
     /// The run has this part more.
     Part { part: Part<'a> },
 }
@@ -30,6 +38,10 @@ pub enum Part<'a> {
     FailingWrite { call: u64 },
     /// The answer is to have this many last lines of the text alone.
     Tail { lines: usize },
+    /// The disk passes so many calls of this run, and fails then.
+    Fuse { place: Place, calls: u64 },
+    /// The run is made for each of these changes, on the disks as they are.
+    Each { sweep: Sweep },
 }
 
 /// What the line says, or none where it has no such form.
@@ -42,6 +54,8 @@ pub fn read_step(line: &str) -> Option<Step<'_>> {
         "case" => Some(Step::Case),
         "$" => Some(Step::Words { words: rest }),
         "|" => Some(Step::Piped { words: rest }),
+        "wal" | "topics" | "offsets" => held(mark, rest),
+        "crash" => crash(rest),
         _ => {
             let part = read_part(mark, rest)?;
             Some(Step::Part { part })
@@ -61,8 +75,63 @@ fn read_part<'a>(mark: &str, rest: &'a str) -> Option<Part<'a>> {
         "x" => Some(Part::Bytes { digits: rest }),
         "!" => failure(rest),
         "tail" => tail(rest),
+        "fuse" => fuse(rest),
+        "each" => each(rest),
         _ => None,
     }
+}
+
+fn disk_named(name: &str) -> Option<Place> {
+    match name {
+        "wal" => Some(Place::Wal),
+        "topics" => Some(Place::Topics),
+        "offsets" => Some(Place::Offsets),
+        _ => None,
+    }
+}
+
+fn held<'a>(name: &str, digits: &'a str) -> Option<Step<'a>> {
+    let place = disk_named(name)?;
+    Some(Step::Disk { place, digits })
+}
+
+fn crash(rest: &str) -> Option<Step<'_>> {
+    let choice = match rest {
+        "old" => Choice::Old,
+        "new" => Choice::New,
+        _ => Choice::Fill(rest.parse::<u8>().ok()?),
+    };
+    Some(Step::Crash { choice })
+}
+
+// A disk, and how many calls it passes.
+fn fuse(rest: &str) -> Option<Part<'_>> {
+    let (name, calls) = rest.split_once(' ')?;
+    let place = disk_named(name)?;
+    let calls = calls.parse::<u64>().ok()?;
+    Some(Part::Fuse { place, calls })
+}
+
+// What is changed in turn, of which disk, and for a fuse its greatest number.
+fn each(rest: &str) -> Option<Part<'_>> {
+    let (what, rest) = rest.split_once(' ')?;
+    let sweep = match what {
+        "cut" => Sweep::Cut {
+            place: disk_named(rest)?,
+        },
+        "bit" => Sweep::Bit {
+            place: disk_named(rest)?,
+        },
+        "fuse" => {
+            let (name, most) = rest.split_once(' ')?;
+            Sweep::Fuse {
+                place: disk_named(name)?,
+                most: most.parse::<u64>().ok()?,
+            }
+        }
+        _ => return None,
+    };
+    Some(Part::Each { sweep })
 }
 
 fn moment(rest: &str) -> Option<Part<'_>> {

@@ -1,18 +1,27 @@
+use crate::answer::Answer;
+use crate::disks::{Disks, Place};
 use crate::run::Run;
 use crate::step::{Part, Step, read_step};
+use crate::trials::tell_each;
 use std::alloc::{AllocError, Global};
 use std::io::{self, Write};
+use std::mem;
 
-/// The run that the lines so far make ready, if they do.
+/// The run that the lines so far make ready, if they do, and the disks of the case.
 #[derive(Drop)]
 pub struct Transcript {
     alloc: Global,
     run: Option<Run>,
+    disks: Disks,
 }
 
 impl Transcript {
     pub fn make(alloc: Global) -> Transcript {
-        Transcript { alloc, run: None }
+        Transcript {
+            alloc,
+            run: None,
+            disks: Disks::empty(alloc),
+        }
     }
 
     /// Takes a line, and writes what the run answers that it ends. A line of another form is written behind a question mark.
@@ -21,6 +30,7 @@ impl Transcript {
             Some(Step::Comment) => Ok(()),
             Some(Step::Case) => {
                 self.end(writer)?;
+                self.disks = Disks::empty(self.alloc);
                 tell_line(line, writer)
             }
             Some(Step::Words { words }) => {
@@ -29,6 +39,15 @@ impl Transcript {
                 tell_line(line, writer)
             }
             Some(Step::Piped { words }) => self.pipe(words, line, writer),
+            Some(Step::Disk { place, digits }) => {
+                self.end(writer)?;
+                self.hold(place, digits, line, writer)
+            }
+            Some(Step::Crash { choice }) => {
+                self.end(writer)?;
+                self.disks = self.disks.crash(choice)?;
+                tell_line(line, writer)
+            }
             Some(Step::Part { part }) => self.add(part, line, writer),
             None => tell_refusal(line, writer),
         }
@@ -39,9 +58,37 @@ impl Transcript {
         let Some(run) = self.run.take() else {
             return Ok(());
         };
-        let answer = run.perform(self.alloc)?;
+        if let Some(sweep) = run.sweep() {
+            return tell_each(self.alloc, &run, &self.disks, sweep, writer);
+        }
+        let answer = self.perform(run)?;
         answer.tell_status(writer)?;
         answer.tell_text(writer)
+    }
+
+    // Makes the run, which leaves the disks to the next one.
+    fn perform(&mut self, run: Run) -> Result<Answer, AllocError> {
+        let disks = mem::replace(&mut self.disks, Disks::empty(self.alloc));
+        let (answer, left) = run.perform(self.alloc, disks)?;
+        self.disks = left;
+        Ok(answer)
+    }
+
+    // Puts bytes on a disk.
+    fn hold<W: Write>(
+        &mut self,
+        place: Place,
+        digits: &str,
+        line: &str,
+        writer: &mut W,
+    ) -> io::Result<()> {
+        match hex::decode(self.alloc, digits) {
+            Ok(bytes) => {
+                self.disks.put(self.alloc, place, bytes.as_slice())?;
+                Ok(())
+            }
+            Err(_) => tell_refusal(line, writer),
+        }
     }
 
     // Ends the run, writes its status alone, and begins one on its text.
@@ -49,7 +96,7 @@ impl Transcript {
         let Some(run) = self.run.take() else {
             return tell_refusal(line, writer);
         };
-        let answer = run.perform(self.alloc)?;
+        let answer = self.perform(run)?;
         answer.tell_status(writer)?;
         self.begin(words, answer.into_text())?;
         tell_line(line, writer)
@@ -79,6 +126,14 @@ impl Transcript {
             Part::FailingRead { call } => run.fail_read(call)?,
             Part::FailingWrite { call } => run.fail_write(call)?,
             Part::Tail { lines } => run.set_tail(lines),
+            Part::Fuse { place, calls } => {
+                run.set_fuse(place, calls);
+                return tell_line(line, writer);
+            }
+            Part::Each { sweep } => {
+                run.set_sweep(sweep);
+                return tell_line(line, writer);
+            }
         }
         Ok(())
     }

@@ -1,30 +1,66 @@
-use Rattle.std.proofs.Common.{◌≡◌, ◌⊎◌, Err, ℤ, true, inl, ap, subst}
+use Rattle.std.proofs.Common.{◌≡◌, ◌⊎◌, Err, ℤ, true, inl, ap, refl, subst}
 use Rattle.std.proofs.Math.Facts.{to_z-of_z}
 use Rattle.dbl_cli.specs.declared.commands.Command.{Command}
-use Rattle.dbl_program.specs.Means.{RunsCommand, StandsAlone, reads, IsStatusOf}
+use Rattle.dbl_program.specs.Means.{RunsCommand, StandsAlone, opens_offsets, opens_topics, reads, IsStatusOf, TellsInput}
+use Rattle.dbl_base.specs.Streams.{Rose}
+use Rattle.dbl_runs.specs.declared.error.Store.{Store}
+use Rattle.dbl_program.specs.Disks.{OfDisk}
 use Rattle.dbl_program.specs.Run.{FailsReading}
-use Rattle.dbl_program.proofs.CommandLemmas.{spelled_or_fails, usage_runs, memory_runs, as_spelled, memory_alone}
+use Rattle.dbl_program.proofs.CommandLemmas.{spelled_or_fails, usage_runs, memory_runs, as_spelled, memory_alone, memory_status, memory_tells}
+use Rattle.dbl_program.proofs.DiskLemmas.{not_read, read_or_not}
+use Rattle.dbl_program.proofs.StatusLemmas.{memory_built, memory_no_offsets, memory_no_topics, memory_no_wal, no_offsets, no_topics, no_wal, spell_unbuilt, usage_built, usage_no_offsets, usage_no_topics, usage_no_wal}
 use Rattle.dbl_program.proofs.program.run.Goals as goal
 
+-- ---- a command was spelled
+
 pub returns-in-Ok-clause-told : goal.returns-in-Ok-clause-told
-returns-in-Ok-clause-told g c = λ bytes told.
+returns-in-Ok-clause-told g c = λ given tell.
     let before = g.O.Output.written c.args.output.now in
     let after = g.O.Output.written c.run_command.new.output in
     let was = g.I.Input.faults c.args.input.now in
     let later = g.I.Input.faults c.run_command.new.input in
-    spelled_or_fails _ c.args.now_ms bytes was later _ before after c.in-Ok.command c.in-Ok.ensures.spelled
-    (subst (λ (m : ℤ). RunsCommand c.in-Ok.command m bytes c.run_command.result before after ⊎ ((reads c.in-Ok.command ≡ true) × FailsReading was later c.run_command.result before after)) (to_z-of_z c.ranges.now_ms) (c.run_command.ensures.told bytes told))
+    let left = c.run_command.result in
+    let failed : Store → Type 0 = OfDisk (Rose (g.T.Disk.faults c.args.topics) (g.T.Disk.faults left.topics)) (Rose (g.F.Disk.faults c.args.offsets) (g.F.Disk.faults left.offsets)) in
+    spelled_or_fails _ c.args.now_ms given failed was later left.status before after c.in-Ok.command c.in-Ok.ensures.spelled
+    (subst (λ (m : ℤ). RunsCommand c.in-Ok.command m given failed left.status before after ⊎ ((reads c.in-Ok.command ≡ true) × FailsReading was later left.status before after)) (to_z-of_z c.ranges.now_ms)
+    (c.run_command.ensures.told given (tell c.in-Ok.command c.in-Ok.ensures.spelled)))
 
 pub returns-in-Ok-clause-alone : goal.returns-in-Ok-clause-alone
 returns-in-Ok-clause-alone g c = λ command answer spells alone.
     c.run_command.ensures.alone answer (as_spelled _ (λ (k : Command). StandsAlone k answer) command c.in-Ok.command spells c.in-Ok.ensures.spelled alone)
 
+pub returns-in-Ok-clause-whole : goal.returns-in-Ok-clause-whole
+returns-in-Ok-clause-whole g c = λ bytes command told spells within tells.
+    c.run_command.ensures.whole bytes told within (as_spelled _ (λ (k : Command). TellsInput k c.run_command.result.status) command c.in-Ok.command spells c.in-Ok.ensures.spelled tells)
+
 pub returns-in-Ok-clause-status : goal.returns-in-Ok-clause-status
 returns-in-Ok-clause-status g c = λ command spells.
-    as_spelled _ (λ (k : Command). IsStatusOf k c.run_command.result) c.in-Ok.command command c.in-Ok.ensures.spelled spells c.run_command.ensures.known
+    as_spelled _ (λ (k : Command). IsStatusOf k c.run_command.result.status) c.in-Ok.command command c.in-Ok.ensures.spelled spells c.run_command.ensures.known
+
+pub returns-in-Ok-clause-unbuilt : goal.returns-in-Ok-clause-unbuilt
+returns-in-Ok-clause-unbuilt g c = spell_unbuilt _ c.in-Ok.command c.run_command.result.status c.in-Ok.ensures.spelled c.run_command.ensures.known
+
+pub returns-in-Ok-clause-wal_failed : goal.returns-in-Ok-clause-wal_failed
+returns-in-Ok-clause-wal_failed g c = λ is. absurd (no_wal c.in-Ok.command c.run_command.result.status c.run_command.ensures.known is)
+
+pub returns-in-Ok-clause-unopened : goal.returns-in-Ok-clause-unopened
+returns-in-Ok-clause-unopened g c = λ command bytes spells opens told none.
+    c.run_command.ensures.unopened bytes (as_spelled _ (λ (k : Command). opens_topics k ≡ true) command c.in-Ok.command spells c.in-Ok.ensures.spelled opens) told none
+
+pub returns-in-Ok-clause-topics_read : goal.returns-in-Ok-clause-topics_read
+returns-in-Ok-clause-topics_read g c =
+    read_or_not g.T.Disk.seen g.T.Disk.may_leave g.T.Disk.faults (opens_topics c.in-Ok.command) _ _ _ _ (no_topics c.in-Ok.command c.run_command.result.status c.run_command.ensures.known)
+    c.run_command.ensures.topics_stay c.run_command.ensures.topics_read
+
+pub returns-in-Ok-clause-offsets_read : goal.returns-in-Ok-clause-offsets_read
+returns-in-Ok-clause-offsets_read g c =
+    read_or_not g.F.Disk.seen g.F.Disk.may_leave g.F.Disk.faults (opens_offsets c.in-Ok.command) _ _ _ _ (no_offsets c.in-Ok.command c.run_command.result.status c.run_command.ensures.known)
+    c.run_command.ensures.offsets_stay c.run_command.ensures.offsets_read
+
+-- ---- none was
 
 pub returns-in-Err-Usage-clause-told : goal.returns-in-Err-Usage-clause-told
-returns-in-Err-Usage-clause-told g c = λ bytes told. inl (usage_runs _ c.args.now_ms bytes _ _ _ (c.in-Err-Usage.ensures.usage (ap Err c.in-Err-Usage.field-0-is)) c.say.ensures.says)
+returns-in-Err-Usage-clause-told g c = λ given tell. inl (usage_runs _ c.args.now_ms given _ _ _ _ (c.in-Err-Usage.ensures.usage (ap Err c.in-Err-Usage.field-0-is)) c.say.ensures.says)
 
 pub returns-in-Err-Usage-clause-alone : goal.returns-in-Err-Usage-clause-alone
 returns-in-Err-Usage-clause-alone g c = λ command answer spells alone. absurd (c.in-Err-Usage.ensures.usage (ap Err c.in-Err-Usage.field-0-is) command spells)
@@ -32,8 +68,40 @@ returns-in-Err-Usage-clause-alone g c = λ command answer spells alone. absurd (
 pub returns-in-Err-Usage-clause-status : goal.returns-in-Err-Usage-clause-status
 returns-in-Err-Usage-clause-status g c = λ command spells. absurd (c.in-Err-Usage.ensures.usage (ap Err c.in-Err-Usage.field-0-is) command spells)
 
+pub returns-in-Err-Usage-clause-unbuilt : goal.returns-in-Err-Usage-clause-unbuilt
+returns-in-Err-Usage-clause-unbuilt g c = λ is. absurd (usage_built c.say.result _ _ c.say.ensures.says is)
+
+pub returns-in-Err-Usage-clause-wal_failed : goal.returns-in-Err-Usage-clause-wal_failed
+returns-in-Err-Usage-clause-wal_failed g c = λ is. absurd (usage_no_wal c.say.result _ _ c.say.ensures.says is)
+
+pub returns-in-Err-Usage-clause-topics_read : goal.returns-in-Err-Usage-clause-topics_read
+returns-in-Err-Usage-clause-topics_read g c = not_read g.T.Disk.seen g.T.Disk.may_leave g.T.Disk.faults _ _ _ _ (usage_no_topics c.say.result _ _ c.say.ensures.says) refl
+
+pub returns-in-Err-Usage-clause-offsets_read : goal.returns-in-Err-Usage-clause-offsets_read
+returns-in-Err-Usage-clause-offsets_read g c = not_read g.F.Disk.seen g.F.Disk.may_leave g.F.Disk.faults _ _ _ _ (usage_no_offsets c.say.result _ _ c.say.ensures.says) refl
+
+-- ---- memory was wanting
+
 pub returns-in-Err-Memory-clause-told : goal.returns-in-Err-Memory-clause-told
-returns-in-Err-Memory-clause-told g c = λ bytes told. inl (memory_runs _ c.args.now_ms bytes _ _ _ c.say-in-Err-Memory.ensures.says)
+returns-in-Err-Memory-clause-told g c = λ given tell. inl (memory_runs _ c.args.now_ms given _ _ _ _ c.say-in-Err-Memory.ensures.says)
 
 pub returns-in-Err-Memory-clause-alone : goal.returns-in-Err-Memory-clause-alone
 returns-in-Err-Memory-clause-alone g c = λ command answer spells alone. memory_alone answer _ _ _ c.say-in-Err-Memory.ensures.says
+
+pub returns-in-Err-Memory-clause-whole : goal.returns-in-Err-Memory-clause-whole
+returns-in-Err-Memory-clause-whole g c = λ bytes command told spells within tells. absurd (memory_tells command c.say-in-Err-Memory.result _ _ c.say-in-Err-Memory.ensures.says tells)
+
+pub returns-in-Err-Memory-clause-status : goal.returns-in-Err-Memory-clause-status
+returns-in-Err-Memory-clause-status g c = λ command spells. memory_status command c.say-in-Err-Memory.result _ _ c.say-in-Err-Memory.ensures.says
+
+pub returns-in-Err-Memory-clause-unbuilt : goal.returns-in-Err-Memory-clause-unbuilt
+returns-in-Err-Memory-clause-unbuilt g c = λ is. absurd (memory_built c.say-in-Err-Memory.result _ _ c.say-in-Err-Memory.ensures.says is)
+
+pub returns-in-Err-Memory-clause-wal_failed : goal.returns-in-Err-Memory-clause-wal_failed
+returns-in-Err-Memory-clause-wal_failed g c = λ is. absurd (memory_no_wal c.say-in-Err-Memory.result _ _ c.say-in-Err-Memory.ensures.says is)
+
+pub returns-in-Err-Memory-clause-topics_read : goal.returns-in-Err-Memory-clause-topics_read
+returns-in-Err-Memory-clause-topics_read g c = not_read g.T.Disk.seen g.T.Disk.may_leave g.T.Disk.faults _ _ _ _ (memory_no_topics c.say-in-Err-Memory.result _ _ c.say-in-Err-Memory.ensures.says) refl
+
+pub returns-in-Err-Memory-clause-offsets_read : goal.returns-in-Err-Memory-clause-offsets_read
+returns-in-Err-Memory-clause-offsets_read g c = not_read g.F.Disk.seen g.F.Disk.may_leave g.F.Disk.faults _ _ _ _ (memory_no_offsets c.say-in-Err-Memory.result _ _ c.say-in-Err-Memory.ensures.says) refl

@@ -1,0 +1,107 @@
+-- The statuses 4 and 14 are answered exactly where the stores tell an error.
+use Rattle.std.proofs.Common.{◌≡◌, ◌≢◌, ◌⊎◌, inl, inr, ◌∙◌, ℕ, ℤ, true, false, Ok, Err, List, map, refl, sym, ap}
+use Rattle.dbl_cli.specs.declared.commands.Command.{Command}
+use Rattle.dbl_cli.specs.declared.commands.Command.TheVariants as command
+use Rattle.dbl_cli.specs.Commands.{Spells}
+use Rattle.dbl_runs.specs.declared.error.RunError.{RunError}
+use Rattle.dbl_runs.specs.declared.error.RunError.TheVariants as error
+use Rattle.dbl_runs.specs.Answers.{Answer as StoreAnswer, AnswersApply, AnswersOffsets, AnswersTopics}
+use Rattle.dbl_runs.specs.Ends.{IsRefusal}
+use Rattle.dbl_runs.specs.Errors.{error_status}
+use Rattle.dbl_replay.specs.declared.options.ReplayOptions.{ReplayOptions}
+use Rattle.dbl_replay.specs.Log.{end_status}
+use Rattle.dbl_consume.specs.Printing.{row_line}
+use Rattle.dbl_program.specs.declared.halt.Halt.TheVariants.{BadLine, InputTooLong, Usage}
+use Rattle.dbl_program.specs.Run.{Answer, Applies, Replays, applied, bad_line, done, fault, line_fault, log_answer, long_input, refused, replayed, too_long}
+use Rattle.dbl_program.specs.Disks.{store_answer, store_fault}
+use Rattle.dbl_program.specs.Means.{Answers, Given, Means, made, not_built, options_of, spelled, usage}
+use Rattle.dbl_program.specs.Laws.{AreRefused, StoreFaultsAreTold, StoresTell}
+use Rattle.dbl_program.proofs.ReplayRunLemmas.{end_known}
+use Rattle.dbl_program.proofs.StatusLemmas.{replay_other}
+use Rattle.dbl_program.proofs.StoreRunLemmas.{apply_refuses, offsets_refuse, topics_refuse}
+
+abbrev Refuses : ℕ → Type 0
+Refuses status = (status ≡ 4) ⊎ (status ≡ 14)
+
+-- an answer of another status refuses nothing
+other_status : (n : ℕ) → n ≢ 4 → n ≢ 14 → (status : ℕ) → status ≡ n → Refuses status → ⊥
+other_status n four fourteen status is (inl same) = four (sym is ∙ same)
+other_status n four fourteen status is (inr same) = fourteen (sym is ∙ same)
+
+status_is : (answer other : Answer) → answer ≡ other → answer.status ≡ other.status
+status_is answer other is = ap (λ (a : Answer). a.status) is
+
+-- ---- forth
+
+stores_told : (Told : StoreAnswer → Type 0) (answer : Answer) (P : Type 0) → ((e : RunError) → Told (Err e) → answer ≡ store_fault e → P) → Refuses answer.status
+    → (told : StoreAnswer) → Told told → answer ≡ store_answer told → P
+stores_told Told answer P next refuses (Ok lines) told is = absurd (other_status 0 (λ e. cc) (λ e. cc) answer.status (status_is answer (store_answer (Ok lines)) is) refuses)
+stores_told Told answer P next refuses (Err e) told is = next e told is
+
+replay_refuses : (options : ReplayOptions) (now : ℤ) (bytes : List ℕ) (answer : Answer) → Replays options now bytes answer → Refuses answer.status → ⊥
+replay_refuses options now bytes answer (too_long long is) refuses = other_status 13 (λ e. cc) (λ e. cc) answer.status (status_is answer (fault InputTooLong) is) refuses
+replay_refuses options now bytes answer (bad_line n within bad is) refuses = other_status 13 (λ e. cc) (λ e. cc) answer.status (status_is answer (fault (BadLine n)) is) refuses
+replay_refuses options now bytes answer (replayed lines end within good writes is) refuses =
+    other_status (end_status end) (replay_other 4 (end_status end) (λ e. cc, λ e. cc, λ e. cc, λ e. cc) (λ e. cc, λ e. cc, λ e. cc) (end_known end))
+    (replay_other 14 (end_status end) (λ e. cc, λ e. cc, λ e. cc, λ e. cc) (λ e. cc, λ e. cc, λ e. cc) (end_known end)) answer.status (status_is answer (log_answer lines end) is) refuses
+
+lines_refuse : (placeholder bytes : List ℕ) (answer : Answer) → Applies placeholder bytes answer → Refuses answer.status → ⊥
+lines_refuse placeholder bytes answer (long_input long is) refuses = other_status 13 (λ e. cc) (λ e. cc) answer.status (status_is answer (fault InputTooLong) is) refuses
+lines_refuse placeholder bytes answer (refused at within found is) refuses = other_status 13 (λ e. cc) (λ e. cc) answer.status (status_is answer (line_fault at) is) refuses
+lines_refuse placeholder bytes answer (applied rows within none are is) refuses = other_status 0 (λ e. cc) (λ e. cc) answer.status (status_is answer (done (map row_line rows)) is) refuses
+
+abbrev IsRefused : List (List ℕ) → Given → Answer → Type 0
+IsRefused words given answer = (e : RunError) × AreRefused words given e answer
+
+unbuilt_refuses : (answer : Answer) (P : Type 0) → answer ≡ not_built → Refuses answer.status → P
+unbuilt_refuses answer P is refuses = absurd (other_status 16 (λ e. cc) (λ e. cc) answer.status (status_is answer not_built is) refuses)
+
+forth : (words : List (List ℕ)) (now : ℤ) (given : Given) (answer : Answer) (c : Command) → Spells words c → Answers c now given answer → Refuses answer.status → IsRefused words given answer
+forth words now given answer command.Init spells is refuses = unbuilt_refuses answer (IsRefused words given answer) is refuses
+forth words now given answer command.Topics spells is refuses =
+    stores_told (AnswersTopics given.topics) answer (IsRefused words given answer) (λ e told same. (e, record { command = command.Topics; spells = spells; tells = told; answer_is = same })) refuses is.0 is.1 is.2
+forth words now given answer command.Offsets spells is refuses =
+    stores_told (AnswersOffsets given.offsets) answer (IsRefused words given answer) (λ e told same. (e, record { command = command.Offsets; spells = spells; tells = told; answer_is = same })) refuses is.0 is.1 is.2
+forth words now given answer (command.Capture prefix db placeholder chunk every messages tables) spells is refuses = unbuilt_refuses answer (IsRefused words given answer) is refuses
+forth words now given answer (command.Resume chunk every messages) spells is refuses = unbuilt_refuses answer (IsRefused words given answer) is refuses
+forth words now given answer (command.Apply true placeholder) spells is refuses = absurd (lines_refuse placeholder given.input answer is refuses)
+forth words now given answer (command.Apply false placeholder) spells is refuses =
+    stores_told (AnswersApply given.topics given.offsets) answer (IsRefused words given answer) (λ e told same. (e, record { command = command.Apply false placeholder; spells = spells; tells = told; answer_is = same })) refuses is.0 is.1 is.2
+forth words now given answer (command.Replay prefix db placeholder keys) spells is refuses = absurd (replay_refuses (options_of prefix db placeholder keys) now given.input answer is refuses)
+forth words now given answer (command.Gen number rows groups true) spells is refuses = unbuilt_refuses answer (IsRefused words given answer) is refuses
+forth words now given answer (command.Gen number rows groups false) spells is refuses = absurd (other_status 0 (λ e. cc) (λ e. cc) answer.status (status_is answer (made number rows groups) is) refuses)
+
+-- ---- back
+
+tells_refusal : (given : Given) (c : Command) (e : RunError) → StoresTell c given e → IsRefusal e
+tells_refusal given command.Init e tells = absurd tells
+tells_refusal given command.Topics e tells = topics_refuse given.topics e tells
+tells_refusal given command.Offsets e tells = offsets_refuse given.offsets e tells
+tells_refusal given (command.Capture prefix db placeholder chunk every messages tables) e tells = absurd tells
+tells_refusal given (command.Resume chunk every messages) e tells = absurd tells
+tells_refusal given (command.Apply true placeholder) e tells = absurd tells
+tells_refusal given (command.Apply false placeholder) e tells = apply_refuses given.topics given.offsets e tells
+tells_refusal given (command.Replay prefix db placeholder keys) e tells = absurd tells
+tells_refusal given (command.Gen number rows groups run) e tells = absurd tells
+
+refusal_status : (e : RunError) → IsRefusal e → Refuses (error_status e)
+refusal_status error.OutputFailed refusal = absurd refusal
+refusal_status error.Memory refusal = absurd refusal
+refusal_status (error.Failed s) refusal = absurd refusal
+refusal_status error.NotStarted refusal = inl refl
+refusal_status (error.NotAStore s at) refusal = inr refl
+refusal_status (error.BadEntry s index) refusal = inr refl
+
+back : (words : List (List ℕ)) (given : Given) (answer : Answer) (e : RunError) → AreRefused words given e answer → Refuses answer.status
+back words given answer e is =
+    elim (refusal_status e (tells_refusal given is.command e is.tells)) [
+      | inl four ↦ inl (status_is answer (store_fault e) is.answer_is ∙ four)
+      | inr fourteen ↦ inr (status_is answer (store_fault e) is.answer_is ∙ fourteen)
+    ]
+
+pub faults_told : StoreFaultsAreTold
+faults_told words now given answer means = (told means, λ found. back words given answer found.0 found.1)
+  where
+    told : Means words now given answer → Refuses answer.status → IsRefused words given answer
+    told (usage none is) refuses = absurd (other_status 2 (λ e. cc) (λ e. cc) answer.status (status_is answer (fault Usage) is) refuses)
+    told (spelled c spells is) refuses = forth words now given answer c spells is refuses

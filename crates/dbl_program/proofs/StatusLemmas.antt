@@ -1,0 +1,181 @@
+-- Statuses that a command doesn't have.
+use Rattle.std.proofs.Common.{◌≡◌, ◌≢◌, ◌⊎◌, inl, inr, ◌∙◌, ℕ, Bool, true, false, Option, List, refl, sym}
+use Rattle.dbl_cli.specs.declared.commands.Command.{Command}
+use Rattle.dbl_cli.specs.declared.commands.Command.TheVariants as command
+use Rattle.dbl_cli.specs.Commands.{Spells}
+use Rattle.dbl_program.specs.declared.halt.Halt.{Halt}
+use Rattle.dbl_program.specs.declared.halt.Halt.TheVariants.{Usage, Memory}
+use Rattle.dbl_program.specs.Faults.{status_of}
+use Rattle.dbl_program.specs.Run.{IsApplyStatus, IsOutside, IsReplayStatus, Says}
+use Rattle.dbl_program.specs.Disks.{IsCutShort, offsets_status, topics_status, wal_status}
+use Rattle.dbl_program.specs.Means.{IsOffsetsStatus, IsRowsStatus, IsStatusOf, IsTopicsStatus, SpellUnbuilt, is_built, opens_offsets, opens_topics}
+use Rattle.dbl_program.proofs.ApplyRunLemmas.{says_is}
+
+-- ---- by the kind of the command
+
+pub cut_other : (n status : ℕ) → (n ≢ 11) × (n ≢ 12) → IsCutShort status → status ≡ n → ⊥
+cut_other n status other (inl is) same = other.0 (sym same ∙ is)
+cut_other n status other (inr is) same = other.1 (sym same ∙ is)
+
+outside_other : (n status : ℕ) → (n ≢ 10) × (n ≢ 11) × (n ≢ 12) → IsOutside status → status ≡ n → ⊥
+outside_other n status other (inl is) same = other.0 (sym same ∙ is)
+outside_other n status other (inr (inl is)) same = other.1 (sym same ∙ is)
+outside_other n status other (inr (inr is)) same = other.2 (sym same ∙ is)
+
+pub replay_other : (n status : ℕ) → (n ≢ 0) × (n ≢ 5) × (n ≢ 6) × (n ≢ 13) → (n ≢ 10) × (n ≢ 11) × (n ≢ 12) → IsReplayStatus status → status ≡ n → ⊥
+replay_other n status own other (inl (inl is)) same = own.0 (sym same ∙ is)
+replay_other n status own other (inl (inr (inl is))) same = own.1 (sym same ∙ is)
+replay_other n status own other (inl (inr (inr (inl is)))) same = own.2 (sym same ∙ is)
+replay_other n status own other (inl (inr (inr (inr is)))) same = own.3 (sym same ∙ is)
+replay_other n status own other (inr outside) same = outside_other n status other outside same
+
+lines_other : (n status : ℕ) → (n ≢ 0) × (n ≢ 13) → (n ≢ 10) × (n ≢ 11) × (n ≢ 12) → IsApplyStatus status → status ≡ n → ⊥
+lines_other n status own other (inl is) same = own.0 (sym same ∙ is)
+lines_other n status own other (inr (inl is)) same = own.1 (sym same ∙ is)
+lines_other n status own other (inr (inr outside)) same = outside_other n status other outside same
+
+-- the commands with one status of their own
+one_other : (m n status : ℕ) → m ≢ n → (n ≢ 11) × (n ≢ 12) → (status ≡ m) ⊎ IsCutShort status → status ≡ n → ⊥
+one_other m n status own other (inl is) same = own (sym is ∙ same)
+one_other m n status own other (inr cut) same = cut_other n status other cut same
+
+pub topics_other : (n status : ℕ) → (n ≢ 0) × (n ≢ 8) × (n ≢ 14) → (n ≢ 11) × (n ≢ 12) → IsTopicsStatus status → status ≡ n → ⊥
+topics_other n status own other (inl is) same = own.0 (sym same ∙ is)
+topics_other n status own other (inr (inl is)) same = own.1 (sym same ∙ is)
+topics_other n status own other (inr (inr (inl is))) same = own.2 (sym same ∙ is)
+topics_other n status own other (inr (inr (inr cut))) same = cut_other n status other cut same
+
+pub offsets_other : (n status : ℕ) → (n ≢ 0) × (n ≢ 4) × (n ≢ 9) × (n ≢ 14) → (n ≢ 11) × (n ≢ 12) → IsOffsetsStatus status → status ≡ n → ⊥
+offsets_other n status own other (inl is) same = own.0 (sym same ∙ is)
+offsets_other n status own other (inr (inl is)) same = own.1 (sym same ∙ is)
+offsets_other n status own other (inr (inr (inl is))) same = own.2 (sym same ∙ is)
+offsets_other n status own other (inr (inr (inr (inl is)))) same = own.3 (sym same ∙ is)
+offsets_other n status own other (inr (inr (inr (inr cut)))) same = cut_other n status other cut same
+
+pub rows_other : (n status : ℕ) → n ≢ 8 → (n ≢ 0) × (n ≢ 4) × (n ≢ 9) × (n ≢ 14) → (n ≢ 11) × (n ≢ 12) → IsRowsStatus status → status ≡ n → ⊥
+rows_other n status first own other (inl is) same = first (sym same ∙ is)
+rows_other n status first own other (inr rest) same = offsets_other n status own other rest same
+
+-- the line of a fault was said
+said_other : (halt : Halt) (n status : ℕ) (before after : Option (List ℕ)) → status_of halt ≢ n → (n ≢ 11) × (n ≢ 12) → Says halt status before after → status ≡ n → ⊥
+said_other halt n status before after own other says same =
+    elim (says_is halt status before after says) [ inl is ↦ own (sym is ∙ same) | inr cut ↦ cut_other n status other cut same ]
+
+-- ---- by the command
+
+switched : true ≡ false → ⊥
+switched is = cc
+
+-- the disk of the source's log fails nowhere
+pub no_wal : (c : Command) (status : ℕ) → IsStatusOf c status → status ≡ wal_status → ⊥
+no_wal command.Init status known same = one_other 16 7 status (λ e. cc) (λ e. cc, λ e. cc) known same
+no_wal command.Topics status known same = topics_other 7 status (λ e. cc, λ e. cc, λ e. cc) (λ e. cc, λ e. cc) known same
+no_wal command.Offsets status known same = offsets_other 7 status (λ e. cc, λ e. cc, λ e. cc, λ e. cc) (λ e. cc, λ e. cc) known same
+no_wal (command.Capture prefix db placeholder chunk every messages tables) status known same = one_other 16 7 status (λ e. cc) (λ e. cc, λ e. cc) known same
+no_wal (command.Resume chunk every messages) status known same = one_other 16 7 status (λ e. cc) (λ e. cc, λ e. cc) known same
+no_wal (command.Apply true placeholder) status known same = lines_other 7 status (λ e. cc, λ e. cc) (λ e. cc, λ e. cc, λ e. cc) known same
+no_wal (command.Apply false placeholder) status known same = rows_other 7 status (λ e. cc) (λ e. cc, λ e. cc, λ e. cc, λ e. cc) (λ e. cc, λ e. cc) known same
+no_wal (command.Replay prefix db placeholder keys) status known same = replay_other 7 status (λ e. cc, λ e. cc, λ e. cc, λ e. cc) (λ e. cc, λ e. cc, λ e. cc) known same
+no_wal (command.Gen number rows groups true) status known same = one_other 16 7 status (λ e. cc) (λ e. cc, λ e. cc) known same
+no_wal (command.Gen number rows groups false) status known same = one_other 0 7 status (λ e. cc) (λ e. cc, λ e. cc) known same
+
+-- nor does a disk that the command doesn't read
+pub no_topics : (c : Command) (status : ℕ) → IsStatusOf c status → opens_topics c ≡ false → status ≡ topics_status → ⊥
+no_topics command.Init status known shut same = one_other 16 8 status (λ e. cc) (λ e. cc, λ e. cc) known same
+no_topics command.Topics status known shut same = switched shut
+no_topics command.Offsets status known shut same = offsets_other 8 status (λ e. cc, λ e. cc, λ e. cc, λ e. cc) (λ e. cc, λ e. cc) known same
+no_topics (command.Capture prefix db placeholder chunk every messages tables) status known shut same = one_other 16 8 status (λ e. cc) (λ e. cc, λ e. cc) known same
+no_topics (command.Resume chunk every messages) status known shut same = one_other 16 8 status (λ e. cc) (λ e. cc, λ e. cc) known same
+no_topics (command.Apply true placeholder) status known shut same = lines_other 8 status (λ e. cc, λ e. cc) (λ e. cc, λ e. cc, λ e. cc) known same
+no_topics (command.Apply false placeholder) status known shut same = switched shut
+no_topics (command.Replay prefix db placeholder keys) status known shut same = replay_other 8 status (λ e. cc, λ e. cc, λ e. cc, λ e. cc) (λ e. cc, λ e. cc, λ e. cc) known same
+no_topics (command.Gen number rows groups true) status known shut same = one_other 16 8 status (λ e. cc) (λ e. cc, λ e. cc) known same
+no_topics (command.Gen number rows groups false) status known shut same = one_other 0 8 status (λ e. cc) (λ e. cc, λ e. cc) known same
+
+pub no_offsets : (c : Command) (status : ℕ) → IsStatusOf c status → opens_offsets c ≡ false → status ≡ offsets_status → ⊥
+no_offsets command.Init status known shut same = one_other 16 9 status (λ e. cc) (λ e. cc, λ e. cc) known same
+no_offsets command.Topics status known shut same = topics_other 9 status (λ e. cc, λ e. cc, λ e. cc) (λ e. cc, λ e. cc) known same
+no_offsets command.Offsets status known shut same = switched shut
+no_offsets (command.Capture prefix db placeholder chunk every messages tables) status known shut same = one_other 16 9 status (λ e. cc) (λ e. cc, λ e. cc) known same
+no_offsets (command.Resume chunk every messages) status known shut same = one_other 16 9 status (λ e. cc) (λ e. cc, λ e. cc) known same
+no_offsets (command.Apply true placeholder) status known shut same = lines_other 9 status (λ e. cc, λ e. cc) (λ e. cc, λ e. cc, λ e. cc) known same
+no_offsets (command.Apply false placeholder) status known shut same = switched shut
+no_offsets (command.Replay prefix db placeholder keys) status known shut same = replay_other 9 status (λ e. cc, λ e. cc, λ e. cc, λ e. cc) (λ e. cc, λ e. cc, λ e. cc) known same
+no_offsets (command.Gen number rows groups true) status known shut same = one_other 16 9 status (λ e. cc) (λ e. cc, λ e. cc) known same
+no_offsets (command.Gen number rows groups false) status known shut same = one_other 0 9 status (λ e. cc) (λ e. cc, λ e. cc) known same
+
+-- status 16 is that of the commands that aren't built
+abbrev NotBuilt : ℕ → Type 0
+NotBuilt n = 16 ≢ n
+
+no_zero : NotBuilt 0
+no_zero e = cc
+
+no_outside : NotBuilt 11 × NotBuilt 12
+no_outside = (λ e. cc, λ e. cc)
+
+no_stream : NotBuilt 10 × NotBuilt 11 × NotBuilt 12
+no_stream = (λ e. cc, λ e. cc, λ e. cc)
+
+no_bad : NotBuilt 13
+no_bad e = cc
+
+no_fourteen : NotBuilt 14
+no_fourteen e = cc
+
+no_eight : NotBuilt 8
+no_eight e = cc
+
+no_offset : NotBuilt 0 × NotBuilt 4 × NotBuilt 9 × NotBuilt 14
+no_offset = (no_zero, λ e. cc, λ e. cc, no_fourteen)
+
+no_log : NotBuilt 0 × NotBuilt 5 × NotBuilt 6 × NotBuilt 13
+no_log = (no_zero, λ e. cc, λ e. cc, no_bad)
+
+built_other : (c : Command) (status : ℕ) → IsStatusOf c status → is_built c ≡ true → status ≡ 16 → ⊥
+built_other command.Init status known built same = switched (sym built)
+built_other command.Topics status known built same = topics_other 16 status (no_zero, no_eight, no_fourteen) no_outside known same
+built_other command.Offsets status known built same = offsets_other 16 status no_offset no_outside known same
+built_other (command.Capture prefix db placeholder chunk every messages tables) status known built same = switched (sym built)
+built_other (command.Resume chunk every messages) status known built same = switched (sym built)
+built_other (command.Apply true placeholder) status known built same = lines_other 16 status (no_zero, no_bad) no_stream known same
+built_other (command.Apply false placeholder) status known built same = rows_other 16 status no_eight no_offset no_outside known same
+built_other (command.Replay prefix db placeholder keys) status known built same = replay_other 16 status no_log no_stream known same
+built_other (command.Gen number rows groups true) status known built same = switched (sym built)
+built_other (command.Gen number rows groups false) status known built same = one_other 0 16 status (λ e. no_zero (sym e)) no_outside known same
+
+unbuilt : (c : Command) (status : ℕ) → IsStatusOf c status → status ≡ 16 → is_built c ≡ false
+unbuilt c status known same = by_built (is_built c) refl
+  where
+    by_built : (b : Bool) → is_built c ≡ b → is_built c ≡ false
+    by_built false is = is
+    by_built true is = absurd (built_other c status known is same)
+
+pub spell_unbuilt : (words : List (List ℕ)) (c : Command) (status : ℕ) → Spells words c → IsStatusOf c status → status ≡ 16 → SpellUnbuilt words
+spell_unbuilt words c status spells known same = (c, spells, unbuilt c status known same)
+
+-- ---- words that spell no command, and want of memory
+
+pub usage_no_wal : (status : ℕ) (before after : Option (List ℕ)) → Says Usage status before after → status ≡ wal_status → ⊥
+usage_no_wal status before after says = said_other Usage 7 status before after (λ e. cc) (λ e. cc, λ e. cc) says
+
+pub usage_no_topics : (status : ℕ) (before after : Option (List ℕ)) → Says Usage status before after → status ≡ topics_status → ⊥
+usage_no_topics status before after says = said_other Usage 8 status before after (λ e. cc) (λ e. cc, λ e. cc) says
+
+pub usage_no_offsets : (status : ℕ) (before after : Option (List ℕ)) → Says Usage status before after → status ≡ offsets_status → ⊥
+usage_no_offsets status before after says = said_other Usage 9 status before after (λ e. cc) (λ e. cc, λ e. cc) says
+
+pub usage_built : (status : ℕ) (before after : Option (List ℕ)) → Says Usage status before after → status ≡ 16 → ⊥
+usage_built status before after says = said_other Usage 16 status before after (λ e. cc) (λ e. cc, λ e. cc) says
+
+pub memory_no_wal : (status : ℕ) (before after : Option (List ℕ)) → Says Memory status before after → status ≡ wal_status → ⊥
+memory_no_wal status before after says = said_other Memory 7 status before after (λ e. cc) (λ e. cc, λ e. cc) says
+
+pub memory_no_topics : (status : ℕ) (before after : Option (List ℕ)) → Says Memory status before after → status ≡ topics_status → ⊥
+memory_no_topics status before after says = said_other Memory 8 status before after (λ e. cc) (λ e. cc, λ e. cc) says
+
+pub memory_no_offsets : (status : ℕ) (before after : Option (List ℕ)) → Says Memory status before after → status ≡ offsets_status → ⊥
+memory_no_offsets status before after says = said_other Memory 9 status before after (λ e. cc) (λ e. cc, λ e. cc) says
+
+pub memory_built : (status : ℕ) (before after : Option (List ℕ)) → Says Memory status before after → status ≡ 16 → ⊥
+memory_built status before after says = said_other Memory 16 status before after (λ e. cc) (λ e. cc, λ e. cc) says

@@ -1,0 +1,31 @@
+use Rattle.dbl_base.specs.Streams.{Rose}
+use Rattle.dbl_program.proofs.DiskLemmas.{only_read}
+use Rattle.dbl_program.proofs.FinishLemmas.{eight_fails, fails_eight, fails_nine, finished_output, nine_fails, rows_no_input, rows_status}
+use Rattle.dbl_program.proofs.StoreRunLemmas.{apply_run}
+use Rattle.dbl_program.proofs.stores.run_apply.Goals as goal
+
+pub returns-clause-told : goal.returns-clause-told
+returns-clause-told g c = λ t f told other.
+    let applied = c.apply-applied.result in
+    apply_run t f (Rose (g.T.Disk.faults c.args.topics) (g.T.Disk.faults applied.topics)) (Rose (g.F.Disk.faults c.args.offsets) (g.F.Disk.faults applied.offsets)) applied.end c.finish.result _ _ _ c.apply-applied.ensures.keeps_topics.cause c.apply-applied.ensures.keeps_offsets.cause (c.apply-applied.ensures.told t f told other) c.finish.ensures.finishes
+
+pub returns-clause-known : goal.returns-clause-known
+returns-clause-known g c = rows_status c.apply-applied.result.end c.finish.result _ _ c.finish.ensures.finishes
+
+pub returns-clause-topics_read : goal.returns-clause-topics_read
+returns-clause-topics_read g c =
+    only_read g.T.Disk.seen g.T.Disk.may_leave g.T.Disk.faults _ _ _ _ _ (eight_fails c.apply-applied.result.end c.finish.result _ _ c.finish.ensures.finishes) (fails_eight c.apply-applied.result.end c.finish.result _ _ c.finish.ensures.finishes) c.apply-applied.ensures.keeps_topics
+
+pub returns-clause-offsets_read : goal.returns-clause-offsets_read
+returns-clause-offsets_read g c =
+    only_read g.F.Disk.seen g.F.Disk.may_leave g.F.Disk.faults _ _ _ _ _ (nine_fails c.apply-applied.result.end c.finish.result _ _ c.finish.ensures.finishes) (fails_nine c.apply-applied.result.end c.finish.result _ _ c.finish.ensures.finishes) c.apply-applied.ensures.keeps_offsets
+
+pub returns-clause-unopened : goal.returns-clause-unopened
+returns-clause-unopened g c = c.apply-applied.ensures.unopened
+
+pub returns-clause-status : goal.returns-clause-status
+returns-clause-status g c = rows_no_input c.finish.result (rows_status c.apply-applied.result.end c.finish.result _ _ c.finish.ensures.finishes)
+
+pub returns-clause-output_failed : goal.returns-clause-output_failed
+returns-clause-output_failed g c = λ is.
+    finished_output c.apply-applied.result.end _ _ _ c.apply-applied.ensures.output_failed c.apply-applied.ensures.output_later c.finish.ensures.later (c.finish.ensures.output_failed is)

@@ -1,0 +1,24 @@
+use Rattle.dbl_base.specs.Streams.{Rose}
+use Rattle.dbl_program.proofs.DiskLemmas.{only_read}
+use Rattle.dbl_program.proofs.FinishLemmas.{fails_nine, finished_output, nine_fails, offsets_known, offsets_no_input}
+use Rattle.dbl_program.proofs.StoreRunLemmas.{offsets_run}
+use Rattle.dbl_program.proofs.stores.run_offsets.Goals as goal
+
+pub returns-clause-told : goal.returns-clause-told
+returns-clause-told g c = λ bytes told.
+    let ended = c.print_offset-ended.result in
+    offsets_run bytes (Rose (g.F.Disk.faults c.args.offsets) (g.F.Disk.faults ended.disk)) ended.end c.finish.result _ _ _ c.print_offset-ended.ensures.kinds c.print_offset-ended.ensures.keeps.cause (c.print_offset-ended.ensures.told bytes told) c.finish.ensures.finishes
+
+pub returns-clause-known : goal.returns-clause-known
+returns-clause-known g c = offsets_known c.print_offset-ended.result.end c.finish.result _ _ c.print_offset-ended.ensures.kinds c.finish.ensures.finishes
+
+pub returns-clause-offsets_read : goal.returns-clause-offsets_read
+returns-clause-offsets_read g c =
+    only_read g.F.Disk.seen g.F.Disk.may_leave g.F.Disk.faults _ _ _ _ _ (nine_fails c.print_offset-ended.result.end c.finish.result _ _ c.finish.ensures.finishes) (fails_nine c.print_offset-ended.result.end c.finish.result _ _ c.finish.ensures.finishes) c.print_offset-ended.ensures.keeps
+
+pub returns-clause-status : goal.returns-clause-status
+returns-clause-status g c = offsets_no_input c.finish.result (offsets_known c.print_offset-ended.result.end c.finish.result _ _ c.print_offset-ended.ensures.kinds c.finish.ensures.finishes)
+
+pub returns-clause-output_failed : goal.returns-clause-output_failed
+returns-clause-output_failed g c = λ is.
+    finished_output c.print_offset-ended.result.end _ _ _ c.print_offset-ended.ensures.output_failed c.print_offset-ended.ensures.output_later c.finish.ensures.later (c.finish.ensures.output_failed is)

@@ -1,0 +1,159 @@
+//! The commands that only read the stores: `topics`, `offsets`, and `apply` of the topic log.
+ghost use Rattle.std.specs.Prelude.{◌≡◌, ◌≢◌, ◌⊎◌, ℕ, ◌≤◌, List, Err, Some};
+ghost use Rattle.dbl_base.specs.Streams.{Rose};
+ghost use Rattle.dbl_record.specs.declared.record.Record.{Record};
+ghost use Rattle.dbl_topic.specs.Logs.{IsLog};
+ghost use Rattle.dbl_runs.specs.Answers.{AnswersApply, AnswersOffsets, AnswersTopics};
+ghost use Rattle.dbl_program.specs.Disks.{Finishes, IsOnlyRead, OfDisk, RunsStores, SaysError, offsets_status, topics_status};
+ghost use Rattle.dbl_program.specs.Faults.{status_of, output_failed_status};
+ghost use Rattle.dbl_program.specs.Means.{IsOffsetsStatus, IsRowsStatus, IsTopicsStatus};
+
+use crate::finished::Finished;
+use crate::halt::Halt;
+use crate::saying::{OUT_OF_MEMORY, OUTPUT_FAILED, write_text};
+use dbl_base::Output;
+use dbl_disk::Disk;
+use dbl_runs::{Applied, Ended, RunError, apply, print_offset, print_topics};
+use std::alloc::Global;
+
+/// Writes the lines of the topic log's records.
+pub(crate) fn run_topics<O: Output, W, T: Disk, F>(
+    alloc: Global,
+    output: &mut O,
+    wal: W,
+    topics: T,
+    offsets: F,
+) -> Finished<W, T, F>
+    ensures told { (bytes : List ℕ) → T.seen topics ≡ Some bytes →
+        RunsStores (AnswersTopics bytes)
+        (OfDisk (Rose (T.faults topics) (T.faults result.topics)) ⊥)
+        result.status (O.written output.old) (O.written output.new) }
+    ensures known { IsTopicsStatus result.status }
+    ensures topics_read { IsOnlyRead T.seen T.may_leave T.faults
+        topics_status result.status topics result.topics }
+    ensures wal_stays { result.wal ≡ wal }
+    ensures offsets_stay { result.offsets ≡ offsets }
+    ensures status { result.status ≢ status_of Halt.InputFailed }
+    ensures output_failed { result.status ≡ output_failed_status →
+        Rose (O.faults output.old) (O.faults output.new) }
+{
+    let ended = print_topics(alloc, topics, output);
+    let Ended { disk, end } = ended;
+    Finished {
+        status: finish(alloc, end, output),
+        wal,
+        topics: disk,
+        offsets,
+    }
+}
+
+/// Writes the text of the stored offset.
+pub(crate) fn run_offsets<O: Output, W, T, F: Disk>(
+    alloc: Global,
+    output: &mut O,
+    wal: W,
+    topics: T,
+    offsets: F,
+) -> Finished<W, T, F>
+    ensures told { (bytes : List ℕ) → F.seen offsets ≡ Some bytes →
+        RunsStores (AnswersOffsets bytes)
+        (OfDisk ⊥ (Rose (F.faults offsets) (F.faults result.offsets)))
+        result.status (O.written output.old) (O.written output.new) }
+    ensures known { IsOffsetsStatus result.status }
+    ensures offsets_read { IsOnlyRead F.seen F.may_leave F.faults
+        offsets_status result.status offsets result.offsets }
+    ensures wal_stays { result.wal ≡ wal }
+    ensures topics_stay { result.topics ≡ topics }
+    ensures status { result.status ≢ status_of Halt.InputFailed }
+    ensures output_failed { result.status ≡ output_failed_status →
+        Rose (O.faults output.old) (O.faults output.new) }
+{
+    let ended = print_offset(alloc, offsets, output);
+    let Ended { disk, end } = ended;
+    Finished {
+        status: finish(alloc, end, output),
+        wal,
+        topics,
+        offsets: disk,
+    }
+}
+
+/// Writes a line for each row that the consumer of the topic log holds, by the stored placeholder.
+pub(crate) fn run_apply<O: Output, W, T: Disk, F: Disk>(
+    alloc: Global,
+    output: &mut O,
+    wal: W,
+    topics: T,
+    offsets: F,
+) -> Finished<W, T, F>
+    ensures told { (t f : List ℕ) → T.seen topics ≡ Some t → F.seen offsets ≡ Some f →
+        RunsStores (AnswersApply t f)
+        (OfDisk (Rose (T.faults topics) (T.faults result.topics))
+        (Rose (F.faults offsets) (F.faults result.offsets)))
+        result.status (O.written output.old) (O.written output.new) }
+    ensures known { IsRowsStatus result.status }
+    ensures topics_read { IsOnlyRead T.seen T.may_leave T.faults
+        topics_status result.status topics result.topics }
+    ensures offsets_read { IsOnlyRead F.seen F.may_leave F.faults
+        offsets_status result.status offsets result.offsets }
+    ensures unopened { (t : List ℕ) → T.seen topics ≡ Some t →
+        ((groups : List (List Record)) → ¬ IsLog t groups) → result.offsets ≡ offsets }
+    ensures wal_stays { result.wal ≡ wal }
+    ensures status { result.status ≢ status_of Halt.InputFailed }
+    ensures output_failed { result.status ≡ output_failed_status →
+        Rose (O.faults output.old) (O.faults output.new) }
+{
+    let applied = apply(alloc, topics, offsets, output);
+    let Applied {
+        topics: log,
+        offsets: store,
+        end,
+    } = applied;
+    Finished {
+        status: finish(alloc, end, output),
+        wal,
+        topics: log,
+        offsets: store,
+    }
+}
+
+// Writes the line of the error with which a command ended, if it did, and answers the status. Where the output failed nothing
+// more is written.
+fn finish<O: Output>(alloc: Global, end: Result<(), RunError>, output: &mut O) -> u8
+    ensures finishes { Finishes end result (O.written output.old) (O.written output.new) }
+    ensures output_failed { result ≡ output_failed_status →
+        (end ≡ Err RunError.OutputFailed) ⊎ Rose (O.faults output.old) (O.faults output.new) }
+    ensures later { O.faults output.old ≤ O.faults output.new }
+{
+    match end {
+        Ok(()) => 0,
+        Err(error) => end_with(alloc, error, output),
+    }
+}
+
+// Ends a command with this error.
+fn end_with<O: Output>(alloc: Global, error: RunError, output: &mut O) -> u8
+    ensures finishes { Finishes (Err error) result (O.written output.old) (O.written output.new) }
+    ensures output_failed { result ≡ output_failed_status →
+        (error ≡ RunError.OutputFailed) ⊎ Rose (O.faults output.old) (O.faults output.new) }
+    ensures later { O.faults output.old ≤ O.faults output.new }
+{
+    match error {
+        RunError::OutputFailed => OUTPUT_FAILED,
+        _ => say_error(alloc, error, output),
+    }
+}
+
+// Writes the error's line, and answers its status.
+fn say_error<O: Output>(alloc: Global, error: RunError, output: &mut O) -> u8
+    requires { error ≢ RunError.OutputFailed }
+    ensures says { SaysError error result (O.written output.old) (O.written output.new) }
+    ensures output_failed { result ≡ output_failed_status →
+        Rose (O.faults output.old) (O.faults output.new) }
+    ensures later { O.faults output.old ≤ O.faults output.new }
+{
+    match error.text(alloc) {
+        Ok(text) => write_text(text.as_str(), error.status(), output),
+        Err(_) => write_text(OUT_OF_MEMORY, Halt::Memory.status(), output),
+    }
+}

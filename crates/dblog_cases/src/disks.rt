@@ -1,0 +1,72 @@
+//! The disks of a case, each in memory.
+
+use dbl_disk::{Choice, Disk, MemDisk};
+use std::alloc::{AllocError, Global};
+
+/// One of the disks.
+#[derive(Clone, Copy)]
+pub enum Place {
+    Wal,
+    Topics,
+    Offsets,
+}
+
+/// The disks that the runs of a case share.
+#[derive(Drop)]
+pub struct Disks {
+    pub wal: MemDisk,
+    pub topics: MemDisk,
+    pub offsets: MemDisk,
+}
+
+// A disk that holds these bytes, which are synced. A case has no disk of more than a million of them.
+fn holding(alloc: Global, bytes: &[u8]) -> Result<MemDisk, AllocError> {
+    let mut disk = MemDisk::make(alloc, Vec::new(alloc));
+    if bytes.len() > 1_000_000 {
+        return Err(AllocError);
+    }
+    match disk.write_at(0, bytes) {
+        Ok(()) => disk.crash(Choice::New),
+        Err(_) => Err(AllocError),
+    }
+}
+
+impl Disks {
+    /// Three empty disks.
+    pub fn empty(alloc: Global) -> Disks {
+        Disks {
+            wal: MemDisk::make(alloc, Vec::new(alloc)),
+            topics: MemDisk::make(alloc, Vec::new(alloc)),
+            offsets: MemDisk::make(alloc, Vec::new(alloc)),
+        }
+    }
+
+    /// What a read of the disk gives.
+    pub fn bytes(&self, place: Place) -> &Vec<u8> {
+        match place {
+            Place::Wal => self.wal.bytes(),
+            Place::Topics => self.topics.bytes(),
+            Place::Offsets => self.offsets.bytes(),
+        }
+    }
+
+    /// The disks as they are found after a stop.
+    pub fn crash(&self, choice: Choice) -> Result<Disks, AllocError> {
+        Ok(Disks {
+            wal: self.wal.crash(choice)?,
+            topics: self.topics.crash(choice)?,
+            offsets: self.offsets.crash(choice)?,
+        })
+    }
+
+    /// Puts these bytes on the disk in place of what it holds.
+    pub fn put(&mut self, alloc: Global, place: Place, bytes: &[u8]) -> Result<(), AllocError> {
+        let disk = holding(alloc, bytes)?;
+        match place {
+            Place::Wal => self.wal = disk,
+            Place::Topics => self.topics = disk,
+            Place::Offsets => self.offsets = disk,
+        }
+        Ok(())
+    }
+}

@@ -1,9 +1,10 @@
 -- Each row that a consumer holds is at a captured table and key, and has a cell in each of its columns.
-use Rattle.std.proofs.Common.{◌≡◌, ◌∙◌, ◌+◌, ℕ, ℤ, List, [], ◌∷◌, ◌++◌, Bool, true, false, cond, Option, Some, None, Ok, fold, length, take, map, flat_map, refl, sym, ap, subst, append_assoc, append-nil}
-use Rattle.std.specs.Prelude.{IfSome, IsSome, option_map, unwrap_or, slice_get}
+use Rattle.std.proofs.Common.{◌≡◌, ◌∙◌, ◌⊎◌, inl, inr, ◌+◌, ℕ, ℤ, List, [], ◌∷◌, ◌++◌, Bool, true, false, cond, Option, Some, None, Ok, fold, length, take, map, flat_map, refl, sym, ap, subst, append_assoc, append-nil}
+use Rattle.std.specs.Prelude.{IfSome, IsSome, Contains, option_map, unwrap_or, slice_get}
 use Rattle.std.specs.List.{AllByRecursion}
 use Rattle.std.specs.Str.{bytes_eq}
 use Rattle.std.proofs.lemmas.List.{map-append, length-map}
+use Rattle.std.proofs.lemmas.List.Elements.{All-contains, All-from_recursion}
 use Rattle.dbl_value.specs.declared.value.Val.{Val}
 use Rattle.dbl_value.specs.Values.{json_data}
 use Rattle.dbl_record.specs.declared.acts.Act.{Act}
@@ -51,11 +52,11 @@ use Rattle.dbl_agreement.proofs.ReadRows.{act_read_record, act_progress}
 use Rattle.dbl_ageing.specs.Commits.{AreFitCommits}
 use Rattle.dbl_ageing.specs.Ages.{held_row, IsNamedRow, AreNamed}
 use Rattle.dbl_ageing.specs.ChangeLaws.{IsRecordOf}
-use Rattle.dbl_ageing.specs.RowLaws.{EventsKeepNames, SnapshotsKeepNames, NoRecordsAreNamed}
+use Rattle.dbl_ageing.specs.RowLaws.{EventsKeepNames, SnapshotsKeepNames, NoRecordsAreNamed, IsRecordOfSome, IsRecordOfWindow, AreRecordsOf, RecordsOfHistoriesAreNamed, RecordsOfHistoriesAgree}
 use Rattle.dbl_ageing.proofs.Lists.{all_take}
 use Rattle.dbl_ageing.proofs.Deliver.{commit_in_range}
 use Rattle.dbl_ageing.proofs.Events.{numbered_notice}
-use Rattle.dbl_ageing.proofs.Rows.{wide_item}
+use Rattle.dbl_ageing.proofs.Rows.{wide_item, aged_records_agree}
 use Rattle.dbl_ageing.proofs.Snapshot.{cells_in_range}
 
 -- ---- the notices of a change that fits
@@ -278,3 +279,29 @@ snapshots_keep_names identity infos closed mark now records snapshot n range mom
     subst (λ (l : List Record). AreNamed identity infos (records ++ take n l)) (sym listed)
     (named_more identity infos (take n chunk) records
     (all_take (KeepsNames identity infos) n chunk (chunk_keeps_names identity infos mark now range moment closed.table info whole.captured 0 (length closed.rows) closed.rows closed.through closed.done whole.fits.rows whole.keys)) named)
+
+-- ---- records of commits and of windows, in any order
+
+window_keeps_names : (identity : Identity) (infos : List TableInfo) (item : Record) → IsRecordOfWindow identity infos item → KeepsNames identity infos item
+window_keeps_names identity infos item w =
+    let info : TableInfo = w.listed.info in
+    let chunk : List Record = chunk_records identity info w.closed.rows w.closed.through w.closed.done w.mark w.now in
+    let listed : w.snapshot ≡ chunk = w.listed.records_are ∙ ap (λ (o : Option TableInfo). unwrap_or (option_map (λ i. chunk_records identity i w.closed.rows w.closed.through w.closed.done w.mark w.now) o) []) w.listed.captured in
+    let all : AllByRecursion (KeepsNames identity infos) chunk =
+    chunk_keeps_names identity infos w.mark w.now w.mark_in_range w.now_in_range w.closed.table info w.listed.captured 0 (length w.closed.rows) w.closed.rows w.closed.through w.closed.done w.listed.fits.rows w.listed.keys in
+    All-contains (KeepsNames identity infos) chunk item (All-from_recursion (KeepsNames identity infos) chunk all) (subst (λ (l : List Record). Contains l item) listed w.stands)
+
+all_keep_names : (identity : Identity) (infos : List TableInfo) (commits : List Commit) → AreFitCommits infos commits → (records : List Record) → AreRecordsOf identity infos commits records → AllByRecursion (KeepsNames identity infos) records
+all_keep_names identity infos commits facts [] are = tt
+all_keep_names identity infos commits facts (item ∷ records) are = (one are.0, all_keep_names identity infos commits facts records are.1)
+  where
+    one : IsRecordOfSome identity infos commits item ⊎ IsRecordOfWindow identity infos item → KeepsNames identity infos item
+    one (inl e) = record_keeps_names identity infos e.before e.commit e.later (subst (AreFitCommits infos) e.spelled facts) item e.is
+    one (inr w) = window_keeps_names identity infos item w
+
+pub records_are_named : RecordsOfHistoriesAreNamed
+records_are_named identity infos commits records facts are = named_more identity infos records [] (all_keep_names identity infos commits facts records are) (no_records_are_named identity infos)
+
+pub records_agree : RecordsOfHistoriesAgree
+records_agree identity infos commits start moment records topic text table key facts are aged low names known =
+    aged_records_agree identity infos commits start moment records topic text table key facts aged (records_are_named identity infos commits records facts are) low names known

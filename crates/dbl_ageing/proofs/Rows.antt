@@ -27,7 +27,7 @@ use Rattle.dbl_ageing.specs.Commits.{AreFitCommits}
 use Rattle.dbl_ageing.specs.Moments.{reach, span_end}
 use Rattle.dbl_ageing.specs.KnownKeys.{IsKnown}
 use Rattle.dbl_ageing.specs.Ages.{held_row, held_cell, source_cell, Occurs, IsAgedCell, IsAged}
-use Rattle.dbl_ageing.specs.SnapshotLaws.{AgedRecordsAgree}
+use Rattle.dbl_ageing.specs.SnapshotLaws.{AgedCellsAgree, AgedRecordsAgree}
 use Rattle.dbl_ageing.specs.RowLaws.{WasAbsent, LackedRowsWereAbsent, UnknownRowsWereThere, KnownCellsWereSo}
 use Rattle.dbl_ageing.proofs.Cells.{aged_one}
 use Rattle.dbl_ageing.proofs.Effects.{text_in, image-text}
@@ -151,9 +151,7 @@ end_is : (m far : ℕ) → far ≤ m → m ≡ max m far
 end_is m far le = omega (arith, le)
 
 -- each cell is held as the source has it
-pub cells_agree : (identity : Identity) (infos : List TableInfo) (commits : List Commit) (start moment : ℕ) (records : List Record) (topic text : List ℕ) (table : ℕ) (key : Key) → IsAged identity infos commits start records moment → reach infos commits start records ≤ moment
-    → Names identity infos topic text table key → IsKnown identity infos (all_changes commits) start records moment table key
-    → (column : List ℕ) → held_cell identity records topic text column ≡ option_map Known (source_cell infos (all_changes commits) table key column moment)
+pub cells_agree : AgedCellsAgree
 cells_agree identity infos commits start moment records topic text table key aged low names known column =
     let far : ℕ = reach infos commits start records in
     let at_end : IsKnown identity infos (all_changes commits) start records (span_end infos commits start records moment) table key =

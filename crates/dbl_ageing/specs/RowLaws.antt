@@ -1,5 +1,5 @@
 -- What aged cells come to for whole rows.
-use Rattle.std.specs.Prelude.{◌≡◌, ◌⊎◌, ℕ, ℤ, ◌≤◌, Some, None, IsSome, List, [], ◌++◌, take}
+use Rattle.std.specs.Prelude.{◌≡◌, ◌⊎◌, ℕ, ℤ, ◌≤◌, Some, None, IsSome, Contains, List, [], ◌∷◌, ◌++◌, take}
 use Rattle.std.specs.List.{AllByRecursion}
 use Rattle.dbl_record.specs.declared.acts.HeldCell.TheVariants.{Known, Unknown}
 use Rattle.dbl_record.specs.declared.record.Record.{Record}
@@ -10,10 +10,11 @@ use Rattle.dbl_table.specs.declared.change.Commit.{Commit}
 use Rattle.dbl_event.specs.declared.closed.Closed.{Closed}
 use Rattle.dbl_table.specs.Rows.{all_changes, rows}
 use Rattle.dbl_history.specs.Ranges.{IsCommitInRange, IsMomentInRange}
-use Rattle.dbl_history.specs.Image.{Names}
+use Rattle.dbl_history.specs.Image.{Names, image_row}
 use Rattle.dbl_event.specs.SnapshotLists.{IsSnapshot}
 use Rattle.dbl_ageing.specs.Commits.{AreFitCommits, IsNext}
-use Rattle.dbl_ageing.specs.Moments.{span_end}
+use Rattle.dbl_agreement.specs.Laws.{Holds}
+use Rattle.dbl_ageing.specs.Moments.{reach, span_end}
 use Rattle.dbl_ageing.specs.KnownKeys.{IsKnown}
 use Rattle.dbl_ageing.specs.Ages.{held_row, held_cell, source_cell, Occurs, IsAged, AreNamed}
 use Rattle.dbl_ageing.specs.ChangeLaws.{IsRecordOf}
@@ -80,6 +81,44 @@ SnapshotsKeepNames = (identity : Identity) (infos : List TableInfo) (closed : Cl
 -- no record, no row
 abbrev pub NoRecordsAreNamed : Type 0
 NoRecordsAreNamed = (identity : Identity) (infos : List TableInfo) → AreNamed identity infos []
+
+-- the record is that of an event of some commit of a history
+pub record IsRecordOfSome (identity : Identity) (infos : List TableInfo) (commits : List Commit) (item : Record) : Type 0 where
+  pub before : List Commit
+  pub commit : Commit
+  pub later : List Commit
+  pub spelled : commits ≡ before ++ commit ∷ later
+  pub is : IsRecordOf identity infos commit item
+
+-- the record is one of a closed window's, put at some mark
+pub record IsRecordOfWindow (identity : Identity) (infos : List TableInfo) (item : Record) : Type 0 where
+  pub closed : Closed
+  pub mark : Commit
+  pub mark_in_range : IsCommitInRange mark
+  pub now : ℤ
+  pub now_in_range : IsMomentInRange now
+  pub snapshot : List Record
+  pub listed : IsSnapshot identity infos closed mark now snapshot
+  pub stands : Contains snapshot item
+
+-- each record is one or the other, as in a log that is exact and whose snapshots are right
+abbrev pub AreRecordsOf : Identity → List TableInfo → List Commit → List Record → Type 0
+AreRecordsOf identity infos commits records =
+    AllByRecursion (λ item. IsRecordOfSome identity infos commits item ⊎ IsRecordOfWindow identity infos item) records
+
+-- With such records, in any order and number, each row that is held is named.
+abbrev pub RecordsOfHistoriesAreNamed : Type 0
+RecordsOfHistoriesAreNamed = (identity : Identity) (infos : List TableInfo) (commits : List Commit) (records : List Record)
+    → AreFitCommits infos commits → AreRecordsOf identity infos commits records → AreNamed identity infos records
+
+-- So where they are aged at a moment and reach no later one, a consumer holds the source's row at each known key.
+abbrev pub RecordsOfHistoriesAgree : Type 0
+RecordsOfHistoriesAgree = (identity : Identity) (infos : List TableInfo) (commits : List Commit) (start moment : ℕ)
+    (records : List Record) (topic text : List ℕ) (table : ℕ) (key : Key)
+    → AreFitCommits infos commits → AreRecordsOf identity infos commits records
+    → IsAged identity infos commits start records moment → reach infos commits start records ≤ moment
+    → Names identity infos topic text table key → IsKnown identity infos (all_changes commits) start records moment table key
+    → Holds (held_row identity records topic text) (image_row infos (rows infos commits moment) table key)
 
 -- and no record is aged at the start
 abbrev pub NoRecordsAreAged : Type 0

@@ -1,6 +1,6 @@
 //! How the cells of a consumer age as records are delivered to it.
 ghost use Rattle.dbl_ageing.specs.ChangeLaws.{RecordsOfAChangeKeepAge, PartsOfCommitsKeepAge, ChangesMoveAge, CommitsMoveAge, SilentCommitsMoveAge, AgeGoesBack, AgeStaysAsHistoriesGrow};
-ghost use Rattle.dbl_ageing.specs.SnapshotLaws.{PartsOfSnapshotsKeepAge, AgedRecordsAgree};
+ghost use Rattle.dbl_ageing.specs.SnapshotLaws.{PartsOfSnapshotsKeepAge, AgedCellsAgree, AgedRecordsAgree};
 ghost use Rattle.dbl_ageing.specs.RowLaws.{NoRecordsAreAged};
 
 /// Any records of the change right behind a moment leave records aged that reach this moment.
@@ -43,7 +43,14 @@ pub fn parts_of_snapshots_keep_age()
     ensures { PartsOfSnapshotsKeepAge }
 {}
 
-/// Where aged records reach no later moment, a consumer of them holds the source's row of this moment at each known key.
+/// Where aged records reach no later moment, a consumer of them holds each cell of a known key as the source has it at this
+/// moment, and none is unknown.
+pub fn aged_cells_agree()
+    ensures { AgedCellsAgree }
+{}
+
+/// So it holds the source's row of this moment at each known key. It is asked that the rows which it holds are named, since a row
+/// without cells is told from none by no cell; `records_of_histories_agree` asks instead where the records come from.
 pub fn aged_records_agree()
     ensures { AgedRecordsAgree }
 {}

@@ -1,5 +1,5 @@
 //! What aged cells come to for whole rows.
-ghost use Rattle.dbl_ageing.specs.RowLaws.{LackedRowsWereAbsent, UnknownRowsWereThere, KnownCellsWereSo, EventsKeepNames, SnapshotsKeepNames, NoRecordsAreNamed};
+ghost use Rattle.dbl_ageing.specs.RowLaws.{LackedRowsWereAbsent, UnknownRowsWereThere, KnownCellsWereSo, EventsKeepNames, SnapshotsKeepNames, NoRecordsAreNamed, RecordsOfHistoriesAreNamed, RecordsOfHistoriesAgree};
 
 /// A known key whose row a consumer lacks, or in whose row a cell is unknown, had no row at some moment of the span.
 pub fn lacked_rows_were_absent()
@@ -29,4 +29,16 @@ pub fn snapshots_keep_names()
 /// With no records no row is held.
 pub fn no_records_are_named()
     ensures { NoRecordsAreNamed }
+{}
+
+/// Where each record is of an event of a fit history, or of a closed window of a snapshot, each row that is held is at a captured
+/// table and key, with a cell in each column.
+pub fn records_of_histories_are_named()
+    ensures { RecordsOfHistoriesAreNamed }
+{}
+
+/// So where such records are aged at a moment and reach no later one, a consumer of them holds the source's row of this moment at
+/// each known key.
+pub fn records_of_histories_agree()
+    ensures { RecordsOfHistoriesAgree }
 {}

@@ -1,0 +1,12 @@
+//! What records tell and what ages, by plain functions that compute the definitions. They only serve tests of the definitions.
+#![tactic(auto)]
+
+mod known;
+mod moments;
+mod told;
+mod windows;
+
+pub use known::is_known;
+pub use moments::{reach, record_moment, span_end};
+pub use told::{Log, is_told, tells};
+pub use windows::{Window, is_right_at, right_windows_are_right_at_keys};

@@ -1,3 +1,4 @@
 mod ToldLemmas
 mod MomentLemmas
 mod WindowLemmas
+mod NamedLemmas

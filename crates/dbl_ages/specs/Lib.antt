@@ -1,2 +1,3 @@
 pub mod Told
 pub mod Windows
+pub mod Named

@@ -3,10 +3,12 @@
 
 mod known;
 mod moments;
+mod named;
 mod told;
 mod windows;
 
 pub use known::is_known;
 pub use moments::{reach, record_moment, span_end};
+pub use named::{HeldRow, is_named_at, named_rows_are_named_at};
 pub use told::{Log, is_told, tells};
 pub use windows::{Window, is_right_at, right_windows_are_right_at_keys};

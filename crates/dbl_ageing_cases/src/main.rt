@@ -1,12 +1,15 @@
 //! Reads cases of a consumer's cells from standard input, a line each, and prints for each cell that a case asks of what is held
-//! there, whether its key is known, and whether the cell is aged.
+//! there, whether its key is known, and whether the cell is aged. A case may also ask which moments records stand for, whether a
+//! held row is named, and whether a window is right.
 //!
 //! A case is `NAME: ITEM | ITEM | ..`, and its answers stand behind its name, a line each. Empty lines, and lines that begin
 //! with `#`, are passed over.
 #![tactic(auto)]
 
 mod held;
+mod log;
 mod source;
+mod windows;
 mod words;
 
 use anyhow::Result;

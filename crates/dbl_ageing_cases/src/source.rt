@@ -1,7 +1,8 @@
-//! The source of a case: one table, `public.jars`, with a number `id`, which is its key, and a text `v`, and its commits.
+//! The source of a case: two tables, `public.jars` and `public.lids`, each with a number `id`, which is its key, and a text `v`;
+//! and its commits.
 //!
-//! - `commit/256/insert 1 a + insert 2 a`: a commit with its LSN and its changes. The others are `update 1 b`, where `?` is a
-//!   cell that wasn't sent, `move 1 3 b` to another key, `delete 1` and `clear`.
+//! - `commit/256/insert 1 a + lids insert 2 a`: a commit with its LSN and its changes, which are of the jars where no table is
+//!   named. The others are `update 1 b`, where `?` is a cell that wasn't sent, `move 1 3 b` to another key, `delete 1` and `clear`.
 //! - `mark/512/1-1-L`: a watermark's commit.
 //! - `start/2`: the moment that the log begins at, else 0.
 
@@ -30,10 +31,10 @@ fn column(alloc: Global, name: &str, oid: u32) -> Result<RawColumn> {
     })
 }
 
-fn name(alloc: Global) -> Result<TableName> {
+fn name(alloc: Global, table: u32) -> Result<TableName> {
     Ok(TableName {
         schema: Text::of(alloc, "public")?,
-        name: Text::of(alloc, "jars")?,
+        name: Text::of(alloc, words::name_of(table))?,
     })
 }
 
@@ -50,14 +51,19 @@ fn key_names(alloc: Global) -> Result<Seq<Text>> {
     Ok(Seq::make(names))
 }
 
-fn infos(alloc: Global) -> Result<Vec<TableInfo>> {
+fn info(alloc: Global, table: u32) -> Result<TableInfo> {
     let raw = RawTable {
-        name: name(alloc)?,
+        name: name(alloc, table)?,
         columns: columns(alloc)?,
         key: key_names(alloc)?,
     };
+    Ok(TableInfo::make(alloc, &raw)?)
+}
+
+fn infos(alloc: Global) -> Result<Vec<TableInfo>> {
     let mut infos = Vec::new(alloc);
-    infos.push(TableInfo::make(alloc, &raw)?)?;
+    infos.push(info(alloc, 0)?)?;
+    infos.push(info(alloc, 1)?)?;
     Ok(infos)
 }
 
@@ -69,13 +75,18 @@ fn identity(alloc: Global) -> Result<Identity> {
     })
 }
 
-/// The key of a number.
+/// The key of a number, of whichever table.
 pub fn key(alloc: Global, id: &str) -> Result<Key> {
     let mut cells = Vec::new(alloc);
     cells.push(Val::Int(id.parse()?))?;
     Ok(Key {
         cells: Seq::make(cells),
     })
+}
+
+/// The row of a number and a text.
+pub fn text_row(alloc: Global, id: &str, v: &str) -> Result<Row> {
+    row(alloc, id, Val::Text(Text::of(alloc, v)?))
 }
 
 fn row(alloc: Global, id: &str, v: Val) -> Result<Row> {
@@ -102,21 +113,21 @@ fn cells(alloc: Global, id: &str, v: &str) -> Result<Seq<Cell>> {
 }
 
 // An update in place, of which no old row is sent.
-fn update(alloc: Global, words: &str) -> Result<Change> {
+fn update(alloc: Global, table: u32, words: &str) -> Result<Change> {
     let (id, v) = words::first(words);
     Ok(Change::Update {
-        table: 0,
+        table,
         key: key(alloc, id)?,
         old: None,
         cells: cells(alloc, id, v)?,
     })
 }
 
-fn moved(alloc: Global, words: &str) -> Result<Change> {
+fn moved(alloc: Global, table: u32, words: &str) -> Result<Change> {
     let (from, rest) = words::first(words);
     let (to, v) = words::first(rest);
     Ok(Change::Update {
-        table: 0,
+        table,
         key: key(alloc, from)?,
         old: Some(row(alloc, from, Val::Null)?),
         cells: cells(alloc, to, v)?,
@@ -124,21 +135,22 @@ fn moved(alloc: Global, words: &str) -> Result<Change> {
 }
 
 fn change(alloc: Global, words: &str) -> Result<Change> {
+    let (table, words) = words::table_of(words);
     let (kind, rest) = words::first(words);
     let (id, v) = words::first(rest);
     match kind {
         "insert" => Ok(Change::Insert {
-            table: 0,
-            row: row(alloc, id, Val::Text(Text::of(alloc, v)?))?,
+            table,
+            row: text_row(alloc, id, v)?,
         }),
-        "update" => update(alloc, rest),
-        "move" => moved(alloc, rest),
+        "update" => update(alloc, table, rest),
+        "move" => moved(alloc, table, rest),
         "delete" => Ok(Change::Delete {
-            table: 0,
+            table,
             key: key(alloc, id)?,
             old: row(alloc, id, Val::Null)?,
         }),
-        "clear" => Ok(Change::Clear { table: 0 }),
+        "clear" => Ok(Change::Clear { table }),
         _ => bail!("no such change"),
     }
 }

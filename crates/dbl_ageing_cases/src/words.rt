@@ -17,3 +17,19 @@ pub fn first(text: &str) -> (&str, &str) {
 pub fn field(fields: &str, place: usize) -> &str {
     fields.split('/').nth(place).unwrap_or("")
 }
+
+/// The name of a table.
+pub fn name_of(table: u32) -> &'static str {
+    match table {
+        0 => "jars",
+        _ => "lids",
+    }
+}
+
+/// The table that some words name first, and the words behind it. It is the jars where none is named.
+pub fn table_of(words: &str) -> (u32, &str) {
+    match words.strip_prefix("lids ") {
+        Some(rest) => (1, rest),
+        None => (0, words),
+    }
+}

@@ -1,5 +1,5 @@
 -- Lemmas of named rows.
-use Rattle.std.proofs.Common.{◌≡◌, ◌∙◌, ℕ, zero, suc, ◌+◌, ◌≤◌, ◌<◌, Bool, true, false, Option, Some, None, List, [], ◌∷◌, length, refl, sym, ap, subst, arith}
+use Rattle.std.proofs.Common.{◌≡◌, ◌∙◌, ℕ, zero, suc, ◌≤◌, Bool, true, false, Option, Some, None, List, [], ◌∷◌, length, refl, sym, ap, subst}
 use Rattle.std.specs.Prelude.{IsSome, is_some, option_map, unwrap_or, slice_get}
 use Rattle.std.specs.Bool.{Decides}
 use Rattle.std.specs.List.{list_any}
@@ -13,7 +13,6 @@ use Rattle.dbl_table.specs.declared.table.Column.{Column}
 use Rattle.dbl_table.specs.declared.table.TableInfo.{TableInfo}
 use Rattle.dbl_table.specs.Tables.{column_names}
 use Rattle.dbl_table.specs.Infos.{name_at, column_of}
-use Rattle.dbl_history.specs.Image.{Names}
 use Rattle.dbl_table.proofs.Lists.{same_text, is_some-position_from, position_from-at}
 use Rattle.dbl_table.proofs.InfoLemmas.{has_name}
 use Rattle.dbl_history.proofs.RowKeys.{is_some_value}

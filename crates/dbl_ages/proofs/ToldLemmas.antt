@@ -1,6 +1,6 @@
 -- Lemmas of what is told.
-use Rattle.std.proofs.Common.{◌≡◌, ◌≢◌, ◌∙◌, ◌⊎◌, inl, inr, ⊎_elim, ℕ, suc, ◌+◌, ◌≤◌, ◌<◌, Bool, true, false, Option, Some, None, List, [], ◌∷◌, length, refl, sym, ap, subst, arith}
-use Rattle.std.specs.Prelude.{◌↔◌, IsTrue, IfSome, Contains, slice_get}
+use Rattle.std.proofs.Common.{◌≡◌, ◌≢◌, ◌∙◌, ◌⊎◌, ⊎_elim, ℕ, suc, ◌+◌, ◌≤◌, ◌<◌, Bool, Option, Some, None, List, [], ◌∷◌, length, refl, sym, ap, subst, arith}
+use Rattle.std.specs.Prelude.{IsTrue, IfSome, Contains, slice_get}
 use Rattle.std.specs.Bool.{Decides}
 use Rattle.std.specs.List.{AllByRecursion}
 use Rattle.std.proofs.lemmas.Bool.{cases_eq}
@@ -13,20 +13,18 @@ use Rattle.dbl_value.specs.declared.value.Val.{Val}
 use Rattle.dbl_record.specs.declared.record.Record.{Record}
 use Rattle.dbl_table.specs.declared.identity.Identity.{Identity}
 use Rattle.dbl_table.specs.declared.row.Key.{Key}
-use Rattle.dbl_table.specs.declared.change.Change.{Change}
 use Rattle.dbl_table.specs.declared.table.TableInfo.{TableInfo}
 use Rattle.dbl_table.specs.Infos.{key_types}
 use Rattle.dbl_table.specs.Tables.{type_at}
 use Rattle.dbl_history.specs.declared.cursor.Cursor.{Cursor}
 use Rattle.dbl_history.specs.Fit.{AreOf, IsKeyOf}
 use Rattle.dbl_history.specs.KeyBounds.{IsUpTo}
-use Rattle.dbl_history.specs.WholeChanges.{IsTouched}
 use Rattle.dbl_event.specs.Snapshots.{progress_data}
 use Rattle.dbl_agreement.specs.Prints.{Tells}
 use Rattle.dbl_agreement.proofs.Prints.{progress_one}
-use Rattle.dbl_ageing.specs.KnownKeys.{IsTold, IsKnown}
-use Rattle.dbl_ageing.proofs.PlainLemmas.{passes, fails, instead, refuted}
-use Rattle.dbl_ages.specs.Told.{Tests, IsProgress, IsAlike, IsBeside, IsOfTable, IsToldBy, IsUnlisted, IsToldIn, AreUnlistedOf, AreUnlisted}
+use Rattle.dbl_ageing.specs.KnownKeys.{IsTold}
+use Rattle.dbl_ageing.proofs.PlainLemmas.{instead}
+use Rattle.dbl_ages.specs.Told.{Tests, IsProgress, IsAlike, IsBeside, IsOfTable, IsToldBy, IsToldIn, AreUnlistedOf, AreUnlisted}
 
 -- ---- keys of a table
 

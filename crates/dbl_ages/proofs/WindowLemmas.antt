@@ -1,6 +1,6 @@
 -- Lemmas of right windows.
 use Rattle.std.proofs.Common.{◌≡◌, ◌∙◌, ◌⊎◌, inl, inr, ℕ, Bool, true, false, Option, Some, None, List, [], ◌∷◌, refl, sym, ap, subst}
-use Rattle.std.specs.Prelude.{IsTrue, IfSome, option_map, if◌then◌else◌, slice_get}
+use Rattle.std.specs.Prelude.{IfSome, option_map, if◌then◌else◌, slice_get}
 use Rattle.std.specs.Bool.{Decides}
 use Rattle.std.specs.Borrow.{Bor}
 use Rattle.std.specs.Option.{option_copied}
@@ -17,15 +17,13 @@ use Rattle.std.specs.Map.{lookup}
 use Rattle.std.specs.BTreeMap.{is_at}
 use Rattle.dbl_table.specs.Keys.{same_key, key_cmp}
 use Rattle.dbl_table.specs.Rows.{rows_at}
-use Rattle.dbl_history.specs.Fit.{IsKeyOf}
-use Rattle.dbl_history.specs.KeyBounds.{IsAbove, IsUpTo}
 use Rattle.dbl_history.specs.KeyedRows.{row_in}
 use Rattle.dbl_history.specs.PlainRows.{cells_of}
 use Rattle.dbl_history.specs.WholeChanges.{IsTouched}
 use Rattle.dbl_event.specs.declared.closed.Closed.{Closed}
 use Rattle.dbl_table.proofs.KeyLemmas.{same_key-Decides}
 use Rattle.dbl_ageing.specs.Windows.{IsRightWindow}
-use Rattle.dbl_ageing.proofs.PlainLemmas.{passes, fails, instead, refuted}
+use Rattle.dbl_ageing.proofs.PlainLemmas.{instead}
 use Rattle.dbl_ages.specs.Windows.{cells_in, IsInRange, IsMissedRight, IsRightAt, RightWindowsAreRightAtKeys}
 
 -- ---- cells

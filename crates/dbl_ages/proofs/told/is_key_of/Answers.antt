@@ -1,4 +1,4 @@
-use Rattle.std.proofs.Common.{◌≡◌, Option, Some, length, sym, subst}
+use Rattle.std.proofs.Common.{◌≡◌, Option, length, sym, subst}
 use Rattle.std.specs.Prelude.{IfSome}
 use Rattle.dbl_table.specs.declared.row.Key.{Key}
 use Rattle.dbl_ages.proofs.ToldLemmas.{key_long}

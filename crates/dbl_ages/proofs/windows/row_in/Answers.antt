@@ -1,4 +1,4 @@
-use Rattle.std.proofs.Common.{List, Option, ◌∙◌, ap}
+use Rattle.std.proofs.Common.{List, ◌∙◌, ap}
 use Rattle.std.specs.Prelude.{option_map}
 use Rattle.dbl_table.specs.declared.row.Key.{Key}
 use Rattle.dbl_table.specs.declared.row.Row.{Row}

@@ -30,7 +30,7 @@ use Rattle.dbl_faithful.specs.ToldEvents.{ToldEvent, told_of, told_by, told_behi
 use Rattle.dbl_faithful.specs.ExactLogs.{news, IsExact}
 use Rattle.dbl_faithful.specs.RightSnapshots.{IsHighMark, records_at, IsWindowAt, AreSnapshotsRight}
 use Rattle.dbl_faithful.specs.CaughtUp.{IsLog, next_told, IsCaughtUp}
-use Rattle.dbl_faithful.specs.CaughtUpLaws.{StartsAreCaughtUp, PutLogsAreCaughtUp, SentRecordsAreCaughtUp, CommitsAreCaughtUp, SilentCommitsAreCaughtUp, SnapshotsAreCaughtUp, LongerHistoriesAreCaughtUp, CaughtUpLogsAreRight}
+use Rattle.dbl_faithful.specs.CaughtUpLaws.{StartsAreCaughtUp, PutLogsAreCaughtUp, SentRecordsAreCaughtUp, CommitsAreCaughtUp, SilentCommitsAreCaughtUp, SnapshotsAreCaughtUp, LongerHistoriesAreCaughtUp, CaughtUpLogsAreRight, DeliveredEventsArePut}
 use Rattle.dbl_faithful.proofs.Caught.{starts_are_caught, earlier_moments_are_caught, parts_of_snapshots_are_caught, longer_histories_are_caught, after_size, moment_at-longer, moment_at-most}
 use Rattle.dbl_faithful.proofs.Exact.{AreBehind, GoOn, put_among, first_print, log_more, log_others}
 use Rattle.dbl_faithful.proofs.Items.{at_left, at_right, at_cases, taken_at, drop_get, take_within, all_by_place, at_all, all_weaker, zip_at, zip_append, zip_length, filter_whole}
@@ -470,3 +470,15 @@ caught_up_logs_are_right identity infos commits before later start far sent mome
     subst (λ (l : List Record). IsCaught identity infos commits (moment_at commits start) l (moment_after before)) (sym up.parted)
     (caught_now identity infos commits before later start sent up.kept up.own up.fit up.spelled from up.sending up.few up.caught) in
     (earlier_moments_are_caught identity infos commits (moment_at commits start) moment (moment_after before) records le caught, (up.log.count, up.log.exact), up.snapshots)
+
+among_first : (k a s b : ℕ) → k < a → a + s ≤ b → k < b
+among_first k a s b lt le = omega (arith, lt, le)
+
+pub delivered_events_are_put : DeliveredEventsArePut
+delivered_events_are_put identity infos commits before later start far sent records up number t at =
+    let told : List ToldEvent = told_behind infos start commits in
+    let parts : told ≡ told_behind infos start before ++ told_by infos later = told_parts infos start commits before later up.spelled up.ahead in
+    let here : slice_get told number ≡ Some t = ap (λ (l : List ToldEvent). slice_get l number) parts ∙ at_left (told_behind infos start before) (told_by infos later) number t at in
+    let index : number < up.log.count = among_first number (length (told_behind infos start before)) sent up.log.count (slice_get-lt (told_behind infos start before) number t at) up.log.not_after in
+    let first = first_print identity told (behind_rise infos start 0 commits up.fit.rise) (behind_changes identity infos start commits up.fit.in_range) records up.log.count number t up.log.exact here index in
+    record { place = first.2.place; item = first.0; stands = first.2.stands; is = first.1 }

@@ -11,3 +11,4 @@ pub mod Positions
 pub mod Reached
 pub mod CaughtUp
 pub mod Words
+pub mod TornWindows

@@ -6,11 +6,12 @@ use Rattle.std.proofs.lemmas.Bool.Decides.{nat_tests}
 use Rattle.std.proofs.lemmas.List.Elements.{All-from_recursion, recursion_from_All}
 use Rattle.dbl_record.specs.declared.record.Record.{Record}
 use Rattle.dbl_record.specs.Places.{Place, place_of, IsBefore, IsFresh}
-use Rattle.dbl_table.proofs.Lists.{bool_case, and_left, and_right, and_both}
+use Rattle.dbl_table.proofs.Lists.{bool_case, and_left, and_right, and_both, slice_get-lt}
+use Rattle.dbl_ageing.proofs.Lists.{slice_get-seam}
 use Rattle.dbl_faithful.specs.Kinds.{is_change}
 use Rattle.dbl_faithful.specs.ExactLogs.{is_before, is_fresh, news_of, news_behind, news}
-use Rattle.dbl_faithful.specs.ExactLaws.{IsFreshChange, NewsAreFresh}
-use Rattle.dbl_faithful.proofs.Items.{first_some, at_right, at_cases, at_all}
+use Rattle.dbl_faithful.specs.ExactLaws.{IsFreshChange, NewsAreFresh, NewsRise}
+use Rattle.dbl_faithful.proofs.Items.{first_some, at_left, at_right, at_cases, at_all}
 
 -- ---- tests of places
 
@@ -145,3 +146,41 @@ news_are_fresh records item = (
   λ found. news_stand records found.0 item found.1,
   λ stands. news_have records stands.place item stands.stands stands.fresh stands.change,
 )
+
+-- ---- they rise
+
+-- what is news behind a record stands behind that record
+behind_one : (before items : List Record) (x : Record) (number : ℕ) (item : Record) → slice_get (news_behind (before ++ x ∷ []) items) number ≡ Some item → IsBefore (place_of x) (place_of item)
+behind_one before items x number item at =
+    let found = stands_behind (before ++ x ∷ []) items number item at in
+    let all : AreBefore ((before ++ x ∷ []) ++ take found.0 items) item = fresh_is ((before ++ x ∷ []) ++ take found.0 items) item found.2 in
+    at_all (λ (earlier : Record). IsBefore (place_of earlier) (place_of item)) ((before ++ x ∷ []) ++ take found.0 items) (length before) x all
+    (at_left (before ++ x ∷ []) (take found.0 items) (length before) x (slice_get-seam before x []))
+
+never_two : (fresh change : Bool) (x : Record) (i j : ℕ) (b : Record) → i < j → slice_get (if fresh then (if change then x ∷ [] else []) else []) j ≡ Some b → ⊥
+never_two true true x i zero b lt at = omega (arith, lt)
+never_two true true x i (suc j) b lt at = cc
+never_two true false x i j b lt at = cc
+never_two false change x i j b lt at = cc
+
+never_back : (i j n k : ℕ) → i < j → i ≡ n + k → j < n → ⊥
+never_back i j n k lt is le = omega (arith, lt, is, le)
+
+still_later : (i j n k l : ℕ) → i < j → i ≡ n + k → j ≡ n + l → k < l
+still_later i j n k l lt one two = omega (arith, lt, one, two)
+
+rise_behind : (before items : List Record) (i j : ℕ) (a b : Record) → i < j → slice_get (news_behind before items) i ≡ Some a → slice_get (news_behind before items) j ≡ Some b → IsBefore (place_of a) (place_of b)
+rise_behind before [] i j a b lt at_a at_b = cc
+rise_behind before (x ∷ items) i j a b lt at_a at_b = elim (at_cases (news_of before x) (news_behind (before ++ x ∷ []) items) i a at_a) [
+  | inl first ↦ elim (at_cases (news_of before x) (news_behind (before ++ x ∷ []) items) j b at_b) [
+    | inl second ↦ absurd (never_two (is_fresh before x) (is_change x) x i j b lt second)
+    | inr later ↦ subst (λ (r : Record). IsBefore (place_of r) (place_of b)) (of_news (is_fresh before x) (is_change x) x a i first).0 (behind_one before items x later.0 b later.1)
+  ]
+  | inr rest ↦ elim (at_cases (news_of before x) (news_behind (before ++ x ∷ []) items) j b at_b) [
+    | inl second ↦ absurd (never_back i j (length (news_of before x)) rest.0 lt rest.2 (slice_get-lt (news_of before x) j b second))
+    | inr later ↦ rise_behind (before ++ x ∷ []) items rest.0 later.0 a b (still_later i j (length (news_of before x)) rest.0 later.0 lt rest.2 later.2) rest.1 later.1
+  ]
+]
+
+pub news_rise : NewsRise
+news_rise records i j a b lt at_a at_b = rise_behind [] records i j a b lt at_a at_b

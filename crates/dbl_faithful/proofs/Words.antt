@@ -8,8 +8,10 @@ use Rattle.dbl_record.specs.declared.record.Record.{Record}
 use Rattle.dbl_record.specs.Consumers.{HeldCells}
 use Rattle.dbl_record.specs.Places.{Place, place_of, IsBefore}
 use Rattle.dbl_table.specs.declared.identity.Identity.{Identity}
+use Rattle.dbl_value.specs.declared.value.Val.{Val}
 use Rattle.dbl_table.specs.declared.row.Key.{Key}
 use Rattle.dbl_table.specs.declared.row.Row.{Row}
+use Rattle.dbl_table.specs.declared.table.Column.{Column}
 use Rattle.dbl_table.specs.declared.table.TableInfo.{TableInfo}
 use Rattle.dbl_table.specs.declared.change.Commit.{Commit}
 use Rattle.dbl_table.specs.Rows.{rows, moment_at}
@@ -24,6 +26,7 @@ use Rattle.dbl_ageing.specs.Commits.{moment_after, AreFitCommits}
 use Rattle.dbl_ageing.specs.KnownKeys.{IsTold}
 use Rattle.dbl_ageing.specs.Ages.{held_row, IsAged, AreNamed, IsNamedRow}
 use Rattle.dbl_ageing.specs.Moments.{record_moment, reach}
+use Rattle.dbl_ageing.proofs.Lists.{slice_get-seam}
 use Rattle.dbl_ageing.proofs.Moments.{place_moment-longer, place_moment-most, reach_under}
 use Rattle.dbl_ageing.proofs.Rows.{aged_records_agree}
 use Rattle.dbl_faithful.specs.Kinds.{is_row}
@@ -31,7 +34,8 @@ use Rattle.dbl_faithful.specs.ToldEvents.{ToldEvent, told_behind}
 use Rattle.dbl_faithful.specs.ExactLogs.{IsExact}
 use Rattle.dbl_faithful.specs.RightSnapshots.{IsWindowAt, IsRightSnapshot}
 use Rattle.dbl_faithful.specs.Controls.{CellsMissEmptyRows}
-use Rattle.dbl_faithful.specs.CaughtUpLaws.{IsSourceRow, IsPutAhead, SnapshotRowsOverwriteNothing, IsDone, DoneLogsAreImages, CompleteLogsAreImages}
+use Rattle.dbl_faithful.specs.CaughtUp.{IsEndOf, IsCaughtUp}
+use Rattle.dbl_faithful.specs.CaughtUpLaws.{IsSourceRow, IsPutAhead, SnapshotRowsOverwriteNothing, IsDone, DoneLogsAreImages, DoneLogsHaveImages, CompleteLogsAreImages}
 use Rattle.dbl_faithful.proofs.CaughtUp.{caught_up_logs_are_right}
 use Rattle.dbl_faithful.proofs.Exact.{put_among, first_print}
 use Rattle.dbl_faithful.proofs.Items.{first_some, at_take, taken_at, at_all, all_weaker}
@@ -70,6 +74,9 @@ module _ (identity : Identity) (infos : List TableInfo) (commits : List Commit) 
           captured = window.listed.captured;
           entry = found.1;
           mark = window.mark;
+          number = length window.before;
+          stands = ap (λ (l : List Commit). slice_get l (length window.before)) window.spelled ∙ slice_get-seam window.before window.mark window.later;
+          is_high = window.is_high;
           now = window.now;
           printed = subst (λ (o : ℕ). item ≡ read_record identity info window.mark window.now o found.1) (sym (ap (λ (r : Record). r.ordinal) found.4)) found.4;
           right = at_all (λ (entry : Key × Row). rows infos commits (moment_at commits item.position) window.closed.table entry.0 ≡ Some entry.1.cells) window.closed.rows found.0 found.1 window.right found.3;
@@ -131,6 +138,15 @@ done_tells : (identity : Identity) (infos : List TableInfo) (records : List Reco
 done_tells identity infos records table key info captured done =
     record { info = info; captured = captured; item = done.item; stands = contains_at records done.place done.item done.stands; through = done.through; done = true; tells = done.tells; covers = inl refl }
 
+-- where nothing is held there is no row, and where a row is held there is one
+no_row : (columns : List Column) (row : Option (List Val)) → Holds None (option_map (texts_of columns) row) → row ≡ None
+no_row columns None holds = refl
+no_row columns (Some values) holds = elim holds [ ]
+
+some_row : (columns : List Column) (cells : HeldCells) (row : Option (List Val)) → Holds (Some cells) (option_map (texts_of columns) row) → (values : List Val) × (row ≡ Some values)
+some_row columns cells None holds = elim holds [ ]
+some_row columns cells (Some values) holds = (values, refl)
+
 module _ (identity : Identity) (infos : List TableInfo) (commits : List Commit) (start moment : ℕ) (records : List Record) (topic text : List ℕ) (fit : AreFitCommits infos commits) (aged : IsAged identity infos commits start records moment) (named : AreNamed identity infos records) (low : reach infos commits start records ≤ moment) (all : AllByRecursion (IsDone identity records) infos) where
   holds_at : (table : ℕ) (key : Key) → Names identity infos topic text table key → Holds (held_row identity records topic text) (image_row infos (rows infos commits moment) table key)
   holds_at table key names =
@@ -151,6 +167,18 @@ module _ (identity : Identity) (infos : List TableInfo) (commits : List Commit) 
   holds_image None is = holds_none is
   holds_image (Some texts) is = subst (Holds (held_row identity records topic text)) is.row (holds_at is.table is.key is.names)
 
+  -- what it holds tells what there is
+  image_there : (held : Option HeldCells) → held_row identity records topic text ≡ held → (image : Option (List ℕ → Option (List ℕ))) × IsImage identity infos (rows infos commits moment) topic text image
+  image_there None is = (None, λ table key names. no_row (columns_of infos table) (rows infos commits moment table key) (subst (λ (h : Option HeldCells). Holds h (image_row infos (rows infos commits moment) table key)) is (holds_at table key names)))
+  image_there (Some cells) is =
+      let row : IsNamedRow identity infos topic text cells = named.each topic text cells is in
+      let here = some_row (columns_of infos row.table) cells (rows infos commits moment row.table row.key) (subst (λ (h : Option HeldCells). Holds h (image_row infos (rows infos commits moment) row.table row.key)) is (holds_at row.table row.key row.names)) in
+      (Some (texts_of (columns_of infos row.table) here.0), record { table = row.table; key = row.key; names = row.names; row = ap (option_map (texts_of (columns_of infos row.table))) here.1 })
+
+pub done_logs_have_images : DoneLogsHaveImages
+done_logs_have_images identity infos commits start moment records topic text fit aged named low all =
+    image_there identity infos commits start moment records topic text fit aged named low all (held_row identity records topic text) refl
+
 pub done_logs_are_images : DoneLogsAreImages
 done_logs_are_images identity infos commits start moment records topic text image fit aged named low all is =
     holds_image identity infos commits start moment records topic text fit aged named low all image is
@@ -163,8 +191,10 @@ no_later p far position c one two lt = omega (arith, one, two, lt)
 reached_under : (start m far : ℕ) → far ≤ max start m → start ≤ m → far ≤ m
 reached_under start m far le from = omega (arith, le, from)
 
-pub complete_logs_are_images : CompleteLogsAreImages
-complete_logs_are_images identity infos commits before later start far sent position records topic text image up ends le all is =
+-- then its records reach no further than the delivered commits
+pub complete_reach : (identity : Identity) (infos : List TableInfo) (commits before later : List Commit) (start far sent position : ℕ) (records : List Record) → IsCaughtUp identity infos commits start far before later sent records
+    → IsEndOf position before → far ≤ position → reach infos commits (moment_at commits start) records ≤ moment_after before
+complete_reach identity infos commits before later start far sent position records up ends le =
     let rise : AreRising 0 (lsns (before ++ later)) = subst (λ (l : List Commit). AreRising 0 (lsns l)) up.spelled up.fit.rise in
     let above : AllByRecursion (λ c. position < c.lsn.0) later = end_behind position before later rise ends in
     let from : moment_at commits start ≤ moment_after before = subst (λ (l : List Commit). moment_at l start ≤ moment_after before) (sym up.spelled) (start_moment start before later up.ahead) in
@@ -173,8 +203,11 @@ complete_logs_are_images identity infos commits before later start far sent posi
     (subst (λ (n : ℕ). n ≤ moment_after before)
     (sym (place_moment-longer infos before later (place_of item) (all_weaker (λ (c : Commit). position < c.lsn.0) (λ (c : Commit). item.position < c.lsn.0) later (λ c lt. no_later item.position far position c.lsn.0 low le lt) above)))
     (place_moment-most infos before (place_of item)))) in
-    let low : reach infos commits (moment_at commits start) records ≤ moment_after before =
     reached_under (moment_at commits start) (moment_after before) (reach infos commits (moment_at commits start) records)
-    (reach_under infos commits (moment_after before) (moment_at commits start) records (all_weaker (λ (item : Record). item.position ≤ far) (λ (item : Record). record_moment infos commits item ≤ moment_after before) records one up.placed)) from in
+    (reach_under infos commits (moment_after before) (moment_at commits start) records (all_weaker (λ (item : Record). item.position ≤ far) (λ (item : Record). record_moment infos commits item ≤ moment_after before) records one up.placed)) from
+
+pub complete_logs_are_images : CompleteLogsAreImages
+complete_logs_are_images identity infos commits before later start far sent position records topic text image up ends le all is =
+    let low : reach infos commits (moment_at commits start) records ≤ moment_after before = complete_reach identity infos commits before later start far sent position records up ends le in
     let right = caught_up_logs_are_right identity infos commits before later start far sent (moment_after before) records (le_refl (moment_after before)) up in
     done_logs_are_images identity infos commits (moment_at commits start) (moment_after before) records topic text image up.fit right.0.aged right.0.named low all is

@@ -116,15 +116,25 @@ CaughtUpLogsAreRight = (identity : Identity) (infos : List TableInfo) (commits b
     → IsCaught identity infos commits (moment_at commits start) records moment × IsLogExact identity infos commits start records
     × AreSnapshotsRight identity infos commits (told_behind infos start commits) records
 
+-- And it has a record of each event of the delivered commits: so an offset may stand at any of them.
+abbrev pub DeliveredEventsArePut : Type 0
+DeliveredEventsArePut = (identity : Identity) (infos : List TableInfo) (commits before later : List Commit)
+    (start far sent : ℕ) (records : List Record)
+    → IsCaughtUp identity infos commits start far before later sent records
+    → ArePut identity records (told_behind infos start before)
+
 -- ---- in a consumer's words
 
--- the record at this place is a row that a snapshot read, and the source's at the record's position
+-- The record is of a row that a snapshot read, it is at a high mark of these commits, and the row is the source's at that position.
 pub record IsSourceRow (identity : Identity) (infos : List TableInfo) (commits : List Commit) (item : Record) : Type 0 where
   pub table : ℕ
   pub info : TableInfo
   pub captured : slice_get infos table ≡ Some info
   pub entry : Key × Row
   pub mark : Commit
+  pub number : ℕ
+  pub stands : slice_get commits number ≡ Some mark
+  pub is_high : IsHighMark mark
   pub now : ℤ
   pub printed : item ≡ read_record identity info mark now item.ordinal entry
   pub right : rows infos commits (moment_at commits item.position) table entry.0 ≡ Some entry.1.cells
@@ -166,6 +176,14 @@ DoneLogsAreImages = (identity : Identity) (infos : List TableInfo) (commits : Li
     → reach infos commits start records ≤ moment → AllByRecursion (IsDone identity records) infos
     → IsImage identity infos (rows infos commits moment) topic text image
     → Holds (held_row identity records topic text) image
+
+-- There it holds an image at each topic and text: so what it holds is that one thing.
+abbrev pub DoneLogsHaveImages : Type 0
+DoneLogsHaveImages = (identity : Identity) (infos : List TableInfo) (commits : List Commit) (start moment : ℕ)
+    (records : List Record) (topic text : List ℕ)
+    → AreFitCommits infos commits → IsAged identity infos commits start records moment → AreNamed identity infos records
+    → reach infos commits start records ≤ moment → AllByRecursion (IsDone identity records) infos
+    → (image : Option (List ℕ → Option (List ℕ))) × IsImage identity infos (rows infos commits moment) topic text image
 
 -- So it is where a session ends with everything done: its log is caught up with these commits, no record lies behind the last of
 -- them, and the snapshot of each captured table is done.

@@ -1,7 +1,7 @@
 -- What exact logs come to.
 use Rattle.std.specs.Prelude.{◌≡◌, ◌↔◌, ℕ, ◌<◌, true, Some, List, ◌∷◌, ◌++◌, [], slice_get}
 use Rattle.dbl_record.specs.declared.record.Record.{Record}
-use Rattle.dbl_record.specs.Places.{IsFresh}
+use Rattle.dbl_record.specs.Places.{place_of, IsBefore, IsFresh}
 use Rattle.dbl_table.specs.declared.identity.Identity.{Identity}
 use Rattle.dbl_table.specs.declared.table.TableInfo.{TableInfo}
 use Rattle.dbl_table.specs.declared.change.Commit.{Commit}
@@ -20,6 +20,11 @@ pub record IsFreshChange (records : List Record) (item : Record) : Type 0 where
 -- the news of a log are these
 abbrev pub NewsAreFresh : Type 0
 NewsAreFresh = (records : List Record) (item : Record) → ((number : ℕ) × (slice_get (news records) number ≡ Some item)) ↔ IsFreshChange records item
+
+-- a later one of them has a greater place, so they stand in order, each once
+abbrev pub NewsRise : Type 0
+NewsRise = (records : List Record) (i j : ℕ) (a b : Record) → i < j → slice_get (news records) i ≡ Some a → slice_get (news records) j ≡ Some b
+    → IsBefore (place_of a) (place_of b)
 
 -- a log has one number of events
 abbrev pub ExactLogsHaveOneCount : Type 0

@@ -24,7 +24,7 @@ abbrev pub news_behind : List Record → List Record → List Record
 news_behind before [] = []
 news_behind before (item ∷ items) = news_of before item ++ news_behind (before ++ item ∷ []) items
 
--- the changes among the fresh records, in order (law NewsAreFresh)
+-- the changes among the fresh records, in order (laws NewsAreFresh and NewsRise)
 abbrev pub news : List Record → List Record
 news records = news_behind [] records
 

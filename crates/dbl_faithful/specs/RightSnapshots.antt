@@ -51,7 +51,7 @@ pub record IsRightSnapshot (identity : Identity) (infos : List TableInfo) (commi
     (records : List Record) (place position : ℕ) : Type 0 where
   pub fresh : IsFresh records place
   pub window : IsWindowAt identity infos commits records position
-  -- All earlier events are in the log. Without this a right session can't keep it exact (law GapsSpoilExactLogs).
+  -- All earlier events are in the log. Without this a right session can't keep it exact (law TornWindowsAreSpoilt).
   pub put : ArePutBefore identity records told position
 
 -- So is each record of the log that isn't a change. The events are those of the commits behind the start.

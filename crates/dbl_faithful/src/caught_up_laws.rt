@@ -1,5 +1,5 @@
 //! What a session keeps of its log, step by step.
-ghost use Rattle.dbl_faithful.specs.CaughtUpLaws.{StartsAreCaughtUp, PutLogsAreCaughtUp, SentRecordsAreCaughtUp, CommitsAreCaughtUp, SilentCommitsAreCaughtUp, SnapshotsAreCaughtUp, LongerHistoriesAreCaughtUp, CaughtUpLogsAreRight};
+ghost use Rattle.dbl_faithful.specs.CaughtUpLaws.{StartsAreCaughtUp, PutLogsAreCaughtUp, SentRecordsAreCaughtUp, CommitsAreCaughtUp, SilentCommitsAreCaughtUp, SnapshotsAreCaughtUp, LongerHistoriesAreCaughtUp, CaughtUpLogsAreRight, DeliveredEventsArePut};
 
 /// A first session begins with it.
 pub fn starts_are_caught_up()
@@ -39,4 +39,9 @@ pub fn longer_histories_are_caught_up()
 /// With it the log is right at each moment that isn't behind the delivered commits.
 pub fn caught_up_logs_are_right()
     ensures { CaughtUpLogsAreRight }
+{}
+
+/// It has a record of each event of the delivered commits.
+pub fn delivered_events_are_put()
+    ensures { DeliveredEventsArePut }
 {}

@@ -7,17 +7,18 @@ mod log_laws;
 mod step_laws;
 
 pub use caught_up_laws::{
-    caught_up_logs_are_right, commits_are_caught_up, longer_histories_are_caught_up,
-    put_logs_are_caught_up, sent_records_are_caught_up, silent_commits_are_caught_up,
-    snapshots_are_caught_up, starts_are_caught_up,
+    caught_up_logs_are_right, commits_are_caught_up, delivered_events_are_put,
+    longer_histories_are_caught_up, put_logs_are_caught_up, sent_records_are_caught_up,
+    silent_commits_are_caught_up, snapshots_are_caught_up, starts_are_caught_up,
 };
 pub use kind_laws::{
     events_are_changes, progress_is_neither, read_rows_are_rows, rows_are_no_changes,
 };
 pub use log_laws::{
-    cells_miss_empty_rows, complete_logs_are_images, done_logs_are_images,
-    exact_logs_have_one_count, gaps_spoil_exact_logs, news_are_fresh, positions_end_once,
-    repeats_are_earlier, snapshot_rows_overwrite_nothing,
+    cells_miss_empty_rows, complete_logs_are_images, done_logs_are_images, done_logs_have_images,
+    exact_logs_have_one_count, gaps_spoil_exact_logs, news_are_fresh, news_rise,
+    positions_end_once, repeats_are_earlier, snapshot_rows_overwrite_nothing,
+    torn_windows_are_spoilt,
 };
 pub use step_laws::{
     all_prints_are_caught, commits_are_caught, earlier_moments_are_caught,

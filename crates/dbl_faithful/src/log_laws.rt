@@ -1,11 +1,16 @@
 //! What exact logs and right snapshots come to.
-ghost use Rattle.dbl_faithful.specs.Controls.{CellsMissEmptyRows};
-ghost use Rattle.dbl_faithful.specs.ExactLaws.{NewsAreFresh, ExactLogsHaveOneCount, RepeatsAreEarlier, GapsSpoilExactLogs};
-ghost use Rattle.dbl_faithful.specs.CaughtUpLaws.{PositionsEndOnce, SnapshotRowsOverwriteNothing, DoneLogsAreImages, CompleteLogsAreImages};
+ghost use Rattle.dbl_faithful.specs.Controls.{CellsMissEmptyRows, TornWindowsAreSpoilt};
+ghost use Rattle.dbl_faithful.specs.ExactLaws.{NewsAreFresh, NewsRise, ExactLogsHaveOneCount, RepeatsAreEarlier, GapsSpoilExactLogs};
+ghost use Rattle.dbl_faithful.specs.CaughtUpLaws.{PositionsEndOnce, SnapshotRowsOverwriteNothing, DoneLogsAreImages, DoneLogsHaveImages, CompleteLogsAreImages};
 
 /// The news of a log are its fresh records of changes.
 pub fn news_are_fresh()
     ensures { NewsAreFresh }
+{}
+
+/// They stand in the order of their places, each once.
+pub fn news_rise()
+    ensures { NewsRise }
 {}
 
 /// How many events an exact log has is one number.
@@ -39,6 +44,11 @@ pub fn done_logs_are_images()
     ensures { DoneLogsAreImages }
 {}
 
+/// There its tables have something to hold, or nothing, at each topic and text.
+pub fn done_logs_have_images()
+    ensures { DoneLogsHaveImages }
+{}
+
 /// So it does where a session has delivered all of these commits and every snapshot is done.
 pub fn complete_logs_are_images()
     ensures { CompleteLogsAreImages }
@@ -47,4 +57,10 @@ pub fn complete_logs_are_images()
 /// Cell by cell a row without cells can't be told from no row.
 pub fn cells_miss_empty_rows()
     ensures { CellsMissEmptyRows }
+{}
+
+/// A log that has a row of a window and lacks an event before it meets all else that stores ask of it, and
+/// delivering that event spoils it.
+pub fn torn_windows_are_spoilt()
+    ensures { TornWindowsAreSpoilt }
 {}

@@ -1,8 +1,7 @@
 -- Faithful stores at a session's beginning and at its end.
-use Rattle.std.proofs.Common.{◌≡◌, ◌∙◌, ◌⊎◌, inl, inr, ◌≤◌, ◌<◌, ℕ, Bool, true, false, cond, List, [], ◌∷◌, ◌++◌, Option, Some, length, filter, refl, sym, ap, subst, arith}
+use Rattle.std.proofs.Common.{◌≡◌, ◌∙◌, ◌⊎◌, inl, inr, ◌≤◌, ◌<◌, ℕ, true, false, List, [], ◌∷◌, ◌++◌, Option, Some, length, sym, ap, subst, arith}
 use Rattle.std.specs.Prelude.{nat_lt, slice_get}
 use Rattle.std.specs.List.{AllByRecursion}
-use Rattle.std.proofs.lemmas.Bool.Decides.{Decides-ltb}
 use Rattle.dbl_record.specs.Places.{Place}
 use Rattle.dbl_table.specs.declared.row.Key.{Key}
 use Rattle.dbl_table.specs.declared.table.TableInfo.{TableInfo}
@@ -23,15 +22,15 @@ use Rattle.dbl_ageing.proofs.KnownKeys.{told_bounds}
 use Rattle.dbl_ageing.proofs.Lists.{slice_get-seam}
 use Rattle.dbl_faithful.specs.CaughtUp.{IsCaughtUp}
 use Rattle.dbl_faithful.specs.Kinds.{is_change}
-use Rattle.dbl_faithful.specs.ToldEvents.{ToldEvent, commits_behind, told_behind, ArePut}
-use Rattle.dbl_faithful.proofs.CaughtUp.{starts_are_caught_up, put_logs_are_caught_up, caught_up_logs_are_right}
-use Rattle.dbl_faithful.proofs.Items.{first_some, at_left, taken_at, at_all, all_weaker, zip_at, zip_weaker}
+use Rattle.dbl_faithful.specs.ToldEvents.{ToldEvent, commits_behind, told_behind, IsPut, ArePut}
+use Rattle.dbl_faithful.proofs.CaughtUp.{starts_are_caught_up, put_logs_are_caught_up, caught_up_logs_are_right, delivered_events_are_put}
+use Rattle.dbl_faithful.proofs.Items.{first_some, at_left, at_cases, taken_at, at_all, all_weaker, zip_at, zip_weaker}
 use Rattle.dbl_faithful.proofs.Positions.{end_behind, end_under, end_moment, start_moment}
 use Rattle.dbl_faithful.proofs.RightSnapshots.{filter_from, event_position}
 use Rattle.dbl_faithful.proofs.Told.{told_at, told_behind-append, all_filter, print_place}
 use Rattle.dbl_faithful.proofs.Words.{contains_at}
 use Rattle.dbl_stores.specs.Stores.{IsCommitAt, IsPositionOf, top_position}
-use Rattle.dbl_stores.specs.Behind.{IsUnread, IsRightCursor, IsMarkedBy, IsBehind}
+use Rattle.dbl_stores.specs.Behind.{IsUnread, IsRightCursor, IsMarkedBy, IsOffsetOf, IsBehind}
 use Rattle.dbl_stores.specs.Faithful.{commits_of, HasNoMark}
 use Rattle.dbl_stores.specs.Laws.{FaithfulStoresAreCaughtUp, CursorsWereTold, FaithfulRecordsStand, CaughtUpStoresAreFaithful, FirstOffsetsAreFaithful}
 use Rattle.dbl_stores.proofs.Positions.{commit_at, IsEnded, ended_at, top_has}
@@ -60,12 +59,12 @@ pub faithful_stores_are_caught_up : FaithfulStoresAreCaughtUp
 faithful_stores_are_caught_up history confirmed records offset fit faithful =
     let commits : List Commit = commits_of history offset in
     let behind : IsBehind history confirmed records offset = faithful.behind in
-    let facts : AreFitCommits offset.infos commits = fit_commits history offset.infos fit behind.infos in
-    let end : IsEnded commits offset.lsn.0 = ended_at offset.infos history offset.lsn.0 (lsn_position history offset behind.start behind.lsn) in
+    let facts : AreFitCommits offset.infos commits = fit_commits history offset.infos fit behind.offset_is.infos in
+    let end : IsEnded commits offset.lsn.0 = ended_at offset.infos history offset.lsn.0 (lsn_position history offset behind.offset_is.start behind.offset_is.lsn) in
     let rise : AreRising 0 (lsns (end.before ++ end.later)) = subst (λ (l : List Commit). AreRising 0 (lsns l)) end.spelled facts.rise in
     let moment : moment_at commits offset.lsn.0 ≡ moment_after end.before = ap (λ (l : List Commit). moment_at l offset.lsn.0) end.spelled ∙ end_moment offset.lsn.0 end.before end.later rise end.ends in
     let ahead : AllByRecursion (λ c. offset.start.0 < c.lsn.0) end.later =
-    all_weaker (λ (c : Commit). offset.lsn.0 < c.lsn.0) (λ (c : Commit). offset.start.0 < c.lsn.0) end.later (λ c lt. over offset.start.0 offset.lsn.0 c.lsn.0 behind.order lt) (end_behind offset.lsn.0 end.before end.later rise end.ends) in
+    all_weaker (λ (c : Commit). offset.lsn.0 < c.lsn.0) (λ (c : Commit). offset.start.0 < c.lsn.0) end.later (λ c lt. over offset.start.0 offset.lsn.0 c.lsn.0 behind.offset_is.order lt) (end_behind offset.lsn.0 end.before end.later rise end.ends) in
     let told_are : told_behind offset.infos offset.start.0 commits ≡ told_behind offset.infos offset.start.0 end.before ++ told_behind offset.infos offset.start.0 end.later =
     ap (told_behind offset.infos offset.start.0) end.spelled ∙ told_behind-append offset.infos offset.start.0 end.before end.later in
     let put : ArePut offset.identity records (told_behind offset.infos offset.start.0 end.before) =
@@ -87,7 +86,7 @@ faithful_stores_are_caught_up history confirmed records offset fit faithful =
 
 pub cursors_were_told : CursorsWereTold
 cursors_were_told history confirmed records offset table info cursor behind captured at =
-    let found = zip_at (IsRightCursor offset.identity records offset.lsn.0) offset.infos offset.cursors table cursor behind.cursors at in
+    let found = zip_at (IsRightCursor offset.identity records offset.lsn.0) offset.infos offset.cursors table cursor behind.offset_is.cursors at in
     let one : found.0 ≡ info = first_some found.0 info (sym found.1 ∙ captured) in
     by (subst (λ (i : TableInfo). IsRightCursor offset.identity records offset.lsn.0 i cursor) one found.2)
   where
@@ -118,21 +117,32 @@ faithful_records_stand history confirmed records offset place item faithful at =
 -- ---- its end
 
 pub caught_up_stores_are_faithful : CaughtUpStoresAreFaithful
-caught_up_stores_are_faithful history confirmed records offset before later far sent above behind up =
+caught_up_stores_are_faithful history confirmed records offset before later far sent above is up =
     let commits : List Commit = commits_of history offset in
     let le : moment_at commits offset.lsn.0 ≤ moment_after before = subst (λ (l : List Commit). moment_at l offset.lsn.0 ≤ moment_after before) (sym up.spelled) (start_moment offset.lsn.0 before later above) in
     let right = caught_up_logs_are_right offset.identity offset.infos commits before later offset.start.0 far sent (moment_at commits offset.lsn.0) records le up in
-    record { agrees = right.0.agrees; exact = right.1; snapshots = right.2; aged = right.0.aged; named = right.0.named; behind = behind }
+    record { agrees = right.0.agrees; exact = right.1; snapshots = right.2; aged = right.0.aged; named = right.0.named; behind = record { offset_is = is; put = put } }
+  where
+    not_both : (p l : ℕ) → p ≤ l → l < p → ⊥
+    not_both p l le lt = omega (arith, le, lt)
+
+    -- an event behind the delivered commits stands behind the LSN
+    behind_lsn : (k : ℕ) (t : ToldEvent) → slice_get (told_behind offset.infos offset.start.0 later) k ≡ Some t → offset.lsn.0 < t.event.position
+    behind_lsn k t at =
+        let found = told_at offset.infos (commits_behind offset.start.0 later) k t at in
+        subst (λ (p : ℕ). offset.lsn.0 < p) (sym (event_position offset.infos (commits_behind offset.start.0 later) t found))
+        (at_all (λ (c : Commit). offset.lsn.0 < c.lsn.0) (commits_behind offset.start.0 later) found.place t.commit
+        (all_filter (λ (c : Commit). offset.lsn.0 < c.lsn.0) (λ (c : Commit). nat_lt offset.start.0 c.lsn.0) later above) found.commit_at)
+
+    put : (number : ℕ) (t : ToldEvent) → slice_get (told_behind offset.infos offset.start.0 (commits_of history offset)) number ≡ Some t → t.event.position ≤ offset.lsn.0 → IsPut offset.identity records t
+    put number t at le =
+        elim (at_cases (told_behind offset.infos offset.start.0 before) (told_behind offset.infos offset.start.0 later) number t
+        (ap (λ (l : List ToldEvent). slice_get l number) (sym (ap (told_behind offset.infos offset.start.0) up.spelled ∙ told_behind-append offset.infos offset.start.0 before later)) ∙ at)) [
+          | inl known ↦ delivered_events_are_put offset.identity offset.infos (commits_of history offset) before later offset.start.0 far sent records up number t known
+          | inr late ↦ absurd (not_both t.event.position offset.lsn.0 le (behind_lsn late.0 t late.1))
+        ]
 
 -- ---- a first offset
-
-passing : (p : Commit → Bool) (commits : List Commit) → AllByRecursion (λ c. p c ≡ true) (filter p commits)
-passing p [] = tt
-passing p (c ∷ commits) = by (passing p commits) (p c) refl
-  where
-    by : AllByRecursion (λ x. p x ≡ true) (filter p commits) → (b : Bool) → p c ≡ b → AllByRecursion (λ x. p x ≡ true) (cond b (c ∷ filter p commits) (filter p commits))
-    by rest true is = (is, rest)
-    by rest false is = rest
 
 unmarked : (greatest : ℕ) (body : RawBody) → HasNoMark body → IsMarkedBy greatest body
 unmarked greatest (Changes changes) none = tt
@@ -153,22 +163,13 @@ first_offsets_are_faithful history confirmed records offset fit untouched infos 
     let up : IsCaughtUp offset.identity offset.infos commits offset.start.0 0 end.before end.later 0 records =
     subst (IsCaughtUp offset.identity offset.infos commits offset.start.0 0 end.before end.later 0) (sym untouched.empty)
     (starts_are_caught_up offset.identity offset.infos commits end.before end.later offset.start.0 0 facts end.spelled end.ends) in
-    let behind : IsBehind history confirmed records offset = record {
+    let is : IsOffsetOf history confirmed records offset = record {
       start = start;
       lsn = inl same;
       order = equal_le offset.start.0 offset.lsn.0 same;
-      put = λ number t at le. absurd (none_told number t at le);
       cursors = zip_weaker (λ (info : TableInfo) (cursor : Cursor). IsUnread cursor) (IsRightCursor offset.identity records offset.lsn.0) offset.infos offset.cursors (λ info cursor none. inl none) unread;
       confirmed_to = none_le confirmed.0 offset.lsn.0 untouched.unconfirmed;
       marks = all_unmarked offset.incarnation history.commits untouched.unmarked;
       infos = infos;
     } in
-    caught_up_stores_are_faithful history confirmed records offset end.before end.later 0 0 above behind up
-  where
-    none_told : (number : ℕ) (t : ToldEvent) → slice_get (told_behind offset.infos offset.start.0 (commits_of history offset)) number ≡ Some t → t.event.position ≤ offset.lsn.0 → ⊥
-    none_told number t at le =
-        let found = told_at offset.infos (commits_behind offset.start.0 (commits_of history offset)) number t at in
-        let passes : nat_lt offset.start.0 t.commit.lsn.0 ≡ true =
-        at_all (λ (c : Commit). nat_lt offset.start.0 c.lsn.0 ≡ true) (commits_behind offset.start.0 (commits_of history offset)) found.place t.commit (passing (λ (c : Commit). nat_lt offset.start.0 c.lsn.0) (commits_of history offset)) found.commit_at in
-        let low : t.commit.lsn.0 ≤ offset.lsn.0 = subst (λ (p : ℕ). p ≤ offset.lsn.0) (event_position offset.infos (commits_behind offset.start.0 (commits_of history offset)) t found) le in
-        never_both offset.start.0 t.commit.lsn.0 offset.lsn.0 ((Decides-ltb offset.start.0 t.commit.lsn.0).0 passes) low same
+    caught_up_stores_are_faithful history confirmed records offset end.before end.later 0 0 above is up

@@ -1,3 +1,6 @@
 pub mod Positions
 pub mod Faithful
 pub mod Onward
+pub mod Offsets
+pub mod Longer
+pub mod Complete

@@ -1,19 +1,21 @@
 -- Stores that only go on.
-use Rattle.std.proofs.Common.{◌≡◌, ◌∙◌, inl, inr, ◌+◌, ◌<◌, ℕ, suc, length, take, drop, subst, arith, List, [], ◌∷◌, ◌++◌, Option, Some, None, refl, sym, ap, append_assoc, append-nil, le_refl}
-use Rattle.std.specs.Prelude.{slice_get, option_map, unwrap_or}
+use Rattle.std.proofs.Common.{◌≡◌, ◌∙◌, inl, inr, ◌+◌, ◌<◌, ℕ, suc, Bool, true, false, cond, filter, length, take, drop, subst, arith, List, [], ◌∷◌, ◌++◌, Option, Some, None, refl, sym, ap, append_assoc, append-nil, le_refl}
+use Rattle.std.specs.Prelude.{nat_lt, slice_get, option_map, unwrap_or}
 use Rattle.std.specs.List.{AllByRecursion}
+use Rattle.std.proofs.lemmas.Bool.Decides.{Decides-ltb}
 use Rattle.dbl_record.specs.declared.record.Record.{Record}
 use Rattle.dbl_record.specs.Places.{Place, place_of, IsBefore}
 use Rattle.dbl_table.specs.declared.config.Config.{Config}
 use Rattle.dbl_table.specs.declared.table.TableInfo.{TableInfo}
+use Rattle.dbl_table.specs.declared.change.Commit.{Commit}
 use Rattle.dbl_history.specs.History.{History}
 use Rattle.dbl_offset.specs.declared.offset.Offset.{Offset}
 use Rattle.dbl_event.specs.Snapshots.{chunk_records}
 use Rattle.dbl_agreement.proofs.Notices.{all_append}
-use Rattle.dbl_faithful.specs.ToldEvents.{ToldEvent, told_behind, IsPrint}
-use Rattle.dbl_faithful.proofs.Items.{taken_at, drop_get, all_by_place, zip_at}
-use Rattle.dbl_faithful.proofs.RightSnapshots.{listing, listing_places}
-use Rattle.dbl_faithful.proofs.Told.{told_place, print_place, behind_rise}
+use Rattle.dbl_faithful.specs.ToldEvents.{ToldEvent, commits_behind, told_behind, IsPrint}
+use Rattle.dbl_faithful.proofs.Items.{taken_at, drop_get, all_by_place, at_all, zip_at}
+use Rattle.dbl_faithful.proofs.RightSnapshots.{event_position, listing, listing_places}
+use Rattle.dbl_faithful.proofs.Told.{told_place, print_place, told_at, behind_rise}
 use Rattle.dbl_stores.specs.Onward.{OffsetGoesOn, PlacesRise}
 use Rattle.dbl_stores.specs.Laws.{StoresStayOnward, AddsGoOn, AddsAreOne, SentRecordsRise, WindowsRise}
 
@@ -66,30 +68,51 @@ rise_by_place (r ∷ rs) before = (
   rise_by_place rs (λ i j a b lt at_a at_b. before (suc i) (suc j) a b (omega (arith, lt)) at_a at_b),
 )
 
+-- what a filter leaves passes it
+passing : (p : Commit → Bool) (commits : List Commit) → AllByRecursion (λ c. p c ≡ true) (filter p commits)
+passing p [] = tt
+passing p (c ∷ commits) = by (passing p commits) (p c) refl
+  where
+    by : AllByRecursion (λ x. p x ≡ true) (filter p commits) → (b : Bool) → p c ≡ b → AllByRecursion (λ x. p x ≡ true) (cond b (c ∷ filter p commits) (filter p commits))
+    by rest true is = (is, rest)
+    by rest false is = rest
+
 both_on : (n i j : ℕ) → i < j → n + i < n + j
 both_on n i j lt = omega (arith, lt)
 
 pub sent_records_rise : SentRecordsRise
-sent_records_rise identity infos commits start n more fit zipped = rise_by_place more (λ i j a b lt at_a at_b. (
-    let one = stands i a at_a in
-    let two = stands j b at_b in
-    let told : IsBefore (told_place one.0) (told_place two.0) = behind_rise infos start 0 commits fit.rise (n + i) (n + j) one.0 two.0 (both_on n i j lt) one.1 two.1 in
-    subst (λ (p : Place). IsBefore p (place_of b)) (sym (print_place identity one.0 a one.2)) (subst (IsBefore (told_place one.0)) (sym (print_place identity two.0 b two.2)) told)))
+sent_records_rise identity infos commits from n more rise zipped = (
+  all_by_place (λ (item : Record). from < item.position) more (λ j item at. let one = stands j item at in subst (λ (p : ℕ). from < p) (sym (ap (λ (p : Place). p.0) (print_place identity one.0 item one.2))) (behind_from (n + j) one.0 one.1)),
+  rise_by_place more (λ i j a b lt at_a at_b. (
+      let one = stands i a at_a in
+      let two = stands j b at_b in
+      let told : IsBefore (told_place one.0) (told_place two.0) = behind_rise infos from 0 commits rise (n + i) (n + j) one.0 two.0 (both_on n i j lt) one.1 two.1 in
+      subst (λ (p : Place). IsBefore p (place_of b)) (sym (print_place identity one.0 a one.2)) (subst (IsBefore (told_place one.0)) (sym (print_place identity two.0 b two.2)) told))),
+)
   where
-    stands : (k : ℕ) (item : Record) → slice_get more k ≡ Some item → (t : ToldEvent) × (slice_get (told_behind infos start commits) (n + k) ≡ Some t) × IsPrint identity t item
+    stands : (k : ℕ) (item : Record) → slice_get more k ≡ Some item → (t : ToldEvent) × (slice_get (told_behind infos from commits) (n + k) ≡ Some t) × IsPrint identity t item
     stands k item at =
-        let found = zip_at (IsPrint identity) (take (length more) (drop n (told_behind infos start commits))) more k item zipped at in
-        let placed = taken_at (length more) (drop n (told_behind infos start commits)) k found.0 found.1 in
-        (found.0, sym (drop_get n (told_behind infos start commits) k) ∙ placed.1, found.2)
+        let found = zip_at (IsPrint identity) (take (length more) (drop n (told_behind infos from commits))) more k item zipped at in
+        let placed = taken_at (length more) (drop n (told_behind infos from commits)) k found.0 found.1 in
+        (found.0, sym (drop_get n (told_behind infos from commits) k) ∙ placed.1, found.2)
+
+    behind_from : (k : ℕ) (t : ToldEvent) → slice_get (told_behind infos from commits) k ≡ Some t → from < t.event.position
+    behind_from k t at =
+        let found = told_at infos (commits_behind from commits) k t at in
+        let passes : nat_lt from t.commit.lsn.0 ≡ true = at_all (λ (c : Commit). nat_lt from c.lsn.0 ≡ true) (commits_behind from commits) found.place t.commit (passing (λ (c : Commit). nat_lt from c.lsn.0) commits) found.commit_at in
+        subst (λ (p : ℕ). from < p) (sym (event_position infos (commits_behind from commits) t found)) ((Decides-ltb from t.commit.lsn.0).0 passes)
 
 by_ordinal : (a b i j : ℕ) → a ≡ 0 + i → b ≡ 0 + j → i < j → a < b
 by_ordinal a b i j one two lt = omega (arith, one, two, lt)
 
 pub windows_rise : WindowsRise
-windows_rise identity infos closed mark now snapshot n listed = rise_by_place (take n snapshot) (λ i j a b lt at_a at_b. (
-    let one = places i a at_a in
-    let two = places j b at_b in
-    inr (one.0 ∙ sym two.0, by_ordinal a.ordinal b.ordinal i j one.1 two.1 lt)))
+windows_rise identity infos closed mark now snapshot n listed = (
+  all_by_place (λ (item : Record). item.position ≡ mark.lsn.0) (take n snapshot) (λ j item at. (places j item at).0),
+  rise_by_place (take n snapshot) (λ i j a b lt at_a at_b. (
+      let one = places i a at_a in
+      let two = places j b at_b in
+      inr (one.0 ∙ sym two.0, by_ordinal a.ordinal b.ordinal i j one.1 two.1 lt))),
+)
   where
     from_zero : (k : ℕ) → k ≡ 0 + k
     from_zero k = omega arith

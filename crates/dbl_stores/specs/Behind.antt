@@ -56,15 +56,12 @@ AreMarksOf greatest history = AllByRecursion (λ commit. IsMarkedBy greatest com
 
 -- ---- offsets
 
--- The offset is behind the log.
-pub record IsBehind (history : History) (confirmed : Lsn) (records : List Record) (offset : Offset) : Type 0 where
+-- What an offset is to the history, to what was confirmed and to the cursors that the log tells of, whatever else the log has.
+pub record IsOffsetOf (history : History) (confirmed : Lsn) (records : List Record) (offset : Offset) : Type 0 where
   -- its start is a position of the history, and so is its LSN, which isn't below the start
   pub start : IsPositionOf history offset.start.0
   pub lsn : (offset.lsn.0 ≡ offset.start.0) ⊎ IsCommitAt history offset.lsn.0
   pub order : offset.start.0 ≤ offset.lsn.0
-  -- each event behind the start and not behind the LSN has a record in the log
-  pub put : (number : ℕ) (event : ToldEvent) → slice_get (told_behind offset.infos offset.start.0 (typed offset.infos history)) number ≡ Some event
-      → event.event.position ≤ offset.lsn.0 → IsPut offset.identity records event
   -- each cursor is as a record of the log tells it, or nothing was read of its table
   pub cursors : AllZip (IsRightCursor offset.identity records offset.lsn.0) offset.infos offset.cursors
   -- the source has kept its log from the LSN on
@@ -73,3 +70,9 @@ pub record IsBehind (history : History) (confirmed : Lsn) (records : List Record
   pub marks : AreMarksOf offset.incarnation history
   -- what is captured is what the source's catalogue has
   pub infos : AreInfosOf history offset.infos
+
+-- The offset is behind the log: it is so, and each event behind the start and not behind the LSN has a record in the log.
+pub record IsBehind (history : History) (confirmed : Lsn) (records : List Record) (offset : Offset) : Type 0 where
+  pub offset_is : IsOffsetOf history confirmed records offset
+  pub put : (number : ℕ) (event : ToldEvent) → slice_get (told_behind offset.infos offset.start.0 (typed offset.infos history)) number ≡ Some event
+      → event.event.position ≤ offset.lsn.0 → IsPut offset.identity records event

@@ -11,15 +11,15 @@ use Rattle.dbl_table.specs.declared.change.Commit.{Commit}
 use Rattle.dbl_history.specs.declared.cursor.Cursor.{Cursor}
 use Rattle.dbl_history.specs.History.{History}
 use Rattle.dbl_history.specs.Fit.{AreInfosOf, IsFitHistory}
+use Rattle.dbl_history.specs.Laws.{CommitsRise}
 use Rattle.dbl_offset.specs.declared.offset.Offset.{Offset}
 use Rattle.dbl_event.specs.declared.closed.Closed.{Closed}
 use Rattle.dbl_event.specs.SnapshotLists.{IsSnapshot}
-use Rattle.dbl_ageing.specs.Commits.{AreFitCommits}
 use Rattle.dbl_ageing.specs.KnownKeys.{AreToldUpTo}
 use Rattle.dbl_faithful.specs.ToldEvents.{told_behind, IsPrint}
 use Rattle.dbl_faithful.specs.CaughtUp.{IsEndOf, IsCaughtUp}
 use Rattle.dbl_stores.specs.Stores.{Stores, IsCommitAt, IsPositionOf, top_position}
-use Rattle.dbl_stores.specs.Behind.{IsUnread, IsBehind}
+use Rattle.dbl_stores.specs.Behind.{IsUnread, IsOffsetOf, IsBehind}
 use Rattle.dbl_stores.specs.Faithful.{commits_of, IsFaithfulTo, IsUntouched}
 use Rattle.dbl_stores.specs.Onward.{GoesOnward, PlacesRise, Adds}
 
@@ -51,12 +51,12 @@ FaithfulRecordsStand = (history : History) (confirmed : Lsn) (records : List Rec
 
 -- ---- its end
 
--- A log that is caught up is faithful to each offset that is behind it and not behind the delivered commits.
+-- A log that is caught up is faithful to each offset of these stores that isn't behind the delivered commits.
 abbrev pub CaughtUpStoresAreFaithful : Type 0
 CaughtUpStoresAreFaithful = (history : History) (confirmed : Lsn) (records : List Record) (offset : Offset)
     (before later : List Commit) (far sent : ℕ)
     → AllByRecursion (λ commit. offset.lsn.0 < commit.lsn.0) later
-    → IsBehind history confirmed records offset
+    → IsOffsetOf history confirmed records offset
     → IsCaughtUp offset.identity offset.infos (commits_of history offset) offset.start.0 far before later sent records
     → IsFaithfulTo history confirmed records offset
 
@@ -84,12 +84,15 @@ AddsGoOn = (from : ℕ) (a b c : List Record) (one : Adds from a b) (two : Adds 
 abbrev pub AddsAreOne : Type 0
 AddsAreOne = (from : ℕ) (old new : List Record) (one two : Adds from old new) → one.more ≡ two.more
 
--- The records that a session sends of its start's events rise, and so do those of a window.
+-- The records that a session sends of the events behind a position stand behind it, and rise.
 abbrev pub SentRecordsRise : Type 0
-SentRecordsRise = (identity : Identity) (infos : List TableInfo) (commits : List Commit) (start n : ℕ) (more : List Record)
-    → AreFitCommits infos commits
-    → AllZip (IsPrint identity) (take (length more) (drop n (told_behind infos start commits))) more → PlacesRise more
+SentRecordsRise = (identity : Identity) (infos : List TableInfo) (commits : List Commit) (from n : ℕ) (more : List Record)
+    → CommitsRise commits
+    → AllZip (IsPrint identity) (take (length more) (drop n (told_behind infos from commits))) more
+    → AllByRecursion (λ item. from < item.position) more × PlacesRise more
 
+-- Those of a window stand at its high mark, and rise.
 abbrev pub WindowsRise : Type 0
 WindowsRise = (identity : Identity) (infos : List TableInfo) (closed : Closed) (mark : Commit) (now : ℤ) (snapshot : List Record)
-    (n : ℕ) → IsSnapshot identity infos closed mark now snapshot → PlacesRise (take n snapshot)
+    (n : ℕ) → IsSnapshot identity infos closed mark now snapshot
+    → AllByRecursion (λ item. item.position ≡ mark.lsn.0) (take n snapshot) × PlacesRise (take n snapshot)

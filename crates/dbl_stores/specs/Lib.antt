@@ -3,3 +3,5 @@ pub mod Behind
 pub mod Faithful
 pub mod Onward
 pub mod Laws
+pub mod Kept
+pub mod Complete

@@ -4,7 +4,7 @@ use Rattle.std.specs.List.{AllByRecursion}
 use Rattle.dbl_base.specs.declared.lsn.Lsn.{Lsn}
 use Rattle.dbl_record.specs.declared.record.Record.{Record}
 use Rattle.dbl_record.specs.Places.{Place, IsTop}
-use Rattle.dbl_history.specs.History.{RawCommit, History}
+use Rattle.dbl_history.specs.History.{RawCommit, History, IsRising}
 use Rattle.dbl_offset.specs.declared.offset.Offset.{Offset}
 
 -- the source's history, and up to where it was told that its log isn't needed; the records of the topic log; the offset, where one
@@ -38,7 +38,8 @@ TopPositionsAreTops = (records : List Record) (top : Place) → IsTop records to
 
 -- ---- how far an offset is behind its log
 
--- the commits behind an offset's LSN that aren't behind the log's greatest position: those that a restart repeats
+-- the commits behind an offset's LSN that aren't behind the log's greatest position: those that a restart repeats (law
+-- RepeatedCommitsStandTogether)
 abbrev pub repeated : History → List Record → Offset → List RawCommit
 repeated history records offset = filter (λ commit. nat_lt offset.lsn.0 commit.lsn.0 && nat_le commit.lsn.0 (top_position records)) history.commits
 
@@ -59,3 +60,21 @@ LagsAreBounded = (history : History) (records : List Record) (offset : Offset) (
     → AllByRecursion (λ commit. commit.lsn.0 ≤ offset.lsn.0) before
     → AllByRecursion (λ commit. top_position records < commit.lsn.0) later
     → lag history records (Some offset) ≤ length between
+
+-- no more where the offset stands later
+abbrev pub LaterOffsetsLagLess : Type 0
+LaterOffsetsLagLess = (history : History) (records : List Record) (old new : Offset) → old.lsn.0 ≤ new.lsn.0
+    → lag history records (Some new) ≤ lag history records (Some old)
+
+-- Before the repeated commits stand those that a restart doesn't read, and behind them those that the log has no record of.
+pub record StandTogether (history : History) (records : List Record) (offset : Offset) : Type 0 where
+  pub before : List RawCommit
+  pub later : List RawCommit
+  pub spelled : history.commits ≡ before ++ (repeated history records offset ++ later)
+  pub unread : AllByRecursion (λ commit. commit.lsn.0 ≤ offset.lsn.0) before
+  pub again : AllByRecursion (λ commit. (offset.lsn.0 < commit.lsn.0) × (commit.lsn.0 ≤ top_position records)) (repeated history records offset)
+  pub new : AllByRecursion (λ commit. (offset.lsn.0 < commit.lsn.0) × (top_position records < commit.lsn.0)) later
+
+abbrev pub RepeatedCommitsStandTogether : Type 0
+RepeatedCommitsStandTogether = (history : History) (records : List Record) (offset : Offset) → IsRising history
+    → StandTogether history records offset

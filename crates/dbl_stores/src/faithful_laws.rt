@@ -1,4 +1,5 @@
 //! How a session begins with faithful stores, and leaves them faithful.
+ghost use Rattle.dbl_stores.specs.Complete.{CompleteStoresAreImages};
 ghost use Rattle.dbl_stores.specs.Laws.{FaithfulStoresAreCaughtUp, CursorsWereTold, FaithfulRecordsStand, CaughtUpStoresAreFaithful, FirstOffsetsAreFaithful};
 
 /// A session goes on from faithful stores: its log has all records of the commits up to the offset.
@@ -16,7 +17,7 @@ pub fn faithful_records_stand()
     ensures { FaithfulRecordsStand }
 {}
 
-/// A log that is caught up is faithful to each offset that is behind it.
+/// A log that is caught up is faithful to each offset that isn't behind the delivered commits.
 pub fn caught_up_stores_are_faithful()
     ensures { CaughtUpStoresAreFaithful }
 {}
@@ -24,4 +25,10 @@ pub fn caught_up_stores_are_faithful()
 /// So it is to the first offset.
 pub fn first_offsets_are_faithful()
     ensures { FirstOffsetsAreFaithful }
+{}
+
+/// Once every snapshot is done and the log reaches no further than the offset, a consumer holds the source's
+/// tables as they are there.
+pub fn complete_stores_are_images()
+    ensures { CompleteStoresAreImages }
 {}

@@ -1,5 +1,5 @@
 //! Positions of a history, and how far an offset is behind its log.
-ghost use Rattle.dbl_stores.specs.Stores.{TopPositionsAreTops, EmptyLogsHaveNoLag, LagsAreBounded};
+ghost use Rattle.dbl_stores.specs.Stores.{TopPositionsAreTops, EmptyLogsHaveNoLag, LagsAreBounded, LaterOffsetsLagLess, RepeatedCommitsStandTogether};
 
 /// The greatest position is that of the greatest place.
 pub fn top_positions_are_tops()
@@ -14,4 +14,14 @@ pub fn empty_logs_have_no_lag()
 /// No more commits are repeated than stand between the offset and the log's last record.
 pub fn lags_are_bounded()
     ensures { LagsAreBounded }
+{}
+
+/// No more of them where the offset stands later.
+pub fn later_offsets_lag_less()
+    ensures { LaterOffsetsLagLess }
+{}
+
+/// The repeated commits stand between those up to the offset and those behind the log.
+pub fn repeated_commits_stand_together()
+    ensures { RepeatedCommitsStandTogether }
 {}

@@ -1,13 +1,14 @@
 -- What a stop may leave behind a call that led to a standing.
-use Rattle.std.proofs.Common.{◌≡◌, ◌∙◌, ℕ, inl, inr, List, sym, ap, subst}
+use Rattle.std.proofs.Common.{◌≡◌, ◌∙◌, ℕ, inl, inr, List, [], ◌∷◌, length, sym, ap, subst, arith, length-append}
 use Rattle.dbl_base.specs.declared.lsn.Lsn.{Lsn}
 use Rattle.dbl_pgmsg.specs.declared.messages.Message.{Message}
 use Rattle.dbl_history.specs.History.{History}
 use Rattle.dbl_honest.specs.Standings.{Standing, Left, left_of}
-use Rattle.dbl_honest.specs.Growth.{Grows, Marks}
+use Rattle.dbl_honest.specs.Growth.{Grows, Marks, marks_in}
 use Rattle.dbl_honest.specs.Calls.{Moved, IsMarked, IsBegun, IsGone, Took, IsConfirmed}
 use Rattle.dbl_honest.specs.Leaves.{MayFollow, MayFollowMark, MayFollowConfirm}
-use Rattle.dbl_honest.proofs.GrowthLemmas.{grows_on, marks_on}
+use Rattle.dbl_honest.specs.Laws.{FailedMarksMayStand}
+use Rattle.dbl_honest.proofs.GrowthLemmas.{grows_on, marks_on, no_mark_more, one_mark_more}
 
 module _ (s t : Standing) (l : Left) (may : l ≡ left_of t) where
   follows_so : Grows s.history t.history → t.confirmed ≡ s.confirmed → MayFollow s l
@@ -43,6 +44,18 @@ module _ (s t : Standing) (l : Left) (may : l ≡ left_of t) where
 -- a mark or a confirmed position that isn't there may be missing
 pub without_mark : (value : List ℕ) (s : Standing) (l : Left) → MayFollow s l → MayFollowMark value s l
 without_mark value s l f = record { history = inl f.grows; confirmed = f.confirmed }
+
+-- the mark may be there, and behind a call that only lets the history grow it isn't
+pub may_be_marked : FailedMarksMayStand
+may_be_marked value s l = record {
+  unmarked = without_mark value s l;
+  marked = λ marks confirmed. record { history = inr marks; confirmed = confirmed };
+  apart = λ marks follows. (
+      let more = ap length (sym (no_mark_more s.history l.history follows.grows) ∙ one_mark_more value s.history l.history marks) in
+      let longer = length-append (marks_in s.history.commits) (value ∷ []) in
+      omega (arith, more, longer)
+      );
+}
 
 pub unconfirmed : (upto : Lsn) (s : Standing) (l : Left) → MayFollow s l → MayFollowConfirm upto s l
 unconfirmed upto s l f = record { grows = f.grows; confirmed = inl f.confirmed }

@@ -1,7 +1,11 @@
 -- At one place there is one answer, and before the first commit a captured table has no rows, so that an answer with one isn't right.
-use Rattle.std.proofs.Common.{◌≡◌, ◌∙◌, ℕ, zero, suc, Option, Some, None, List, [], ◌∷◌, map, take, refl, sym, ap, subst, arith}
-use Rattle.std.specs.Prelude.{IfSome, slice_get}
+use Rattle.std.proofs.Common.{◌≡◌, ◌∙◌, ◌⊎◌, inl, inr, ℕ, ◌<◌, zero, suc, Bool, true, false, length, Option, Some, None, List, [], ◌∷◌, map, take, refl, sym, ap, subst, arith}
+use Rattle.std.specs.Prelude.{if◌then◌else◌, IfSome, slice_get}
+use Rattle.std.specs.List.{AllByRecursion}
+use Rattle.std.proofs.lemmas.List.{length-map}
+use Rattle.dbl_value.specs.declared.value.Val.{Val}
 use Rattle.dbl_table.specs.declared.row.Key.{Key}
+use Rattle.dbl_table.specs.declared.row.Row.{Row}
 use Rattle.dbl_table.specs.declared.table.TableName.{TableName}
 use Rattle.dbl_table.specs.declared.table.RawRow.{RawRow}
 use Rattle.dbl_table.specs.declared.table.TableInfo.{TableInfo}
@@ -11,10 +15,13 @@ use Rattle.dbl_table.specs.Rows.{Rows, no_rows, rows_from, all_changes}
 use Rattle.dbl_history.specs.History.{RawCommit, History}
 use Rattle.dbl_history.specs.Typed.{typed_commit}
 use Rattle.dbl_history.specs.Fit.{IsKeyOf, AreInfosOf}
-use Rattle.dbl_history.specs.KeyedRows.{AreFirst}
-use Rattle.dbl_history.proofs.BoundLemmas.{first_rows_one}
+use Rattle.dbl_table.specs.Keys.{same_key}
+use Rattle.dbl_table.proofs.KeyLemmas.{same_key-is}
+use Rattle.dbl_history.specs.KeyBounds.{IsAbove, IsUpTo}
+use Rattle.dbl_history.specs.KeyedRows.{row_in, AreAbove, last_key, AreFirst}
+use Rattle.dbl_history.proofs.BoundLemmas.{above_goes_on, up_to_last, first_rows_one}
 use Rattle.dbl_honest.specs.Selected.{rows_behind, keyed_row, AreFirstOf, AreRowsAt}
-use Rattle.dbl_honest.specs.Laws.{AnswersAtAPlaceAreOne, NoRowsBeforeTheFirstCommit}
+use Rattle.dbl_honest.specs.Laws.{AnswersAtAPlaceAreOne, NoRowsBeforeTheFirstCommit, RowsOfNoPlaceAreUnanswered, StandingRowsAreAnswered}
 
 none_taken : {A : Type 0} (n : ℕ) → take {A = A} n [] ≡ []
 none_taken zero = refl
@@ -65,3 +72,57 @@ one_answer history place name above limit rows others infos table info captured 
       λ is_key. first_rows_one info (rows_behind infos history place table) above limit (map (keyed_row infos table info) rows) (map (keyed_row infos table info) others) (a.first is_key) (b.first is_key),
       λ no_key. a.none_above no_key ∙ sym (b.none_above no_key),
     )
+
+-- ---- rows of other places
+
+-- where a key has a row in such a list
+pub record IsIn (info : TableInfo) (above : Option Key) (rows : List (Key × Row)) (key : Key) : Type 0 where
+  pub is_key : IsKeyOf info key
+  pub behind : IsAbove above key
+  pub up : IsUpTo (last_key above rows) key
+
+where_in : (info : TableInfo) (above : Option Key) (rows : List (Key × Row)) (key : Key) (cells : List Val) → AllByRecursion (λ entry. IsKeyOf info entry.0) rows → AreAbove above rows → row_in rows key ≡ Some cells → IsIn info above rows key
+where_in info above [] key cells keys ordered is = cc
+where_in info above (entry ∷ rows) key cells keys ordered is = by (same_key entry.0 key) refl is (where_in info (Some entry.0) rows key cells keys.1 ordered.1)
+  where
+    here : IsIn info above (entry ∷ rows) entry.0
+    here = record { is_key = keys.0; behind = ordered.0; up = up_to_last entry.0 rows entry.0 ordered.1 (inl refl) }
+
+    by : (b : Bool) → same_key entry.0 key ≡ b → (if b then Some entry.1.cells else row_in rows key) ≡ Some cells → (row_in rows key ≡ Some cells → IsIn info (Some entry.0) rows key) → IsIn info above (entry ∷ rows) key
+    by true same found rest = subst (IsIn info above (entry ∷ rows)) (same_key-is entry.0 key same) here
+    by false other found rest = let later = rest found in record { is_key = later.is_key; behind = above_goes_on above entry.0 key ordered.0 later.behind; up = later.up }
+
+-- a row of the first ones is the table's
+first_there : (info : TableInfo) (at : Key → Option (List Val)) (above : Option Key) (limit : ℕ) (rows : List (Key × Row)) (key : Key) (cells : List Val) → AreFirst info at above limit rows → row_in rows key ≡ Some cells → at key ≡ Some cells
+first_there info at above limit rows key cells are is =
+    let found = where_in info above rows key cells are.keys are.ordered is in
+    sym (are.right key found.is_key found.behind (inr found.up)) ∙ is
+
+none_in : (infos : List TableInfo) (table : ℕ) (info : TableInfo) (at : Rows) (above : Option Key) (limit : ℕ) (rows : List RawRow) (key : Key) → AreFirstOf infos table info at above limit rows → at table key ≡ None → row_in (map (keyed_row infos table info) rows) key ≡ None
+none_in infos table info at above limit rows key first none = by (row_in (map (keyed_row infos table info) rows) key) refl
+  where
+    by : (found : Option (List Val)) → row_in (map (keyed_row infos table info) rows) key ≡ found → found ≡ None
+    by None is = refl
+    by (Some cells) is =
+        let never : IfSome above (IsKeyOf info) → ⊥ = λ is_key. (
+        let there : at table key ≡ Some cells = first_there info (at table) above limit (map (keyed_row infos table info) rows) key cells (first.first is_key) is in
+        let contra : None ≡ Some cells = sym none ∙ there in
+        cc
+        ) in
+        let empty : row_in (map (keyed_row infos table info) rows) key ≡ None = ap (λ (l : List RawRow). row_in (map (keyed_row infos table info) l) key) (first.none_above never) in
+        sym is ∙ empty
+
+pub no_place_no_row : RowsOfNoPlaceAreUnanswered
+no_place_no_row history from upto name above limit rows infos table info key captured number there answered never =
+    none_in infos table info (rows_behind infos history answered.place) above limit rows key
+    (of_table history answered.place name above limit rows infos table info captured number there answered.are)
+    (never answered.place answered.not_before answered.not_after)
+
+pub standing_row : StandingRowsAreAnswered
+standing_row history from upto name above limit rows infos table info key row captured number there answered bound is_key behind range stands =
+    let first = of_table history answered.place name above limit rows infos table info captured number there answered.are in
+    let within : (length (map (keyed_row infos table info) rows) < limit) ⊎ IsUpTo (last_key above (map (keyed_row infos table info) rows)) key = elim range [
+      | inl fewer ↦ inl (omega (arith, fewer, length-map rows (keyed_row infos table info)))
+      | inr up ↦ inr up
+    ] in
+    (first.first bound).right key is_key behind within ∙ stands answered.place answered.not_before answered.not_after

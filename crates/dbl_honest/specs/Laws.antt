@@ -1,7 +1,8 @@
 -- What the definitions come to.
-use Rattle.std.specs.Prelude.{◌≡◌, ◌≤◌, ℕ, is_some, not, Option, Some, IfSome, List, [], ◌∷◌, ◌++◌, length, map, slice_get}
+use Rattle.std.specs.Prelude.{◌≡◌, ◌⊎◌, ◌<◌, ◌≤◌, ℕ, is_some, not, Option, Some, None, IfSome, List, [], ◌∷◌, ◌++◌, length, map, slice_get}
 use Rattle.std.specs.List.{AllByRecursion}
 use Rattle.dbl_base.specs.declared.lsn.Lsn.{Lsn}
+use Rattle.dbl_value.specs.declared.value.Val.{Val}
 use Rattle.dbl_pgmsg.specs.declared.messages.Message.{Message}
 use Rattle.dbl_table.specs.declared.table.TableName.{TableName}
 use Rattle.dbl_table.specs.declared.table.RawRow.{RawRow}
@@ -13,15 +14,18 @@ use Rattle.dbl_table.specs.Rows.{rows, moment_of}
 use Rattle.dbl_history.specs.History.{History, IsRising}
 use Rattle.dbl_history.specs.Typed.{typed}
 use Rattle.dbl_history.specs.Fit.{IsKeyOf, AreInfosOf}
+use Rattle.dbl_history.specs.KeyBounds.{IsAbove, IsUpTo}
+use Rattle.dbl_history.specs.KeyedRows.{row_in, last_key}
 use Rattle.dbl_commit.specs.Past.{begin_of}
 use Rattle.dbl_commit.specs.Stated.{is_empty, commits_of}
 use Rattle.dbl_commit.specs.Blocks.{onto, States, IsAccepted}
 use Rattle.dbl_commit.specs.BegunCommits.{BeginsNext}
-use Rattle.dbl_honest.specs.Standings.{Reading, Standing}
+use Rattle.dbl_honest.specs.Standings.{Reading, Standing, Left}
 use Rattle.dbl_honest.specs.Growth.{Grows, Marks, marks_in}
 use Rattle.dbl_honest.specs.Stated.{to_state, ReadsRight, IsReadRight}
 use Rattle.dbl_honest.specs.Selected.{rows_behind, keyed_row, AreRowsAt, AreAnswered}
 use Rattle.dbl_honest.specs.Calls.{HasReadAll}
+use Rattle.dbl_honest.specs.Leaves.{MayFollow, MayFollowMark}
 
 -- what a history grew to goes on growing
 abbrev pub GrownHistoriesGrow : Type 0
@@ -86,3 +90,28 @@ AnswersAtAPlaceAreOne = (history : History) (place : ℕ) (name : TableName) (ab
 abbrev pub NoRowsBeforeTheFirstCommit : Type 0
 NoRowsBeforeTheFirstCommit = (history : History) (from upto : ℕ) (name : TableName) (above : Option Key) (limit : ℕ) (rows : List RawRow) (infos : List TableInfo) (table : ℕ)
     → history.commits ≡ [] → AreInfosOf history infos → number_of infos name ≡ Some table → AreAnswered history from upto name above limit rows → rows ≡ []
+
+-- A key that has no row at any place between the call and the return has none in a right answer: neither a row that went before
+-- the call nor one that came behind the return.
+abbrev pub RowsOfNoPlaceAreUnanswered : Type 0
+RowsOfNoPlaceAreUnanswered = (history : History) (from upto : ℕ) (name : TableName) (above : Option Key) (limit : ℕ) (rows : List RawRow) (infos : List TableInfo) (table : ℕ) (info : TableInfo) (key : Key)
+    → AreInfosOf history infos → number_of infos name ≡ Some table → slice_get infos table ≡ Some info → AreAnswered history from upto name above limit rows
+    → ((place : ℕ) → from ≤ place → place ≤ upto → rows_behind infos history place table key ≡ None) → row_in (map (keyed_row infos table info) rows) key ≡ None
+
+-- A key above the one to begin above, up to the last one of the answer, or anywhere behind where the answer is shorter than its
+-- limit, has in a right answer the row, or none, that it has at every place between the call and the return.
+abbrev pub StandingRowsAreAnswered : Type 0
+StandingRowsAreAnswered = (history : History) (from upto : ℕ) (name : TableName) (above : Option Key) (limit : ℕ) (rows : List RawRow) (infos : List TableInfo) (table : ℕ) (info : TableInfo) (key : Key) (row : Option (List Val))
+    → AreInfosOf history infos → number_of infos name ≡ Some table → slice_get infos table ≡ Some info → AreAnswered history from upto name above limit rows
+    → IfSome above (IsKeyOf info) → IsKeyOf info key → IsAbove above key → (length rows < limit) ⊎ IsUpTo (last_key above (map (keyed_row infos table info) rows)) key
+    → ((place : ℕ) → from ≤ place → place ≤ upto → rows_behind infos history place table key ≡ row) → row_in (map (keyed_row infos table info) rows) key ≡ row
+
+-- What may be left of a mark that wasn't answered: whatever may be left without it, and the mark, once. That it stands there, other
+-- calls may not leave.
+pub record MayBeMarked (value : List ℕ) (s : Standing) (l : Left) : Type 0 where
+  pub unmarked : MayFollow s l → MayFollowMark value s l
+  pub marked : Marks value s.history l.history → l.confirmed ≡ s.confirmed → MayFollowMark value s l
+  pub apart : Marks value s.history l.history → MayFollow s l → ⊥
+
+abbrev pub FailedMarksMayStand : Type 0
+FailedMarksMayStand = (value : List ℕ) (s : Standing) (l : Left) → MayBeMarked value s l

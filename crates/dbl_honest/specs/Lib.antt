@@ -3,6 +3,7 @@ pub mod Growth
 pub mod Stated
 pub mod Selected
 pub mod Calls
+pub mod Answered
 pub mod Leaves
 pub mod Told
 pub mod Laws

@@ -1,6 +1,6 @@
 //! Laws of histories that grow, and of what is read of them. The functions do nothing: their contracts are the laws.
 
-ghost use Rattle.dbl_honest.specs.Laws.{GrownHistoriesGrow, GrownHistoriesKeepRows, RowsBehindAreRows, OthersWriteNoMark, MarksAreWrittenOnce, ReadMessagesAreBlocks, HistoriesPartAtAnLsn, ReadersGoOn, AllReadIsAllStated, AnswersAtAPlaceAreOne, NoRowsBeforeTheFirstCommit};
+ghost use Rattle.dbl_honest.specs.Laws.{GrownHistoriesGrow, GrownHistoriesKeepRows, RowsBehindAreRows, OthersWriteNoMark, MarksAreWrittenOnce, FailedMarksMayStand, ReadMessagesAreBlocks, HistoriesPartAtAnLsn, ReadersGoOn, AllReadIsAllStated, AnswersAtAPlaceAreOne, NoRowsBeforeTheFirstCommit, RowsOfNoPlaceAreUnanswered, StandingRowsAreAnswered};
 
 /// A history that grew and grew again has grown.
 pub fn grown_histories_grow()
@@ -25,6 +25,11 @@ pub fn others_write_no_mark()
 /// A history in which a mark was written has this one mark more.
 pub fn marks_are_written_once()
     ensures { MarksAreWrittenOnce }
+{}
+
+/// Behind a mark that failed it may stand once, or not at all; behind any other call it may not.
+pub fn failed_marks_may_stand()
+    ensures { FailedMarksMayStand }
 {}
 
 /// Messages that were read rightly, and of which none has a fault, are transactions that state the first commits behind the
@@ -56,4 +61,14 @@ pub fn answers_at_a_place_are_one()
 /// Before the first commit no answer with a row of a captured table is right.
 pub fn no_rows_before_the_first_commit()
     ensures { NoRowsBeforeTheFirstCommit }
+{}
+
+/// A key without a row at every place between the call and the return has none in a right answer.
+pub fn rows_of_no_place_are_unanswered()
+    ensures { RowsOfNoPlaceAreUnanswered }
+{}
+
+/// What a key has at every place between the call and the return, it has in a right answer that goes so far.
+pub fn standing_rows_are_answered()
+    ensures { StandingRowsAreAnswered }
 {}

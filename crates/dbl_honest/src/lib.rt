@@ -5,9 +5,10 @@ mod laws;
 mod started;
 
 pub use laws::{
-    all_read_is_all_stated, answers_at_a_place_are_one, grown_histories_grow,
-    grown_histories_keep_rows, histories_part_at_an_lsn, marks_are_written_once,
-    no_rows_before_the_first_commit, others_write_no_mark, read_messages_are_blocks, readers_go_on,
-    rows_behind_are_rows,
+    all_read_is_all_stated, answers_at_a_place_are_one, failed_marks_may_stand,
+    grown_histories_grow, grown_histories_keep_rows, histories_part_at_an_lsn,
+    marks_are_written_once, no_rows_before_the_first_commit, others_write_no_mark,
+    read_messages_are_blocks, readers_go_on, rows_behind_are_rows, rows_of_no_place_are_unanswered,
+    standing_rows_are_answered,
 };
 pub use started::Started;

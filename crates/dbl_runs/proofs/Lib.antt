@@ -1,6 +1,7 @@
 pub mod Left
 pub mod Kept
 pub mod ErrorLaws
+pub mod Opened
 pub mod Writing
 pub mod Consumed
 pub mod Answering

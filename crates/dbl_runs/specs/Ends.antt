@@ -1,12 +1,14 @@
 -- How a command ends that only reads the stores: what it has written, and what it leaves of the disks. Source: own.
-use Rattle.std.specs.Prelude.{◌≡◌, ℕ, ◌≤◌, Option, Result, Ok, Err, List, take}
+use Rattle.std.specs.Prelude.{◌≡◌, ◌≢◌, ℕ, ◌≤◌, Option, Some, Result, Ok, Err, List, take}
 use Rattle.dbl_base.specs.Lines.{lines_text}
 use Rattle.dbl_base.specs.Streams.{Rose}
+use Rattle.dbl_disk.specs.Disks.{IsOnly}
 use Rattle.dbl_journal.specs.Stored.{IsSteady}
 use Rattle.dbl_consume.specs.Printing.{Wrote, WroteFront}
 use Rattle.dbl_runs.specs.declared.error.RunError.{RunError}
 use Rattle.dbl_runs.specs.declared.error.RunError.TheVariants.{OutputFailed, Memory, Failed, NotStarted, NotAStore, BadEntry}
 use Rattle.dbl_runs.specs.declared.error.Store.{Store}
+use Rattle.dbl_runs.specs.declared.error.Store.TheVariants.{Offsets}
 use Rattle.dbl_runs.specs.Answers.{Answer}
 
 -- how a command ended
@@ -62,6 +64,23 @@ IsRefusal NotStarted = Unit {0}
 IsRefusal (NotAStore store at) = Unit {0}
 IsRefusal (BadEntry store index) = Unit {0}
 IsRefusal error = ⊥
+
+-- the error isn't that a disk holds no journal, as it came behind the opening
+abbrev pub IsBehindOpening : RunError → Type 0
+IsBehindOpening error = (store : Store) (at : ℕ) → error ≢ NotAStore store at
+
+-- `apply`, which opens the topic log first, ended so behind the opening of the offset
+abbrev pub HasOpenedOffset : End → Type 0
+HasOpenedOffset (Ok done) = Unit {0}
+HasOpenedOffset (Err OutputFailed) = Unit {0}
+HasOpenedOffset (Err NotStarted) = Unit {0}
+HasOpenedOffset (Err (NotAStore store at)) = store ≡ Offsets
+HasOpenedOffset (Err (BadEntry store index)) = store ≡ Offsets
+HasOpenedOffset (Err error) = ⊥
+
+-- Of a disk that told its bytes a stop leaves these alone: it was synced, and only read since.
+abbrev pub IsSynced : {D : Type 0} → (D → Option (List ℕ)) → (D → List ℕ → Type 0) → D → D → Type 0
+IsSynced seen may_leave old new = (bytes : List ℕ) → seen old ≡ Some bytes → IsOnly bytes (may_leave new)
 
 -- What is left of a disk that was only read. A read gives the same, and each image was one before: so it is no longer than it
 -- was. It is told to have failed only where its count of faults rose, and where it tells its bytes, wherever the count rose.

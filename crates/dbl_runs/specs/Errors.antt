@@ -27,7 +27,7 @@ error_status NotStarted = 4
 error_status (NotAStore store at) = 14
 error_status (BadEntry store index) = 14
 
--- the error's line, without its newline
+-- the error's line, without its newline; that of a failed output is written nowhere
 abbrev pub error_line : RunError → List ℕ
 error_line OutputFailed = codes "dblog: output failed"
 error_line Memory = codes "dblog: out of memory"

@@ -1,5 +1,5 @@
 //! `apply`: the rows that a consumer of the topic log holds.
-ghost use Rattle.std.specs.Prelude.{◌≡◌, ◌⊎◌, ℕ, ◌≤◌, List, Ok, Err, Some, None, IfErr, IfSome, MatchResult, IsTrue, option_map, map};
+ghost use Rattle.std.specs.Prelude.{◌≡◌, ◌≢◌, ◌⊎◌, ℕ, ◌≤◌, List, Ok, Err, Some, None, IfErr, IfSome, MatchResult, IsTrue, option_map, map};
 ghost use Rattle.dbl_base.specs.Streams.{Rose};
 ghost use Rattle.dbl_record.specs.declared.record.Record.{Record};
 ghost use Rattle.dbl_record.specs.Acts.{Reading};
@@ -10,7 +10,7 @@ ghost use Rattle.dbl_topic.specs.Logs.{IsLog};
 ghost use Rattle.dbl_offset.specs.declared.offset.Offset.{Offset};
 ghost use Rattle.dbl_runs.specs.Answers.{AnswersApply};
 ghost use Rattle.dbl_runs.specs.Applying.{Applies, AppliesGroups, PrintedRows};
-ghost use Rattle.dbl_runs.specs.Ends.{IsErrorOf, IsRefusal, Keeps, Runs};
+ghost use Rattle.dbl_runs.specs.Ends.{HasOpenedOffset, IsBehindOpening, IsErrorOf, IsRefusal, IsSynced, Keeps, Runs};
 
 use crate::consuming::consume;
 use crate::opening::{open_offsets, open_topics};
@@ -35,9 +35,20 @@ pub fn apply<T: Disk, F: Disk, O: Output>(
     ensures told { (t f : List ℕ) → T.seen topics ≡ Some t → F.seen offsets ≡ Some f →
         Runs (AnswersApply t f) result.end (O.written output.old) (O.written output.new) }
 
-    // Where the topics disk holds no log, the offsets disk isn't touched.
+    // Where the topics disk holds no log, that is told whatever the offsets disk tells, which isn't touched.
+    ensures no_log { (t f : List ℕ) → T.seen topics ≡ Some t →
+        ((groups : List (List Record)) → ¬ IsLog t groups) →
+        Runs (AnswersApply t f) result.end (O.written output.old) (O.written output.new) }
     ensures unopened { (t : List ℕ) → T.seen topics ≡ Some t →
         ((groups : List (List Record)) → ¬ IsLog t groups) → result.offsets ≡ offsets }
+    ensures no_store { (at : ℕ) → result.end ≡ Err (RunError.NotAStore Store.Topics at) →
+        result.offsets ≡ offsets }
+
+    // A disk that was opened was synced: of one that tells its bytes a stop leaves these alone.
+    ensures topics_stable { result.end ≢ Err (RunError.Failed Store.Topics) →
+        IsSynced T.seen T.may_leave topics result.topics }
+    ensures offsets_stable { HasOpenedOffset result.end →
+        IsSynced F.seen F.may_leave offsets result.offsets }
 
     // Whatever the disks tell, they are only read.
     ensures keeps_topics { Keeps T.seen T.may_leave T.faults
@@ -92,6 +103,7 @@ fn print_consumer<D: Disk, O: Output>(
     ensures kinds { IfErr result
         (λ error. (error ≡ RunError.OutputFailed) ⊎
         ((error ≡ RunError.NotStarted) ⊎ IsErrorOf Store.Topics error)) }
+    ensures a_store { IfErr result IsBehindOpening }
     ensures unwritten { IfErr result (λ error. IsRefusal error → output.new ≡ output.old) }
     ensures output_failed { result ≡ Err RunError.OutputFailed →
         Rose (O.faults output.old) (O.faults output.new) }
@@ -117,6 +129,7 @@ fn print_groups<D: Disk, O: Output>(
         (result ≡ Err (RunError.Failed Store.Topics)) log.old.disk log.new.disk }
     ensures kinds { IfErr result
         (λ error. (error ≡ RunError.OutputFailed) ⊎ IsErrorOf Store.Topics error) }
+    ensures a_store { IfErr result IsBehindOpening }
     ensures unwritten { IfErr result (λ error. IsRefusal error → output.new ≡ output.old) }
     ensures output_failed { result ≡ Err RunError.OutputFailed →
         Rose (O.faults output.old) (O.faults output.new) }
@@ -135,6 +148,7 @@ fn print_rows<O: Output>(held: &Consumer, output: &mut O) -> Result<(), RunError
         (O.written output.new) }
     ensures kinds { IfErr result
         (λ error. (error ≡ RunError.OutputFailed) ⊎ (error ≡ RunError.Memory)) }
+    ensures a_store { IfErr result IsBehindOpening }
     ensures output_failed { result ≡ Err RunError.OutputFailed →
         Rose (O.faults output.old) (O.faults output.new) }
     ensures output_later { O.faults output.old ≤ O.faults output.new }

@@ -9,7 +9,7 @@ ghost use Rattle.dbl_consume.specs.Holdings.{Took, placeholder_of};
 ghost use Rattle.dbl_topic.specs.Held.{HoldsGroups};
 ghost use Rattle.dbl_runs.specs.Answers.{accepts, first_refused, takes};
 ghost use Rattle.dbl_runs.specs.Consuming.{HasTaken, RefusesAt, readings_of};
-ghost use Rattle.dbl_runs.specs.Ends.{IsErrorOf, Keeps};
+ghost use Rattle.dbl_runs.specs.Ends.{IsBehindOpening, IsErrorOf, Keeps};
 
 use crate::opening::read_group;
 use crate::{RunError, Store};
@@ -109,6 +109,7 @@ fn take_groups<D: Disk>(
     ensures keeps { Keeps D.seen D.may_leave D.faults
         (result ≡ Err (RunError.Failed Store.Topics)) log.old.disk log.new.disk }
     ensures kinds { IfErr result (IsErrorOf Store.Topics) }
+    ensures a_store { IfErr result IsBehindOpening }
 {
     'each: for number in 0..log.groups() {
         let group = match read_group(log, number) {
@@ -135,6 +136,7 @@ pub(crate) fn consume<D: Disk>(
     ensures keeps { Keeps D.seen D.may_leave D.faults
         (result ≡ Err (RunError.Failed Store.Topics)) log.old.disk log.new.disk }
     ensures kinds { IfErr result (IsErrorOf Store.Topics) }
+    ensures a_store { IfErr result IsBehindOpening }
 {
     let null = match Text::of(alloc, "null") {
         Ok(null) => null,

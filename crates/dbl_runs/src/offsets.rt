@@ -9,7 +9,7 @@ ghost use Rattle.dbl_offset.specs.Offsets.{IsOffset};
 ghost use Rattle.dbl_runs.specs.Answers.{AnswersOffsets, number_lines, offset_lines, table_line};
 ghost use Rattle.dbl_consume.specs.Printing.{Wrote, WroteFront};
 ghost use Rattle.dbl_runs.specs.Applying.{TellsOffset};
-ghost use Rattle.dbl_runs.specs.Ends.{Ends, IsErrorOf, IsRefusal, Keeps, Runs};
+ghost use Rattle.dbl_runs.specs.Ends.{Ends, IsErrorOf, IsRefusal, IsSynced, Keeps, Runs};
 
 use crate::opening::open_offsets;
 use crate::{Ended, RunError, Store};
@@ -26,6 +26,10 @@ pub fn print_offset<D: Disk, O: Output>(alloc: Global, disk: D, output: &mut O) 
     // Of a disk that tells its bytes, what is written and answered is what they are read as.
     ensures told { (bytes : List ℕ) → D.seen disk ≡ Some bytes →
         Runs (AnswersOffsets bytes) result.end (O.written output.old) (O.written output.new) }
+
+    // Unless it failed, it was synced: where it tells its bytes, a stop leaves these alone.
+    ensures stable { result.end ≢ Err (RunError.Failed Store.Offsets) →
+        IsSynced D.seen D.may_leave disk result.disk }
 
     // Whatever the disk tells, it is only read, and the error has to do with it or with the output.
     ensures keeps { Keeps D.seen D.may_leave D.faults

@@ -1,12 +1,12 @@
 //! Stores that are opened, and groups that are read, with a command's errors.
-ghost use Rattle.std.specs.Prelude.{◌≡◌, ◌⊎◌, ℕ, ◌<◌, List, Some, Err, IfOk, IfErr, MatchResult, IsTrue, slice_get};
+ghost use Rattle.std.specs.Prelude.{◌≡◌, ◌≢◌, ◌⊎◌, ℕ, ◌<◌, List, Some, Err, IfOk, IfErr, MatchResult, IsTrue, slice_get};
 ghost use Rattle.dbl_journal.specs.Stored.{count_of};
 ghost use Rattle.dbl_record.specs.declared.record.Record.{Record};
 ghost use Rattle.dbl_topic.specs.Held.{HoldsGroups};
 ghost use Rattle.dbl_topic.specs.Logs.{IsLog};
 ghost use Rattle.dbl_offset.specs.Stores.{IsLive, IsStore, disk_of};
 ghost use Rattle.dbl_runs.specs.Answers.{HasNoOffset, IsNoLog};
-ghost use Rattle.dbl_runs.specs.Ends.{IsErrorOf, IsOutside, Keeps};
+ghost use Rattle.dbl_runs.specs.Ends.{IsBehindOpening, IsErrorOf, IsOutside, IsSynced, Keeps};
 
 use crate::{RunError, Store};
 use dbl_disk::{Disk, Refused};
@@ -15,7 +15,7 @@ use dbl_record::Record;
 use dbl_topic::TopicLog;
 use std::alloc::Global;
 
-/// The topic log on a disk.
+/// The topic log on a disk, which is synced first.
 pub(crate) fn open_topics<D: Disk>(
     alloc: Global,
     disk: D,
@@ -27,6 +27,9 @@ pub(crate) fn open_topics<D: Disk>(
     ensures refused { (bytes : List ℕ) → D.seen disk ≡ Some bytes →
         IfErr result (λ refused. IsOutside refused.error ⊎ IsNoLog bytes refused.error) }
     ensures kinds { IfErr result (λ refused. IsErrorOf Store.Topics refused.error) }
+    ensures stable { MatchResult result (λ log. IsSynced D.seen D.may_leave disk log.disk)
+        (λ refused. refused.error ≢ RunError.Failed Store.Topics →
+        IsSynced D.seen D.may_leave disk refused.disk) }
     ensures keeps { MatchResult result (λ log. Keeps D.seen D.may_leave D.faults ⊥ disk log.disk)
         (λ refused. Keeps D.seen D.may_leave D.faults (refused.error ≡ RunError.Failed Store.Topics) disk refused.disk) }
 {
@@ -39,7 +42,7 @@ pub(crate) fn open_topics<D: Disk>(
     }
 }
 
-/// The offset on a disk.
+/// The offset on a disk, which is synced first.
 pub(crate) fn open_offsets<D: Disk>(
     alloc: Global,
     disk: D,
@@ -50,6 +53,10 @@ pub(crate) fn open_offsets<D: Disk>(
     ensures refused { (bytes : List ℕ) → D.seen disk ≡ Some bytes →
         IfErr result (λ refused. IsOutside refused.error ⊎ HasNoOffset bytes refused.error) }
     ensures kinds { IfErr result (λ refused. IsErrorOf Store.Offsets refused.error) }
+    ensures stable { MatchResult result
+        (λ store. IsSynced D.seen D.may_leave disk (disk_of store))
+        (λ refused. refused.error ≢ RunError.Failed Store.Offsets →
+        IsSynced D.seen D.may_leave disk refused.disk) }
     ensures keeps { MatchResult result
         (λ store. Keeps D.seen D.may_leave D.faults ⊥ disk (disk_of store))
         (λ refused. Keeps D.seen D.may_leave D.faults (refused.error ≡ RunError.Failed Store.Offsets) disk refused.disk) }
@@ -77,6 +84,7 @@ pub(crate) fn read_group<D: Disk>(
     ensures holds { (groups : List (List Record)) → HoldsGroups D.seen D.may_leave log.old groups →
         HoldsGroups D.seen D.may_leave log.new groups }
     ensures kinds { IfErr result (IsErrorOf Store.Topics) }
+    ensures a_store { IfErr result IsBehindOpening }
     ensures same { log.new ≡ record log.old { disk = log.new.disk } }
     ensures keeps { Keeps D.seen D.may_leave D.faults
         (result ≡ Err (RunError.Failed Store.Topics)) log.old.disk log.new.disk }

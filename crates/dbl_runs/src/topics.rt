@@ -5,7 +5,7 @@ ghost use Rattle.dbl_consume.specs.Gathering.{IsGathered};
 ghost use Rattle.dbl_record.specs.declared.record.Record.{Record};
 ghost use Rattle.dbl_topic.specs.Held.{HoldsGroups};
 ghost use Rattle.dbl_runs.specs.Answers.{AnswersTopics, topic_lines};
-ghost use Rattle.dbl_runs.specs.Ends.{CutsLines, Ends, IsErrorOf, Keeps, Runs};
+ghost use Rattle.dbl_runs.specs.Ends.{CutsLines, Ends, IsErrorOf, IsRefusal, IsSynced, Keeps, Runs};
 
 use crate::lines::{BUFFER_LENGTH, flush_rest, put_records};
 use crate::opening::{open_topics, read_group};
@@ -21,6 +21,12 @@ pub fn print_topics<D: Disk, O: Output>(alloc: Global, disk: D, output: &mut O) 
     // Of a disk that tells its bytes, what is written and answered is what they are read as.
     ensures told { (bytes : List ℕ) → D.seen disk ≡ Some bytes →
         Runs (AnswersTopics bytes) result.end (O.written output.old) (O.written output.new) }
+    ensures unwritten { (bytes : List ℕ) → D.seen disk ≡ Some bytes →
+        IfErr result.end (λ error. IsRefusal error → output.new ≡ output.old) }
+
+    // Unless it failed, it was synced: where it tells its bytes, a stop leaves these alone.
+    ensures stable { result.end ≢ Err (RunError.Failed Store.Topics) →
+        IsSynced D.seen D.may_leave disk result.disk }
 
     // Whatever the disk tells, it is only read, and the error has to do with it or with the output.
     ensures keeps { Keeps D.seen D.may_leave D.faults

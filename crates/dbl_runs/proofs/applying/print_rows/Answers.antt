@@ -1,5 +1,6 @@
 use Rattle.std.proofs.Common.{map}
 use Rattle.dbl_consume.specs.Printing.{row_line}
+use Rattle.dbl_runs.proofs.Opened.{print_behind}
 use Rattle.dbl_runs.proofs.Writing.{print_cuts}
 use Rattle.dbl_runs.proofs.applying.print_rows.Goals as goal
 
@@ -10,3 +11,6 @@ pub returns-in-Err-clause-told : goal.returns-in-Err-clause-told
 returns-in-Err-clause-told g c = λ taken took.
     let p = c.in-Err.ensures.prints taken took in
     record { rows = p.0; are = p.1; ends = print_cuts (map row_line p.0) c.in-Err.error c.from.result _ _ c.from.ensures p.2 }
+
+pub returns-in-Err-clause-a_store : goal.returns-in-Err-clause-a_store
+returns-in-Err-clause-a_store g c = print_behind c.in-Err.error c.from.result c.from.ensures

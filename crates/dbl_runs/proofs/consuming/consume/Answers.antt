@@ -1,7 +1,8 @@
-use Rattle.std.proofs.Common.{subst, inl}
+use Rattle.std.proofs.Common.{subst, inl, refl}
 use Rattle.dbl_runs.specs.Consuming.{HasTaken}
 use Rattle.dbl_runs.proofs.Kept.{err_one, keeps_itself, keeps_never, keeps_ok}
 use Rattle.dbl_runs.proofs.Consumed.{wanting_kind, wanting_outside, wanting_running}
+use Rattle.dbl_runs.proofs.Opened.{memory_behind}
 use Rattle.dbl_runs.proofs.consuming.consume.Goals as goal
 
 pub returns-in-Err-clause-told : goal.returns-in-Err-clause-told
@@ -27,3 +28,9 @@ returns-in-Ok-take_groups-clause-told g c groups held =
 pub returns-in-Ok-take_groups-clause-keeps : goal.returns-in-Ok-take_groups-clause-keeps
 returns-in-Ok-take_groups-clause-keeps g c =
     keeps_never g.D.Disk.seen g.D.Disk.may_leave g.D.Disk.faults _ _ _ (λ e. cc) (keeps_ok g.D.Disk.seen g.D.Disk.may_leave g.D.Disk.faults _ _ _ (λ e. cc) c.in-Ok-take_groups.ensures.keeps)
+
+pub returns-in-Err-clause-a_store : goal.returns-in-Err-clause-a_store
+returns-in-Err-clause-a_store g c = memory_behind _ refl
+
+pub returns-in-Err-empty_consumer-clause-a_store : goal.returns-in-Err-empty_consumer-clause-a_store
+returns-in-Err-empty_consumer-clause-a_store g c = memory_behind c.in-Err-empty_consumer.error c.in-Err-empty_consumer.ensures.memory

@@ -6,6 +6,7 @@ use Rattle.dbl_runs.specs.declared.error.RunError.TheVariants.{Failed}
 use Rattle.dbl_runs.specs.declared.error.Store.TheVariants.{Topics}
 use Rattle.dbl_runs.proofs.Consumed.{consumed_all, consuming_begins, one_consumed, refused_kind, refused_running, refuses}
 use Rattle.dbl_runs.proofs.Kept.{err_one, keeps_itself, keeps_never, keeps_ok, keeps_retold, keeps_then}
+use Rattle.dbl_runs.proofs.Opened.{refused_behind}
 use Rattle.dbl_runs.proofs.consuming.take_groups.Goals as goal
 
 pub each-init : goal.each-init
@@ -55,3 +56,6 @@ returns-clause-told g c groups held =
 
 pub returns-clause-keeps : goal.returns-clause-keeps
 returns-clause-keeps g c = keeps_never g.D.Disk.seen g.D.Disk.may_leave g.D.Disk.faults _ _ _ (λ e. cc) c.each.invariant.keeps
+
+pub returns-in-Err-take_group-clause-a_store : goal.returns-in-Err-take_group-clause-a_store
+returns-in-Err-take_group-clause-a_store g c = refused_behind c.each.number _ c.in-Err-take_group.error c.in-Err-take_group.ensures.refused

@@ -1,11 +1,11 @@
-use Rattle.std.proofs.Common.{◌≡◌, Err, subst, sym, inr}
+use Rattle.std.proofs.Common.{◌≡◌, Err, ap, subst, sym, inr}
 use Rattle.dbl_runs.specs.Applying.{TellsOffset}
-use Rattle.dbl_runs.specs.Ends.{Keeps}
+use Rattle.dbl_runs.specs.Ends.{IsSynced, Keeps}
 use Rattle.dbl_runs.specs.declared.error.RunError.TheVariants.{Failed}
 use Rattle.dbl_runs.specs.declared.error.Store.TheVariants.{Offsets}
 use Rattle.dbl_runs.proofs.Answering.{no_offsets_run, offset_run}
 use Rattle.dbl_runs.proofs.ErrorLaws.{no_output}
-use Rattle.dbl_runs.proofs.Kept.{err_one, keeps_never, keeps_told}
+use Rattle.dbl_runs.proofs.Kept.{err_one, failed_with, keeps_never, keeps_told}
 use Rattle.dbl_runs.proofs.offsets.print_offset.Goals as goal
 
 pub returns-in-Ok-clause-told : goal.returns-in-Ok-clause-told
@@ -29,3 +29,9 @@ returns-in-Err-clause-kinds g c = inr (inr c.in-Err.ensures.kinds)
 
 pub returns-in-Err-clause-output_failed : goal.returns-in-Err-clause-output_failed
 returns-in-Err-clause-output_failed g c = λ e. absurd (no_output Offsets c.in-Err.field-0.error c.in-Err.ensures.kinds (err_one c.in-Err.field-0.error _ e))
+
+pub returns-in-Ok-clause-stable : goal.returns-in-Ok-clause-stable
+returns-in-Ok-clause-stable g c = λ other. subst (λ d. IsSynced g.D.Disk.seen g.D.Disk.may_leave c.args.disk d) (sym c.into_disk.ensures) c.in-Ok.ensures.stable
+
+pub returns-in-Err-clause-stable : goal.returns-in-Err-clause-stable
+returns-in-Err-clause-stable g c = λ other. c.in-Err.ensures.stable (λ e. other (ap failed_with e))

@@ -16,3 +16,6 @@ pub returns-in-Err-clause-keeps : goal.returns-in-Err-clause-keeps
 returns-in-Err-clause-keeps g c =
     keeps_failed g.D.Disk.seen g.D.Disk.may_leave g.D.Disk.faults _ c.args.disk c.in-Err.field-0.disk c.in-Err.ensures.seen c.in-Err.ensures.images c.in-Err.ensures.later
     (λ f. c.in-Err.ensures.failed (offset_failed c.in-Err.field-0.error c.from.result c.from.ensures f)) (λ n. c.in-Err.ensures.steady (λ e. n (offset_tells c.in-Err.field-0.error c.from.result c.from.ensures e)))
+
+pub returns-in-Err-clause-stable : goal.returns-in-Err-clause-stable
+returns-in-Err-clause-stable g c = λ other bytes told. c.in-Err.ensures.stable bytes told (λ e. other (offset_tells c.in-Err.field-0.error c.from.result c.from.ensures e))

@@ -4,6 +4,7 @@ use Rattle.dbl_runs.specs.declared.error.RunError.TheVariants.{Failed}
 use Rattle.dbl_runs.specs.declared.error.Store.TheVariants.{Topics}
 use Rattle.dbl_runs.proofs.ErrorLaws.{group_cut, topic_failed, topic_kind, topic_tells}
 use Rattle.dbl_runs.proofs.Kept.{err_one, failed_with, keeps_failed, keeps_never, keeps_read, keeps_told}
+use Rattle.dbl_runs.proofs.Opened.{group_behind}
 use Rattle.dbl_runs.proofs.opening.read_group.Goals as goal
 
 pub returns-in-Err-clause-cut : goal.returns-in-Err-clause-cut
@@ -24,3 +25,6 @@ returns-in-Err-clause-keeps g c =
     (keeps_failed g.D.Disk.seen g.D.Disk.may_leave g.D.Disk.faults _ _ _ c.in-Err.ensures.seen (λ image may. (c.in-Err.ensures.images image).0 may) c.in-Err.ensures.later
     (λ f. c.in-Err.ensures.failed (ap (λ (x : TopicError). failed_with x) (topic_failed c.in-Err.error c.from.result c.from.ensures f)))
     (λ n. c.in-Err.ensures.steady (λ e. n (topic_tells c.in-Err.error c.from.result c.from.ensures (err_one c.in-Err.error _ e)))))
+
+pub returns-in-Err-clause-a_store : goal.returns-in-Err-clause-a_store
+returns-in-Err-clause-a_store g c = group_behind c.in-Err.error c.from.result c.args.number c.from.ensures c.in-Err.ensures.errors

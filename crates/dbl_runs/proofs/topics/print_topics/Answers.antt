@@ -1,9 +1,12 @@
-use Rattle.std.proofs.Common.{inr}
+use Rattle.std.proofs.Common.{ap, subst, sym, inr}
+use Rattle.dbl_runs.specs.Answers.{topic_lines}
+use Rattle.dbl_runs.specs.Ends.{IsSynced}
 use Rattle.dbl_runs.specs.declared.error.RunError.TheVariants.{Failed}
 use Rattle.dbl_runs.specs.declared.error.Store.TheVariants.{Topics}
 use Rattle.dbl_runs.proofs.Answering.{no_topics_run, topics_run}
 use Rattle.dbl_runs.proofs.ErrorLaws.{no_output}
-use Rattle.dbl_runs.proofs.Kept.{err_one, keeps_told}
+use Rattle.dbl_runs.proofs.Kept.{err_one, failed_with, keeps_told}
+use Rattle.dbl_runs.proofs.Opened.{refusal_first, synced_then}
 use Rattle.dbl_runs.proofs.topics.print_topics.Goals as goal
 
 pub returns-in-Ok-clause-told : goal.returns-in-Ok-clause-told
@@ -22,3 +25,15 @@ returns-in-Err-clause-kinds g c = inr c.in-Err.ensures.kinds
 
 pub returns-in-Err-clause-output_failed : goal.returns-in-Err-clause-output_failed
 returns-in-Err-clause-output_failed g c = λ e. absurd (no_output Topics c.in-Err.field-0.error c.in-Err.ensures.kinds (err_one c.in-Err.field-0.error _ e))
+
+pub returns-in-Ok-clause-stable : goal.returns-in-Ok-clause-stable
+returns-in-Ok-clause-stable g c = λ other.
+    subst (λ d. IsSynced g.D.Disk.seen g.D.Disk.may_leave c.args.disk d) (sym c.into_disk.ensures) (synced_then g.D.Disk.seen g.D.Disk.may_leave g.D.Disk.faults _ _ _ _ c.in-Ok.ensures.stable c.put_groups-end.ensures.keeps)
+
+pub returns-in-Err-clause-stable : goal.returns-in-Err-clause-stable
+returns-in-Err-clause-stable g c = λ other. c.in-Err.ensures.stable (λ e. other (ap failed_with e))
+
+pub returns-in-Ok-clause-unwritten : goal.returns-in-Ok-clause-unwritten
+returns-in-Ok-clause-unwritten g c bytes told =
+    let opened = c.in-Ok.ensures.opened bytes told in
+    refusal_first _ (topic_lines opened.0) c.put_groups-end.result _ _ (c.put_groups-end.ensures.told opened.0 opened.2)

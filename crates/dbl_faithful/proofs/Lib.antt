@@ -12,3 +12,4 @@ pub mod Reached
 pub mod CaughtUp
 pub mod Words
 pub mod TornWindows
+pub mod TornExample

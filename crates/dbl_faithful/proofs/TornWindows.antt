@@ -13,7 +13,7 @@ use Rattle.dbl_table.specs.declared.change.Change.TheVariants.{Insert}
 use Rattle.dbl_table.specs.declared.change.Commit.{Commit}
 use Rattle.dbl_table.specs.Infos.{key_places}
 use Rattle.dbl_table.specs.Keys.{key_at}
-use Rattle.dbl_table.specs.Rows.{IsWholeFor, no_rows, rows_from, rows_at, changes_of, all_changes, moment_at}
+use Rattle.dbl_table.specs.Rows.{IsWholeFor, Rows, no_rows, rows_from, rows_at, changes_of, all_changes, moment_at}
 use Rattle.dbl_history.specs.Fit.{IsFitInsert, IsFit, AreFit}
 use Rattle.dbl_history.specs.History.{AreRising}
 use Rattle.dbl_history.specs.Image.{texts_of}
@@ -159,7 +159,7 @@ module _ (identity : Identity) (infos : List TableInfo) (commits : List Commit) 
           → rows_at infos (all_changes commits) s torn.table (key_at (key_places infos torn.table) torn.row.cells) ≡ None
       by None is fit_here = elim fit_here [ ]
       by (Some info) is fit_here =
-          ap (λ (at : _). at torn.table (key_at (key_places infos torn.table) torn.row.cells)) rows_are
+          ap (λ (at : Rows). at torn.table (key_at (key_places infos torn.table) torn.row.cells)) rows_are
           ∙ (ap (λ (o : Option TableInfo). rows_from infos no_rows (all_changes torn.before) torn.table (key_at (unwrap_or (option_map (λ (i : TableInfo). i.key) o) []) torn.row.cells)) is ∙ fit_here.absent)
 
   touched_gone : (e table : ℕ) (key : Key) (column : List ℕ) → e ≡ s + 1 → IsTouched infos (all_changes commits) s e table key → Occurs (source_cell infos (all_changes commits) table key column) s e None

@@ -48,7 +48,8 @@ pub record IsTornWindow (identity : Identity) (infos : List TableInfo) (commits 
   pub is_high : IsHighMark mark
   pub above : Option Key
   pub closed : Closed
-  pub right : IsRightWindow infos (all_changes commits) (moment_after (before ++ low ∷ [])) (moment_after (before ++ low ∷ late ∷ [])) above closed
+  pub right : IsRightWindow infos (all_changes commits) (moment_after (before ++ low ∷ []))
+      (moment_after (before ++ low ∷ late ∷ [])) above closed
   pub now : ℤ
   pub in_range : IsMomentInRange now
   pub snapshot : List Record
@@ -76,4 +77,5 @@ TornWindowsAreSpoilt = (identity : Identity) (infos : List TableInfo) (commits :
     (records : List Record)
     → AreFitCommits infos commits → IsTornWindow identity infos commits start late records
     → MeetsAllElse identity infos commits start records
-    × ((item : Record) → IsAmong identity (told_of infos late) item → IsLogExact identity infos commits start (records ++ item ∷ []) → ⊥)
+    × ((item : Record) → IsAmong identity (told_of infos late) item
+    → IsLogExact identity infos commits start (records ++ item ∷ []) → ⊥)

@@ -23,7 +23,8 @@ NewsAreFresh = (records : List Record) (item : Record) → ((number : ℕ) × (s
 
 -- a later one of them has a greater place, so they stand in order, each once
 abbrev pub NewsRise : Type 0
-NewsRise = (records : List Record) (i j : ℕ) (a b : Record) → i < j → slice_get (news records) i ≡ Some a → slice_get (news records) j ≡ Some b
+NewsRise = (records : List Record) (i j : ℕ) (a b : Record)
+    → i < j → slice_get (news records) i ≡ Some a → slice_get (news records) j ≡ Some b
     → IsBefore (place_of a) (place_of b)
 
 -- a log has one number of events

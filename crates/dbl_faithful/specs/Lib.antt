@@ -8,3 +8,4 @@ pub mod RightSnapshots
 pub mod CaughtUp
 pub mod CaughtUpLaws
 pub mod Controls
+pub mod TornExample

@@ -18,7 +18,7 @@ pub use log_laws::{
     cells_miss_empty_rows, complete_logs_are_images, done_logs_are_images, done_logs_have_images,
     exact_logs_have_one_count, gaps_spoil_exact_logs, news_are_fresh, news_rise,
     positions_end_once, repeats_are_earlier, snapshot_rows_overwrite_nothing,
-    torn_windows_are_spoilt,
+    torn_windows_are_spoilt, torn_windows_stand,
 };
 pub use step_laws::{
     all_prints_are_caught, commits_are_caught, earlier_moments_are_caught,

@@ -2,6 +2,7 @@
 ghost use Rattle.dbl_faithful.specs.Controls.{CellsMissEmptyRows, TornWindowsAreSpoilt};
 ghost use Rattle.dbl_faithful.specs.ExactLaws.{NewsAreFresh, NewsRise, ExactLogsHaveOneCount, RepeatsAreEarlier, GapsSpoilExactLogs};
 ghost use Rattle.dbl_faithful.specs.CaughtUpLaws.{PositionsEndOnce, SnapshotRowsOverwriteNothing, DoneLogsAreImages, DoneLogsHaveImages, CompleteLogsAreImages};
+ghost use Rattle.dbl_faithful.specs.TornExample.{TornWindowsStand};
 
 /// The news of a log are its fresh records of changes.
 pub fn news_are_fresh()
@@ -59,8 +60,13 @@ pub fn cells_miss_empty_rows()
     ensures { CellsMissEmptyRows }
 {}
 
-/// A log that has a row of a window and lacks an event before it meets all else that stores ask of it, and
-/// delivering that event spoils it.
+/// A log that has a row of a window and lacks an event before it can meet all else that stores ask
+/// of it, and delivering that event spoils it.
 pub fn torn_windows_are_spoilt()
     ensures { TornWindowsAreSpoilt }
+{}
+
+/// There is such a log.
+pub fn torn_windows_stand()
+    ensures { TornWindowsStand }
 {}

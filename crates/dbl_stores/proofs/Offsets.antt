@@ -1,21 +1,29 @@
 -- Offsets as records are appended, positions are confirmed and sessions follow each other.
-use Rattle.std.proofs.Common.{◌≡◌, ◌∙◌, inl, inr, ◌≤◌, ℕ, List, ◌++◌, sym, ap, subst, le_trans}
+use Rattle.std.proofs.Common.{◌≡◌, ◌∙◌, inl, inr, ◌≤◌, ◌<◌, ℕ, true, List, ◌++◌, Some, sym, ap, subst, arith, le_trans}
+use Rattle.std.specs.Prelude.{nat_lt, slice_get}
+use Rattle.std.proofs.lemmas.Bool.Decides.{Decides-ltb}
 use Rattle.dbl_base.specs.declared.lsn.Lsn.{Lsn}
 use Rattle.dbl_record.specs.declared.record.Record.{Record}
+use Rattle.dbl_table.specs.declared.change.Commit.{Commit}
+use Rattle.dbl_table.specs.declared.identity.Identity.{Identity}
 use Rattle.dbl_table.specs.declared.table.TableInfo.{TableInfo}
-use Rattle.dbl_history.specs.declared.cursor.Cursor.{Cursor}
-use Rattle.dbl_history.specs.History.{RawBody, RawCommit, History}
 use Rattle.dbl_history.specs.History.RawBody.{Changes, Mark}
+use Rattle.dbl_history.specs.History.{RawBody, RawCommit, History}
+use Rattle.dbl_history.specs.declared.cursor.Cursor.{Cursor}
 use Rattle.dbl_offset.specs.declared.offset.Offset.{Offset}
+use Rattle.dbl_faithful.specs.ToldEvents.{ToldEvent, commits_behind, told_behind}
 use Rattle.dbl_faithful.proofs.Exact.{put_more}
-use Rattle.dbl_faithful.proofs.Items.{at_left, all_weaker, zip_weaker}
+use Rattle.dbl_faithful.proofs.Items.{at_left, at_all, all_weaker, zip_weaker}
+use Rattle.dbl_faithful.proofs.RightSnapshots.{event_position}
+use Rattle.dbl_faithful.proofs.Told.{told_at}
 use Rattle.dbl_stores.specs.Behind.{IsRightCursor, IsMarkedBy, IsOffsetOf}
-use Rattle.dbl_stores.specs.Faithful.{IsFaithfulTo}
-use Rattle.dbl_stores.specs.Kept.{IsTakenOver, MoreRecordsKeepOffsets, ConfirmsStayFaithful, LaterSessionsStayFaithful}
+use Rattle.dbl_stores.specs.Faithful.{commits_of, IsFaithfulTo}
+use Rattle.dbl_stores.specs.Kept.{IsTakenOver, MoreRecordsKeepOffsets, StartOffsetsAreBehind, ConfirmsStayFaithful, LaterSessionsStayFaithful}
+use Rattle.dbl_stores.proofs.Onward.{passing}
 
 -- ---- more records
 
-more_told : (identity : _) (records more : List Record) (lsn : ℕ) (info : TableInfo) (cursor : Cursor) → IsRightCursor identity records lsn info cursor → IsRightCursor identity (records ++ more) lsn info cursor
+more_told : (identity : Identity) (records more : List Record) (lsn : ℕ) (info : TableInfo) (cursor : Cursor) → IsRightCursor identity records lsn info cursor → IsRightCursor identity (records ++ more) lsn info cursor
 more_told identity records more lsn info cursor (inl unread) = inl unread
 more_told identity records more lsn info cursor (inr told) =
     inr (record { place = told.place; item = told.item; stands = at_left records more told.place told.item told.stands; tells = told.tells; not_after = told.not_after })
@@ -41,6 +49,22 @@ more_records_keep_offsets history confirmed records more offset = (
   },
 )
 
+-- ---- at the start
+
+never_both : (a b c : ℕ) → a < b → b ≤ c → c ≡ a → ⊥
+never_both a b c lt le e = omega (arith, lt, le, e)
+
+pub start_offsets_are_behind : StartOffsetsAreBehind
+start_offsets_are_behind history confirmed records offset same is = record { offset_is = is; put = λ number t at le. absurd (none_told number t at le) }
+  where
+    none_told : (number : ℕ) (t : ToldEvent) → slice_get (told_behind offset.infos offset.start.0 (commits_of history offset)) number ≡ Some t → t.event.position ≤ offset.lsn.0 → ⊥
+    none_told number t at le =
+        let found = told_at offset.infos (commits_behind offset.start.0 (commits_of history offset)) number t at in
+        let passes : nat_lt offset.start.0 t.commit.lsn.0 ≡ true =
+        at_all (λ (c : Commit). nat_lt offset.start.0 c.lsn.0 ≡ true) (commits_behind offset.start.0 (commits_of history offset)) found.place t.commit (passing (λ (c : Commit). nat_lt offset.start.0 c.lsn.0) (commits_of history offset)) found.commit_at in
+        let low : t.commit.lsn.0 ≤ offset.lsn.0 = subst (λ (p : ℕ). p ≤ offset.lsn.0) (event_position offset.infos (commits_behind offset.start.0 (commits_of history offset)) t found) le in
+        never_both offset.start.0 t.commit.lsn.0 offset.lsn.0 ((Decides-ltb offset.start.0 t.commit.lsn.0).0 passes) low same
+
 -- ---- confirming
 
 confirmed_offset : (history : History) (confirmed next : Lsn) (records : List Record) (offset : Offset) → next.0 ≤ offset.lsn.0 → IsOffsetOf history confirmed records offset → IsOffsetOf history next records offset
@@ -64,7 +88,7 @@ raised offset incarnation end = record { identity = offset.identity; incarnation
 
 is_raised : (old new : Offset) → IsTakenOver old new → new ≡ raised old new.incarnation new.end_lsn
 is_raised old new over =
-    ap (λ (x : _). record { identity = x; incarnation = new.incarnation; start = new.start; lsn = new.lsn; end_lsn = new.end_lsn; infos = new.infos; cursors = new.cursors }) over.identity
+    ap (λ (x : Identity). record { identity = x; incarnation = new.incarnation; start = new.start; lsn = new.lsn; end_lsn = new.end_lsn; infos = new.infos; cursors = new.cursors }) over.identity
     ∙ (ap (λ (x : Lsn). record { identity = old.identity; incarnation = new.incarnation; start = x; lsn = new.lsn; end_lsn = new.end_lsn; infos = new.infos; cursors = new.cursors }) over.start
     ∙ (ap (λ (x : Lsn). record { identity = old.identity; incarnation = new.incarnation; start = old.start; lsn = x; end_lsn = new.end_lsn; infos = new.infos; cursors = new.cursors }) over.lsn
     ∙ (ap (λ (x : List TableInfo). record { identity = old.identity; incarnation = new.incarnation; start = old.start; lsn = old.lsn; end_lsn = new.end_lsn; infos = x; cursors = new.cursors }) over.infos

@@ -69,7 +69,7 @@ rise_by_place (r ∷ rs) before = (
 )
 
 -- what a filter leaves passes it
-passing : (p : Commit → Bool) (commits : List Commit) → AllByRecursion (λ c. p c ≡ true) (filter p commits)
+pub passing : (p : Commit → Bool) (commits : List Commit) → AllByRecursion (λ c. p c ≡ true) (filter p commits)
 passing p [] = tt
 passing p (c ∷ commits) = by (passing p commits) (p c) refl
   where

@@ -45,6 +45,11 @@ MoreRecordsKeepOffsets = (history : History) (confirmed : Lsn) (records more : L
     → (IsOffsetOf history confirmed records offset → IsOffsetOf history confirmed (records ++ more) offset)
     × (IsBehind history confirmed records offset → IsBehind history confirmed (records ++ more) offset)
 
+-- An offset whose LSN is its start asks of the log no event at all.
+abbrev pub StartOffsetsAreBehind : Type 0
+StartOffsetsAreBehind = (history : History) (confirmed : Lsn) (records : List Record) (offset : Offset)
+    → offset.lsn.0 ≡ offset.start.0 → IsOffsetOf history confirmed records offset → IsBehind history confirmed records offset
+
 -- ---- confirming
 
 -- A position that isn't behind the LSN may be confirmed.

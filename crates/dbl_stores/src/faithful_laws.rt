@@ -27,8 +27,8 @@ pub fn first_offsets_are_faithful()
     ensures { FirstOffsetsAreFaithful }
 {}
 
-/// Once every snapshot is done and the log reaches no further than the offset, a consumer holds the source's
-/// tables as they are there.
+/// Once every snapshot is done and the log reaches no further than the offset, a consumer holds the
+/// source's tables as they are there.
 pub fn complete_stores_are_images()
     ensures { CompleteStoresAreImages }
 {}

@@ -1,5 +1,5 @@
 //! What keeps stores faithful beside a session's records.
-ghost use Rattle.dbl_stores.specs.Kept.{LongerHistoriesStayFaithful, LongerHistoriesKeepOffsets, MoreRecordsKeepOffsets, ConfirmsStayFaithful, LaterSessionsStayFaithful};
+ghost use Rattle.dbl_stores.specs.Kept.{LongerHistoriesStayFaithful, LongerHistoriesKeepOffsets, MoreRecordsKeepOffsets, StartOffsetsAreBehind, ConfirmsStayFaithful, LaterSessionsStayFaithful};
 
 /// A history that grew keeps stores faithful, also where no offset is stored.
 pub fn longer_histories_stay_faithful()
@@ -14,6 +14,11 @@ pub fn longer_histories_keep_offsets()
 /// So do records that are appended.
 pub fn more_records_keep_offsets()
     ensures { MoreRecordsKeepOffsets }
+{}
+
+/// An offset at its start is behind each log.
+pub fn start_offsets_are_behind()
+    ensures { StartOffsetsAreBehind }
 {}
 
 /// Confirming a position that isn't behind the offset keeps stores faithful.

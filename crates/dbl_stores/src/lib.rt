@@ -12,7 +12,7 @@ pub use faithful_laws::{
 };
 pub use kept_laws::{
     confirms_stay_faithful, later_sessions_stay_faithful, longer_histories_keep_offsets,
-    longer_histories_stay_faithful, more_records_keep_offsets,
+    longer_histories_stay_faithful, more_records_keep_offsets, start_offsets_are_behind,
 };
 pub use onward_laws::{
     adds_are_one, adds_go_on, sent_records_rise, stores_stay_onward, windows_rise,

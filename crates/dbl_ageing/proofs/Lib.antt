@@ -12,6 +12,7 @@ pub mod Events
 pub mod Deliver
 pub mod Changes
 pub mod Snapshot
+pub mod Between
 pub mod Rows
 pub mod Named
 pub mod PlainLemmas

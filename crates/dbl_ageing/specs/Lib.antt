@@ -5,5 +5,6 @@ pub mod Ages
 pub mod Windows
 pub mod ChangeLaws
 pub mod SnapshotLaws
+pub mod SessionAges
 pub mod RowLaws
 pub mod PlainAges

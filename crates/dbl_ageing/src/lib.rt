@@ -5,6 +5,7 @@ mod laws;
 mod moment_laws;
 mod plain_ages;
 mod row_laws;
+mod session_laws;
 
 pub use laws::{
     age_goes_back, age_stays_as_histories_grow, aged_cells_agree, aged_records_agree,
@@ -20,4 +21,7 @@ pub use row_laws::{
     events_keep_names, known_cells_were_so, lacked_rows_were_absent, no_records_are_named,
     records_of_histories_agree, records_of_histories_are_named, snapshots_keep_names,
     unknown_rows_were_there,
+};
+pub use session_laws::{
+    parts_of_commits_keep_ages, parts_of_snapshots_keep_ages, records_of_a_change_keep_ages,
 };

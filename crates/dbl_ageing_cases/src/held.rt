@@ -22,7 +22,7 @@ use std::fmt::Write;
 
 // A cell that is asked of.
 #[derive(Drop)]
-struct Asked {
+struct Question {
     from: u64,
     to: u64,
     table: u32,
@@ -44,10 +44,10 @@ fn end_of(alloc: Global, source: &Source, held: &Held, from: u64, to: &str) -> R
     Ok(span_end(alloc, infos, commits, source.start, &held.records, from)?)
 }
 
-fn asked(alloc: Global, source: &Source, held: &Held, fields: &str) -> Result<Asked> {
+fn asked(alloc: Global, source: &Source, held: &Held, fields: &str) -> Result<Question> {
     let from = words::field(fields, 0).parse::<u64>()?;
     let (table, id) = words::table_of(words::field(fields, 2));
-    Ok(Asked {
+    Ok(Question {
         from,
         to: end_of(alloc, source, held, from, words::field(fields, 1))?,
         table,
@@ -58,7 +58,7 @@ fn asked(alloc: Global, source: &Source, held: &Held, fields: &str) -> Result<As
 }
 
 // Whether the key is known at the span's end.
-fn known(alloc: Global, source: &Source, held: &Held, asked: &Asked) -> Result<bool> {
+fn known(alloc: Global, source: &Source, held: &Held, asked: &Question) -> Result<bool> {
     let log = Log {
         identity: &source.identity,
         infos: &source.infos,
@@ -66,12 +66,20 @@ fn known(alloc: Global, source: &Source, held: &Held, asked: &Asked) -> Result<b
         said: &held.said,
     };
     let (commits, start) = (&source.commits, source.start);
-    is_known(alloc, &log, commits, start, asked.to, asked.table, &asked.key)?
-        .context("a progress record says what isn't listed")
+    is_known(
+        alloc,
+        &log,
+        commits,
+        start,
+        asked.to,
+        asked.table,
+        &asked.key,
+    )?
+    .context("a progress record says what isn't listed")
 }
 
 // The cell's texts at the moments up to the span's end.
-fn life(alloc: Global, source: &Source, asked: &Asked) -> Result<Vec<Option<Text>>> {
+fn life(alloc: Global, source: &Source, asked: &Question) -> Result<Vec<Option<Text>>> {
     let infos = &source.infos;
     let commits = &source.commits;
     let end = asked.to.checked_add(1).context("no such moment")?;
@@ -102,7 +110,7 @@ fn shown(cell: Option<&HeldCell>) -> &str {
 fn is_aged(
     alloc: Global,
     source: &Source,
-    asked: &Asked,
+    asked: &Question,
     known: bool,
     cell: Option<&HeldCell>,
 ) -> Result<bool> {

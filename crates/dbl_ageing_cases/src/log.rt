@@ -8,9 +8,9 @@
 
 use crate::source::Source;
 use crate::{source, words};
-use anyhow::Result;
+use anyhow::{Result, bail};
 use dbl_base::Text;
-use dbl_consume::Consumer;
+use dbl_consume::{ConsumeError, Consumer};
 use dbl_event::plain_envelopes;
 use dbl_history::Cursor;
 use dbl_record::Record;
@@ -47,7 +47,10 @@ fn text_or_null(alloc: Global, text: &Option<Text>) -> Result<Text> {
 fn deliver(alloc: Global, held: &mut Held, record: Record) -> Result<()> {
     let key = text_or_null(alloc, &record.key)?;
     let value = text_or_null(alloc, &record.value)?;
-    held.consumer.apply(&record.topic, &key, &value)?;
+    if let Err(ConsumeError::Memory) = held.consumer.apply(&record.topic, &key, &value) {
+        bail!("out of memory");
+    }
+    // A record that is refused changes nothing that is held, and stands in the log as well.
     held.records.push(record)?;
     Ok(())
 }
@@ -112,14 +115,26 @@ fn put(alloc: Global, held: &mut Held, record: &str) -> Result<()> {
     let (table, texts) = words::table_of(record);
     let (key, value) = words::first(texts);
     let topic = topic(alloc, table)?;
-    deliver_by_hand(alloc, held, topic, Text::of(alloc, key)?, Text::of(alloc, value)?)
+    deliver_by_hand(
+        alloc,
+        held,
+        topic,
+        Text::of(alloc, key)?,
+        Text::of(alloc, value)?,
+    )
 }
 
 fn put_anywhere(alloc: Global, held: &mut Held, record: &str) -> Result<()> {
     let (topic, texts) = words::first(record);
     let (key, value) = words::first(texts);
     let topic = Text::of(alloc, topic)?;
-    deliver_by_hand(alloc, held, topic, Text::of(alloc, key)?, Text::of(alloc, value)?)
+    deliver_by_hand(
+        alloc,
+        held,
+        topic,
+        Text::of(alloc, key)?,
+        Text::of(alloc, value)?,
+    )
 }
 
 // The texts of a progress record, as a reader of the log sees them.

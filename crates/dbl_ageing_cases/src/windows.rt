@@ -4,9 +4,8 @@
 //!   one that it read, or `-`, whether the table was read to its end, and its rows, or nothing.
 //! - `right/1`: whether the window is right as far as this key goes.
 
-use crate::source;
 use crate::source::Source;
-use crate::words;
+use crate::{source, words};
 use anyhow::{Context, Result};
 use dbl_ages::{Window, is_right_at};
 use dbl_event::{Closed, KeyedRows};

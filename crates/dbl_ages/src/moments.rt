@@ -18,7 +18,8 @@ fn update_count(
     from: &Key,
     cells: &Seq<Cell>,
 ) -> Result<u64, AllocError>
-    ensures { IfOk result (λ count. count ≡ (if same_key from.now (new_key_of info.now cells.now) then 1 else 3)) }
+    ensures { IfOk result (λ count. count
+        ≡ (if same_key from.now (new_key_of info.now cells.now) then 1 else 3)) }
 {
     let row = given_or_nulls(alloc, cells)?;
     let to = key_at(alloc, info.key.items().as_slice(), &row)?;
@@ -30,7 +31,8 @@ fn update_count(
 
 // How many events a change of a table tells.
 fn count_of(alloc: Global, info: &TableInfo, change: &Change) -> Result<u64, AllocError>
-    ensures { IfOk result (λ count. count ≡ length (change_notices (table_of change.now) info.now change.now)) }
+    ensures { IfOk result (λ count. count
+        ≡ length (change_notices (table_of change.now) info.now change.now)) }
 {
     match change {
         Change::Insert { table: _, row: _ } => Ok(1),
@@ -50,11 +52,7 @@ fn count_of(alloc: Global, info: &TableInfo, change: &Change) -> Result<u64, All
 }
 
 // How many a change tells, which is none where its table isn't captured.
-fn event_count(
-    alloc: Global,
-    infos: &Vec<TableInfo>,
-    change: &Change,
-) -> Result<u64, AllocError>
+fn event_count(alloc: Global, infos: &Vec<TableInfo>, change: &Change) -> Result<u64, AllocError>
     ensures { IfOk result (λ count. count ≡ length (notices infos.now.items change.now)) }
 {
     match infos.get(change.table() as usize) {
@@ -88,7 +86,8 @@ fn commit_through(
     commit: &Commit,
     ordinal: u64,
 ) -> Result<u64, AllocError>
-    ensures { IfOk result (λ count. count ≡ changes_through infos.now.items (changes_of commit.now) ordinal) }
+    ensures { IfOk result (λ count. count
+        ≡ changes_through infos.now.items (changes_of commit.now) ordinal) }
 {
     match &commit.body {
         Body::Changes(changes) => changes_through(alloc, infos, changes, ordinal),
@@ -158,7 +157,8 @@ pub fn span_end(
     from: u64,
 ) -> Result<u64, AllocError>
     ensures { IfOk result (λ end. end
-        ≡ min (span_end infos.now.items commits.now.items start records.now.items from) (2 ^ 64 - 1)) }
+        ≡ min (span_end infos.now.items commits.now.items start records.now.items from)
+        (2 ^ 64 - 1)) }
 {
     let far = reach(alloc, infos, commits, start, records)?;
     Ok(from.max(far))

@@ -99,8 +99,8 @@ pub fn is_named_at(
     key: &Key,
 ) -> Result<bool, AllocError>
     ensures { IfOk result (λ named. Decides named
-        (IsNamedAt identity.now infos.now.items held.now.topic.now held.now.text.now held.now.row.now.entries
-        table key.now)) }
+        (IsNamedAt identity.now infos.now.items held.now.topic.now held.now.text.now
+        held.now.row.now.entries table key.now)) }
 {
     match infos.get(table as usize) {
         Some(info) => is_named_in(alloc, identity, info, held, key),

@@ -167,7 +167,8 @@ fn is_told_in(
 ) -> Result<Option<bool>, AllocError>
     ensures { IfOk result (λ told. Tests told
         (IsToldIn log.now.identity.now info.now log.now.records.now.items key.now)
-        (AreUnlistedOf log.now.identity.now info.now log.now.records.now.items log.now.said.now.items)) }
+        (AreUnlistedOf log.now.identity.now info.now log.now.records.now.items
+        log.now.said.now.items)) }
 {
     for item in log.records {
         let Some(told) = is_told_by(alloc, log, info, item, key)? else {
@@ -188,7 +189,8 @@ pub fn is_told(
     key: &Key,
 ) -> Result<Option<bool>, AllocError>
     ensures { IfOk result (λ told. Tests told
-        (IsTold log.now.identity.now log.now.infos.now.items log.now.records.now.items table key.now)
+        (IsTold log.now.identity.now log.now.infos.now.items log.now.records.now.items table
+        key.now)
         (AreUnlisted log.now.identity.now log.now.infos.now.items log.now.records.now.items
         log.now.said.now.items table)) }
 {

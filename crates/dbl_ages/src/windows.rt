@@ -38,7 +38,8 @@ fn is_above(bound: &Option<Key>, key: &Key) -> bool
 }
 
 fn is_in_range(window: &Window<'_>, info: &TableInfo, key: &Key) -> bool
-    ensures { Decides result (IsInRange info.now window.now.above.now window.now.closed.now key.now) }
+    ensures { Decides result
+        (IsInRange info.now window.now.above.now window.now.closed.now key.now) }
 {
     key_fits(info, key)
         && is_above(window.above, key)
@@ -48,7 +49,8 @@ fn is_in_range(window: &Window<'_>, info: &TableInfo, key: &Key) -> bool
 // Whether the source has no row at the window's high mark.
 fn is_absent(alloc: Global, window: &Window<'_>, key: &Key) -> Result<bool, AllocError>
     ensures { IfOk result (λ absent. Decides absent
-        (rows window.now.infos.now.items window.now.commits.now.items window.now.high window.now.closed.now.table key.now ≡ None)) }
+        (rows window.now.infos.now.items window.now.commits.now.items window.now.high
+        window.now.closed.now.table key.now ≡ None)) }
 {
     let table = window.closed.table;
     let row = row_at(alloc, window.infos, window.commits, window.high, table, key)?;
@@ -63,7 +65,12 @@ fn has_cells(alloc: Global, row: Option<Row>, wanted: &Row) -> Result<bool, Allo
     };
     let wanted = wanted.copy(alloc)?;
     let cells = Key { cells: row.cells };
-    Ok(is_same(&cells, &Key { cells: wanted.cells }))
+    Ok(is_same(
+        &cells,
+        &Key {
+            cells: wanted.cells,
+        },
+    ))
 }
 
 // Whether it has this row there.
@@ -74,7 +81,8 @@ fn is_present(
     wanted: &Row,
 ) -> Result<bool, AllocError>
     ensures { IfOk result (λ present. Decides present
-        (rows window.now.infos.now.items window.now.commits.now.items window.now.high window.now.closed.now.table key.now ≡ Some wanted.now.cells)) }
+        (rows window.now.infos.now.items window.now.commits.now.items window.now.high
+        window.now.closed.now.table key.now ≡ Some wanted.now.cells)) }
 {
     let table = window.closed.table;
     let row = row_at(alloc, window.infos, window.commits, window.high, table, key)?;
@@ -90,8 +98,8 @@ fn row_in<'a>(closed: &'a Closed, key: &Key) -> Option<&'a Row>
 fn is_missed_right(alloc: Global, window: &Window<'_>, key: &Key) -> Result<bool, AllocError>
     requires { row_in window.now.closed.now.rows key.now ≡ None }
     ensures { IfOk result (λ right. Decides right
-        (IsMissedRight window.now.infos.now.items (all_changes window.now.commits.now.items) window.now.low window.now.high
-        window.now.above.now window.now.closed.now key.now)) }
+        (IsMissedRight window.now.infos.now.items (all_changes window.now.commits.now.items)
+        window.now.low window.now.high window.now.above.now window.now.closed.now key.now)) }
 {
     let Some(info) = window.infos.get(window.closed.table as usize) else {
         return Ok(true);
@@ -112,8 +120,8 @@ fn is_missed_right(alloc: Global, window: &Window<'_>, key: &Key) -> Result<bool
 /// the key was touched between the marks or has no row at the high one.
 pub fn is_right_at(alloc: Global, window: &Window<'_>, key: &Key) -> Result<bool, AllocError>
     ensures { IfOk result (λ right. Decides right
-        (IsRightAt window.now.infos.now.items (all_changes window.now.commits.now.items) window.now.low window.now.high
-        window.now.above.now window.now.closed.now key.now)) }
+        (IsRightAt window.now.infos.now.items (all_changes window.now.commits.now.items)
+        window.now.low window.now.high window.now.above.now window.now.closed.now key.now)) }
 {
     match row_in(window.closed, key) {
         Some(row) => is_present(alloc, window, key, row),

@@ -27,5 +27,5 @@ returns-then-of c =
     record {
       of = c.in_ok-of.ensures.0 c.if-of.true;
       unlisted = none_at (λ (x : Cursor). Tells c.args.log.now.identity.now c.args.info.now c.args.item.now x.last x.done) c.args.log.now.said.now.items c.loop-cursor.cursor-index
-      (subst (λ (l : List Cursor). length l ≤ c.loop-cursor.cursor-index) said c.loop-cursor-test.false) c.loop-cursor.invariant;
+          (subst (λ (l : List Cursor). length l ≤ c.loop-cursor.cursor-index) said c.loop-cursor-test.false) c.loop-cursor.invariant;
     }

@@ -1,0 +1,59 @@
+-- What a session keeps of its records while it reads and delivers: they are aged at each moment from that of its stored offset to
+-- the one that it has delivered.
+use Rattle.std.specs.Prelude.{◌≡◌, ℕ, ℤ, ◌+◌, ◌≤◌, Option, None, List, [], ◌++◌, take, flat_map}
+use Rattle.std.specs.List.{AllByRecursion}
+use Rattle.dbl_record.specs.declared.record.Record.{Record}
+use Rattle.dbl_table.specs.declared.identity.Identity.{Identity}
+use Rattle.dbl_table.specs.declared.row.Key.{Key}
+use Rattle.dbl_table.specs.declared.table.TableInfo.{TableInfo}
+use Rattle.dbl_table.specs.declared.change.Commit.{Commit}
+use Rattle.dbl_event.specs.declared.closed.Closed.{Closed}
+use Rattle.dbl_table.specs.Rows.{changes_of, all_changes}
+use Rattle.dbl_history.specs.Ranges.{IsMomentInRange}
+use Rattle.dbl_event.specs.Clashes.{notice_clash, first_found, snapshot_clash}
+use Rattle.dbl_event.specs.Events.{notices}
+use Rattle.dbl_event.specs.EventJson.{envelopes}
+use Rattle.dbl_event.specs.SnapshotLists.{IsSnapshot}
+use Rattle.dbl_ageing.specs.Commits.{moment_after, IsNext}
+use Rattle.dbl_ageing.specs.Moments.{record_moment}
+use Rattle.dbl_ageing.specs.KnownKeys.{AreToldUpTo}
+use Rattle.dbl_ageing.specs.Ages.{IsAged}
+use Rattle.dbl_ageing.specs.Windows.{IsRightWindow}
+use Rattle.dbl_ageing.specs.ChangeLaws.{IsClearRecordOf}
+
+-- records are aged at each moment between two
+abbrev pub IsAgedBetween : Identity → List TableInfo → List Commit → ℕ → List Record → ℕ → ℕ → Type 0
+IsAgedBetween identity infos commits start records from to =
+    (moment : ℕ) → from ≤ moment → moment ≤ to → IsAged identity infos commits start records moment
+
+-- With any records of the change right behind the last of these moments they are still aged at all of them.
+abbrev pub RecordsOfAChangeKeepAges : Type 0
+RecordsOfAChangeKeepAges = (identity : Identity) (infos : List TableInfo)
+    (commits before : List Commit) (commit : Commit) (later : List Commit)
+    (start from to : ℕ) (records more : List Record)
+    → IsNext infos commits before commit later
+    → AllByRecursion (λ item. IsClearRecordOf identity infos commit item × (record_moment infos commits item ≡ to + 1)) more
+    → IsAgedBetween identity infos commits start records from to
+    → IsAgedBetween identity infos commits start (records ++ more) from to
+
+-- So they are with any prefix of a commit's records.
+abbrev pub PartsOfCommitsKeepAges : Type 0
+PartsOfCommitsKeepAges = (identity : Identity) (infos : List TableInfo)
+    (commits before : List Commit) (commit : Commit) (later : List Commit)
+    (start from : ℕ) (records : List Record) (now : ℤ) (n : ℕ)
+    → IsNext infos commits before commit later → IsMomentInRange now
+    → first_found (notice_clash identity.placeholder) (take n (flat_map (notices infos) (changes_of commit))) ≡ None
+    → IsAgedBetween identity infos commits start records from (moment_after before)
+    → IsAgedBetween identity infos commits start (records ++ take n (envelopes identity infos commit now)) from (moment_after before)
+
+-- And with any prefix of the records of a window that is right at its high mark, which the last of these moments is.
+abbrev pub PartsOfSnapshotsKeepAges : Type 0
+PartsOfSnapshotsKeepAges = (identity : Identity) (infos : List TableInfo)
+    (commits before : List Commit) (mark : Commit) (later : List Commit)
+    (start from low : ℕ) (above : Option Key) (closed : Closed) (records snapshot : List Record) (now : ℤ) (n : ℕ)
+    → IsNext infos commits before mark later → changes_of mark ≡ [] → IsMomentInRange now
+    → IsSnapshot identity infos closed mark now snapshot → snapshot_clash identity infos closed ≡ None
+    → IsRightWindow infos (all_changes commits) low (moment_after before) above closed
+    → start ≤ low → AreToldUpTo identity infos records closed.table above
+    → IsAgedBetween identity infos commits start records from (moment_after before)
+    → IsAgedBetween identity infos commits start (records ++ take n snapshot) from (moment_after before)

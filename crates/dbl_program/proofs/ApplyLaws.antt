@@ -1,5 +1,5 @@
 -- Bytes have one answer of `apply --lines`.
-use Rattle.std.proofs.Common.{◌≡◌, ◌∙◌, ℕ, true, List, map, sym, ap, arith}
+use Rattle.std.proofs.Common.{◌≡◌, ◌∙◌, ℕ, List, map, sym, ap, arith}
 use Rattle.dbl_base.specs.Lines.{lines_of}
 use Rattle.dbl_record.specs.Consumers.{consumer_of}
 use Rattle.dbl_consume.specs.Printing.{row_line}

@@ -1,7 +1,9 @@
 -- How a run of a command ends, and one over words.
 use Rattle.std.proofs.Common.{◌≡◌, ◌⊎◌, inl, inr, ◌∙◌, ℕ, ℤ, true, false, Option, List, refl, sym, ap, subst}
 use Rattle.dbl_base.specs.Lines.{lines_text}
+use Rattle.dbl_record.specs.declared.record.Record.{Record}
 use Rattle.dbl_table.specs.declared.table.TableKey.{TableKey}
+use Rattle.dbl_topic.specs.Logs.{IsLog}
 use Rattle.dbl_replay.specs.declared.options.ReplayOptions.{ReplayOptions}
 use Rattle.dbl_cli.specs.declared.commands.Command.{Command}
 use Rattle.dbl_cli.specs.declared.commands.Command.TheVariants as command
@@ -9,16 +11,17 @@ use Rattle.dbl_cli.specs.Commands.{Spells}
 use Rattle.dbl_cli.proofs.SayLemmas.{one_command}
 use Rattle.dbl_program.specs.declared.halt.Halt.TheVariants.{Usage, Memory}
 use Rattle.dbl_program.specs.Faults.{status_of, output_failed_status}
-use Rattle.dbl_program.specs.Run.{Answer, fault, MayEnd, whole, out_of_memory, Writes, Ends, Says, EndsAs, RunsReplaying, RunsApplying, FailsReading}
+use Rattle.dbl_program.specs.Run.{Answer, fault, whole, Writes, Ends, Says, EndsAs, RunsReplaying, RunsApplying, FailsReading}
 use Rattle.dbl_runs.specs.Answers.{Answer as StoreAnswer, AnswersTopics, AnswersOffsets, AnswersApply}
 use Rattle.dbl_runs.proofs.OnceLaws.{topics_once, offsets_once, apply_once}
 use Rattle.dbl_runs.specs.declared.error.Store.{Store}
 use Rattle.dbl_program.specs.Disks.{IsCutShort, EndsOrFails, IsAnswerOf, RunsStores, store_answer}
-use Rattle.dbl_program.specs.Means.{options_of, Given, Answers, Means, usage, spelled, Runs, RunsCommand, InputFails, reads, TellsInput, IsStatusOf}
+use Rattle.dbl_program.specs.Means.{opens_topics, FindsNoLog, options_of, Given, Answers, Means, usage, spelled, Runs, RunsCommand, InputFails, reads, TellsInput, IsStatusOf}
 use Rattle.dbl_program.proofs.ApplyLaws.{applies_one}
 use Rattle.dbl_program.proofs.ApplyRunLemmas.{memory_outside, memory_written, says_is}
 use Rattle.dbl_program.proofs.ReplayRunLemmas.{outside_no_answer}
 use Rattle.dbl_program.proofs.RunLemmas.{replays_one, says_ends, memory_ends, written_or_outside}
+use Rattle.dbl_program.proofs.StatusLemmas.{switched}
 
 -- ---- one answer
 
@@ -90,6 +93,16 @@ pub spelled_or_fails : (words : List (List ℕ)) (now : ℤ) (given : Given) (fa
 spelled_or_fails words now given failed was later status before after c spells (inl runs) = inl (spelled_runs words now given failed status before after c spells runs)
 spelled_or_fails words now given failed was later status before after c spells (inr fails) = inr (record { command = c; spells = spells; reading = fails.0; fails = fails.1 })
 
+-- a run in which fewer disks can have failed
+wider_ends : (few failed : Store → Type 0) → ((s : Store) → few s → failed s) → (answer : Answer) (status : ℕ) (before after : Option (List ℕ)) → EndsOrFails few answer status before after → EndsOrFails failed answer status before after
+wider_ends few failed wider answer status before after (inl ends) = inl ends
+wider_ends few failed wider answer status before after (inr fails) = inr (record { store = fails.store; cause = wider fails.store fails.cause; count = fails.count; writes = fails.writes })
+
+pub wider_or_fails : (c : Command) (now : ℤ) (given : Given) (few failed : Store → Type 0) (status : ℕ) (before after : Option (List ℕ)) (P : Type 0) → ((s : Store) → few s → failed s)
+    → RunsCommand c now given few status before after ⊎ P → RunsCommand c now given failed status before after ⊎ P
+wider_or_fails c now given few failed status before after P wider (inl runs) = inl (record { ended = λ answer answers. wider_ends few failed wider answer status before after (runs.ended answer answers); meant = runs.meant })
+wider_or_fails c now given few failed status before after P wider (inr fails) = inr fails
+
 -- what is said of the command that words spell holds of each that they spell
 pub as_spelled : (words : List (List ℕ)) (P : Command → Type 0) (c d : Command) → Spells words c → Spells words d → P c → P d
 as_spelled words P c d spells spells' p = subst P (one_command words c d spells spells') p
@@ -115,7 +128,7 @@ written_ends answer text status before after is writes = record {
 }
 
 -- want of memory is a status of every command, and tells nothing of the input
-cut_short : (status : ℕ) (before after : Option (List ℕ)) → Says Memory status before after → IsCutShort status
+pub cut_short : (status : ℕ) (before after : Option (List ℕ)) → Says Memory status before after → IsCutShort status
 cut_short status before after says = elim (says_is Memory status before after says) [ inl is ↦ inr is | inr outside ↦ outside ]
 
 pub memory_status : (c : Command) (status : ℕ) (before after : Option (List ℕ)) → Says Memory status before after → IsStatusOf c status
@@ -177,20 +190,25 @@ pub alone_command : (c d : Command) (now : ℤ) (given : Given) (failed : Store 
 alone_command c d now given failed answer status before after is answers ends =
     subst (λ (k : Command). RunsCommand k now given failed status before after) (sym is) (ends_command d now given failed answer status before after answers ends)
 
+-- the offset is told where the command reads it
+pub rows_offsets : (c : Command) (topics : List ℕ) (P : Type 0) → FindsNoLog c topics ⊎ P → ((groups : List (List Record)) → ¬ IsLog topics groups) ⊎ P
+rows_offsets c topics P (inl none) = inl none.1
+rows_offsets c topics P (inr told) = inr told
+
+pub offset_alone : (c : Command) (topics : List ℕ) (P : Type 0) → opens_topics c ≡ false → FindsNoLog c topics ⊎ P → P
+offset_alone c topics P shut (inl none) = absurd (switched (sym none.0 ∙ shut))
+offset_alone c topics P shut (inr told) = told
+
 -- a command over the stores, in which fewer disks can have failed
 pub stores_command : (c d : Command) (now : ℤ) (given : Given) (Told : StoreAnswer → Type 0) (few failed : Store → Type 0) (status : ℕ) (before after : Option (List ℕ)) → c ≡ d → ((s : Store) → few s → failed s)
     → ((answer : Answer) → Answers d now given answer → IsAnswerOf Told answer) → ((answer : Answer) → IsAnswerOf Told answer → Answers d now given answer)
     → RunsStores Told few status before after → RunsCommand c now given failed status before after
 stores_command c d now given Told few failed status before after is wider back forth runs = subst (λ (k : Command). RunsCommand k now given failed status before after) (sym is) spelled_out
   where
-    widened : (answer : Answer) → EndsOrFails few answer status before after → EndsOrFails failed answer status before after
-    widened answer (inl ends) = inl ends
-    widened answer (inr fails) = inr (record { store = fails.store; cause = wider fails.store fails.cause; count = fails.count; writes = fails.writes })
-
     ends : (answer : Answer) → Answers d now given answer → EndsOrFails failed answer status before after
     ends answer answers =
         let told = back answer answers in
-        subst (λ (a : Answer). EndsOrFails failed a status before after) (sym told.2) (widened (store_answer told.0) (runs.ended told.0 told.1))
+        subst (λ (a : Answer). EndsOrFails failed a status before after) (sym told.2) (wider_ends few failed wider (store_answer told.0) status before after (runs.ended told.0 told.1))
 
     spelled_out : RunsCommand d now given failed status before after
     spelled_out = record {

@@ -5,15 +5,15 @@ use Rattle.dbl_runs.specs.declared.error.RunError.{RunError}
 use Rattle.dbl_runs.specs.declared.error.RunError.TheVariants as error
 use Rattle.dbl_runs.specs.declared.error.Store.{Store}
 use Rattle.dbl_runs.specs.declared.error.Store.TheVariants as store
-use Rattle.dbl_runs.specs.Ends.{End, IsErrorOf}
+use Rattle.dbl_runs.specs.Ends.{End, HasOpenedOffset, IsErrorOf}
 use Rattle.dbl_runs.specs.Errors.{error_status}
 use Rattle.dbl_runs.proofs.ErrorLaws.{apart}
 use Rattle.dbl_program.specs.declared.halt.Halt.TheVariants.{InputFailed}
 use Rattle.dbl_program.specs.Faults.{status_of, output_failed_status}
 use Rattle.dbl_program.specs.Disks.{IsCutShort, Finishes, SaysError, offsets_status, topics_status}
-use Rattle.dbl_program.specs.Means.{IsOffsetsStatus, IsRowsStatus, IsTopicsStatus}
+use Rattle.dbl_program.specs.Means.{HasOpenedTopics, IsOffsetsStatus, IsRowsStatus, IsTopicsStatus}
 use Rattle.dbl_program.proofs.DiskLemmas.{rose_before, rose_behind}
-use Rattle.dbl_program.proofs.StatusLemmas.{cut_other, offsets_other, rows_other, topics_other}
+use Rattle.dbl_program.proofs.StatusLemmas.{cut_other, offsets_other, offsets_running, offsets_whole, rows_other, topics_other, topics_running, topics_whole}
 
 -- ---- the status of a command that was finished
 
@@ -144,6 +144,43 @@ fails_eight end status before after finishes is = elim (finished_code end status
 
 pub fails_nine : (end : End) (status : ℕ) (before after : Option (List ℕ)) → Finishes end status before after → end ≡ Err (error.Failed store.Offsets) → (status ≡ offsets_status) ⊎ IsCutShort status
 fails_nine end status before after finishes is = elim (finished_code end status before after finishes) [ inl same ↦ inl (same ∙ ap (λ (e : End). end_code e) is) | inr cut ↦ inr cut ]
+
+-- a disk that was opened, as the status tells, didn't fail
+pub opened_topics : (end : End) (status : ℕ) (before after : Option (List ℕ)) → Finishes end status before after → HasOpenedTopics status → end ≡ Err (error.Failed store.Topics) → ⊥
+opened_topics end status before after finishes opened is =
+    elim (fails_eight end status before after finishes is) [ inl same ↦ topics_running status opened same | inr cut ↦ topics_whole status opened cut ]
+
+pub opened_offsets : (end : End) (status : ℕ) (before after : Option (List ℕ)) → Finishes end status before after → (status ≡ 0) ⊎ ((status ≡ 4) ⊎ (status ≡ 14)) → end ≡ Err (error.Failed store.Offsets) → ⊥
+opened_offsets end status before after finishes opened is =
+    elim (fails_nine end status before after finishes is) [ inl same ↦ offsets_running status opened same | inr cut ↦ offsets_whole status opened cut ]
+
+-- with 0 and 4 `apply` has opened the offset
+opened_code : (end : End) → (end_code end ≡ 0) ⊎ (end_code end ≡ 4) → HasOpenedOffset end
+opened_code (Ok nothing) told = tt
+opened_code (Err error.OutputFailed) told = tt
+opened_code (Err error.Memory) (inl is) = cc
+opened_code (Err error.Memory) (inr is) = cc
+opened_code (Err (error.Failed store.Topics)) (inl is) = cc
+opened_code (Err (error.Failed store.Topics)) (inr is) = cc
+opened_code (Err (error.Failed store.Offsets)) (inl is) = cc
+opened_code (Err (error.Failed store.Offsets)) (inr is) = cc
+opened_code (Err error.NotStarted) told = tt
+opened_code (Err (error.NotAStore s at)) (inl is) = cc
+opened_code (Err (error.NotAStore s at)) (inr is) = cc
+opened_code (Err (error.BadEntry s index)) (inl is) = cc
+opened_code (Err (error.BadEntry s index)) (inr is) = cc
+
+as_code : (status code : ℕ) → status ≡ code → (status ≡ 0) ⊎ (status ≡ 4) → (code ≡ 0) ⊎ (code ≡ 4)
+as_code status code is (inl same) = inl (sym is ∙ same)
+as_code status code is (inr same) = inr (sym is ∙ same)
+
+cut_rows : (status : ℕ) → IsCutShort status → (status ≡ 0) ⊎ (status ≡ 4) → ⊥
+cut_rows status cut (inl same) = cut_other 0 status (λ e. cc, λ e. cc) cut same
+cut_rows status cut (inr same) = cut_other 4 status (λ e. cc, λ e. cc) cut same
+
+pub opened_rows : (end : End) (status : ℕ) (before after : Option (List ℕ)) → Finishes end status before after → (status ≡ 0) ⊎ (status ≡ 4) → HasOpenedOffset end
+opened_rows end status before after finishes told =
+    elim (finished_code end status before after finishes) [ inl is ↦ opened_code end (as_code status (end_code end) is told) | inr cut ↦ absurd (cut_rows status cut told) ]
 
 -- no command over the stores answers that the input failed
 pub topics_no_input : (status : ℕ) → IsTopicsStatus status → status ≡ status_of InputFailed → ⊥

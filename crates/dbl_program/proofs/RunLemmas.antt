@@ -1,8 +1,8 @@
 -- How a run ends, from what it read and what it wrote.
-use Rattle.std.proofs.Common.{◌≡◌, ◌⊎◌, inl, inr, ◌∙◌, ℕ, ℤ, Option, List, [], ◌∷◌, ◌++◌, true, refl, sym, ap, ap₂, arith}
+use Rattle.std.proofs.Common.{◌≡◌, ◌⊎◌, inl, inr, ◌∙◌, ℕ, ℤ, Option, List, [], ◌∷◌, ◌++◌, refl, sym, ap, ap₂, arith}
 use Rattle.dbl_base.specs.Lines.{lines_of, lines_text}
 use Rattle.dbl_program.specs.declared.halt.Halt.{Halt}
-use Rattle.dbl_program.specs.declared.halt.Halt.TheVariants.{BadLine, InputFailed, Memory}
+use Rattle.dbl_program.specs.declared.halt.Halt.TheVariants.{BadLine, Memory}
 use Rattle.dbl_replay.specs.declared.log_fault.LogFault.{LogFault}
 use Rattle.dbl_replay.specs.declared.options.ReplayOptions.{ReplayOptions}
 use Rattle.dbl_program.specs.Faults.{status_of, fault_line}

@@ -1,5 +1,5 @@
 -- Words and bytes have an answer at each moment.
-use Rattle.std.proofs.Common.{◌≡◌, ◌⊎◌, inl, inr, ◌∙◌, ℕ, ℤ, ◌+◌, ◌-◌, ◌*◌, ◌<◌, ◌≤◌, ◌^◌, ◌==◌, ◌%◌, ◌&&◌, Bool, true, false, Option, Some, None, Result, Ok, Err, List, [], ◌∷◌, ◌++◌, length, map, refl, sym, ap, subst, arith, leb-true}
+use Rattle.std.proofs.Common.{◌≡◌, ◌⊎◌, inl, inr, ◌∙◌, ℕ, ℤ, ◌+◌, ◌-◌, ◌*◌, ◌<◌, ◌≤◌, ◌==◌, ◌%◌, ◌&&◌, Bool, true, false, Option, Some, None, Result, Ok, Err, List, [], ◌∷◌, ◌++◌, length, map, refl, sym, ap, subst, arith, leb-true}
 use Rattle.std.specs.Prelude.{if◌then◌else◌, nat_le, nat_lt, is_some, option_and_then}
 use Rattle.std.specs.List.{AllByRecursion, cons_option}
 use Rattle.std.specs.Result.{result_ok}
@@ -18,7 +18,6 @@ use Rattle.dbl_pgmsg.proofs.FaultLaws.{either}
 use Rattle.dbl_table.specs.declared.error.ModelError.{ModelError}
 use Rattle.dbl_table.specs.declared.table.RawTable.{RawTable}
 use Rattle.dbl_table.specs.declared.table.TableInfo.{TableInfo}
-use Rattle.dbl_table.specs.Made.{table_fault}
 use Rattle.dbl_commit.specs.Past.{begin_of}
 use Rattle.dbl_commit.specs.Stated.{list_of, ended}
 use Rattle.dbl_table.proofs.Capturable.{capturable}
@@ -34,7 +33,7 @@ use Rattle.dbl_replay.specs.declared.log_fault.LogFault.{LogFault}
 use Rattle.dbl_replay.specs.declared.log_fault.LogFault.TheVariants as log
 use Rattle.dbl_replay.specs.declared.options.ReplayOptions.{ReplayOptions}
 use Rattle.dbl_replay.specs.Apply.{first_fault, readings_of}
-use Rattle.dbl_replay.specs.Captures.{capture_fault, entry_fault, room_fault, table_told, tables_in, AreCaptured, told_fault}
+use Rattle.dbl_replay.specs.Captures.{capture_fault, entry_fault, table_told, tables_in, AreCaptured, told_fault}
 use Rattle.dbl_replay.specs.Lines.{without_spaces, bytes_in, message_in, messages_in, first_bad}
 use Rattle.dbl_replay.specs.Log.{lines_in, read_fault, IsLogFault, no_message, no_table, no_place, end_fault, LogWrites}
 use Rattle.dbl_program.specs.Run.{Answer, fault, done, line_fault, log_answer, Replays, too_long, bad_line, replayed, Applies, long_input, refused, applied}

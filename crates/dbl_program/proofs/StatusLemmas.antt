@@ -8,7 +8,7 @@ use Rattle.dbl_program.specs.declared.halt.Halt.TheVariants.{Usage, Memory}
 use Rattle.dbl_program.specs.Faults.{status_of}
 use Rattle.dbl_program.specs.Run.{IsApplyStatus, IsOutside, IsReplayStatus, Says}
 use Rattle.dbl_program.specs.Disks.{IsCutShort, offsets_status, topics_status, wal_status}
-use Rattle.dbl_program.specs.Means.{IsOffsetsStatus, IsRowsStatus, IsStatusOf, IsTopicsStatus, SpellUnbuilt, is_built, opens_offsets, opens_topics}
+use Rattle.dbl_program.specs.Means.{HasOpenedOffsets, HasOpenedTopics, IsOffsetsStatus, IsRowsStatus, IsStatusOf, IsTopicsStatus, SpellUnbuilt, is_built, opens_offsets, opens_topics}
 use Rattle.dbl_program.proofs.ApplyRunLemmas.{says_is}
 
 -- ---- by the kind of the command
@@ -61,10 +61,45 @@ said_other : (halt : Halt) (n status : ℕ) (before after : Option (List ℕ)) �
 said_other halt n status before after own other says same =
     elim (says_is halt status before after says) [ inl is ↦ own (sym is ∙ same) | inr cut ↦ cut_other n status other cut same ]
 
--- ---- by the command
+-- ---- statuses that tell that a disk was opened
 
-switched : true ≡ false → ⊥
+pub switched : true ≡ false → ⊥
 switched is = cc
+
+pub topics_running : (status : ℕ) → HasOpenedTopics status → status ≡ topics_status → ⊥
+topics_running status (inl is) same = cc
+topics_running status (inr (inl is)) same = cc
+topics_running status (inr (inr (inl is))) same = cc
+topics_running status (inr (inr (inr is))) same = cc
+
+pub topics_whole : (status : ℕ) → HasOpenedTopics status → IsCutShort status → ⊥
+topics_whole status (inl is) cut = cut_other 0 status (λ e. cc, λ e. cc) cut is
+topics_whole status (inr (inl is)) cut = cut_other 4 status (λ e. cc, λ e. cc) cut is
+topics_whole status (inr (inr (inl is))) cut = cut_other 9 status (λ e. cc, λ e. cc) cut is
+topics_whole status (inr (inr (inr is))) cut = cut_other 14 status (λ e. cc, λ e. cc) cut is
+
+pub offsets_running : (status : ℕ) → (status ≡ 0) ⊎ ((status ≡ 4) ⊎ (status ≡ 14)) → status ≡ offsets_status → ⊥
+offsets_running status (inl is) same = cc
+offsets_running status (inr (inl is)) same = cc
+offsets_running status (inr (inr is)) same = cc
+
+pub offsets_whole : (status : ℕ) → (status ≡ 0) ⊎ ((status ≡ 4) ⊎ (status ≡ 14)) → IsCutShort status → ⊥
+offsets_whole status (inl is) cut = cut_other 0 status (λ e. cc, λ e. cc) cut is
+offsets_whole status (inr (inl is)) cut = cut_other 4 status (λ e. cc, λ e. cc) cut is
+offsets_whole status (inr (inr is)) cut = cut_other 14 status (λ e. cc, λ e. cc) cut is
+
+-- of the offset, by the command that opens it
+pub told_offsets : (c : Command) (status : ℕ) → HasOpenedOffsets c status → (status ≡ 0) ⊎ ((status ≡ 4) ⊎ (status ≡ 14))
+told_offsets c status (inl is) = inl is
+told_offsets c status (inr (inl is)) = inr (inl is)
+told_offsets c status (inr (inr told)) = inr (inr told.1)
+
+pub told_rows : (c : Command) (status : ℕ) → opens_topics c ≡ true → HasOpenedOffsets c status → (status ≡ 0) ⊎ (status ≡ 4)
+told_rows c status opens (inl is) = inl is
+told_rows c status opens (inr (inl is)) = inr is
+told_rows c status opens (inr (inr told)) = absurd (switched (sym opens ∙ told.0))
+
+-- ---- by the command
 
 -- the disk of the source's log fails nowhere
 pub no_wal : (c : Command) (status : ℕ) → IsStatusOf c status → status ≡ wal_status → ⊥

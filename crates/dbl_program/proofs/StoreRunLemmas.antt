@@ -1,5 +1,5 @@
 -- How a run of a command over the stores ends, from how the command ended and what was written behind it.
-use Rattle.std.proofs.Common.{◌≡◌, ◌⊎◌, inl, inr, ◌∙◌, ℕ, Option, Ok, Err, IfErr, List, [], ◌∷◌, ◌++◌, take, refl, sym, ap, subst}
+use Rattle.std.proofs.Common.{◌≡◌, ◌⊎◌, inl, inr, ℕ, Option, Ok, Err, IfErr, List, [], ◌∷◌, ◌++◌, take, refl, sym, ap, subst}
 use Rattle.dbl_base.specs.Lines.{lines_text}
 use Rattle.dbl_consume.specs.Printing.{Wrote, WroteFront}
 use Rattle.dbl_runs.specs.declared.error.RunError.{RunError}
@@ -225,13 +225,22 @@ apply_cause : (P Q : Type 0) (end : End) → (end ≡ end_of (error.Failed store
 apply_cause P Q end first second store.Topics is = first is
 apply_cause P Q end first second store.Offsets is = second is
 
-pub only_topics : (P Q : Type 0) (s : Store) → OfDisk P ⊥ s → OfDisk P Q s
-only_topics P Q store.Topics p = p
-only_topics P Q store.Offsets none = absurd none
+-- only a disk that the command opens has failed
+pub only_topics : (A B P Q : Type 0) → A → (s : Store) → OfDisk P ⊥ s → OfDisk (A × P) (B × Q) s
+only_topics A B P Q opens store.Topics p = (opens, p)
+only_topics A B P Q opens store.Offsets none = absurd none
 
-pub only_offsets : (P Q : Type 0) (s : Store) → OfDisk ⊥ Q s → OfDisk P Q s
-only_offsets P Q store.Topics none = absurd none
-only_offsets P Q store.Offsets q = q
+pub only_offsets : (A B P Q : Type 0) → B → (s : Store) → OfDisk ⊥ Q s → OfDisk (A × P) (B × Q) s
+only_offsets A B P Q opens store.Topics none = absurd none
+only_offsets A B P Q opens store.Offsets q = (opens, q)
+
+pub both_opened : (A B P Q : Type 0) → A → B → (s : Store) → OfDisk P Q s → OfDisk (A × P) (B × Q) s
+both_opened A B P Q topics offsets store.Topics p = (topics, p)
+both_opened A B P Q topics offsets store.Offsets q = (offsets, q)
+
+pub opened_by : (A B C D P Q : Type 0) → (A → C) → (B → D) → (s : Store) → OfDisk (A × P) (B × Q) s → OfDisk (C × P) (D × Q) s
+opened_by A B C D P Q topics offsets store.Topics both = (topics both.0, both.1)
+opened_by A B C D P Q topics offsets store.Offsets both = (offsets both.0, both.1)
 
 pub topics_run : (bytes : List ℕ) (P : Type 0) (end : End) (status : ℕ) (before middle after : Option (List ℕ)) → IfErr end (λ e. (e ≡ error.OutputFailed) ⊎ IsErrorOf store.Topics e) → (end ≡ end_of (error.Failed store.Topics) → P)
     → StoreRuns (AnswersTopics bytes) end before middle → Finishes end status middle after → RunsStores (AnswersTopics bytes) (OfDisk P ⊥) status before after

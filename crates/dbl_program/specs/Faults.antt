@@ -1,5 +1,5 @@
 -- The status and the line of each fault that ends a run before records are printed.
-use Rattle.std.specs.Prelude.{ℕ, Bool, true, false, List, ◌++◌, codes, decimal}
+use Rattle.std.specs.Prelude.{ℕ, List, ◌++◌, codes, decimal}
 use Rattle.dbl_program.specs.declared.halt.Halt.{Halt}
 use Rattle.dbl_program.specs.declared.halt.Halt.TheVariants.{Usage, BadLine, InputTooLong, InputFailed, Memory}
 

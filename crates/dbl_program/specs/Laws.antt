@@ -1,5 +1,5 @@
 -- What the definitions of the program's answers determine, and what they come to.
-use Rattle.std.specs.Prelude.{◌≡◌, ◌⊎◌, ◌↔◌, ℕ, ℤ, true, false, List}
+use Rattle.std.specs.Prelude.{◌≡◌, ◌⊎◌, ◌↔◌, ℕ, ℤ, false, List}
 use Rattle.dbl_pgmsg.specs.Faults.{AreBytes}
 use Rattle.dbl_cli.specs.declared.commands.Command.{Command}
 use Rattle.dbl_cli.specs.declared.commands.Command.TheVariants.{Topics, Offsets, Apply}

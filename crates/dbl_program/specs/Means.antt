@@ -1,6 +1,8 @@
 -- What the words of a command line mean, with the bytes of the input and of the disks.
 use Rattle.std.specs.Prelude.{◌≡◌, ◌⊎◌, ℕ, ℤ, Bool, true, false, Option, Some, List, [], ◌∷◌, codes}
+use Rattle.dbl_record.specs.declared.record.Record.{Record}
 use Rattle.dbl_table.specs.declared.table.TableKey.{TableKey}
+use Rattle.dbl_topic.specs.Logs.{IsLog}
 use Rattle.dbl_gen.specs.Workload.{workload_lines}
 use Rattle.dbl_cli.specs.declared.commands.Command.{Command}
 use Rattle.dbl_cli.specs.declared.commands.Command.TheVariants.{Init, Topics, Offsets, Capture, Resume, Replay, Apply, Gen}
@@ -68,15 +70,31 @@ opens_offsets Offsets = true
 opens_offsets (Apply false placeholder) = true
 opens_offsets command = false
 
+-- with this status a command that opens the disk of the topic log has opened it
+abbrev pub HasOpenedTopics : ℕ → Type 0
+HasOpenedTopics status = (status ≡ 0) ⊎ ((status ≡ 4) ⊎ ((status ≡ offsets_status) ⊎ (status ≡ 14)))
+
+-- and one that opens that of the offset. Where the topic log is opened first, 14 may be told of it.
+abbrev pub HasOpenedOffsets : Command → ℕ → Type 0
+HasOpenedOffsets command status = (status ≡ 0) ⊎ ((status ≡ 4) ⊎ ((opens_topics command ≡ false) × (status ≡ 14)))
+
+-- the disk of the topic log, which the command opens first, holds no log: it then reads no other
+abbrev pub FindsNoLog : Command → List ℕ → Type 0
+FindsNoLog command topics = (opens_topics command ≡ true) × ((groups : List (List Record)) → ¬ IsLog topics groups)
+
 -- of what a command reads, the input and the disks tell what is given
 pub record AreTold (command : Command) (input topics offsets : Option (List ℕ)) (given : Given) : Type 0 where
   pub input_is : reads command ≡ true → input ≡ Some given.input
   pub topics_are : opens_topics command ≡ true → topics ≡ Some given.topics
-  pub offsets_are : opens_offsets command ≡ true → offsets ≡ Some given.offsets
+  pub offsets_are : opens_offsets command ≡ true → FindsNoLog command given.topics ⊎ (offsets ≡ Some given.offsets)
 
 -- the same of the command that the words spell, if they spell one
 abbrev pub Tell : List (List ℕ) → Option (List ℕ) → Option (List ℕ) → Option (List ℕ) → Given → Type 0
 Tell words input topics offsets given = (command : Command) → Spells words command → AreTold command input topics offsets given
+
+-- the words spell a command of which this holds
+abbrev pub SpellSome : List (List ℕ) → (Command → Bool) → Type 0
+SpellSome words holds = (command : Command) × Spells words command × (holds command ≡ true)
 
 -- the command is built
 abbrev pub is_built : Command → Bool

@@ -1,10 +1,9 @@
 -- What a run of the program writes and answers.
-use Rattle.std.specs.Prelude.{◌≡◌, ◌⊎◌, ℕ, ℤ, ◌<◌, ◌≤◌, Bool, true, Option, Some, None, List, [], ◌∷◌, ◌++◌, take, length, map}
+use Rattle.std.specs.Prelude.{◌≡◌, ◌⊎◌, ℕ, ℤ, ◌<◌, ◌≤◌, Option, Some, None, List, [], ◌∷◌, ◌++◌, take, length, map}
 use Rattle.dbl_base.specs.Lines.{lines_of, lines_text}
 use Rattle.dbl_base.specs.Streams.{Rose, input_limit}
 use Rattle.dbl_program.specs.declared.halt.Halt.{Halt}
 use Rattle.dbl_program.specs.declared.halt.Halt.TheVariants.{Usage, BadLine, InputTooLong, InputFailed, Memory}
-use Rattle.dbl_replay.specs.declared.printing.PrintError.TheVariants as print_error
 use Rattle.dbl_program.specs.Faults.{status_of, fault_line, output_failed_status}
 use Rattle.dbl_record.specs.Consumers.{HeldCells, consumer_of}
 use Rattle.dbl_consume.specs.Printing.{HeldRow, AreRowsOf, row_line, Wrote, WroteFront}

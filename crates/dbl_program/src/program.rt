@@ -11,7 +11,8 @@ ghost use Rattle.dbl_cli.specs.declared.commands.Command.{Command};
 ghost use Rattle.dbl_cli.specs.Commands.{Spells};
 ghost use Rattle.dbl_cli.specs.Limits.{IsWithin};
 ghost use Rattle.dbl_program.specs.Run.{RunsLog};
-ghost use Rattle.dbl_program.specs.Means.{made, not_built, options_of, AreTold, Given, InputFails, Runs, RunsCommand, SpellUnbuilt, Tell, reads, opens_offsets, opens_topics, StandsAlone, TellsInput, IsStatusOf};
+ghost use Rattle.dbl_runs.specs.Ends.{IsSynced};
+ghost use Rattle.dbl_program.specs.Means.{made, not_built, options_of, AreTold, Given, HasOpenedOffsets, HasOpenedTopics, InputFails, Runs, RunsCommand, SpellSome, SpellUnbuilt, Tell, reads, opens_offsets, opens_topics, StandsAlone, TellsInput, IsStatusOf};
 ghost use Rattle.dbl_program.specs.Disks.{IsOnlyRead, OfDisk, offsets_status, topics_status, wal_status};
 ghost use Rattle.dbl_record.specs.declared.record.Record.{Record};
 ghost use Rattle.dbl_topic.specs.Logs.{IsLog};
@@ -49,12 +50,13 @@ pub fn run<I: Input, O: Output, W: Disk, T: Disk, F: Disk>(
     offsets: F,
 ) -> Finished<W, T, F>
     // What is written and answered is what the words mean with what they read: the input, and the bytes of the disks that the
-    // command opens. Only a failed input is told besides, or a failed disk, whose count of faults rose.
+    // command opens. Only a failed input is told besides, or a failed disk that it opens, whose count of faults rose.
     ensures told { (given : Given) →
         Tell words.now.items (I.left input.old) (T.seen topics) (F.seen offsets) given →
         Runs words.now.items now_ms given
-        (OfDisk (Rose (T.faults topics) (T.faults result.topics))
-        (Rose (F.faults offsets) (F.faults result.offsets)))
+        (OfDisk
+        (SpellSome words.now.items opens_topics × Rose (T.faults topics) (T.faults result.topics))
+        (SpellSome words.now.items opens_offsets × Rose (F.faults offsets) (F.faults result.offsets)))
         result.status (O.written output.old) (O.written output.new)
         ⊎ InputFails words.now.items (I.faults input.old) (I.faults input.new) result.status
         (O.written output.old) (O.written output.new) }
@@ -98,6 +100,14 @@ pub fn run<I: Input, O: Output, W: Disk, T: Disk, F: Disk>(
         opens_topics command ≡ true → T.seen topics ≡ Some bytes →
         ((groups : List (List Record)) → ¬ IsLog bytes groups) → result.offsets ≡ offsets }
 
+    // A disk that was opened, as the status tells, was synced: of one that tells its bytes a stop leaves these alone.
+    ensures topics_synced { (command : Command) → Spells words.now.items command →
+        opens_topics command ≡ true → HasOpenedTopics result.status →
+        IsSynced T.seen T.may_leave topics result.topics }
+    ensures offsets_synced { (command : Command) → Spells words.now.items command →
+        opens_offsets command ≡ true → HasOpenedOffsets command result.status →
+        IsSynced F.seen F.may_leave offsets result.offsets }
+
     // Whatever the disks tell, they are only read, and each has failed where the status says so.
     ensures topics_read { IsOnlyRead T.seen T.may_leave T.faults
         topics_status result.status topics result.topics }
@@ -135,8 +145,8 @@ fn run_command<I: Input, O: Output, W, T: Disk, F: Disk>(
     ensures told { (given : Given) →
         AreTold command (I.left input.old) (T.seen topics) (F.seen offsets) given →
         RunsCommand command now_ms.now given
-        (OfDisk (Rose (T.faults topics) (T.faults result.topics))
-        (Rose (F.faults offsets) (F.faults result.offsets)))
+        (OfDisk ((opens_topics command ≡ true) × Rose (T.faults topics) (T.faults result.topics))
+        ((opens_offsets command ≡ true) × Rose (F.faults offsets) (F.faults result.offsets)))
         result.status (O.written output.old) (O.written output.new)
         ⊎ ((reads command ≡ true) × FailsReading (I.faults input.old) (I.faults input.new)
         result.status (O.written output.old) (O.written output.new)) }
@@ -157,6 +167,11 @@ fn run_command<I: Input, O: Output, W, T: Disk, F: Disk>(
     ensures unopened { (bytes : List ℕ) → opens_topics command ≡ true →
         T.seen topics ≡ Some bytes → ((groups : List (List Record)) → ¬ IsLog bytes groups) →
         result.offsets ≡ offsets }
+    ensures topics_synced { opens_topics command ≡ true → HasOpenedTopics result.status →
+        IsSynced T.seen T.may_leave topics result.topics }
+    ensures offsets_synced { opens_offsets command ≡ true →
+        HasOpenedOffsets command result.status →
+        IsSynced F.seen F.may_leave offsets result.offsets }
     ensures topics_read { opens_topics command ≡ true → IsOnlyRead T.seen T.may_leave T.faults
         topics_status result.status topics result.topics }
     ensures offsets_read { opens_offsets command ≡ true → IsOnlyRead F.seen F.may_leave F.faults

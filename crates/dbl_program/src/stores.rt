@@ -4,9 +4,10 @@ ghost use Rattle.dbl_base.specs.Streams.{Rose};
 ghost use Rattle.dbl_record.specs.declared.record.Record.{Record};
 ghost use Rattle.dbl_topic.specs.Logs.{IsLog};
 ghost use Rattle.dbl_runs.specs.Answers.{AnswersApply, AnswersOffsets, AnswersTopics};
+ghost use Rattle.dbl_runs.specs.Ends.{IsSynced};
 ghost use Rattle.dbl_program.specs.Disks.{Finishes, IsOnlyRead, OfDisk, RunsStores, SaysError, offsets_status, topics_status};
 ghost use Rattle.dbl_program.specs.Faults.{status_of, output_failed_status};
-ghost use Rattle.dbl_program.specs.Means.{IsOffsetsStatus, IsRowsStatus, IsTopicsStatus};
+ghost use Rattle.dbl_program.specs.Means.{HasOpenedTopics, IsOffsetsStatus, IsRowsStatus, IsTopicsStatus};
 
 use crate::finished::Finished;
 use crate::halt::Halt;
@@ -29,6 +30,8 @@ pub(crate) fn run_topics<O: Output, W, T: Disk, F>(
         (OfDisk (Rose (T.faults topics) (T.faults result.topics)) ⊥)
         result.status (O.written output.old) (O.written output.new) }
     ensures known { IsTopicsStatus result.status }
+    ensures topics_synced { HasOpenedTopics result.status →
+        IsSynced T.seen T.may_leave topics result.topics }
     ensures topics_read { IsOnlyRead T.seen T.may_leave T.faults
         topics_status result.status topics result.topics }
     ensures wal_stays { result.wal ≡ wal }
@@ -60,6 +63,8 @@ pub(crate) fn run_offsets<O: Output, W, T, F: Disk>(
         (OfDisk ⊥ (Rose (F.faults offsets) (F.faults result.offsets)))
         result.status (O.written output.old) (O.written output.new) }
     ensures known { IsOffsetsStatus result.status }
+    ensures offsets_synced { (result.status ≡ 0) ⊎ ((result.status ≡ 4) ⊎ (result.status ≡ 14)) →
+        IsSynced F.seen F.may_leave offsets result.offsets }
     ensures offsets_read { IsOnlyRead F.seen F.may_leave F.faults
         offsets_status result.status offsets result.offsets }
     ensures wal_stays { result.wal ≡ wal }
@@ -86,12 +91,17 @@ pub(crate) fn run_apply<O: Output, W, T: Disk, F: Disk>(
     topics: T,
     offsets: F,
 ) -> Finished<W, T, F>
-    ensures told { (t f : List ℕ) → T.seen topics ≡ Some t → F.seen offsets ≡ Some f →
+    ensures told { (t f : List ℕ) → T.seen topics ≡ Some t →
+        ((groups : List (List Record)) → ¬ IsLog t groups) ⊎ (F.seen offsets ≡ Some f) →
         RunsStores (AnswersApply t f)
         (OfDisk (Rose (T.faults topics) (T.faults result.topics))
         (Rose (F.faults offsets) (F.faults result.offsets)))
         result.status (O.written output.old) (O.written output.new) }
     ensures known { IsRowsStatus result.status }
+    ensures topics_synced { HasOpenedTopics result.status →
+        IsSynced T.seen T.may_leave topics result.topics }
+    ensures offsets_synced { (result.status ≡ 0) ⊎ (result.status ≡ 4) →
+        IsSynced F.seen F.may_leave offsets result.offsets }
     ensures topics_read { IsOnlyRead T.seen T.may_leave T.faults
         topics_status result.status topics result.topics }
     ensures offsets_read { IsOnlyRead F.seen F.may_leave F.faults

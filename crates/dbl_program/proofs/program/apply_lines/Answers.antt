@@ -1,5 +1,4 @@
-use Rattle.std.proofs.Common.{Err, List, ℕ, inl, ap, subst}
-use Rattle.dbl_program.specs.Run.{RunsApplying}
+use Rattle.std.proofs.Common.{Err, ap}
 use Rattle.dbl_program.proofs.ApplyRunLemmas.{halt_applies, apply_said}
 use Rattle.dbl_program.proofs.program.apply_lines.Goals as goal
 

@@ -1,14 +1,15 @@
 use Rattle.std.proofs.Common.{◌≡◌, ◌⊎◌, Err, ℤ, true, inl, ap, refl, subst}
 use Rattle.std.proofs.Math.Facts.{to_z-of_z}
 use Rattle.dbl_cli.specs.declared.commands.Command.{Command}
-use Rattle.dbl_program.specs.Means.{RunsCommand, StandsAlone, opens_offsets, opens_topics, reads, IsStatusOf, TellsInput}
+use Rattle.dbl_program.specs.Means.{HasOpenedOffsets, RunsCommand, SpellSome, StandsAlone, opens_offsets, opens_topics, reads, IsStatusOf, TellsInput}
 use Rattle.dbl_base.specs.Streams.{Rose}
 use Rattle.dbl_runs.specs.declared.error.Store.{Store}
 use Rattle.dbl_program.specs.Disks.{OfDisk}
 use Rattle.dbl_program.specs.Run.{FailsReading}
-use Rattle.dbl_program.proofs.CommandLemmas.{spelled_or_fails, usage_runs, memory_runs, as_spelled, memory_alone, memory_status, memory_tells}
+use Rattle.dbl_program.proofs.CommandLemmas.{cut_short, wider_or_fails, spelled_or_fails, usage_runs, memory_runs, as_spelled, memory_alone, memory_status, memory_tells}
 use Rattle.dbl_program.proofs.DiskLemmas.{not_read, read_or_not}
-use Rattle.dbl_program.proofs.StatusLemmas.{memory_built, memory_no_offsets, memory_no_topics, memory_no_wal, no_offsets, no_topics, no_wal, spell_unbuilt, usage_built, usage_no_offsets, usage_no_topics, usage_no_wal}
+use Rattle.dbl_program.proofs.StoreRunLemmas.{opened_by}
+use Rattle.dbl_program.proofs.StatusLemmas.{memory_built, memory_no_offsets, memory_no_topics, memory_no_wal, no_offsets, no_topics, no_wal, offsets_whole, spell_unbuilt, told_offsets, topics_whole, usage_built, usage_no_offsets, usage_no_topics, usage_no_wal}
 use Rattle.dbl_program.proofs.program.run.Goals as goal
 
 -- ---- a command was spelled
@@ -20,10 +21,16 @@ returns-in-Ok-clause-told g c = λ given tell.
     let was = g.I.Input.faults c.args.input.now in
     let later = g.I.Input.faults c.run_command.new.input in
     let left = c.run_command.result in
-    let failed : Store → Type 0 = OfDisk (Rose (g.T.Disk.faults c.args.topics) (g.T.Disk.faults left.topics)) (Rose (g.F.Disk.faults c.args.offsets) (g.F.Disk.faults left.offsets)) in
-    spelled_or_fails _ c.args.now_ms given failed was later left.status before after c.in-Ok.command c.in-Ok.ensures.spelled
-    (subst (λ (m : ℤ). RunsCommand c.in-Ok.command m given failed left.status before after ⊎ ((reads c.in-Ok.command ≡ true) × FailsReading was later left.status before after)) (to_z-of_z c.ranges.now_ms)
-    (c.run_command.ensures.told given (tell c.in-Ok.command c.in-Ok.ensures.spelled)))
+    let k = c.in-Ok.command in
+    let spells = c.in-Ok.ensures.spelled in
+    let topics : Type 0 = Rose (g.T.Disk.faults c.args.topics) (g.T.Disk.faults left.topics) in
+    let offsets : Type 0 = Rose (g.F.Disk.faults c.args.offsets) (g.F.Disk.faults left.offsets) in
+    let few : Store → Type 0 = OfDisk ((opens_topics k ≡ true) × topics) ((opens_offsets k ≡ true) × offsets) in
+    let failed : Store → Type 0 = OfDisk (SpellSome c.args.words.now.items opens_topics × topics) (SpellSome c.args.words.now.items opens_offsets × offsets) in
+    let fails : Type 0 = (reads k ≡ true) × FailsReading was later left.status before after in
+    spelled_or_fails _ c.args.now_ms given failed was later left.status before after k spells
+    (wider_or_fails k c.args.now_ms given few failed left.status before after fails (opened_by _ _ _ _ topics offsets (λ opens. (k, spells, opens)) (λ opens. (k, spells, opens)))
+    (subst (λ (m : ℤ). RunsCommand k m given few left.status before after ⊎ fails) (to_z-of_z c.ranges.now_ms) (c.run_command.ensures.told given (tell k spells))))
 
 pub returns-in-Ok-clause-alone : goal.returns-in-Ok-clause-alone
 returns-in-Ok-clause-alone g c = λ command answer spells alone.
@@ -105,3 +112,28 @@ returns-in-Err-Memory-clause-topics_read g c = not_read g.T.Disk.seen g.T.Disk.m
 
 pub returns-in-Err-Memory-clause-offsets_read : goal.returns-in-Err-Memory-clause-offsets_read
 returns-in-Err-Memory-clause-offsets_read g c = not_read g.F.Disk.seen g.F.Disk.may_leave g.F.Disk.faults _ _ _ _ (memory_no_offsets c.say-in-Err-Memory.result _ _ c.say-in-Err-Memory.ensures.says) refl
+
+-- ---- disks that were opened
+
+pub returns-in-Ok-clause-topics_synced : goal.returns-in-Ok-clause-topics_synced
+returns-in-Ok-clause-topics_synced g c = λ command spells opens opened.
+    c.run_command.ensures.topics_synced (as_spelled _ (λ (k : Command). opens_topics k ≡ true) command c.in-Ok.command spells c.in-Ok.ensures.spelled opens) opened
+
+pub returns-in-Ok-clause-offsets_synced : goal.returns-in-Ok-clause-offsets_synced
+returns-in-Ok-clause-offsets_synced g c = λ command spells opens opened.
+    c.run_command.ensures.offsets_synced (as_spelled _ (λ (k : Command). opens_offsets k ≡ true) command c.in-Ok.command spells c.in-Ok.ensures.spelled opens)
+    (as_spelled _ (λ (k : Command). HasOpenedOffsets k c.run_command.result.status) command c.in-Ok.command spells c.in-Ok.ensures.spelled opened)
+
+pub returns-in-Err-Usage-clause-topics_synced : goal.returns-in-Err-Usage-clause-topics_synced
+returns-in-Err-Usage-clause-topics_synced g c = λ command spells. absurd (c.in-Err-Usage.ensures.usage (ap Err c.in-Err-Usage.field-0-is) command spells)
+
+pub returns-in-Err-Usage-clause-offsets_synced : goal.returns-in-Err-Usage-clause-offsets_synced
+returns-in-Err-Usage-clause-offsets_synced g c = λ command spells. absurd (c.in-Err-Usage.ensures.usage (ap Err c.in-Err-Usage.field-0-is) command spells)
+
+pub returns-in-Err-Memory-clause-topics_synced : goal.returns-in-Err-Memory-clause-topics_synced
+returns-in-Err-Memory-clause-topics_synced g c = λ command spells opens opened.
+    absurd (topics_whole c.say-in-Err-Memory.result opened (cut_short c.say-in-Err-Memory.result _ _ c.say-in-Err-Memory.ensures.says))
+
+pub returns-in-Err-Memory-clause-offsets_synced : goal.returns-in-Err-Memory-clause-offsets_synced
+returns-in-Err-Memory-clause-offsets_synced g c = λ command spells opens opened.
+    absurd (offsets_whole c.say-in-Err-Memory.result (told_offsets command c.say-in-Err-Memory.result opened) (cut_short c.say-in-Err-Memory.result _ _ c.say-in-Err-Memory.ensures.says))

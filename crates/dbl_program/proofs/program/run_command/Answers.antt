@@ -1,11 +1,12 @@
-use Rattle.std.proofs.Common.{◌∙◌, true, false, inl, ap, refl}
+use Rattle.std.proofs.Common.{◌≡◌, ◌∙◌, true, false, inl, ap, refl}
 use Rattle.dbl_cli.specs.declared.commands.Command.TheVariants as command
 use Rattle.dbl_base.specs.Streams.{Rose}
 use Rattle.dbl_runs.specs.Answers.{AnswersApply, AnswersOffsets, AnswersTopics}
 use Rattle.dbl_program.specs.Disks.{OfDisk}
 use Rattle.dbl_program.specs.Means.{made, not_built, opens_offsets, opens_topics, reads}
-use Rattle.dbl_program.proofs.CommandLemmas.{replay_command, apply_command, alone_command, stores_command}
-use Rattle.dbl_program.proofs.StoreRunLemmas.{only_offsets, only_topics}
+use Rattle.dbl_program.proofs.CommandLemmas.{replay_command, apply_command, alone_command, offset_alone, rows_offsets, stores_command}
+use Rattle.dbl_program.proofs.StatusLemmas.{told_offsets, told_rows}
+use Rattle.dbl_program.proofs.StoreRunLemmas.{both_opened, only_offsets, only_topics}
 use Rattle.dbl_program.proofs.program.run_command.Goals as goal
 
 pub returns-in-Replay-clause-told : goal.returns-in-Replay-clause-told
@@ -27,8 +28,8 @@ returns-in-Apply-clause-told g c = λ given told.
     let left = c.run_apply.result in
     let topics : Type 0 = Rose (g.T.Disk.faults c.args.topics) (g.T.Disk.faults left.topics) in
     let offsets : Type 0 = Rose (g.F.Disk.faults c.args.offsets) (g.F.Disk.faults left.offsets) in
-    inl (stores_command c.args.command (command.Apply false here.placeholder) c.args.now_ms.now given (AnswersApply given.topics given.offsets) (OfDisk topics offsets) (OfDisk topics offsets) left.status _ _ is (λ s rose. rose) (λ answer means. means) (λ answer means. means)
-    (c.run_apply.ensures.told given.topics given.offsets (told.topics_are (ap opens_topics is)) (told.offsets_are (ap opens_offsets is))))
+    inl (stores_command c.args.command (command.Apply false here.placeholder) c.args.now_ms.now given (AnswersApply given.topics given.offsets) (OfDisk topics offsets) (OfDisk ((opens_topics c.args.command ≡ true) × topics) ((opens_offsets c.args.command ≡ true) × offsets)) left.status _ _ is (both_opened _ _ topics offsets (ap opens_topics is) (ap opens_offsets is)) (λ answer means. means) (λ answer means. means)
+    (c.run_apply.ensures.told given.topics given.offsets (told.topics_are (ap opens_topics is)) (rows_offsets c.args.command given.topics _ (told.offsets_are (ap opens_offsets is)))))
 
 pub returns-else-is_run-clause-told : goal.returns-else-is_run-clause-told
 returns-else-is_run-clause-told g c = λ given told.
@@ -53,7 +54,7 @@ returns-in-Topics-clause-told g c = λ given told.
     let left = c.run_topics.result in
     let topics : Type 0 = Rose (g.T.Disk.faults c.args.topics) (g.T.Disk.faults left.topics) in
     let offsets : Type 0 = Rose (g.F.Disk.faults c.args.offsets) (g.F.Disk.faults left.offsets) in
-    inl (stores_command c.args.command command.Topics c.args.now_ms.now given (AnswersTopics given.topics) (OfDisk topics ⊥) (OfDisk topics offsets) left.status _ _ here.is (only_topics topics offsets) (λ answer means. means) (λ answer means. means)
+    inl (stores_command c.args.command command.Topics c.args.now_ms.now given (AnswersTopics given.topics) (OfDisk topics ⊥) (OfDisk ((opens_topics c.args.command ≡ true) × topics) ((opens_offsets c.args.command ≡ true) × offsets)) left.status _ _ here.is (only_topics _ _ topics offsets (ap opens_topics here.is)) (λ answer means. means) (λ answer means. means)
     (c.run_topics.ensures.told given.topics (told.topics_are (ap opens_topics here.is))))
 
 pub returns-in-Offsets-clause-told : goal.returns-in-Offsets-clause-told
@@ -62,8 +63,8 @@ returns-in-Offsets-clause-told g c = λ given told.
     let left = c.run_offsets.result in
     let topics : Type 0 = Rose (g.T.Disk.faults c.args.topics) (g.T.Disk.faults left.topics) in
     let offsets : Type 0 = Rose (g.F.Disk.faults c.args.offsets) (g.F.Disk.faults left.offsets) in
-    inl (stores_command c.args.command command.Offsets c.args.now_ms.now given (AnswersOffsets given.offsets) (OfDisk ⊥ offsets) (OfDisk topics offsets) left.status _ _ here.is (only_offsets topics offsets) (λ answer means. means) (λ answer means. means)
-    (c.run_offsets.ensures.told given.offsets (told.offsets_are (ap opens_offsets here.is))))
+    inl (stores_command c.args.command command.Offsets c.args.now_ms.now given (AnswersOffsets given.offsets) (OfDisk ⊥ offsets) (OfDisk ((opens_topics c.args.command ≡ true) × topics) ((opens_offsets c.args.command ≡ true) × offsets)) left.status _ _ here.is (only_offsets _ _ topics offsets (ap opens_offsets here.is)) (λ answer means. means) (λ answer means. means)
+    (c.run_offsets.ensures.told given.offsets (offset_alone c.args.command given.topics _ (ap opens_topics here.is) (told.offsets_are (ap opens_offsets here.is)))))
 
 pub returns-in-Capture-clause-told : goal.returns-in-Capture-clause-told
 returns-in-Capture-clause-told g c = λ given told.
@@ -74,3 +75,14 @@ pub returns-in-Resume-clause-told : goal.returns-in-Resume-clause-told
 returns-in-Resume-clause-told g c = λ given told.
     let here = c.in-Resume in
     inl (alone_command c.args.command (command.Resume here.chunk here.every here.messages) c.args.now_ms.now given _ not_built _ _ _ here.is refl c.say_not_built-in-Resume.ensures.ends)
+
+-- ---- disks that were opened
+
+pub returns-in-Offsets-clause-offsets_synced : goal.returns-in-Offsets-clause-offsets_synced
+returns-in-Offsets-clause-offsets_synced g c = λ opens opened. c.run_offsets.ensures.offsets_synced (told_offsets c.args.command c.run_offsets.result.status opened)
+
+pub returns-in-Apply-clause-offsets_synced : goal.returns-in-Apply-clause-offsets_synced
+returns-in-Apply-clause-offsets_synced g c = λ opens opened.
+    let here = c.in-Apply in
+    let is = here.is ∙ ap (λ l. command.Apply l here.placeholder) here.lines-test in
+    c.run_apply.ensures.offsets_synced (told_rows c.args.command c.run_apply.result.status (ap opens_topics is) opened)

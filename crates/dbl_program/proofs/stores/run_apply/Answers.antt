@@ -1,13 +1,14 @@
+use Rattle.std.proofs.Common.{inl, inr}
 use Rattle.dbl_base.specs.Streams.{Rose}
 use Rattle.dbl_program.proofs.DiskLemmas.{only_read}
-use Rattle.dbl_program.proofs.FinishLemmas.{eight_fails, fails_eight, fails_nine, finished_output, nine_fails, rows_no_input, rows_status}
+use Rattle.dbl_program.proofs.FinishLemmas.{eight_fails, fails_eight, fails_nine, finished_output, nine_fails, opened_rows, opened_topics, rows_no_input, rows_status}
 use Rattle.dbl_program.proofs.StoreRunLemmas.{apply_run}
 use Rattle.dbl_program.proofs.stores.run_apply.Goals as goal
 
 pub returns-clause-told : goal.returns-clause-told
 returns-clause-told g c = λ t f told other.
     let applied = c.apply-applied.result in
-    apply_run t f (Rose (g.T.Disk.faults c.args.topics) (g.T.Disk.faults applied.topics)) (Rose (g.F.Disk.faults c.args.offsets) (g.F.Disk.faults applied.offsets)) applied.end c.finish.result _ _ _ c.apply-applied.ensures.keeps_topics.cause c.apply-applied.ensures.keeps_offsets.cause (c.apply-applied.ensures.told t f told other) c.finish.ensures.finishes
+    apply_run t f (Rose (g.T.Disk.faults c.args.topics) (g.T.Disk.faults applied.topics)) (Rose (g.F.Disk.faults c.args.offsets) (g.F.Disk.faults applied.offsets)) applied.end c.finish.result _ _ _ c.apply-applied.ensures.keeps_topics.cause c.apply-applied.ensures.keeps_offsets.cause (elim other [ inl none ↦ c.apply-applied.ensures.no_log t f told none | inr is ↦ c.apply-applied.ensures.told t f told is ]) c.finish.ensures.finishes
 
 pub returns-clause-known : goal.returns-clause-known
 returns-clause-known g c = rows_status c.apply-applied.result.end c.finish.result _ _ c.finish.ensures.finishes
@@ -29,3 +30,9 @@ returns-clause-status g c = rows_no_input c.finish.result (rows_status c.apply-a
 pub returns-clause-output_failed : goal.returns-clause-output_failed
 returns-clause-output_failed g c = λ is.
     finished_output c.apply-applied.result.end _ _ _ c.apply-applied.ensures.output_failed c.apply-applied.ensures.output_later c.finish.ensures.later (c.finish.ensures.output_failed is)
+
+pub returns-clause-topics_synced : goal.returns-clause-topics_synced
+returns-clause-topics_synced g c = λ opened. c.apply-applied.ensures.topics_stable (opened_topics c.apply-applied.result.end c.finish.result _ _ c.finish.ensures.finishes opened)
+
+pub returns-clause-offsets_synced : goal.returns-clause-offsets_synced
+returns-clause-offsets_synced g c = λ told. c.apply-applied.ensures.offsets_stable (opened_rows c.apply-applied.result.end c.finish.result _ _ c.finish.ensures.finishes told)

@@ -1,6 +1,6 @@
 use Rattle.dbl_base.specs.Streams.{Rose}
 use Rattle.dbl_program.proofs.DiskLemmas.{only_read}
-use Rattle.dbl_program.proofs.FinishLemmas.{fails_nine, finished_output, nine_fails, offsets_known, offsets_no_input}
+use Rattle.dbl_program.proofs.FinishLemmas.{fails_nine, finished_output, nine_fails, offsets_known, offsets_no_input, opened_offsets}
 use Rattle.dbl_program.proofs.StoreRunLemmas.{offsets_run}
 use Rattle.dbl_program.proofs.stores.run_offsets.Goals as goal
 
@@ -22,3 +22,6 @@ returns-clause-status g c = offsets_no_input c.finish.result (offsets_known c.pr
 pub returns-clause-output_failed : goal.returns-clause-output_failed
 returns-clause-output_failed g c = λ is.
     finished_output c.print_offset-ended.result.end _ _ _ c.print_offset-ended.ensures.output_failed c.print_offset-ended.ensures.output_later c.finish.ensures.later (c.finish.ensures.output_failed is)
+
+pub returns-clause-offsets_synced : goal.returns-clause-offsets_synced
+returns-clause-offsets_synced g c = λ opened. c.print_offset-ended.ensures.stable (opened_offsets c.print_offset-ended.result.end c.finish.result _ _ c.finish.ensures.finishes opened)

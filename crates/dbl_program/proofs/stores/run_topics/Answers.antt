@@ -1,6 +1,6 @@
 use Rattle.dbl_base.specs.Streams.{Rose}
 use Rattle.dbl_program.proofs.DiskLemmas.{only_read}
-use Rattle.dbl_program.proofs.FinishLemmas.{eight_fails, fails_eight, finished_output, topics_known, topics_no_input}
+use Rattle.dbl_program.proofs.FinishLemmas.{eight_fails, fails_eight, finished_output, opened_topics, topics_known, topics_no_input}
 use Rattle.dbl_program.proofs.StoreRunLemmas.{topics_run}
 use Rattle.dbl_program.proofs.stores.run_topics.Goals as goal
 
@@ -22,3 +22,6 @@ returns-clause-status g c = topics_no_input c.finish.result (topics_known c.prin
 pub returns-clause-output_failed : goal.returns-clause-output_failed
 returns-clause-output_failed g c = λ is.
     finished_output c.print_topics-ended.result.end _ _ _ c.print_topics-ended.ensures.output_failed c.print_topics-ended.ensures.output_later c.finish.ensures.later (c.finish.ensures.output_failed is)
+
+pub returns-clause-topics_synced : goal.returns-clause-topics_synced
+returns-clause-topics_synced g c = λ opened. c.print_topics-ended.ensures.stable (opened_topics c.print_topics-ended.result.end c.finish.result _ _ c.finish.ensures.finishes opened)

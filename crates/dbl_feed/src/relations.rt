@@ -29,7 +29,8 @@ fn has_flag(table: &LogTable, column: &RawColumn) -> bool
 }
 
 fn relation_columns(alloc: Global, table: &LogTable) -> Result<Seq<RelationColumn>, AllocError>
-    ensures { IfOk result (λ columns. columns ≡ map (relation_column table.now) table.now.raw.columns) }
+    ensures { IfOk result (λ columns.
+        columns ≡ map (relation_column table.now) table.now.raw.columns) }
 {
     let mut columns = Vec::new(alloc);
     for column in table.raw.columns.items() {
@@ -62,7 +63,8 @@ fn watermark_column(
     name: &str,
     oid: u32,
 ) -> Result<RelationColumn, AllocError>
-    ensures { IfOk result (λ column. column ≡ record { flags = flags; name = name.now; oid = oid; modifier = negsuc 0 }) }
+    ensures { IfOk result (λ column.
+        column ≡ record { flags = flags; name = name.now; oid = oid; modifier = negsuc 0 }) }
 {
     Ok(RelationColumn {
         flags,

@@ -9,3 +9,4 @@ pub mod StepLemmas
 pub mod StartLemmas
 pub mod ReadCallLemmas
 pub mod AddedLemmas
+pub mod MemoryLemmas

@@ -1,11 +1,11 @@
 -- Calls fail exactly as planned: what `begin` promises of a source whose move is past, of the source before it.
-use Rattle.std.proofs.Common.{◌≡◌, ◌∙◌, ◌⊎◌, inl, inr, ℕ, List, length, ap, subst}
+use Rattle.std.proofs.Common.{◌≡◌, ◌∙◌, inl, inr, ℕ, List, length, ap, subst}
 use Rattle.std.specs.Prelude.{Result, Ok, Err, IsErr}
 use Rattle.dbl_pgmsg.specs.declared.messages.Message.{Message}
 use Rattle.dbl_source.specs.declared.error.SourceError.{SourceError}
 use Rattle.dbl_source.specs.declared.error.SourceError.TheVariants.{Failed, Memory}
-use Rattle.dbl_source.specs.Played.{Played, before_of, IsListed, IsFullBy, past_move, counted, committed, released, with_fault, FailsAsPlanned}
-use Rattle.dbl_source.specs.Steps.{IsUnfit, ReadsAsPlanned, WentOn}
+use Rattle.dbl_source.specs.Played.{Played, before_of, IsListed, IsFullBy, past_move, counted, committed, released, FailsAsPlanned}
+use Rattle.dbl_source.specs.Steps.{IsUnfit, ReadsAsPlanned, HasFailed, WentOn}
 
 -- that a move is past changes nothing of what a call looks at
 pub went_after : (old mid new : Played) → mid ≡ past_move old → WentOn mid new → WentOn old new
@@ -17,11 +17,6 @@ went_after old mid new past w =
 pub released_so : (old mid new : Played) (before : List (List Message)) → mid ≡ past_move old → before ≡ before_of old → new ≡ committed before (counted mid) → new ≡ released old
 released_so old mid new before past items is =
     is ∙ ap (λ (b : List (List Message)). committed b (counted mid)) items ∙ ap (λ (m : Played). committed (before_of old) (counted m)) past
-
--- how a call that began has failed
-abbrev HasFailed : List (List Message) → ℕ → Played → Played → Type 0
-HasFailed before own mid new =
-    (IsFullBy (length before) own mid × (new ≡ with_fault (counted mid))) ⊎ (IsListed mid × (¬ IsFullBy (length before) own mid) × (new ≡ with_fault (committed before (counted mid))))
 
 pub planned_after : {T : Type 0} (old mid new : Played) (before : List (List Message)) (own : ℕ) (result : Result T SourceError) → mid ≡ past_move old → before ≡ before_of old → (IsFullBy (length before) own mid → result ≡ Err Failed)
     → (IsListed mid → IsErr result) → (result ≡ Err Failed → HasFailed before own mid new) → FailsAsPlanned own old new result

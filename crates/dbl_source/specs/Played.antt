@@ -29,7 +29,7 @@ use Rattle.dbl_source.specs.declared.error.SourceError.TheVariants.{Failed}
 use Rattle.dbl_source.specs.Moves.{commit_limit}
 
 -- The script's tables, what is left of its moves, its rows for each select; the selects so far; the log that was committed, up to
--- where it was confirmed, and where its reader is; which calls are to fail; what was with_answer last; whether it can be used.
+-- where it was confirmed, and where its reader is; which calls are to fail; what was answered last; whether it can be used.
 pub record Played : Type 0 where
   pub tables : List LogTable
   pub moves : List Move

@@ -1,5 +1,5 @@
 -- For private clauses: one more message is read of a log.
-use Rattle.std.specs.Prelude.{◌≡◌, ◌⊎◌, ℕ, Some, Result, MatchResult, List, ◌∷◌, take}
+use Rattle.std.specs.Prelude.{◌≡◌, ◌⊎◌, ℕ, Option, Some, MatchOption, Result, MatchResult, List, ◌∷◌, take}
 use Rattle.dbl_pgmsg.specs.declared.messages.Message.{Message}
 use Rattle.dbl_pgmsg.specs.Grammar.{Fits, Spells}
 use Rattle.dbl_feed.specs.declared.logged.LogTable.{LogTable}
@@ -16,6 +16,10 @@ use Rattle.dbl_source.specs.declared.reading.Missing.{Missing}
 pub record IsMissing (tables : List LogTable) (oids : List ℕ) (from : ℕ) (base : List Message) (next : Missing) : Type 0 where
   pub described : described_in next.relation ≡ Some next.oid
   pub told : onto_relations tables (take next.table oids) base ≡ next.relation ∷ onto_relations tables (take from oids) base
+
+-- one was found, or none is left to be described
+abbrev pub Finds : List LogTable → List ℕ → ℕ → List Message → Option Missing → Type 0
+Finds tables oids from base found = MatchOption found (onto_relations tables oids base ≡ onto_relations tables (take from oids) base) (IsMissing tables oids from base)
 
 -- the step reads this message and leads to this place
 pub record LeadsTo (message : Message) (place : Place) (step : Step) : Type 0 where

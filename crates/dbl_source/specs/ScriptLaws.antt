@@ -1,10 +1,12 @@
 -- The laws of the source that is played from a script, which the trait asks for.
 use Rattle.std.proofs.Common.{◌≡◌, refl, sym, ap, subst, ◌∙◌}
 use Rattle.std.specs.Prelude.{is_some, Option, Some, None, option_map}
+use Rattle.dbl_history.specs.History.{IsRising}
 use Rattle.dbl_history.specs.Fit.{IsFitHistory}
 use Rattle.dbl_honest.specs.Standings.{Reading, Standing, Left, left_of}
 use Rattle.dbl_honest.specs.Stated.{IsReadRight}
 use Rattle.dbl_feed.specs.declared.place.Place.{Place}
+use Rattle.dbl_feed.proofs.LogLemmas.{is_rising}
 use Rattle.dbl_feed.proofs.ReaderLemmas.{read_right}
 use Rattle.dbl_source.specs.Played.{Played, reading_at, standing_of}
 use Rattle.dbl_source.specs.Steps.{StandsFor, MayLeave, WasFair}
@@ -25,8 +27,11 @@ same_some f (Some x) = refl
 pub reads_so : (source : Played) (s : Standing) → StandsFor source s → is_some s.reading ≡ is_some source.place
 reads_so source s a = ap (λ (t : Standing). is_some t.reading) a.1 ∙ same_some (reading_at source.tables source.log) source.place
 
-pub fit_so : (source : Played) (s : Standing) → StandsFor source s → WasFair source → IsFitHistory s.history
-fit_so source s a fair = subst (λ (t : Standing). IsFitHistory t.history) (sym a.1) fair.fit
+pub rising_so : (source : Played) (s : Standing) → StandsFor source s → IsRising s.history
+rising_so source s a = subst (λ (t : Standing). IsRising t.history) (sym a.1) (is_rising source.tables source.log)
+
+pub fit_so : (source : Played) (l : Left) → MayLeave source l → WasFair source → IsFitHistory l.history
+fit_so source l may fair = subst (λ (x : Left). IsFitHistory x.history) (sym may) fair.fit
 
 right_at : (source : Played) (place : Option Place) (r : Reading) → WasFair source → option_map (reading_at source.tables source.log) place ≡ Some r → IsReadRight (standing_of source).history r
 right_at source None r fair is = cc

@@ -1,5 +1,5 @@
 -- A source that is played from a script as a `Source`, and how its `read` answers.
-use Rattle.std.specs.Prelude.{◌≡◌, ◌⊎◌, ℕ, ◌<◌, ◌≤◌, IsTrue, is_some, Option, Some, IsSomeAnd, Result, Err, IsErr, slice_get, List, ◌∷◌, ◌++◌, length, map}
+use Rattle.std.specs.Prelude.{◌≡◌, ◌⊎◌, ℕ, ◌<◌, ◌≤◌, IsTrue, is_some, Option, Some, IsSomeAnd, Result, Err, IsErr, slice_get, List, ◌∷◌, ◌++◌, length, map, take}
 use Rattle.std.specs.Ordering.{nat_cmp}
 use Rattle.std.specs.BTreeSet.{BTreeSet, contains}
 use Rattle.dbl_pgmsg.specs.declared.messages.Message.{Message}
@@ -16,7 +16,7 @@ use Rattle.dbl_source.specs.declared.error.SourceError.{SourceError}
 use Rattle.dbl_source.specs.declared.error.SourceError.TheVariants.{Failed, Memory}
 use Rattle.dbl_source.specs.Moves.{commit_limit}
 use Rattle.dbl_source.specs.Fairness.{IsFair}
-use Rattle.dbl_source.specs.Played.{Played, standing_of, IsFull, IsListed, called, released, with_fault}
+use Rattle.dbl_source.specs.Played.{Played, standing_of, IsFull, IsFullBy, IsListed, counted, committed, called, released, with_fault}
 
 -- it can be used, and stands for this
 abbrev pub StandsFor : Played → Standing → Type 0
@@ -38,6 +38,13 @@ next_message s place = slice_get (sent_after s.tables place.after s.log) (length
 abbrev pub IsUnfit : Played → Type 0
 IsUnfit s = (place : Place) × (s.place ≡ Some place) × IsSomeAnd (next_message s place) (λ message. ¬ Fits message)
 
+-- Memory was wanting in a call that was to add these commits: some first ones of them stand, and nothing else was made of the source
+-- but that the call was counted.
+pub record AddedFirst (commits : List (List Message)) (old new : Played) : Type 0 where
+  pub count : ℕ
+  pub few : count ≤ length commits
+  pub is : new ≡ record old { log = old.log ++ map Changes (take count commits); plan = new.plan }
+
 -- A read fails as every call does, and where the next message has no spelling.
 pub record ReadsAsPlanned {T : Type 0} (old new : Played) (result : Result T SourceError) : Type 0 where
   pub full : IsFull 0 old → result ≡ Err Failed
@@ -54,11 +61,17 @@ pub record IsKept (s : Played) : Type 0 where
   pub before : (n : ℕ) (question : Asked) → slice_get s.asked n ≡ Some question → question.upto ≤ length s.log
   pub placed : (p : Place) → s.place ≡ Some p → IsPlaceIn s.log p
 
--- at most so many commits of other clients stand behind the log
-pub record IsBehind (old new : List Logged) (most : ℕ) : Type 0 where
-  pub more : List (List Message)
-  pub is : new ≡ old ++ map Changes more
-  pub few : length more ≤ most
+-- some first ones of these commits stand behind the log
+pub record IsBehind (commits : List (List Message)) (old new : List Logged) : Type 0 where
+  pub count : ℕ
+  pub few : count ≤ length commits
+  pub is : new ≡ old ++ map Changes (take count commits)
+
+-- How a call failed that was to add these commits of other clients, and so many of its own: with nothing committed where there is
+-- no room, and else behind these commits where it is to fail.
+abbrev pub HasFailed : List (List Message) → ℕ → Played → Played → Type 0
+HasFailed before own old new =
+    (IsFullBy (length before) own old × (new ≡ with_fault (counted old))) ⊎ (IsListed old × (¬ IsFullBy (length before) own old) × (new ≡ with_fault (committed before (counted old))))
 
 -- other clients committed, and what a reader, a confirm and a select have made of the source is as it was
 pub record WentOn (old new : Played) : Type 0 where

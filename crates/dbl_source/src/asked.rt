@@ -1,6 +1,10 @@
+ghost use Rattle.std.specs.Prelude.{◌≡◌, [], map, option_copied, IfOk, slice_index_or};
+ghost use Rattle.dbl_source.specs.Played.{question_of};
+
 use dbl_base::Lsn;
 use dbl_honest::Started;
-use dbl_table::{Key, TableName};
+use dbl_table::{Key, RawRow, TableName};
+use std::alloc::{AllocError, Global};
 
 // What a select asked for, and how many commits there were at its call and at its return.
 #[derive(Debug, Drop)]
@@ -23,4 +27,47 @@ pub(crate) enum Last {
     Message,
     Rows(usize),
     Done,
+}
+
+/// The rows with this number in the script, and none behind them.
+pub(crate) fn rows_at(
+    alloc: Global,
+    rows: &Vec<Vec<RawRow>>,
+    number: usize,
+) -> Result<Vec<RawRow>, AllocError>
+    ensures { IfOk result (λ found.
+        found.items ≡ slice_index_or (map (λ rows. rows.items) rows.now.items) number []) }
+{
+    let mut copied = Vec::new(alloc);
+    if let Some(found) = rows.get(number) {
+        for row in found {
+            copied.push(row.copy(alloc)?)?;
+        }
+    }
+    Ok(copied)
+}
+
+/// A question that a select asked.
+pub(crate) fn question(
+    alloc: Global,
+    table: &TableName,
+    above: Option<&Key>,
+    limit: u32,
+    from: usize,
+    upto: usize,
+) -> Result<Asked, AllocError>
+    ensures { IfOk result (λ asked.
+        asked ≡ question_of table.now (option_copied above.entry) limit from upto) }
+{
+    let above = match above {
+        Some(key) => Some(key.copy(alloc)?),
+        None => None,
+    };
+    Ok(Asked {
+        table: table.copy(alloc)?,
+        above,
+        limit,
+        from,
+        upto,
+    })
 }

@@ -3,7 +3,7 @@
 ghost use Rattle.std.specs.Prelude.{◌↔◌};
 ghost use Rattle.dbl_source.specs.Played.{Played};
 ghost use Rattle.dbl_source.specs.Steps.{WasFair};
-ghost use Rattle.dbl_source.specs.Laws.{NewSourcesAreFair};
+ghost use Rattle.dbl_source.specs.Laws.{NewSourcesAreFair, FirstCommitsAreFair};
 
 use crate::{ScriptedSource, Source};
 
@@ -15,4 +15,9 @@ pub fn fair_scripts_are_honest()
 /// A played source that has been asked nothing was honest so far.
 pub fn new_sources_are_fair()
     ensures { NewSourcesAreFair }
+{}
+
+/// A played source that would be honest with all the commits of a call is so with the first ones, where memory is wanting.
+pub fn first_commits_are_fair()
+    ensures { FirstCommitsAreFair }
 {}

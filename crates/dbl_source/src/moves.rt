@@ -1,8 +1,12 @@
-ghost use Rattle.std.specs.Prelude.{◌↔◌, IsTrue};
+ghost use Rattle.std.specs.Prelude.{◌≡◌, ◌↔◌, ◌++◌, map, IsTrue, OnOk, OnErr};
+ghost use Rattle.dbl_feed.specs.declared.logged.Logged.TheVariants.{Changes};
 ghost use Rattle.dbl_source.specs.Moves.{HasRoom};
+ghost use Rattle.dbl_source.specs.Steps.{IsBehind};
 
 use dbl_base::Seq;
+use dbl_feed::Logged;
 use dbl_pgmsg::Message;
+use std::alloc::AllocError;
 
 /// A history has fewer commits than this: 2^40.
 pub const COMMIT_LIMIT: usize = 1 << 40;
@@ -12,7 +16,7 @@ pub const COMMIT_LIMIT: usize = 1 << 40;
 pub struct Move {
     /// Before the call looks at the log.
     pub before: Seq<Seq<Message>>,
-    /// Behind the rows that a `select` takes, and before it returns. Other calls have no inside.
+    /// Behind the rows that a `select` takes, and before it returns. At other calls it is left out.
     pub inside: Seq<Seq<Message>>,
 }
 
@@ -21,4 +25,15 @@ pub fn has_room(count: usize, before: usize, own: usize) -> bool
     ensures { IsTrue result ↔ HasRoom count before own }
 {
     count < COMMIT_LIMIT && before < COMMIT_LIMIT - count && own < COMMIT_LIMIT - count - before
+}
+
+/// Each list as one commit behind the log, in order; some first ones of them where memory is wanting.
+pub(crate) fn append(log: &mut Vec<Logged>, commits: Vec<Seq<Message>>) -> Result<(), AllocError>
+    ensures ok { OnOk result (log.new.items ≡ log.old.items ++ map Changes commits.items) }
+    ensures err { OnErr result (IsBehind commits.items log.old.items log.new.items) }
+{
+    for commit in commits {
+        log.push(Logged::Changes(commit))?;
+    }
+    Ok(())
 }

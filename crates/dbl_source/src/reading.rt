@@ -7,7 +7,7 @@ ghost use Rattle.dbl_feed.specs.declared.logged.LogTable.{LogTable};
 ghost use Rattle.dbl_feed.specs.declared.logged.Logged.{Logged};
 ghost use Rattle.dbl_feed.specs.Sent.{described_in, oids_of, messages_in, onto_relations, index_of, told_at, IsPlaceIn};
 ghost use Rattle.dbl_source.specs.Steps.{Describes};
-ghost use Rattle.dbl_source.specs.Readings.{IsMissing, LeadsTo, Steps};
+ghost use Rattle.dbl_source.specs.Readings.{Finds, LeadsTo, Steps};
 
 use crate::SourceError;
 use dbl_base::Bytes;
@@ -46,7 +46,8 @@ fn described_by(message: &Message) -> Option<u32>
 // A message that has no spelling is a fault of the script.
 fn step_to(alloc: Global, message: &Message, place: Place) -> Result<Step, SourceError>
     ensures leads { IfOk result (LeadsTo message.now place) }
-    ensures fault { IfErr result (λ e. (e ≡ SourceError.Memory) ⊎ ((e ≡ SourceError.Failed) × (¬ Fits message.now))) }
+    ensures fault { IfErr result (λ e. (e ≡ SourceError.Memory)
+        ⊎ ((e ≡ SourceError.Failed) × (¬ Fits message.now))) }
 {
     if !message.fits() {
         return Err(SourceError::Failed);
@@ -69,9 +70,9 @@ fn next_missing(
     message: &Message,
     from: usize,
 ) -> Result<Option<Missing>, SourceError>
-    ensures next { (base : List Message) → Describes described.now (onto_relations tables.now (take from (oids_of message.now)) base) → IfOk result (λ found. MatchOption found
-        (onto_relations tables.now (oids_of message.now) base ≡ onto_relations tables.now (take from (oids_of message.now)) base)
-        (IsMissing tables.now (oids_of message.now) from base)) }
+    ensures next { (base : List Message)
+        → Describes described.now (onto_relations tables.now (take from (oids_of message.now)) base)
+        → IfOk result (Finds tables.now (oids_of message.now) from base) }
     ensures memory { IfErr result (λ e. e ≡ SourceError.Memory) }
 {
     let mut table = from;
@@ -94,7 +95,9 @@ fn next_missing(
 // The commit begins.
 fn first_step(alloc: Global, place: Place, number: u64) -> Result<Step, SourceError>
     requires { number < 2 ^ 41 }
-    ensures { (tables : List LogTable) (log : List Logged) (entry : Logged) → number ≡ index_of place + 1 → place.begun ≡ false → slice_get log (index_of place) ≡ Some entry
+    ensures { (tables : List LogTable) (log : List Logged) (entry : Logged)
+        → number ≡ index_of place + 1 → place.begun ≡ false
+        → slice_get log (index_of place) ≡ Some entry
         → IsPlaceIn log place → Steps tables log place result }
 {
     step_to(
@@ -119,8 +122,11 @@ fn change_step(
     message: &Message,
 ) -> Result<Step, SourceError>
     requires { place.change + 1 < 2 ^ 64 }
-    ensures { (log : List Logged) (entry : Logged) → place.begun ≡ true → slice_get log (index_of place) ≡ Some entry → slice_get (messages_in entry) place.change ≡ Some message.now
-        → IsPlaceIn log place → Describes described.now (told_at tables.now log place) → Steps tables.now log place result }
+    ensures { (log : List Logged) (entry : Logged) → place.begun ≡ true
+        → slice_get log (index_of place) ≡ Some entry
+        → slice_get (messages_in entry) place.change ≡ Some message.now
+        → IsPlaceIn log place → Describes described.now (told_at tables.now log place)
+        → Steps tables.now log place result }
 {
     match next_missing(alloc, tables, described, message, place.table)? {
         Some(
@@ -158,8 +164,11 @@ fn change_step(
 fn last_step(alloc: Global, place: Place, number: u64) -> Result<Step, SourceError>
     requires number { number < 2 ^ 41 }
     requires place { place.commits + 1 < 2 ^ 64 }
-    ensures { (tables : List LogTable) (log : List Logged) (entry : Logged) → number ≡ index_of place + 1 → place.begun ≡ true → slice_get log (index_of place) ≡ Some entry
-        → slice_get (messages_in entry) place.change ≡ None → IsPlaceIn log place → Steps tables log place result }
+    ensures { (tables : List LogTable) (log : List Logged) (entry : Logged)
+        → number ≡ index_of place + 1 → place.begun ≡ true
+        → slice_get log (index_of place) ≡ Some entry
+        → slice_get (messages_in entry) place.change ≡ None → IsPlaceIn log place
+        → Steps tables log place result }
 {
     step_to(
         alloc,
@@ -185,8 +194,10 @@ fn inner_step(
 ) -> Result<Step, SourceError>
     requires number { number < 2 ^ 41 }
     requires place { place.commits + 1 < 2 ^ 64 }
-    ensures { (log : List Logged) → number ≡ index_of place + 1 → place.begun ≡ true → slice_get log (index_of place) ≡ Some entry.now → IsPlaceIn log place
-        → Describes described.now (told_at tables.now log place) → Steps tables.now log place result }
+    ensures { (log : List Logged) → number ≡ index_of place + 1 → place.begun ≡ true
+        → slice_get log (index_of place) ≡ Some entry.now → IsPlaceIn log place
+        → Describes described.now (told_at tables.now log place)
+        → Steps tables.now log place result }
 {
     match entry {
         Logged::Changes(messages) => match messages.items().get(place.change) {
@@ -214,8 +225,10 @@ pub(crate) fn next_step(
 ) -> Result<Step, SourceError>
     requires number { number < 2 ^ 41 }
     requires place { place.commits + 1 < 2 ^ 64 }
-    ensures { (log : List Logged) → number ≡ index_of place + 1 → slice_get log (index_of place) ≡ Some entry.now → IsPlaceIn log place
-        → Describes described.now (told_at tables.now log place) → Steps tables.now log place result }
+    ensures { (log : List Logged) → number ≡ index_of place + 1
+        → slice_get log (index_of place) ≡ Some entry.now → IsPlaceIn log place
+        → Describes described.now (told_at tables.now log place)
+        → Steps tables.now log place result }
 {
     if place.begun {
         inner_step(alloc, tables, entry, described, place, number)

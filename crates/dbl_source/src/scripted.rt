@@ -1,27 +1,27 @@
 ghost use Rattle.std.specs.Prelude.{◌≡◌, ◌≢◌, ◌⊎◌, ◌↔◌, ◌+◌, ◌≤◌, ◌<◌, ◌^◌, ◌++◌, ◌∷◌, [], ℕ, List, length, map, drop, Option, Some, None, Bool, true, false, is_some, option_map, option_copied, nat_lt, Err, IsTrue, IsErr, IfOk, IfErr, IfSome, OnOk, OnErr, MatchOption, slice_get, slice_index_or};
-ghost use Rattle.std.specs.List.{AllByRecursion, position_from};
+ghost use Rattle.std.specs.List.{AllByRecursion};
 ghost use Rattle.std.specs.Vec.Iter.{into_iter_items};
 ghost use Rattle.dbl_base.specs.Streams.{Rose, raised};
 ghost use Rattle.dbl_pgmsg.specs.declared.messages.Message.{Message};
 ghost use Rattle.dbl_pgmsg.specs.Grammar.{Spells};
 ghost use Rattle.dbl_table.specs.declared.table.RawTable.{RawTable};
 ghost use Rattle.dbl_table.specs.Tables.{same_name, are_distinct};
-ghost use Rattle.dbl_history.specs.History.{entry_of};
 ghost use Rattle.dbl_honest.specs.Standings.{Standing, Left, Stood, Leads};
-ghost use Rattle.dbl_honest.specs.Selected.{Selects};
-ghost use Rattle.dbl_honest.specs.Calls.{Moved, IsMarked, IsHead, Starts, Took, HasReadAll, IsConfirmed};
+ghost use Rattle.dbl_honest.specs.Answered.{IsDescribed, IsHeaded, IsSelected};
+ghost use Rattle.dbl_honest.specs.Calls.{Moved, IsMarked, Starts, Took, HasReadAll, IsConfirmed};
 ghost use Rattle.dbl_honest.specs.Leaves.{Leaves, LeavesSome, MayFollow, MayFollowMark, MayFollowConfirm};
 ghost use Rattle.dbl_honest.specs.Told.{Described, Head, Began, Read, Selected, Done, IsTakenBy, IsTakenAnew, Tells, is_ready};
 ghost use Rattle.dbl_feed.specs.declared.logged.Logged.TheVariants.{Changes, Mark};
-ghost use Rattle.dbl_feed.specs.Histories.{history_of};
 ghost use Rattle.dbl_feed.specs.Sent.{index_of};
 ghost use Rattle.dbl_source.specs.declared.asked.Last.TheVariants as answers;
+ghost use Rattle.dbl_source.specs.declared.error.SourceError.TheVariants.{Failed, Memory};
 ghost use Rattle.dbl_source.specs.Moves.{HasRoom};
 ghost use Rattle.dbl_source.specs.Played.{new_played, entry_at, told_of, before_of, inside_of, IsListed, IsFullBy, past_move, counted, committed, released, with_fault, FailsAsPlanned, with_answer, with_mark, with_confirmed, started_at, with_start, with_head, next_rows, question_of, with_select};
-ghost use Rattle.dbl_source.specs.Steps.{IsKept, IsBehind, WentOn, StandsFor, MayLeave, WasFair, IsAtEnd, ReadsAsPlanned, IsReadBy, IsUnmoved, FailsToRead};
+ghost use Rattle.dbl_source.specs.Steps.{IsKept, WentOn, AddedFirst, HasFailed, StandsFor, MayLeave, WasFair, IsAtEnd, ReadsAsPlanned, IsReadBy, IsUnmoved, FailsToRead};
 
-use crate::asked::{Asked, Last};
-use crate::moves::{Move, has_room};
+use crate::asked::{Asked, Last, question, rows_at};
+use crate::catalogue::place_of;
+use crate::moves::{Move, append, has_room};
 use crate::reading::next_step;
 use crate::{Source, SourceError};
 use dbl_base::{Bytes, FaultPlan, Lsn, Seq, Text};
@@ -29,15 +29,16 @@ use dbl_feed::{LogTable, Logged, Place, commits_upto, lsn_of};
 use dbl_honest::Started;
 use dbl_pgmsg::Message;
 use dbl_table::{Key, RawRow, RawTable, TableName};
-use std::alloc::{AllocError, Global};
+use std::alloc::Global;
 use std::collections::BTreeSet;
 use std::marker::Model;
 use std::vec::IntoIter;
 
-/// A source that goes by a script: other clients' commits before and inside of each call, rows for each `select`, and the calls
-/// that fail. Every interleaving of a connector's calls with other clients' commits is such a script.
+/// A source that goes by a script: other clients' commits before each call, and inside of each `select` between the rows that it
+/// takes and its return; rows for each `select`; and the calls that fail. Commits inside of any other call are written before it
+/// or before the next one.
 ///
-/// It is honest where the script is: see its `honest`.
+/// It is honest where the script was fair so far: `fair_scripts_are_honest`.
 #[derive(Drop)]
 pub struct ScriptedSource {
     alloc: Global,
@@ -63,87 +64,31 @@ impl Model for ScriptedSource {
 
     ghost Value = { Played };
 
-    ghost view = { λ s. record { tables = s.tables.items; moves = into_iter_items s.moves; rows = map (λ rows. rows.items) s.rows.items; asked = s.asked.items; log = s.log.items; confirmed = s.confirmed; place = s.place; plan = s.plan; last = s.last; live = s.live } };
+    ghost view = { λ s. record {
+      tables = s.tables.items;
+      moves = into_iter_items s.moves;
+      rows = map (λ rows. rows.items) s.rows.items;
+      asked = s.asked.items;
+      log = s.log.items;
+      confirmed = s.confirmed;
+      place = s.place;
+      plan = s.plan;
+      last = s.last;
+      live = s.live;
+    } };
 
-    ghost invariant = { λ s. IsPlayed s.tables.items s.log.items s.asked.items s.place s.described };
-}
-
-// Each list as one commit behind the log, in order; some first ones of them where memory is wanting.
-fn append(log: &mut Vec<Logged>, commits: Vec<Seq<Message>>) -> Result<(), AllocError>
-    ensures ok { OnOk result (log.new.items ≡ log.old.items ++ map Changes commits.items) }
-    ensures err { OnErr result (IsBehind log.old.items log.new.items (length commits.items)) }
-{
-    for commit in commits {
-        log.push(Logged::Changes(commit))?;
-    }
-    Ok(())
-}
-
-fn is_same_name(a: &TableName, b: &TableName) -> bool
-    ensures { result ≡ same_name a.now b.now }
-{
-    a.schema.as_str() == b.schema.as_str() && a.name.as_str() == b.name.as_str()
-}
-
-fn place_named(tables: &[LogTable], name: &TableName) -> Option<usize>
-    ensures { result ≡ position_from (λ table. same_name table.raw.name name.now) 0 tables.now }
-{
-    tables
-        .iter()
-        .position(|table| is_same_name(&table.raw.name, name))
-}
-
-// The place of the table of this name. The table of the watermarks is none of the catalogue's.
-fn place_of(tables: &[LogTable], name: &TableName) -> Option<usize>
-    ensures entry { entry_at tables.now result ≡ entry_of (history_of tables.now []) name.now }
-    ensures within { IfSome result (λ place. place < length tables.now) }
-{
-    if name.is_watermark() {
-        return None;
-    }
-    place_named(tables, name)
-}
-
-// The rows with this number in the script, and none behind them.
-fn rows_at(alloc: Global, rows: &Vec<Vec<RawRow>>, number: usize) -> Result<Vec<RawRow>, AllocError>
-    ensures { IfOk result (λ found. found.items ≡ slice_index_or (map (λ rows. rows.items) rows.now.items) number []) }
-{
-    let mut copied = Vec::new(alloc);
-    if let Some(found) = rows.get(number) {
-        for row in found {
-            copied.push(row.copy(alloc)?)?;
-        }
-    }
-    Ok(copied)
-}
-
-fn question(
-    alloc: Global,
-    table: &TableName,
-    above: Option<&Key>,
-    limit: u32,
-    from: usize,
-    upto: usize,
-) -> Result<Asked, AllocError>
-    ensures { IfOk result (λ asked. asked ≡ question_of table.now (option_copied above.entry) limit from upto) }
-{
-    let above = match above {
-        Some(key) => Some(key.copy(alloc)?),
-        None => None,
-    };
-    Ok(Asked {
-        table: table.copy(alloc)?,
-        above,
-        limit,
-        from,
-        upto,
-    })
+    ghost invariant = { λ s.
+        IsPlayed s.tables.items s.log.items s.asked.items s.place s.described };
 }
 
 impl ScriptedSource {
     /// A source with these tables, whose replica identity is their primary key, and no commit. Call number n, from 1, goes by the
     /// n-th move, and fails where n is among `fails`; the n-th `select` answers the n-th rows. Calls behind the last move commit
     /// nothing, and behind the last rows there are none.
+    ///
+    /// The messages of a move are sent as they are: they name table number n, from 0, by the OID 16384 + n. Any others are sent
+    /// too, but then the source isn't honest. Commit number n, from 1, has the LSN 256 n; a mark is an update of the table of the
+    /// watermarks, whose OID is 16383.
     pub fn make(
         alloc: Global,
         tables: Vec<RawTable>,
@@ -154,8 +99,9 @@ impl ScriptedSource {
         requires few { length tables.items < 2 ^ 31 }
         requires distinct { IsTrue (are_distinct same_name (map (λ raw. raw.name) tables.items)) }
         requires schemas { AllByRecursion (λ raw. raw.name.schema ≢ []) tables.items }
-        ensures made { IfOk result (λ source. source ≡ new_played tables.items moves.items (map (λ rows. rows.items) rows.items) fails.items) }
-        ensures memory { IfErr result (λ e. e ≡ SourceError.Memory) }
+        ensures made { IfOk result (λ source. source
+            ≡ new_played tables.items moves.items (map (λ rows. rows.items) rows.items) fails.items) }
+        ensures memory { IfErr result (λ e. e ≡ Memory) }
     {
         let mut keyed = Vec::with_capacity(alloc, tables.len())?;
         for raw in tables {
@@ -200,11 +146,10 @@ impl ScriptedSource {
         ensures room { OnOk result (HasRoom (length self.old.log) (length before.items) own) }
         ensures went { WentOn self.old self.new }
         ensures kept { self.new ≡ record self.old { log = self.new.log; plan = self.new.plan } }
-        ensures full { IsFullBy (length before.items) own self.old → result ≡ Err SourceError.Failed }
+        ensures full { IsFullBy (length before.items) own self.old → result ≡ Err Failed }
         ensures listed { IsListed self.old → IsErr result }
-        ensures failed { result ≡ Err SourceError.Failed →
-            (IsFullBy (length before.items) own self.old × (self.new ≡ with_fault (counted self.old)))
-            ⊎ (IsListed self.old × (¬ IsFullBy (length before.items) own self.old) × (self.new ≡ with_fault (committed before.items (counted self.old)))) }
+        ensures failed { result ≡ Err Failed → HasFailed before.items own self.old self.new }
+        ensures memory { result ≡ Err Memory → AddedFirst before.items self.old self.new }
         ensures later { self.old.plan.faults ≤ self.new.plan.faults }
     {
         let listed = self.plan.call().is_err();
@@ -230,6 +175,8 @@ impl ScriptedSource {
         ensures went { WentOn self.old self.new }
         ensures dead { self.new.live ≡ false }
         ensures planned { FailsAsPlanned 0 self.old self.new result }
+        ensures memory { result ≡ Err Memory
+            → AddedFirst (before_of self.old) (past_move self.old) self.new }
         ensures later { self.old.plan.faults ≤ self.new.plan.faults }
     {
         let Move { before, inside: _ } = self.next_move();
@@ -238,7 +185,8 @@ impl ScriptedSource {
 
     // What is read next, where there is something. The reader stands behind it then.
     fn next_bytes(&mut self) -> Result<Option<Bytes>, SourceError>
-        ensures read { IfOk result (λ read. MatchOption read (IsUnmoved self.old self.new) (IsReadBy self.old self.new)) }
+        ensures read { IfOk result (λ read.
+            MatchOption read (IsUnmoved self.old self.new) (IsReadBy self.old self.new)) }
         ensures err { IfErr result (FailsToRead self.old self.new) }
         ensures later { OnErr result (self.old.plan.faults ≤ self.new.plan.faults) }
     {
@@ -274,7 +222,7 @@ impl Source for ScriptedSource {
     ghost use Rattle.std.specs.Prelude.{◌≡◌, IsTrue, Some, is_some};
     ghost use Rattle.dbl_source.specs.Played.{Played, told_of};
     ghost use Rattle.dbl_source.specs.Steps.{StandsFor, MayLeave, WasFair};
-    ghost use Rattle.dbl_source.specs.ScriptLaws.{one_standing, only_left, may_leave_so, reads_so, fit_so, right_so};
+    ghost use Rattle.dbl_source.specs.ScriptLaws.{one_standing, only_left, may_leave_so, reads_so, rising_so, fit_so, right_so};
 
     ghost stands = { StandsFor };
 
@@ -302,6 +250,8 @@ impl Source for ScriptedSource {
 
     ghost reads = { reads_so };
 
+    ghost rising = { rising_so };
+
     ghost fit = { fit_so };
 
     ghost right = { right_so };
@@ -311,11 +261,12 @@ impl Source for ScriptedSource {
     ghost comes_on = { λ first second third before after. tt };
 
     // Of each call: what it promises as a call of any source, and what it makes of the script. It fails exactly as planned, but that
-    // memory may be wanting, and where it answers, all of the source is told.
+    // memory may be wanting: then first ones of the commits that it was to add stand, and nothing else was made of it. Where it
+    // answers, all of the source is told.
 
     fn describe(&mut self, name: &TableName) -> Result<Option<RawTable>, SourceError>
         requires { IsTrue self.old.live }
-        ensures described { Leads StandsFor self.old self.new result (λ entry s t. Moved s t × (entry ≡ entry_of s.history name.now)) }
+        ensures described { Leads StandsFor self.old self.new result (IsDescribed name.now) }
         ensures left { Leaves StandsFor MayLeave self.old self.new MayFollow }
         ensures some { LeavesSome StandsFor MayLeave self.old self.new }
         ensures told { IfOk result (λ entry. Tells (Some (told_of self.new)) (Described entry)) }
@@ -326,9 +277,12 @@ impl Source for ScriptedSource {
         ensures honest { WasFair self.new → WasFair self.old }
         ensures comes { Unit {0} }
         ensures later { self.old.plan.faults ≤ self.new.plan.faults }
-        ensures failed { result ≡ Err SourceError.Failed → Rose self.old.plan.faults self.new.plan.faults }
+        ensures failed { result ≡ Err Failed → Rose self.old.plan.faults self.new.plan.faults }
         ensures planned { FailsAsPlanned 0 self.old self.new result }
-        ensures played { OnOk result ((place : Option ℕ) × (self.new ≡ with_answer (answers.Described place) (released self.old))) }
+        ensures memory { result ≡ Err Memory
+            → AddedFirst (before_of self.old) (past_move self.old) self.new }
+        ensures played { OnOk result ((place : Option ℕ)
+            × (self.new ≡ with_answer (answers.Described place) (released self.old))) }
     {
         self.release()?;
         let place = place_of(&self.tables, name);
@@ -343,7 +297,7 @@ impl Source for ScriptedSource {
 
     fn head(&mut self) -> Result<Lsn, SourceError>
         requires { IsTrue self.old.live }
-        ensures headed { Leads StandsFor self.old self.new result (λ lsn s t. Moved s t × IsHead lsn s t) }
+        ensures headed { Leads StandsFor self.old self.new result IsHeaded }
         ensures left { Leaves StandsFor MayLeave self.old self.new MayFollow }
         ensures some { LeavesSome StandsFor MayLeave self.old self.new }
         ensures told { IfOk result (λ lsn. Tells (Some (told_of self.new)) (Head lsn)) }
@@ -354,8 +308,10 @@ impl Source for ScriptedSource {
         ensures honest { WasFair self.new → WasFair self.old }
         ensures comes { Unit {0} }
         ensures later { self.old.plan.faults ≤ self.new.plan.faults }
-        ensures failed { result ≡ Err SourceError.Failed → Rose self.old.plan.faults self.new.plan.faults }
+        ensures failed { result ≡ Err Failed → Rose self.old.plan.faults self.new.plan.faults }
         ensures planned { FailsAsPlanned 0 self.old self.new result }
+        ensures memory { result ≡ Err Memory
+            → AddedFirst (before_of self.old) (past_move self.old) self.new }
         ensures played { OnOk result (self.new ≡ with_head (released self.old)) }
     {
         self.release()?;
@@ -368,12 +324,14 @@ impl Source for ScriptedSource {
     // The log is gone exactly below the confirmed position.
     fn start(&mut self, after: Lsn) -> Result<Started, SourceError>
         requires { IsTrue self.old.live }
-        ensures started { Leads StandsFor self.old self.new result (λ started. Starts after started) }
+        ensures started { Leads StandsFor self.old self.new result (Starts after) }
         ensures left { Leaves StandsFor MayLeave self.old self.new MayFollow }
         ensures some { LeavesSome StandsFor MayLeave self.old self.new }
         ensures told { IfOk result (λ started. Tells (Some (told_of self.new)) (Began started)) }
-        ensures taken { OnOk result (IsTakenAnew (Some (told_of self.old)) (Some (told_of self.new))) }
-        ensures untaken { OnErr result (IsTakenBy [] (Some (told_of self.old)) (Some (told_of self.new))) }
+        ensures taken { OnOk result
+            (IsTakenAnew (Some (told_of self.old)) (Some (told_of self.new))) }
+        ensures untaken { OnErr result
+            (IsTakenBy [] (Some (told_of self.old)) (Some (told_of self.new))) }
         ensures reading { IfOk result (λ started. is_some self.new.place ≡ is_ready started) }
         ensures unread { OnErr result (is_some self.new.place ≡ is_some self.old.place) }
         ensures live { OnOk result (IsTrue self.new.live) }
@@ -381,9 +339,12 @@ impl Source for ScriptedSource {
         ensures honest { WasFair self.new → WasFair self.old }
         ensures comes { Unit {0} }
         ensures later { self.old.plan.faults ≤ self.new.plan.faults }
-        ensures failed { result ≡ Err SourceError.Failed → Rose self.old.plan.faults self.new.plan.faults }
+        ensures failed { result ≡ Err Failed → Rose self.old.plan.faults self.new.plan.faults }
         ensures planned { FailsAsPlanned 0 self.old self.new result }
-        ensures played { IfOk result (λ answer. (answer ≡ started_at after self.old) × (self.new ≡ with_start after (released self.old))) }
+        ensures memory { result ≡ Err Memory
+            → AddedFirst (before_of self.old) (past_move self.old) self.new }
+        ensures played { IfOk result (λ answer. (answer ≡ started_at after self.old)
+            × (self.new ≡ with_start after (released self.old))) }
     {
         self.release()?;
         let answer = if after.0 < self.confirmed.0 {
@@ -420,17 +381,22 @@ impl Source for ScriptedSource {
         ensures taken { IfOk result (λ read. MatchOption read
             (IsTakenBy [] (Some (told_of self.old)) (Some (told_of self.new)))
             (λ bytes. IsTakenBy (bytes ∷ []) (Some (told_of self.old)) (Some (told_of self.new)))) }
-        ensures untaken { OnErr result (IsTakenBy [] (Some (told_of self.old)) (Some (told_of self.new))) }
+        ensures untaken { OnErr result
+            (IsTakenBy [] (Some (told_of self.old)) (Some (told_of self.new))) }
         ensures reading { is_some self.new.place ≡ is_some self.old.place }
         ensures live { OnOk result (IsTrue self.new.live) }
         ensures dead { OnErr result (self.new.live ≡ false) }
         ensures honest { WasFair self.new → WasFair self.old }
         ensures comes { Unit {0} }
         ensures later { self.old.plan.faults ≤ self.new.plan.faults }
-        ensures failed { result ≡ Err SourceError.Failed → Rose self.old.plan.faults self.new.plan.faults }
+        ensures failed { result ≡ Err Failed → Rose self.old.plan.faults self.new.plan.faults }
         ensures planned { ReadsAsPlanned self.old self.new result }
-        ensures played { OnOk result ((place : Place) × (what : Last) × (self.new ≡ with_answer what (record (released self.old) { place = Some place }))) }
-        ensures ends { IfOk result (λ read. (read ≡ None) → (place : Place) → self.new.place ≡ Some place → IsAtEnd self.new.log place) }
+        ensures memory { result ≡ Err Memory
+            → AddedFirst (before_of self.old) (past_move self.old) self.new }
+        ensures played { OnOk result ((place : Place) × (what : Last)
+            × (self.new ≡ with_answer what (record (released self.old) { place = Some place }))) }
+        ensures ends { IfOk result (λ read. (read ≡ None) → (place : Place)
+            → self.new.place ≡ Some place → IsAtEnd self.new.log place) }
     {
         self.release()?;
         let read = self.next_bytes()?;
@@ -451,8 +417,8 @@ impl Source for ScriptedSource {
     ) -> Result<Vec<RawRow>, SourceError>
         requires live { IsTrue self.old.live }
         requires positive { 1 ≤ limit }
-        ensures selected { Leads StandsFor self.old self.new result (λ rows s t. Moved s t
-            × (WasFair self.new → Selects table.now (option_copied above.entry) limit s.history t.history rows.items)) }
+        ensures selected { Leads StandsFor self.old self.new result (λ rows.
+            IsSelected (WasFair self.new) table.now (option_copied above.entry) limit rows.items) }
         ensures left { Leaves StandsFor MayLeave self.old self.new MayFollow }
         ensures some { LeavesSome StandsFor MayLeave self.old self.new }
         ensures told { IfOk result (λ rows. Tells (Some (told_of self.new)) (Selected rows.items)) }
@@ -463,10 +429,13 @@ impl Source for ScriptedSource {
         ensures honest { WasFair self.new → WasFair self.old }
         ensures comes { Unit {0} }
         ensures later { self.old.plan.faults ≤ self.new.plan.faults }
-        ensures failed { result ≡ Err SourceError.Failed → Rose self.old.plan.faults self.new.plan.faults }
+        ensures failed { result ≡ Err Failed → Rose self.old.plan.faults self.new.plan.faults }
         ensures planned { FailsAsPlanned (length (inside_of self.old)) self.old self.new result }
+        ensures memory { result ≡ Err Memory
+            → AddedFirst (before_of self.old ++ inside_of self.old) (past_move self.old) self.new }
         ensures played { IfOk result (λ rows. (rows.items ≡ next_rows self.old)
-            × (self.new ≡ with_select table.now (option_copied above.entry) limit (length self.old.log) (inside_of self.old) (released self.old))) }
+            × (self.new ≡ with_select table.now (option_copied above.entry) limit
+            (length self.old.log) (inside_of self.old) (released self.old))) }
     {
         let from = self.log.len();
         let number = self.asked.len();
@@ -489,7 +458,8 @@ impl Source for ScriptedSource {
         ensures marked { Leads StandsFor self.old self.new result (λ done. IsMarked value.now) }
         ensures left { Leaves StandsFor MayLeave self.old self.new (MayFollowMark value.now) }
         ensures some { LeavesSome StandsFor MayLeave self.old self.new }
-        ensures unmarked { result ≡ Err SourceError.Memory → Leaves StandsFor MayLeave self.old self.new MayFollow }
+        ensures unmarked { result ≡ Err Memory
+            → Leaves StandsFor MayLeave self.old self.new MayFollow }
         ensures told { OnOk result (Tells (Some (told_of self.new)) Done) }
         ensures taken { IsTakenBy [] (Some (told_of self.old)) (Some (told_of self.new)) }
         ensures reading { is_some self.new.place ≡ is_some self.old.place }
@@ -498,8 +468,10 @@ impl Source for ScriptedSource {
         ensures honest { WasFair self.new → WasFair self.old }
         ensures comes { Unit {0} }
         ensures later { self.old.plan.faults ≤ self.new.plan.faults }
-        ensures failed { result ≡ Err SourceError.Failed → Rose self.old.plan.faults self.new.plan.faults }
+        ensures failed { result ≡ Err Failed → Rose self.old.plan.faults self.new.plan.faults }
         ensures planned { FailsAsPlanned 1 self.old self.new result }
+        ensures memory { result ≡ Err Memory
+            → AddedFirst (before_of self.old) (past_move self.old) self.new }
         ensures played { OnOk result (self.new ≡ with_mark value.now (released self.old)) }
     {
         let Move { before, inside: _ } = self.next_move();
@@ -516,7 +488,8 @@ impl Source for ScriptedSource {
         ensures confirmed { Leads StandsFor self.old self.new result (λ done. IsConfirmed upto) }
         ensures left { Leaves StandsFor MayLeave self.old self.new (MayFollowConfirm upto) }
         ensures some { LeavesSome StandsFor MayLeave self.old self.new }
-        ensures unconfirmed { result ≡ Err SourceError.Memory → Leaves StandsFor MayLeave self.old self.new MayFollow }
+        ensures unconfirmed { result ≡ Err Memory
+            → Leaves StandsFor MayLeave self.old self.new MayFollow }
         ensures told { OnOk result (Tells (Some (told_of self.new)) Done) }
         ensures taken { IsTakenBy [] (Some (told_of self.old)) (Some (told_of self.new)) }
         ensures reading { is_some self.new.place ≡ is_some self.old.place }
@@ -525,8 +498,10 @@ impl Source for ScriptedSource {
         ensures honest { WasFair self.new → WasFair self.old }
         ensures comes { Unit {0} }
         ensures later { self.old.plan.faults ≤ self.new.plan.faults }
-        ensures failed { result ≡ Err SourceError.Failed → Rose self.old.plan.faults self.new.plan.faults }
+        ensures failed { result ≡ Err Failed → Rose self.old.plan.faults self.new.plan.faults }
         ensures planned { FailsAsPlanned 0 self.old self.new result }
+        ensures memory { result ≡ Err Memory
+            → AddedFirst (before_of self.old) (past_move self.old) self.new }
         ensures played { OnOk result (self.new ≡ with_confirmed upto (released self.old)) }
     {
         self.release()?;

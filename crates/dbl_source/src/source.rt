@@ -2,14 +2,15 @@ ghost use Rattle.std.specs.Prelude.{◌≡◌, ◌≤◌, ℕ, List, [], ◌∷�
 ghost use Rattle.dbl_base.specs.Streams.{Rose};
 ghost use Rattle.dbl_pgmsg.specs.declared.messages.Message.{Message};
 ghost use Rattle.dbl_pgmsg.specs.Grammar.{Spells};
-ghost use Rattle.dbl_history.specs.History.{entry_of};
+ghost use Rattle.dbl_history.specs.History.{IsRising};
 ghost use Rattle.dbl_history.specs.Fit.{IsFitHistory};
+ghost use Rattle.dbl_source.specs.declared.error.SourceError.TheVariants.{Failed, Memory};
 ghost use Rattle.dbl_honest.specs.Standings.{Reading, Standing, Left, left_of, Stood, Leads};
+ghost use Rattle.dbl_honest.specs.Answered.{IsDescribed, IsHeaded, IsSelected};
 ghost use Rattle.dbl_honest.specs.Stated.{IsReadRight};
-ghost use Rattle.dbl_honest.specs.Selected.{Selects};
-ghost use Rattle.dbl_honest.specs.Calls.{Moved, IsMarked, IsHead, Starts, Took, HasReadAll, IsConfirmed};
+ghost use Rattle.dbl_honest.specs.Calls.{Moved, IsMarked, Starts, Took, HasReadAll, IsConfirmed};
 ghost use Rattle.dbl_honest.specs.Leaves.{Leaves, LeavesSome, MayFollow, MayFollowMark, MayFollowConfirm};
-ghost use Rattle.dbl_honest.specs.Told.{Answer, Described, Head, Began, Read, Selected, Done, Told, IsTakenBy, IsTakenAnew, Tells, is_ready};
+ghost use Rattle.dbl_honest.specs.Told.{Described, Head, Began, Read, Selected, Done, Told, IsTakenBy, IsTakenAnew, Tells, is_ready};
 
 use crate::SourceError;
 use dbl_base::{Bytes, Lsn, Text};
@@ -50,7 +51,7 @@ pub trait Source {
     /// The catalogue's entry of the table of this name, which never changes; none where there is no such table.
     fn describe(&mut self, name: &TableName) -> Result<Option<RawTable>, SourceError>
         requires { IsTrue (is_live self.old) }
-        ensures described { Leads stands self.old self.new result (λ entry s t. Moved s t × (entry ≡ entry_of s.history name.now)) }
+        ensures described { Leads stands self.old self.new result (IsDescribed name.now) }
         ensures left { Leaves stands may_leave self.old self.new MayFollow }
         ensures some { LeavesSome stands may_leave self.old self.new }
         ensures told { IfOk result (λ entry. Tells (told self.new) (Described entry)) }
@@ -61,12 +62,12 @@ pub trait Source {
         ensures honest { honest self.new → honest self.old }
         ensures comes { comes_of self.old self.new }
         ensures later { faults self.old ≤ faults self.new }
-        ensures failed { result ≡ Err SourceError.Failed → Rose (faults self.old) (faults self.new) };
+        ensures failed { result ≡ Err Failed → Rose (faults self.old) (faults self.new) };
 
     /// The LSN of the last commit at one moment of the call, and 0 where there was none.
     fn head(&mut self) -> Result<Lsn, SourceError>
         requires { IsTrue (is_live self.old) }
-        ensures headed { Leads stands self.old self.new result (λ lsn s t. Moved s t × IsHead lsn s t) }
+        ensures headed { Leads stands self.old self.new result IsHeaded }
         ensures left { Leaves stands may_leave self.old self.new MayFollow }
         ensures some { LeavesSome stands may_leave self.old self.new }
         ensures told { IfOk result (λ lsn. Tells (told self.new) (Head lsn)) }
@@ -77,14 +78,14 @@ pub trait Source {
         ensures honest { honest self.new → honest self.old }
         ensures comes { comes_of self.old self.new }
         ensures later { faults self.old ≤ faults self.new }
-        ensures failed { result ≡ Err SourceError.Failed → Rose (faults self.old) (faults self.new) };
+        ensures failed { result ≡ Err Failed → Rose (faults self.old) (faults self.new) };
 
     /// Reading begins anew, with the first commit behind the LSN; or the log behind it is gone, of which only what lies up to the
     /// confirmed position is ever dropped. `Gone` tells the first position that reading could begin behind: it is above the LSN,
     /// and at most the confirmed position. By a later start the log may be gone further, but never above that position.
     fn start(&mut self, after: Lsn) -> Result<Started, SourceError>
         requires { IsTrue (is_live self.old) }
-        ensures started { Leads stands self.old self.new result (λ started. Starts after started) }
+        ensures started { Leads stands self.old self.new result (Starts after) }
         ensures left { Leaves stands may_leave self.old self.new MayFollow }
         ensures some { LeavesSome stands may_leave self.old self.new }
         ensures told { IfOk result (λ started. Tells (told self.new) (Began started)) }
@@ -97,7 +98,7 @@ pub trait Source {
         ensures honest { honest self.new → honest self.old }
         ensures comes { comes_of self.old self.new }
         ensures later { faults self.old ≤ faults self.new }
-        ensures failed { result ≡ Err SourceError.Failed → Rose (faults self.old) (faults self.new) };
+        ensures failed { result ≡ Err Failed → Rose (faults self.old) (faults self.new) };
 
     /// The bytes of the next message; none where every commit that stood at the call was read.
     fn read(&mut self) -> Result<Option<Bytes>, SourceError>
@@ -119,7 +120,7 @@ pub trait Source {
         ensures honest { honest self.new → honest self.old }
         ensures comes { comes_of self.old self.new }
         ensures later { faults self.old ≤ faults self.new }
-        ensures failed { result ≡ Err SourceError.Failed → Rose (faults self.old) (faults self.new) };
+        ensures failed { result ≡ Err Failed → Rose (faults self.old) (faults self.new) };
 
     /// The first `limit` rows of the table with a key above `above`, and above every key where that is None, in key order, at one
     /// position between the call and the return. No row is above a key that isn't of the table's key types, and a table that
@@ -132,8 +133,8 @@ pub trait Source {
     ) -> Result<Vec<RawRow>, SourceError>
         requires live { IsTrue (is_live self.old) }
         requires positive { 1 ≤ limit }
-        ensures selected { Leads stands self.old self.new result (λ rows s t. Moved s t
-            × (honest self.new → Selects table.now (option_copied above.entry) limit s.history t.history rows.items)) }
+        ensures selected { Leads stands self.old self.new result (λ rows.
+            IsSelected (honest self.new) table.now (option_copied above.entry) limit rows.items) }
         ensures left { Leaves stands may_leave self.old self.new MayFollow }
         ensures some { LeavesSome stands may_leave self.old self.new }
         ensures told { IfOk result (λ rows. Tells (told self.new) (Selected rows.items)) }
@@ -144,7 +145,7 @@ pub trait Source {
         ensures honest { honest self.new → honest self.old }
         ensures comes { comes_of self.old self.new }
         ensures later { faults self.old ≤ faults self.new }
-        ensures failed { result ≡ Err SourceError.Failed → Rose (faults self.old) (faults self.new) };
+        ensures failed { result ≡ Err Failed → Rose (faults self.old) (faults self.new) };
 
     /// Writes the watermark: a commit of its own. After `Failed` it may stand in the log, after `Memory` it doesn't.
     fn mark(&mut self, value: &Text) -> Result<(), SourceError>
@@ -153,7 +154,8 @@ pub trait Source {
         ensures marked { Leads stands self.old self.new result (λ done. IsMarked value.now) }
         ensures left { Leaves stands may_leave self.old self.new (MayFollowMark value.now) }
         ensures some { LeavesSome stands may_leave self.old self.new }
-        ensures unmarked { result ≡ Err SourceError.Memory → Leaves stands may_leave self.old self.new MayFollow }
+        ensures unmarked { result ≡ Err Memory
+            → Leaves stands may_leave self.old self.new MayFollow }
         ensures told { OnOk result (Tells (told self.new) Done) }
         ensures taken { IsTakenBy [] (told self.old) (told self.new) }
         ensures reading { is_reading self.new ≡ is_reading self.old }
@@ -162,7 +164,7 @@ pub trait Source {
         ensures honest { honest self.new → honest self.old }
         ensures comes { comes_of self.old self.new }
         ensures later { faults self.old ≤ faults self.new }
-        ensures failed { result ≡ Err SourceError.Failed → Rose (faults self.old) (faults self.new) };
+        ensures failed { result ≡ Err Failed → Rose (faults self.old) (faults self.new) };
 
     /// The log up to this LSN isn't needed any more; one that is below the confirmed position changes nothing. After `Failed` it
     /// may be confirmed, after `Memory` it isn't.
@@ -171,7 +173,8 @@ pub trait Source {
         ensures confirmed { Leads stands self.old self.new result (λ done. IsConfirmed upto) }
         ensures left { Leaves stands may_leave self.old self.new (MayFollowConfirm upto) }
         ensures some { LeavesSome stands may_leave self.old self.new }
-        ensures unconfirmed { result ≡ Err SourceError.Memory → Leaves stands may_leave self.old self.new MayFollow }
+        ensures unconfirmed { result ≡ Err Memory
+            → Leaves stands may_leave self.old self.new MayFollow }
         ensures told { OnOk result (Tells (told self.new) Done) }
         ensures taken { IsTakenBy [] (told self.old) (told self.new) }
         ensures reading { is_reading self.new ≡ is_reading self.old }
@@ -180,7 +183,7 @@ pub trait Source {
         ensures honest { honest self.new → honest self.old }
         ensures comes { comes_of self.old self.new }
         ensures later { faults self.old ≤ faults self.new }
-        ensures failed { result ≡ Err SourceError.Failed → Rose (faults self.old) (faults self.new) };
+        ensures failed { result ≡ Err Failed → Rose (faults self.old) (faults self.new) };
 
     /// A source that stands for something can be used.
     ghost lives: { (source : Self) (s : Standing) → stands source s → IsTrue (is_live source) };
@@ -189,21 +192,29 @@ pub trait Source {
     ghost one: { (source : Self) (s t : Standing) → stands source s → stands source t → s ≡ t };
 
     /// It may leave what it stands for, and nothing else.
-    ghost only: { (source : Self) (s : Standing) (l : Left) → stands source s → may_leave source l → l ≡ left_of s };
+    ghost only: { (source : Self) (s : Standing) (l : Left) → stands source s
+        → may_leave source l → l ≡ left_of s };
 
     ghost may: { (source : Self) (s : Standing) → stands source s → may_leave source (left_of s) };
 
     /// Something is being read exactly where the last start answered that reading begins.
-    ghost reads: { (source : Self) (s : Standing) → stands source s → is_some s.reading ≡ is_reading source };
+    ghost reads: { (source : Self) (s : Standing) → stands source s
+        → is_some s.reading ≡ is_reading source };
 
-    /// An honest source's history is fit.
-    ghost fit: { (source : Self) (s : Standing) → stands source s → honest source → IsFitHistory s.history };
+    /// The LSNs of what it stands for rise, also where it isn't honest.
+    ghost rising: { (source : Self) (s : Standing) → stands source s → IsRising s.history };
+
+    /// All that an honest source may leave has a fit history, also behind an error.
+    ghost fit: { (source : Self) (l : Left) → may_leave source l → honest source
+        → IsFitHistory l.history };
 
     /// What was read of an honest source states the first commits behind the start, whatever is captured.
-    ghost right: { (source : Self) (s : Standing) (r : Reading) → stands source s → honest source → s.reading ≡ Some r → IsReadRight s.history r };
+    ghost right: { (source : Self) (s : Standing) (r : Reading) → stands source s → honest source
+        → s.reading ≡ Some r → IsReadRight s.history r };
 
     /// Each source comes of itself, and of what those come of that it comes of.
     ghost comes_self: { (source : Self) → comes_of source source };
 
-    ghost comes_on: { (first second third : Self) → comes_of first second → comes_of second third → comes_of first third };
+    ghost comes_on: { (first second third : Self) → comes_of first second
+        → comes_of second third → comes_of first third };
 }

@@ -28,7 +28,8 @@ fn describe(
     requires live { IsTrue source.old.live }
     requires reading { reading ≡ true → IsTrue (is_some source.old.place) }
     ensures live { IfOk result (λ next. IfSome next (λ now. IsTrue source.new.live)) }
-    ensures reading { IfOk result (λ next. IfSome next (λ now. now ≡ true → IsTrue (is_some source.new.place))) }
+    ensures reading { IfOk result (λ next.
+        IfSome next (λ now. now ≡ true → IsTrue (is_some source.new.place))) }
 {
     match source.describe(name) {
         Ok(entry) => {
@@ -46,7 +47,8 @@ fn head(source: &mut ScriptedSource, reading: bool, answers: &mut String) -> Res
     requires live { IsTrue source.old.live }
     requires reading { reading ≡ true → IsTrue (is_some source.old.place) }
     ensures live { IfOk result (λ next. IfSome next (λ now. IsTrue source.new.live)) }
-    ensures reading { IfOk result (λ next. IfSome next (λ now. now ≡ true → IsTrue (is_some source.new.place))) }
+    ensures reading { IfOk result (λ next.
+        IfSome next (λ now. now ≡ true → IsTrue (is_some source.new.place))) }
 {
     match source.head() {
         Ok(lsn) => {
@@ -72,7 +74,8 @@ fn begins(started: &Started) -> bool
 fn start(source: &mut ScriptedSource, after: u64, answers: &mut String) -> Result<Option<bool>>
     requires { IsTrue source.old.live }
     ensures live { IfOk result (λ next. IfSome next (λ now. IsTrue source.new.live)) }
-    ensures reading { IfOk result (λ next. IfSome next (λ now. now ≡ true → IsTrue (is_some source.new.place))) }
+    ensures reading { IfOk result (λ next.
+        IfSome next (λ now. now ≡ true → IsTrue (is_some source.new.place))) }
 {
     match source.start(Lsn(after)) {
         Ok(started) => {
@@ -95,7 +98,8 @@ fn read(
     requires live { IsTrue source.old.live }
     requires reading { reading ≡ true → IsTrue (is_some source.old.place) }
     ensures live { IfOk result (λ next. IfSome next (λ now. IsTrue source.new.live)) }
-    ensures reading { IfOk result (λ next. IfSome next (λ now. now ≡ true → IsTrue (is_some source.new.place))) }
+    ensures reading { IfOk result (λ next.
+        IfSome next (λ now. now ≡ true → IsTrue (is_some source.new.place))) }
 {
     if !reading {
         bail!("not reading");
@@ -133,7 +137,8 @@ fn select_some(
     requires reading { reading ≡ true → IsTrue (is_some source.old.place) }
     requires positive { 1 ≤ limit }
     ensures live { IfOk result (λ next. IfSome next (λ now. IsTrue source.new.live)) }
-    ensures reading { IfOk result (λ next. IfSome next (λ now. now ≡ true → IsTrue (is_some source.new.place))) }
+    ensures reading { IfOk result (λ next.
+        IfSome next (λ now. now ≡ true → IsTrue (is_some source.new.place))) }
 {
     match source.select(table, above, limit) {
         Ok(rows) => {
@@ -157,7 +162,8 @@ fn select(
     requires live { IsTrue source.old.live }
     requires reading { reading ≡ true → IsTrue (is_some source.old.place) }
     ensures live { IfOk result (λ next. IfSome next (λ now. IsTrue source.new.live)) }
-    ensures reading { IfOk result (λ next. IfSome next (λ now. now ≡ true → IsTrue (is_some source.new.place))) }
+    ensures reading { IfOk result (λ next.
+        IfSome next (λ now. now ≡ true → IsTrue (is_some source.new.place))) }
 {
     let limit = items::field(fields, 2).parse::<u32>()?;
     if limit == 0 {
@@ -177,7 +183,8 @@ fn mark(
     requires live { IsTrue source.old.live }
     requires reading { reading ≡ true → IsTrue (is_some source.old.place) }
     ensures live { IfOk result (λ next. IfSome next (λ now. IsTrue source.new.live)) }
-    ensures reading { IfOk result (λ next. IfSome next (λ now. now ≡ true → IsTrue (is_some source.new.place))) }
+    ensures reading { IfOk result (λ next.
+        IfSome next (λ now. now ≡ true → IsTrue (is_some source.new.place))) }
 {
     if value.as_str().len() > 64 {
         bail!("too long");
@@ -203,7 +210,8 @@ fn confirm(
     requires live { IsTrue source.old.live }
     requires reading { reading ≡ true → IsTrue (is_some source.old.place) }
     ensures live { IfOk result (λ next. IfSome next (λ now. IsTrue source.new.live)) }
-    ensures reading { IfOk result (λ next. IfSome next (λ now. now ≡ true → IsTrue (is_some source.new.place))) }
+    ensures reading { IfOk result (λ next.
+        IfSome next (λ now. now ≡ true → IsTrue (is_some source.new.place))) }
 {
     match source.confirm(Lsn(upto)) {
         Ok(()) => {
@@ -227,7 +235,8 @@ fn call(
     requires live { IsTrue source.old.live }
     requires reading { reading ≡ true → IsTrue (is_some source.old.place) }
     ensures live { IfOk result (λ next. IfSome next (λ now. IsTrue source.new.live)) }
-    ensures reading { IfOk result (λ next. IfSome next (λ now. now ≡ true → IsTrue (is_some source.new.place))) }
+    ensures reading { IfOk result (λ next.
+        IfSome next (λ now. now ≡ true → IsTrue (is_some source.new.place))) }
 {
     let (word, rest) = words::parted(call, "/");
     match word {

@@ -3,6 +3,7 @@
 //! - `t/public.users/id:23 name:25/id`: a table, its columns with the OIDs of their types, and its key's columns. `u/..`: another
 //!   one.
 //! - `fails/1 3`: the calls that are to fail, counted from 1.
+//! - `end/`: the script ends. It has no move of the calls behind it, and no rows for their selects.
 //! - `room/..` is no part of the script. All other items are calls, in their order.
 //!
 //! Behind a call stands what other clients commit at it, ` before ` it and ` inside ` of it: commits parted by ` + `, and their
@@ -21,12 +22,16 @@ use dbl_source::{Move, ScriptedSource};
 use dbl_table::{RawRow, RawTable};
 use std::alloc::Global;
 
+// Behind this item the script ends.
+const END: &str = "end/";
+
 /// Whether the item is a call.
 pub fn is_call(item: &str) -> bool {
     !item.starts_with("t/")
         && !item.starts_with("u/")
         && !item.starts_with("fails/")
         && !item.starts_with("room/")
+        && item != END
 }
 
 fn without_rows(item: &str) -> &str {
@@ -105,6 +110,9 @@ fn next_move(alloc: Global, item: &str) -> Result<Move> {
 fn moves(alloc: Global, case: &str) -> Result<Vec<Move>> {
     let mut list = Vec::new(alloc);
     for item in case.split(" | ") {
+        if item == END {
+            break;
+        }
         if is_call(item) {
             list.push(next_move(alloc, item)?)?;
         }
@@ -116,6 +124,9 @@ fn moves(alloc: Global, case: &str) -> Result<Vec<Move>> {
 fn taken(alloc: Global, case: &str) -> Result<Vec<Vec<RawRow>>> {
     let mut list = Vec::new(alloc);
     for item in case.split(" | ") {
+        if item == END {
+            break;
+        }
         if item.starts_with("select/") {
             list.push(raw_rows(alloc, rows(item))?)?;
         }
@@ -152,8 +163,10 @@ fn is_same(a: &RawTable, b: &RawTable) -> bool
 fn one(alloc: Global, first: RawTable) -> Result<Vec<RawTable>>
     requires { first.name.schema ≢ [] }
     ensures few { IfOk result (λ tables. length tables.items < 2 ^ 31) }
-    ensures distinct { IfOk result (λ tables. IsTrue (are_distinct same_name (map (λ raw. raw.name) tables.items))) }
-    ensures schemas { IfOk result (λ tables. AllByRecursion (λ raw. raw.name.schema ≢ []) tables.items) }
+    ensures distinct { IfOk result (λ tables.
+        IsTrue (are_distinct same_name (map (λ raw. raw.name) tables.items))) }
+    ensures schemas { IfOk result (λ tables.
+        AllByRecursion (λ raw. raw.name.schema ≢ []) tables.items) }
 {
     let mut list = Vec::new(alloc);
     list.push(first)?;
@@ -164,8 +177,10 @@ fn two(alloc: Global, first: RawTable, other: RawTable) -> Result<Vec<RawTable>>
     requires first { first.name.schema ≢ [] }
     requires other { other.name.schema ≢ [] }
     ensures few { IfOk result (λ tables. length tables.items < 2 ^ 31) }
-    ensures distinct { IfOk result (λ tables. IsTrue (are_distinct same_name (map (λ raw. raw.name) tables.items))) }
-    ensures schemas { IfOk result (λ tables. AllByRecursion (λ raw. raw.name.schema ≢ []) tables.items) }
+    ensures distinct { IfOk result (λ tables.
+        IsTrue (are_distinct same_name (map (λ raw. raw.name) tables.items))) }
+    ensures schemas { IfOk result (λ tables.
+        AllByRecursion (λ raw. raw.name.schema ≢ []) tables.items) }
 {
     if is_same(&first, &other) {
         bail!("no other table");
@@ -179,8 +194,10 @@ fn two(alloc: Global, first: RawTable, other: RawTable) -> Result<Vec<RawTable>>
 // None, one or two.
 fn tables(alloc: Global, case: &str) -> Result<Vec<RawTable>>
     ensures few { IfOk result (λ tables. length tables.items < 2 ^ 31) }
-    ensures distinct { IfOk result (λ tables. IsTrue (are_distinct same_name (map (λ raw. raw.name) tables.items))) }
-    ensures schemas { IfOk result (λ tables. AllByRecursion (λ raw. raw.name.schema ≢ []) tables.items) }
+    ensures distinct { IfOk result (λ tables.
+        IsTrue (are_distinct same_name (map (λ raw. raw.name) tables.items))) }
+    ensures schemas { IfOk result (λ tables.
+        AllByRecursion (λ raw. raw.name.schema ≢ []) tables.items) }
 {
     let Some(first) = items::first_of(case, "t/") else {
         return Ok(Vec::new(alloc));

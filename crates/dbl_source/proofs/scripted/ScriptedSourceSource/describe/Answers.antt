@@ -9,6 +9,7 @@ use Rattle.dbl_feed.specs.Histories.{history_of}
 use Rattle.dbl_source.specs.declared.asked.Last.TheVariants as answers
 use Rattle.dbl_source.specs.Played.{Played, entry_at, with_answer}
 use Rattle.dbl_source.proofs.CallLemmas.{went_follows, went_fair, went_read, describe_leads, stood_to, left_to, read_to, fair_to}
+use Rattle.dbl_source.proofs.MemoryLemmas.{added_all}
 use Rattle.dbl_source.proofs.EntryLemmas.{entry_there, answer_told}
 use Rattle.dbl_source.proofs.scripted.ScriptedSourceSource.describe.Goals as goal
 use Rattle.dbl_source.proofs.scripted.ScriptedSourceSource.describe.Goals.{in-Some+in_ok-copy-in-Some, in-None}
@@ -33,6 +34,9 @@ returns-in_err-copy-in-Some-clause-taken c = went_read _ _ c.release.ensures.wen
 
 pub returns-in_err-copy-in-Some-clause-honest : goal.returns-in_err-copy-in-Some-clause-honest
 returns-in_err-copy-in-Some-clause-honest c fair = went_fair _ _ c.release.ensures.went c.release.ensures.was fair
+
+pub returns-in_err-copy-in-Some-clause-memory : goal.returns-in_err-copy-in-Some-clause-memory
+returns-in_err-copy-in-Some-clause-memory c memory = added_all c.args.self.now c.release.new.self c.in_ok-release.ensures.ok
 
 pub returns-clause-told : goal.returns-clause-told
 returns-clause-told c t told =

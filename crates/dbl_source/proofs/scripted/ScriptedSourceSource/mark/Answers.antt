@@ -8,10 +8,11 @@ use Rattle.dbl_feed.specs.declared.logged.Logged.TheVariants.{Mark}
 use Rattle.dbl_source.specs.declared.asked.Last.TheVariants as answers
 use Rattle.dbl_source.specs.Played.{Played, with_mark}
 use Rattle.dbl_source.specs.Steps.{WentOn}
-use Rattle.dbl_source.proofs.PlannedLemmas.{went_after}
+use Rattle.dbl_source.proofs.PlannedLemmas.{went_after, released_so}
 use Rattle.dbl_source.proofs.CallLemmas.{went_follows, went_fair, went_read, mark_leads, mark_follows, stood_to, left_to, read_to, fair_to}
 use Rattle.dbl_source.proofs.KeptLemmas.{played_marked}
 use Rattle.dbl_source.proofs.AddedLemmas.{room_left, mark_read, mark_fair}
+use Rattle.dbl_source.proofs.MemoryLemmas.{added_all}
 use Rattle.dbl_source.proofs.scripted.ScriptedSourceSource.mark.Goals as goal
 
 -- ---- the call can't begin, or the text has no memory: only other clients have committed
@@ -51,6 +52,11 @@ returns-in_err-copied-clause-unmarked c memory s l stands may =
     let went : WentOn c.args.self.now c.begin.new.self = went_after c.args.self.now c.next_move-before.new.self c.begin.new.self c.next_move-before.ensures.past c.begin.ensures.went in
     let was = c.next_move-before.ensures.was in
     went_follows c.args.self.now c.begin.new.self s l went was stands may
+
+pub returns-in_err-copied-clause-memory : goal.returns-in_err-copied-clause-memory
+returns-in_err-copied-clause-memory c memory =
+    added_all c.args.self.now c.begin.new.self
+    (released_so c.args.self.now c.next_move-before.new.self c.begin.new.self c.into_items.result.items c.next_move-before.ensures.past (c.into_items.ensures ∙ c.next_move-before.ensures.before) c.in_ok-begin.ensures.ok)
 
 pub returns-in_err-copied-clause-taken : goal.returns-in_err-copied-clause-taken
 returns-in_err-copied-clause-taken c =
@@ -105,6 +111,25 @@ returns-in_err-push-clause-unmarked c memory s l stands may =
     } in
     let is : with_log c.push.new.self.items ≡ c.begin.new.self = ap with_log c.in_err-push.ensures.items ∙ c.self.view_is in
     left_to (with_log c.push.new.self.items) c.begin.new.self l (MayFollow s l) is (λ leaves. went_follows c.args.self.now c.begin.new.self s l went was stands leaves) may
+
+pub returns-in_err-push-clause-memory : goal.returns-in_err-push-clause-memory
+returns-in_err-push-clause-memory c memory =
+    let i = c.self.inside in
+    let with_log : List Logged → Played = λ log. record {
+      tables = i.tables.items;
+      moves = into_iter_items i.moves;
+      rows = map (λ r. r.items) i.rows.items;
+      asked = i.asked.items;
+      log = log;
+      confirmed = i.confirmed;
+      place = i.place;
+      plan = i.plan;
+      last = i.last;
+      live = i.live;
+    } in
+    let is : with_log c.push.new.self.items ≡ c.begin.new.self = ap with_log c.in_err-push.ensures.items ∙ c.self.view_is in
+    added_all c.args.self.now (with_log c.push.new.self.items)
+    (is ∙ released_so c.args.self.now c.next_move-before.new.self c.begin.new.self c.into_items.result.items c.next_move-before.ensures.past (c.into_items.ensures ∙ c.next_move-before.ensures.before) c.in_ok-begin.ensures.ok)
 
 pub returns-in_err-push-clause-taken : goal.returns-in_err-push-clause-taken
 returns-in_err-push-clause-taken c =

@@ -1,14 +1,16 @@
-use Rattle.std.proofs.Common.{◌≡◌, ◌∷◌, List, ℕ, map, refl, sym, ap, subst, arith}
+use Rattle.std.proofs.Common.{◌≡◌, ◌∷◌, List, ℕ, map, refl, sym, ap, subst, arith, rules}
 use Rattle.std.specs.Prelude.{MatchOption}
 use Rattle.dbl_pgmsg.specs.declared.messages.Message.{Message}
 use Rattle.dbl_pgmsg.specs.Grammar.{Spells, spelling}
 use Rattle.dbl_honest.specs.Standings.{Stood}
 use Rattle.dbl_honest.specs.Calls.{Moved, Took, HasReadAll}
+use Rattle.dbl_source.specs.declared.error.SourceError.TheVariants.{Memory}
 use Rattle.dbl_source.specs.Played.{Played, messages_of, with_answer}
 use Rattle.dbl_source.specs.Steps.{StandsFor, MayLeave, WasFair, IsUnfit}
 use Rattle.dbl_source.proofs.PlannedLemmas.{planned_ok, reads_planned}
 use Rattle.dbl_source.proofs.CallLemmas.{went_follows, went_fair, went_read, on_err}
 use Rattle.dbl_source.proofs.ReadCallLemmas.{went_failed, reads_lead, read_left, read_fair, read_taken, not_unfit}
+use Rattle.dbl_source.proofs.MemoryLemmas.{read_memory}
 use Rattle.dbl_source.proofs.scripted.ScriptedSourceSource.read.Goals as goal
 
 pub returns-in_err-release-clause-left : goal.returns-in_err-release-clause-left
@@ -46,6 +48,11 @@ returns-in_err-read-clause-honest c fair =
 
 pub returns-in_err-read-clause-later : goal.returns-in_err-read-clause-later
 returns-in_err-read-clause-later c = omega (arith, c.release.ensures.later, c.in_err-read.ensures.later)
+
+pub returns-in_err-read-clause-memory : goal.returns-in_err-read-clause-memory
+returns-in_err-read-clause-memory c memory =
+    let told : c.in_err-read.field-0.0 ≡ Memory = search rules in
+    read_memory c.args.self.now c.release.new.self c.next_bytes.new.self c.in_err-read.field-0.0 told c.in_ok-release.ensures.ok c.in_err-read.ensures.err
 
 -- ---- it answers: what is behind the call differs from what is behind the step by the last answer alone
 

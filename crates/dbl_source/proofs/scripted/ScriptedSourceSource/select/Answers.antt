@@ -1,5 +1,6 @@
-use Rattle.std.proofs.Common.{◌≡◌, ◌∙◌, ◌++◌, [], ℕ, List, length, true, map, refl, sym, ap, subst, arith}
-use Rattle.std.specs.Prelude.{option_copied, slice_index_or}
+use Rattle.std.proofs.Common.{◌≡◌, ◌∙◌, ◌++◌, [], ℕ, List, length, length-take-le, true, map, take, refl, sym, ap, subst, arith, rules}
+use Rattle.std.specs.Prelude.{option_copied, slice_index_or, Err}
+use Rattle.dbl_source.specs.declared.error.SourceError.TheVariants.{Memory}
 use Rattle.std.specs.Vec.Iter.{into_iter_items}
 use Rattle.dbl_pgmsg.specs.declared.messages.Message.{Message}
 use Rattle.dbl_table.specs.declared.table.RawRow.{RawRow}
@@ -10,12 +11,13 @@ use Rattle.dbl_honest.specs.Leaves.{MayFollow}
 use Rattle.dbl_feed.specs.declared.logged.Logged.TheVariants.{Changes}
 use Rattle.dbl_source.specs.declared.asked.Asked.{Asked}
 use Rattle.dbl_source.specs.declared.asked.Last.TheVariants as answers
-use Rattle.dbl_source.specs.Played.{Played, inside_of, released, next_rows, with_select}
-use Rattle.dbl_source.specs.Steps.{WentOn, StandsFor, WasFair, IsPlayed}
+use Rattle.dbl_source.specs.Played.{Played, before_of, inside_of, past_move, released, next_rows, with_select}
+use Rattle.dbl_source.specs.Steps.{IsBehind, WentOn, StandsFor, WasFair, IsPlayed}
 use Rattle.dbl_source.proofs.PlannedLemmas.{went_after, released_so}
 use Rattle.dbl_source.proofs.CallLemmas.{went_follows, went_fair, went_read, select_leads, select_follows, left_to, read_to, fair_to}
 use Rattle.dbl_source.proofs.KeptLemmas.{played_on, played_asked}
 use Rattle.dbl_source.proofs.AddedLemmas.{room_left, went_on, select_is, select_read, select_fair}
+use Rattle.dbl_source.proofs.MemoryLemmas.{added_after, added_all, added_front, added_inside, added_both}
 use Rattle.dbl_source.proofs.scripted.ScriptedSourceSource.select.Goals as goal
 
 -- ---- the call can't begin, or the rows have no memory: only other clients have committed before it
@@ -64,7 +66,8 @@ invariant_of-self c =
     let room = room_left c.next_move-before.new.self c.begin.new.self c.into_items.result.items c.len.result c.in_ok-begin.ensures.ok c.in_ok-begin.ensures.room in
     let stood : length i.log.items ≡ length c.begin.new.self.log = ap (λ (p : Played). length p.log) c.self-2.view_is in
     let behind = c.in_err-append.ensures.err in
-    played_on i.tables.items i.log.items c.append.new.log.items i.asked.items i.place i.described behind.more behind.is (omega (arith, room, stood, behind.few, c.len.ensures, c.into_items-inside.result.ok.0)) c.self-2.invariant
+    let inside = c.into_items-inside.result.items in
+    played_on i.tables.items i.log.items c.append.new.log.items i.asked.items i.place i.described (take behind.count inside) behind.is (omega (arith, room, stood, behind.few, length-take-le behind.count inside behind.few, c.len.ensures, c.into_items-inside.result.ok.0)) c.self-2.invariant
 
 pub returns-in_err-append-clause-left : goal.returns-in_err-append-clause-left
 returns-in_err-append-clause-left c s l stands may =
@@ -85,7 +88,7 @@ returns-in_err-append-clause-left c s l stands may =
     } in
     let log = c.append.new.log.items in
     let asked = i.asked.items in
-    let more : WentOn c.args.self.now (record here { log = log; asked = asked }) = went_on c.args.self.now c.begin.new.self here log asked c.in_err-append.ensures.err.more c.self-2.view_is went c.in_err-append.ensures.err.is refl in
+    let more : WentOn c.args.self.now (record here { log = log; asked = asked }) = went_on c.args.self.now c.begin.new.self here log asked (take c.in_err-append.ensures.err.count c.into_items-inside.result.items) c.self-2.view_is went c.in_err-append.ensures.err.is refl in
     went_follows c.args.self.now (record here { log = log; asked = asked }) s l more was stands may
 
 pub returns-in_err-append-clause-taken : goal.returns-in_err-append-clause-taken
@@ -107,7 +110,7 @@ returns-in_err-append-clause-taken c =
     } in
     let log = c.append.new.log.items in
     let asked = i.asked.items in
-    let more : WentOn c.args.self.now (record here { log = log; asked = asked }) = went_on c.args.self.now c.begin.new.self here log asked c.in_err-append.ensures.err.more c.self-2.view_is went c.in_err-append.ensures.err.is refl in
+    let more : WentOn c.args.self.now (record here { log = log; asked = asked }) = went_on c.args.self.now c.begin.new.self here log asked (take c.in_err-append.ensures.err.count c.into_items-inside.result.items) c.self-2.view_is went c.in_err-append.ensures.err.is refl in
     went_read c.args.self.now (record here { log = log; asked = asked }) more was
 
 pub returns-in_err-append-clause-honest : goal.returns-in_err-append-clause-honest
@@ -129,7 +132,7 @@ returns-in_err-append-clause-honest c fair =
     } in
     let log = c.append.new.log.items in
     let asked = i.asked.items in
-    let more : WentOn c.args.self.now (record here { log = log; asked = asked }) = went_on c.args.self.now c.begin.new.self here log asked c.in_err-append.ensures.err.more c.self-2.view_is went c.in_err-append.ensures.err.is refl in
+    let more : WentOn c.args.self.now (record here { log = log; asked = asked }) = went_on c.args.self.now c.begin.new.self here log asked (take c.in_err-append.ensures.err.count c.into_items-inside.result.items) c.self-2.view_is went c.in_err-append.ensures.err.is refl in
     went_fair c.args.self.now (record here { log = log; asked = asked }) more was fair
 
 -- ---- all of them do, but what was asked has no memory
@@ -475,3 +478,79 @@ returns-clause-played c =
     let mid : c.begin.new.self ≡ released c.args.self.now =
     released_so c.args.self.now c.next_move-before.new.self c.begin.new.self c.into_items.result.items c.next_move-before.ensures.past (c.into_items.ensures ∙ c.next_move-before.ensures.before) c.in_ok-begin.ensures.ok in
     (rows ∙ ap next_rows mid, is ∙ ap (with_select table above limit before inside) mid)
+
+-- ---- memory was wanting
+
+pub returns-in_err-begin-clause-memory : goal.returns-in_err-begin-clause-memory
+returns-in_err-begin-clause-memory c memory =
+    let told : c.begin.result ≡ Err Memory = search rules in
+    added_front (past_move c.args.self.now) c.begin.new.self (before_of c.args.self.now) (inside_of c.args.self.now)
+    (added_after c.args.self.now c.next_move-before.new.self c.begin.new.self c.into_items.result.items c.next_move-before.ensures.past (c.into_items.ensures ∙ c.next_move-before.ensures.before) (c.begin.ensures.memory told))
+
+pub returns-in_err-rows-clause-memory : goal.returns-in_err-rows-clause-memory
+returns-in_err-rows-clause-memory c memory =
+    let begun : c.begin.new.self ≡ released c.args.self.now =
+    released_so c.args.self.now c.next_move-before.new.self c.begin.new.self c.into_items.result.items c.next_move-before.ensures.past (c.into_items.ensures ∙ c.next_move-before.ensures.before) c.in_ok-begin.ensures.ok in
+    added_front (past_move c.args.self.now) c.begin.new.self (before_of c.args.self.now) (inside_of c.args.self.now) (added_all c.args.self.now c.begin.new.self begun)
+
+pub returns-in_err-append-clause-memory : goal.returns-in_err-append-clause-memory
+returns-in_err-append-clause-memory c memory =
+    let begun : c.begin.new.self ≡ released c.args.self.now =
+    released_so c.args.self.now c.next_move-before.new.self c.begin.new.self c.into_items.result.items c.next_move-before.ensures.past (c.into_items.ensures ∙ c.next_move-before.ensures.before) c.in_ok-begin.ensures.ok in
+    let i = c.self-2.inside in
+    let here : Played = record {
+      tables = i.tables.items;
+      moves = into_iter_items i.moves;
+      rows = map (λ r. r.items) i.rows.items;
+      asked = i.asked.items;
+      log = i.log.items;
+      confirmed = i.confirmed;
+      place = i.place;
+      plan = i.plan;
+      last = i.last;
+      live = i.live;
+    } in
+    let inside : c.into_items-inside.result.items ≡ inside_of c.args.self.now = c.into_items-inside.ensures ∙ c.next_move-before.ensures.inside in
+    let behind : IsBehind (inside_of c.args.self.now) i.log.items c.append.new.log.items =
+    subst (λ (l : List (List Message)). IsBehind l i.log.items c.append.new.log.items) inside c.in_err-append.ensures.err in
+    added_inside c.args.self.now c.begin.new.self here c.append.new.log.items i.asked.items (inside_of c.args.self.now) behind.count c.self-2.view_is begun behind.few behind.is refl
+
+pub returns-in_err-asked-clause-memory : goal.returns-in_err-asked-clause-memory
+returns-in_err-asked-clause-memory c memory =
+    let begun : c.begin.new.self ≡ released c.args.self.now =
+    released_so c.args.self.now c.next_move-before.new.self c.begin.new.self c.into_items.result.items c.next_move-before.ensures.past (c.into_items.ensures ∙ c.next_move-before.ensures.before) c.in_ok-begin.ensures.ok in
+    let i = c.self-2.inside in
+    let here : Played = record {
+      tables = i.tables.items;
+      moves = into_iter_items i.moves;
+      rows = map (λ r. r.items) i.rows.items;
+      asked = i.asked.items;
+      log = i.log.items;
+      confirmed = i.confirmed;
+      place = i.place;
+      plan = i.plan;
+      last = i.last;
+      live = i.live;
+    } in
+    let inside : c.into_items-inside.result.items ≡ inside_of c.args.self.now = c.into_items-inside.ensures ∙ c.next_move-before.ensures.inside in
+    added_both c.args.self.now c.begin.new.self here c.append.new.log.items i.asked.items c.into_items-inside.result.items c.self-2.view_is begun inside c.in_ok-append.ensures.ok refl
+
+pub returns-in_err-push-clause-memory : goal.returns-in_err-push-clause-memory
+returns-in_err-push-clause-memory c memory =
+    let begun : c.begin.new.self ≡ released c.args.self.now =
+    released_so c.args.self.now c.next_move-before.new.self c.begin.new.self c.into_items.result.items c.next_move-before.ensures.past (c.into_items.ensures ∙ c.next_move-before.ensures.before) c.in_ok-begin.ensures.ok in
+    let i = c.self-2.inside in
+    let here : Played = record {
+      tables = i.tables.items;
+      moves = into_iter_items i.moves;
+      rows = map (λ r. r.items) i.rows.items;
+      asked = i.asked.items;
+      log = i.log.items;
+      confirmed = i.confirmed;
+      place = i.place;
+      plan = i.plan;
+      last = i.last;
+      live = i.live;
+    } in
+    let inside : c.into_items-inside.result.items ≡ inside_of c.args.self.now = c.into_items-inside.ensures ∙ c.next_move-before.ensures.inside in
+    added_both c.args.self.now c.begin.new.self here c.append.new.log.items c.push.new.self.items c.into_items-inside.result.items c.self-2.view_is begun inside c.in_ok-append.ensures.ok c.in_err-push.ensures.items

@@ -1,6 +1,6 @@
 use Rattle.std.proofs.Common.{◌∙◌, sym}
 use Rattle.dbl_source.proofs.EntryLemmas.{none_marked, entry_placed, placed_within}
-use Rattle.dbl_source.proofs.scripted.place_of.Goals as goal
+use Rattle.dbl_source.proofs.catalogue.place_of.Goals as goal
 
 pub returns-then-is_watermark-clause-entry : goal.returns-then-is_watermark-clause-entry
 returns-then-is_watermark-clause-entry c = sym (none_marked c.args.tables.now c.args.name.now (sym c.is_watermark.ensures ∙ c.if-is_watermark.true))

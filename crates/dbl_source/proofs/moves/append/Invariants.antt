@@ -1,6 +1,6 @@
 use Rattle.std.proofs.Common.{◌≡◌, ◌++◌, map}
 use Rattle.dbl_feed.specs.declared.logged.Logged.TheVariants.{Changes}
-use Rattle.dbl_source.proofs.scripted.append.Given as goal
+use Rattle.dbl_source.proofs.moves.append.Given as goal
 
 abbrev pub invariant-loop-commit : goal.invariant-loop-commit
 invariant-loop-commit l = l.log.items ≡ l.initial.log.items ++ map Changes l.yielded

@@ -8,6 +8,7 @@
 mod disk;
 mod journal;
 mod offset;
+mod runs;
 mod steps;
 mod topic;
 mod words;
@@ -24,6 +25,7 @@ fn answer(alloc: Global, name: &str, arguments: &str) -> Result<String> {
         "journal" => journal::answer(alloc, call, arguments),
         "topic" => topic::answer(alloc, call, arguments),
         "offset" => offset::answer(alloc, call, arguments),
+        "runs" => runs::answer(alloc, call, arguments),
         _ => bail!("no such family"),
     }
 }

@@ -10,7 +10,7 @@ use dbl_offset::{Offset, OffsetStore};
 use std::alloc::Global;
 
 /// A store's offset.
-struct Last;
+pub struct Last;
 
 impl Store for Last {
     fn told(alloc: Global, disk: MemDisk) -> Result<String> {

@@ -109,8 +109,8 @@ fn crashed(disk: MemDisk, rest: &str) -> Result<MemDisk> {
     Ok(disk.crash(choice(rest)?)?)
 }
 
-// Puts another disk in place, or another fuse before it.
-fn prepare(alloc: Global, disk: &mut Device, word: &str, rest: &str) -> Result<()> {
+/// Puts another disk in place, or another fuse before it.
+pub fn prepare(alloc: Global, disk: &mut Device, word: &str, rest: &str) -> Result<()> {
     match word {
         "fresh" => {
             let fails = words::numbers(alloc, rest)?;
@@ -156,8 +156,8 @@ fn step<S: Store>(alloc: Global, disk: &mut Device, word: &str, rest: &str) -> R
     }
 }
 
-// What the steps answer over a disk.
-fn taken<S: Store>(alloc: Global, disk: &mut Device, steps: &str) -> Result<String> {
+/// What the steps answer over a disk.
+pub fn taken<S: Store>(alloc: Global, disk: &mut Device, steps: &str) -> Result<String> {
     let mut answer = String::new(alloc);
     for text in steps.split("; ") {
         let (word, rest) = words::first(text);

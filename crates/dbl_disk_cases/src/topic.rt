@@ -12,7 +12,7 @@ use dbl_topic::{MemSink, Sink, SinkError, TopicLog};
 use std::alloc::Global;
 
 /// A topic log's groups.
-struct Groups;
+pub struct Groups;
 
 impl Store for Groups {
     fn told(alloc: Global, disk: MemDisk) -> Result<String> {
@@ -25,7 +25,8 @@ impl Store for Groups {
     fn step(alloc: Global, disk: &mut Device, word: &str, rest: &str) -> Result<String> {
         match word {
             "make" => make(alloc, disk, rest),
-            "put" => put(alloc, disk, rest),
+            "put" => put(alloc, disk, &group(alloc, rest)?),
+            "records" => put(alloc, disk, &records(alloc, rest)?),
             "group" => one(alloc, disk, rest),
             "journal" => journal::make(alloc, disk, rest),
             "append" => journal::append(alloc, disk, rest),
@@ -56,6 +57,33 @@ fn record(alloc: Global, topic: &str) -> Result<Record> {
         newkey: None,
         oldkey: None,
     })
+}
+
+// A text, or none where a dash stands.
+fn text(alloc: Global, word: &str) -> Result<Option<Text>> {
+    match word {
+        "-" => Ok(None),
+        _ => Ok(Some(Text::of(alloc, word)?)),
+    }
+}
+
+// The record `TOPIC KEY VALUE`.
+fn told_record(alloc: Global, words: &str) -> Result<Record> {
+    let (topic, rest) = words::first(words);
+    let (key, value) = words::first(rest);
+    let mut item = record(alloc, topic)?;
+    item.key = text(alloc, key)?;
+    item.value = text(alloc, value)?;
+    Ok(item)
+}
+
+// A group of records parted by commas.
+fn records(alloc: Global, arguments: &str) -> Result<Vec<Record>> {
+    let mut group = Vec::new(alloc);
+    for words in arguments.split(", ") {
+        group.push(told_record(alloc, words)?)?;
+    }
+    Ok(group)
 }
 
 // A group of so many tombstones of a topic.
@@ -130,11 +158,10 @@ fn make(alloc: Global, place: &mut Device, calls: &str) -> Result<String> {
 }
 
 // Opens the log on the disk and puts a group.
-fn put(alloc: Global, place: &mut Device, arguments: &str) -> Result<String> {
-    let group = group(alloc, arguments)?;
+fn put(alloc: Global, place: &mut Device, group: &Vec<Record>) -> Result<String> {
     match TopicLog::open(alloc, steps::take(alloc, place)) {
         Ok(mut log) => {
-            let answered = put_in(&mut log, &group);
+            let answered = put_in(&mut log, group);
             steps::put(place, log.into_disk());
             words::outcome(alloc, answered)
         }

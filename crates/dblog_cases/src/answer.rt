@@ -22,9 +22,9 @@ impl Answer {
         self.status
     }
 
-    /// Whether the other one has the same status and the same text.
-    pub fn is_same(&self, other: &Answer) -> bool {
-        self.status == other.status && self.text.as_slice() == other.text.as_slice()
+    pub fn tell<W: Write>(&self, writer: &mut W) -> io::Result<()> {
+        self.tell_status(writer)?;
+        self.tell_text(writer)
     }
 
     pub fn tell_status<W: Write>(&self, writer: &mut W) -> io::Result<()> {

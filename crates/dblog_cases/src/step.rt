@@ -119,6 +119,9 @@ fn each(rest: &str) -> Option<Part<'_>> {
         "cut" => Sweep::Cut {
             place: disk_named(rest)?,
         },
+        "byte" => Sweep::Byte {
+            place: disk_named(rest)?,
+        },
         "bit" => Sweep::Bit {
             place: disk_named(rest)?,
         },

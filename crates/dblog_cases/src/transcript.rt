@@ -62,8 +62,7 @@ impl Transcript {
             return tell_each(self.alloc, &run, &self.disks, sweep, writer);
         }
         let answer = self.perform(run)?;
-        answer.tell_status(writer)?;
-        answer.tell_text(writer)
+        answer.tell(writer)
     }
 
     // Makes the run, which leaves the disks to the next one.

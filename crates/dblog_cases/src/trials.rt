@@ -27,20 +27,21 @@ fn turned(bytes: &Vec<u8>, number: u64) -> Result<Vec<u8>, AllocError> {
 // How many runs there are.
 fn count(sweep: Sweep, disks: &Disks) -> u64 {
     match sweep {
-        Sweep::Cut { place } => disks.bytes(place).len() as u64,
-        Sweep::Bit { place } => disks.bytes(place).len() as u64,
+        Sweep::Cut { place } | Sweep::Byte { place } | Sweep::Bit { place } => {
+            disks.bytes(place).len() as u64
+        }
         Sweep::Fuse { place: _, most } => most.saturating_add(1),
     }
 }
 
-// What the program answers in the run with this number.
-fn answer_at(
+// What the program answers in the run with this number, and how it leaves the disks.
+fn perform(
     alloc: Global,
     run: &Run,
     disks: &Disks,
     sweep: Sweep,
     number: u64,
-) -> Result<Answer, AllocError> {
+) -> Result<(Answer, Disks), AllocError> {
     let mut next = run.again(alloc)?;
     let mut found = disks.crash(Choice::New)?;
     match sweep {
@@ -48,14 +49,24 @@ fn answer_at(
             let bytes = cut(disks.bytes(place), number)?;
             found.put(alloc, place, bytes.as_slice())?;
         }
-        Sweep::Bit { place } => {
+        Sweep::Byte { place } | Sweep::Bit { place } => {
             let bytes = turned(disks.bytes(place), number)?;
             found.put(alloc, place, bytes.as_slice())?;
         }
         Sweep::Fuse { place, most: _ } => next.set_fuse(place, number),
     }
-    let (answer, _left) = next.perform(alloc, found)?;
-    Ok(answer)
+    next.perform(alloc, found)
+}
+
+fn status_of(
+    alloc: Global,
+    run: &Run,
+    disks: &Disks,
+    sweep: Sweep,
+    number: u64,
+) -> Result<u8, AllocError> {
+    let (answer, _left) = perform(alloc, run, disks, sweep, number)?;
+    Ok(answer.status())
 }
 
 /// Makes the runs, each on the disks as they are, and writes what they answer: of turned bits the statuses, each once, and else
@@ -82,8 +93,7 @@ fn tell_statuses<W: Write>(
 ) -> io::Result<()> {
     let mut seen = Vec::new(alloc);
     for number in 0..count(sweep, disks) {
-        let answer = answer_at(alloc, run, disks, sweep, number)?;
-        let status = answer.status();
+        let status = status_of(alloc, run, disks, sweep, number)?;
         if !seen.contains(&status) {
             seen.push(status)?;
         }
@@ -102,18 +112,43 @@ fn tell_answers<W: Write>(
     sweep: Sweep,
     writer: &mut W,
 ) -> io::Result<()> {
-    let mut last: Option<Answer> = None;
+    let mut last = Vec::new(alloc);
     for number in 0..count(sweep, disks) {
-        let answer = answer_at(alloc, run, disks, sweep, number)?;
-        let is_new = match &last {
-            Some(before) => !before.is_same(&answer),
-            None => true,
-        };
-        if is_new {
-            answer.tell_status(writer)?;
-            answer.tell_text(writer)?;
-            last = Some(answer);
+        let told = told(alloc, run, disks, sweep, number)?;
+        if told != last {
+            writer.write_all(told.as_slice())?;
+            last = told;
         }
     }
     Ok(())
+}
+
+fn told(alloc: Global, run: &Run, disks: &Disks, sweep: Sweep, number: u64) -> io::Result<Vec<u8>> {
+    let mut told = Vec::new(alloc);
+    tell(alloc, run, disks, sweep, number, &mut told)?;
+    Ok(told)
+}
+
+// Writes what the run with this number answers, and behind a fuse what a run without one then does.
+fn tell(
+    alloc: Global,
+    run: &Run,
+    disks: &Disks,
+    sweep: Sweep,
+    number: u64,
+    told: &mut Vec<u8>,
+) -> io::Result<()> {
+    let (answer, left) = perform(alloc, run, disks, sweep, number)?;
+    answer.tell(told)?;
+    match sweep {
+        Sweep::Fuse { .. } => tell_again(alloc, run, left, told),
+        _ => Ok(()),
+    }
+}
+
+// Writes what the run answers on the disks that a run before it left.
+fn tell_again(alloc: Global, run: &Run, left: Disks, told: &mut Vec<u8>) -> io::Result<()> {
+    let (answer, _left) = run.again(alloc)?.perform(alloc, left)?;
+    told.write_all(b"again\n")?;
+    answer.tell(told)
 }

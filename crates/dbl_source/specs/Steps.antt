@@ -38,8 +38,8 @@ next_message s place = slice_get (sent_after s.tables place.after s.log) (length
 abbrev pub IsUnfit : Played → Type 0
 IsUnfit s = (place : Place) × (s.place ≡ Some place) × IsSomeAnd (next_message s place) (λ message. ¬ Fits message)
 
--- Memory was wanting in a call that was to add these commits: some first ones of them stand, and nothing else was made of the source
--- but that the call was counted.
+-- Memory was wanting in a call that was to add these commits: some first ones of them stand, and nothing else changed but the plan,
+-- which counts the call, and its fault where it was to fail.
 pub record AddedFirst (commits : List (List Message)) (old new : Played) : Type 0 where
   pub count : ℕ
   pub few : count ≤ length commits

@@ -99,8 +99,8 @@ impl ScriptedSource {
         requires few { length tables.items < 2 ^ 31 }
         requires distinct { IsTrue (are_distinct same_name (map (λ raw. raw.name) tables.items)) }
         requires schemas { AllByRecursion (λ raw. raw.name.schema ≢ []) tables.items }
-        ensures made { IfOk result (λ source. source
-            ≡ new_played tables.items moves.items (map (λ rows. rows.items) rows.items) fails.items) }
+        ensures made { IfOk result (λ source. source ≡ new_played
+            tables.items moves.items (map (λ rows. rows.items) rows.items) fails.items) }
         ensures memory { IfErr result (λ e. e ≡ Memory) }
     {
         let mut keyed = Vec::with_capacity(alloc, tables.len())?;

@@ -10,8 +10,8 @@ use dbl_ageing::is_touched;
 use dbl_table::{Commit, Key};
 use std::alloc::{AllocError, Global};
 
-/// Whether a key is known at a moment, by the records of a log and the changes from the start on. There is no answer where a
-/// progress record says of the table what isn't listed.
+/// Whether a key is known at a moment, by the records of a log and the changes from the start on. There may be no
+/// answer, only where a progress record says of the table what isn't listed.
 pub fn is_known(
     alloc: Global,
     log: &Log<'_>,

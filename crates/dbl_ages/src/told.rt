@@ -181,7 +181,7 @@ fn is_told_in(
     Ok(Some(false))
 }
 
-/// Whether a progress record of the log tells of a key. There is no answer where one says of the table what isn't listed.
+/// Whether a progress record of the log tells of a key. There may be no answer, only where one says of the table what isn't listed.
 pub fn is_told(
     alloc: Global,
     log: &Log<'_>,

@@ -106,8 +106,8 @@ StandingRowsAreAnswered = (history : History) (from upto : ℕ) (name : TableNam
     → IfSome above (IsKeyOf info) → IsKeyOf info key → IsAbove above key → (length rows < limit) ⊎ IsUpTo (last_key above (map (keyed_row infos table info) rows)) key
     → ((place : ℕ) → from ≤ place → place ≤ upto → rows_behind infos history place table key ≡ row) → row_in (map (keyed_row infos table info) rows) key ≡ row
 
--- What may be left of a mark that wasn't answered: whatever may be left without it, and the mark, once. That it stands there, other
--- calls may not leave.
+-- What may be left of a mark that wasn't answered: whatever may be left without it, and the mark, once. What
+-- calls that only read may leave hasn't it.
 pub record MayBeMarked (value : List ℕ) (s : Standing) (l : Left) : Type 0 where
   pub unmarked : MayFollow s l → MayFollowMark value s l
   pub marked : Marks value s.history l.history → l.confirmed ≡ s.confirmed → MayFollowMark value s l

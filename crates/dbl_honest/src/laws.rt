@@ -27,7 +27,7 @@ pub fn marks_are_written_once()
     ensures { MarksAreWrittenOnce }
 {}
 
-/// Behind a mark that failed it may stand once, or not at all; behind any other call it may not.
+/// Behind a mark that failed it may stand once, or not at all; no call that only reads may leave it.
 pub fn failed_marks_may_stand()
     ensures { FailedMarksMayStand }
 {}

@@ -35,8 +35,8 @@ use std::marker::Model;
 use std::vec::IntoIter;
 
 /// A source that goes by a script: other clients' commits before each call, and inside of each `select` between the rows that it
-/// takes and its return; rows for each `select`; and the calls that fail. Commits inside of any other call are written before it
-/// or before the next one.
+/// takes and its return; rows for each `select`; and the calls that fail. Commits that a script has inside of another call are left
+/// out: it has them before that call, or before the next one.
 ///
 /// It is honest where the script was fair so far: `fair_scripts_are_honest`.
 #[derive(Drop)]

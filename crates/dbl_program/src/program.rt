@@ -56,7 +56,8 @@ pub fn run<I: Input, O: Output, W: Disk, T: Disk, F: Disk>(
         Runs words.now.items now_ms given
         (OfDisk
         (SpellSome words.now.items opens_topics × Rose (T.faults topics) (T.faults result.topics))
-        (SpellSome words.now.items opens_offsets × Rose (F.faults offsets) (F.faults result.offsets)))
+        (SpellSome words.now.items opens_offsets ×
+        Rose (F.faults offsets) (F.faults result.offsets)))
         result.status (O.written output.old) (O.written output.new)
         ⊎ InputFails words.now.items (I.faults input.old) (I.faults input.new) result.status
         (O.written output.old) (O.written output.new) }
@@ -71,8 +72,8 @@ pub fn run<I: Input, O: Output, W: Disk, T: Disk, F: Disk>(
         EndsAs answer result.status (O.written output.old) (O.written output.new) }
 
     // Where the words spell no command that reads the input, nothing is read.
-    ensures unread { ((command : Command) → Spells words.now.items command → reads command ≡ false) →
-        input.new ≡ input.old }
+    ensures unread { ((command : Command) → Spells words.now.items command →
+        reads command ≡ false) → input.new ≡ input.old }
 
     // An input within the limit is read to its end.
     ensures whole { (bytes : List ℕ) (command : Command) → I.left input.old ≡ Some bytes →
@@ -87,15 +88,16 @@ pub fn run<I: Input, O: Output, W: Disk, T: Disk, F: Disk>(
         Rose (I.faults input.old) (I.faults input.new) }
     ensures output_failed { result.status ≡ output_failed_status →
         Rose (O.faults output.old) (O.faults output.new) }
-    ensures wal_failed { result.status ≡ wal_status → Rose (W.faults wal) (W.faults result.wal) }
+    ensures wal_failed { result.status ≡ wal_status →
+        Rose (W.faults wal) (W.faults result.wal) }
 
     // A disk that the command doesn't read comes back as it was passed. `apply` doesn't read the offset where the disk of the
     // topic log holds none.
     ensures wal_stays { result.wal ≡ wal }
-    ensures topics_stay { ((command : Command) → Spells words.now.items command → opens_topics command ≡ false) →
-        result.topics ≡ topics }
-    ensures offsets_stay { ((command : Command) → Spells words.now.items command → opens_offsets command ≡ false) →
-        result.offsets ≡ offsets }
+    ensures topics_stay { ((command : Command) → Spells words.now.items command →
+        opens_topics command ≡ false) → result.topics ≡ topics }
+    ensures offsets_stay { ((command : Command) → Spells words.now.items command →
+        opens_offsets command ≡ false) → result.offsets ≡ offsets }
     ensures unopened { (command : Command) (bytes : List ℕ) → Spells words.now.items command →
         opens_topics command ≡ true → T.seen topics ≡ Some bytes →
         ((groups : List (List Record)) → ¬ IsLog bytes groups) → result.offsets ≡ offsets }

@@ -1,8 +1,8 @@
 //! Rows, keys and values of events as JSON trees and their texts, by the definition. They only serve the plain records.
 
-ghost use Rattle.std.specs.Prelude.{◌≡◌, map, false, codes, IfOk};
-ghost use Rattle.serde_json.specs.Data.{object};
-ghost use Rattle.serde_json.specs.View.{view};
+ghost use Rattle.std.specs.Prelude.{◌≡◌, [], map, false, codes, IfOk, OnOk};
+ghost use Rattle.serde_json.specs.Data.{object, string, put as with_member};
+ghost use Rattle.serde_json.specs.View.{view, members_view};
 ghost use Rattle.serde_json.specs.Written.{compact_text, has_float};
 ghost use Rattle.dbl_table.specs.Tables.{column_names};
 ghost use Rattle.dbl_table.specs.Infos.{key_names};
@@ -107,7 +107,50 @@ pub(crate) fn sent_value(
     object_of(alloc, &names_of_columns(alloc, info)?, &given)
 }
 
+fn put_text(
+    members: &mut Map<String, Value>,
+    alloc: Global,
+    key: &str,
+    text: &str,
+) -> Result<(), AllocError>
+    ensures { OnOk result (members_view members.new.entries
+        ≡ with_member key.now (string text.now) (members_view members.old.entries)) }
+{
+    let value = Value::try_from_str(alloc, text)?;
+    serde_json::put(members, alloc, key, value)
+}
+
+/// Puts the members of a source into an object that has none, each before those that were put.
 #[tactic(auto, unfolding(crate::specs::EventJson::source_data))]
+fn put_source(
+    members: &mut Map<String, Value>,
+    alloc: Global,
+    identity: &Identity,
+    info: &TableInfo,
+    commit: &Commit,
+) -> Result<(), AllocError>
+    requires { members.old.entries ≡ [] }
+    ensures { OnOk result (object (members_view members.new.entries)
+        ≡ source_data identity.now info.now.name commit.now (codes "false")) }
+{
+    serde_json::put(members, alloc, "xmin", Value::Null)?;
+    put_text(members, alloc, "version", "1.0")?;
+    serde_json::put(members, alloc, "txId", Value::from(commit.xid))?;
+    serde_json::put(
+        members,
+        alloc,
+        "ts_ms",
+        Value::from(milliseconds(commit.time)),
+    )?;
+    put_text(members, alloc, "table", info.name.name.as_str())?;
+    put_text(members, alloc, "snapshot", "false")?;
+    put_text(members, alloc, "schema", info.name.schema.as_str())?;
+    put_text(members, alloc, "name", identity.prefix.as_str())?;
+    serde_json::put(members, alloc, "lsn", Value::from(commit.lsn.0))?;
+    put_text(members, alloc, "db", identity.db.as_str())?;
+    put_text(members, alloc, "connector", "postgresql")
+}
+
 pub(crate) fn source_value(
     alloc: Global,
     identity: &Identity,
@@ -116,19 +159,9 @@ pub(crate) fn source_value(
 ) -> Result<Value, AllocError>
     ensures { IfOk result (λ v. view v ≡ source_data identity.now info.now.name commit.now (codes "false")) }
 {
-    json!(in alloc; {
-        "connector": "postgresql",
-        "db": identity.db.as_str(),
-        "lsn": commit.lsn.0,
-        "name": identity.prefix.as_str(),
-        "schema": info.name.schema.as_str(),
-        "snapshot": "false",
-        "table": info.name.name.as_str(),
-        "ts_ms": milliseconds(commit.time),
-        "txId": commit.xid,
-        "version": "1.0",
-        "xmin": null
-    })
+    let mut members = Map::new(alloc);
+    put_source(&mut members, alloc, identity, info, commit)?;
+    Ok(Value::Object(members))
 }
 
 #[tactic(auto, unfolding(crate::specs::EventJson::event_data))]

@@ -175,6 +175,29 @@ fn moved_texts(
     })
 }
 
+/// Adds the records of a row that moves to another key.
+fn tell_moved(
+    out: &mut Vec<Texts>,
+    alloc: Global,
+    frame: &Frame<'_>,
+    from: &Key,
+    to: &Key,
+    old: &Option<Row>,
+    row: &Row,
+) -> Result<(), AllocError>
+    ensures { OnOk result (out.new.items ≡ out.old.items
+        ++ record (event_texts frame.now (Some from.now) (Content.Deleted old.now))
+        { newkey = Some (key_text frame.now.info.now to.now) }
+        ∷ plain_texts frame.now (Some (key_text frame.now.info.now from.now)) None
+        ∷ record (event_texts frame.now (Some to.now) (Content.Created row.now))
+        { oldkey = Some (key_text frame.now.info.now from.now) } ∷ []) }
+{
+    out.push(left_texts(alloc, frame, from, to, old)?)?;
+    tell(out, alloc, frame, from, None)?;
+    out.push(moved_texts(alloc, frame, from, to, row)?)?;
+    Ok(())
+}
+
 fn tell_update(
     out: &mut Vec<Texts>,
     alloc: Global,
@@ -192,10 +215,7 @@ fn tell_update(
         let value = updated_text(alloc, frame, old, cells)?;
         return tell(out, alloc, frame, from, Some(value));
     }
-    out.push(left_texts(alloc, frame, from, &to, old)?)?;
-    tell(out, alloc, frame, from, None)?;
-    out.push(moved_texts(alloc, frame, from, &to, &row)?)?;
-    Ok(())
+    tell_moved(out, alloc, frame, from, &to, old, &row)
 }
 
 fn tell_delete(

@@ -10,7 +10,7 @@ ghost use Rattle.dbl_commit.specs.Stated.{list_of};
 ghost use Rattle.dbl_envelope.specs.Clashing.{IsClash};
 ghost use Rattle.dbl_envelope.specs.Suits.{Suits};
 ghost use Rattle.dbl_replay.specs.declared.options.ReplayOptions.{ReplayOptions};
-ghost use Rattle.dbl_replay.specs.Following.{Follows, IsFollowing};
+ghost use Rattle.dbl_replay.specs.Following.{Follows, IsFollowing, Takes};
 ghost use Rattle.dbl_replay.specs.Log.{lines_in, commit_fault, end_fault, end_status, end_lines};
 ghost use Rattle.dbl_consume.specs.Printing.{Wrote, WroteFront};
 ghost use Rattle.dbl_replay.specs.Printing.{PutsLine, PutsLines};
@@ -271,23 +271,37 @@ fn put_ended<O: Output>(
     }
 }
 
+// Takes the bytes of the next message, which has this number, and lets go of them.
+fn take_bytes(
+    alloc: Global,
+    replayer: &mut Replayer,
+    number: &u64,
+    bytes: Bytes,
+) -> Result<Option<Commit>, LogFault>
+    ensures { (options : ReplayOptions) (ms : List Message) → Follows options ms replayer.old
+        → number.now ≡ length ms + 1 → Takes options ms bytes replayer.new result }
+{
+    replayer.take(alloc, number, bytes.items().as_slice())
+}
+
 // Takes the bytes of the next message, which has this number, and puts the lines of the records of the commit that it ends.
 fn put_message<O: Output>(
     alloc: Global,
     replayer: &mut Replayer,
     number: &u64,
-    bytes: &[u8],
+    bytes: Bytes,
     now_ms: &i64,
     output: &mut O,
     buffer: Vec<u8>,
 ) -> Result<Step, PrintError>
     requires { IsFollowing replayer.old number.now }
     ensures steps { (options : ReplayOptions) (ms : List Message) → Follows options ms replayer.old → number.now ≡ length ms + 1
-        → Steps options now_ms.now ms bytes.now buffer.items replayer.new result (O.written output.old) (O.written output.new) }
+        → Steps options now_ms.now ms bytes buffer.items replayer.new result
+        (O.written output.old) (O.written output.new) }
     ensures failed { result ≡ Err PrintError.OutputFailed → Rose (O.faults output.old) (O.faults output.new) }
     ensures later { O.faults output.old ≤ O.faults output.new }
 {
-    match replayer.take(alloc, number, bytes) {
+    match take_bytes(alloc, replayer, number, bytes) {
         Ok(ended) => put_ended(alloc, &replayer.writer, &ended, now_ms, output, buffer),
         Err(fault) => match stopped(buffer, fault) {
             Ok(put) => Ok(Step::Stopped { put }),
@@ -296,29 +310,30 @@ fn put_message<O: Output>(
     }
 }
 
-// Puts the lines of the records of each commit that the messages state, up to the first fault.
-fn put_log<O: Output>(
+// Puts the lines of the records of each commit that the messages state, up to the first fault, where none was taken yet.
+fn put_messages<O: Output>(
     alloc: Global,
-    options: ReplayOptions,
+    replayer: &mut Replayer,
     messages: Vec<Bytes>,
     now_ms: &i64,
     output: &mut O,
-    buffer: Vec<u8>,
 ) -> Result<LogPut, PrintError>
-    ensures puts { PutsLog options now_ms.now messages.items buffer.items result (O.written output.old) (O.written output.new) }
-    ensures failed { result ≡ Err PrintError.OutputFailed → Rose (O.faults output.old) (O.faults output.new) }
+    requires { (options : ReplayOptions) × Follows options [] replayer.old }
+    ensures puts { (options : ReplayOptions) → Follows options [] replayer.old
+        → PutsLog options now_ms.now messages.items [] result
+        (O.written output.old) (O.written output.new) }
+    ensures failed { result ≡ Err PrintError.OutputFailed
+        → Rose (O.faults output.old) (O.faults output.new) }
     ensures later { O.faults output.old ≤ O.faults output.new }
 {
-    let mut replayer = match Replayer::make(alloc, options) {
-        Ok(replayer) => replayer,
+    let mut filled = match Vec::with_capacity(alloc, BUFFER_LENGTH) {
+        Ok(buffer) => buffer,
         Err(_) => return Err(PrintError::Memory),
     };
-    let mut filled = buffer;
     let mut number = 0u64;
     'messages: for bytes in messages {
         number += 1;
-        let bytes = bytes.items().as_slice();
-        match put_message(alloc, &mut replayer, &number, bytes, now_ms, output, filled) {
+        match put_message(alloc, replayer, &number, bytes, now_ms, output, filled) {
             Ok(Step::Put { filled: next }) => filled = next,
             Ok(Step::Stopped { put }) => return Ok(put),
             Err(error) => return Err(error),
@@ -328,6 +343,27 @@ fn put_log<O: Output>(
         filled,
         fault: unfinished(replayer.inside()),
     })
+}
+
+// Puts the lines of the records of each commit that the messages state, up to the first fault.
+fn put_log<O: Output>(
+    alloc: Global,
+    options: ReplayOptions,
+    messages: Vec<Bytes>,
+    now_ms: &i64,
+    output: &mut O,
+) -> Result<LogPut, PrintError>
+    ensures puts { PutsLog options now_ms.now messages.items [] result
+        (O.written output.old) (O.written output.new) }
+    ensures failed { result ≡ Err PrintError.OutputFailed
+        → Rose (O.faults output.old) (O.faults output.new) }
+    ensures later { O.faults output.old ≤ O.faults output.new }
+{
+    let mut replayer = match Replayer::make(alloc, options) {
+        Ok(replayer) => replayer,
+        Err(_) => return Err(PrintError::Memory),
+    };
+    put_messages(alloc, &mut replayer, messages, now_ms, output)
 }
 
 // Puts the line of a log's fault, if there is one, and answers the status.
@@ -376,8 +412,7 @@ pub fn print_log<O: Output>(
     ensures failed { result ≡ Err PrintError.OutputFailed → Rose (O.faults output.old) (O.faults output.new) }
     ensures later { O.faults output.old ≤ O.faults output.new }
 {
-    let buffer = Vec::with_capacity(alloc, BUFFER_LENGTH)?;
-    match put_log(alloc, options, messages, now_ms, output, buffer) {
+    match put_log(alloc, options, messages, now_ms, output) {
         Ok(put) => {
             let mut put = put;
             finish_log(alloc, &mut put, output)

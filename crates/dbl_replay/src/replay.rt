@@ -18,7 +18,7 @@ use dbl_envelope::EventWriter;
 use dbl_pgmsg::{Message, MsgError, RelationColumn, decode};
 use dbl_table::{Commit, TableInfo, TableKey};
 use dbl_txn::Assembler;
-use std::alloc::Global;
+use std::alloc::{AllocError, Global};
 
 /// What is known behind the messages that were taken: the captured tables, and the open transaction.
 #[derive(Drop)]
@@ -54,14 +54,13 @@ fn decoded(alloc: Global, number: &u64, bytes: &[u8]) -> Result<Message, LogFaul
 
 impl Replayer {
     /// Before any message.
-    pub fn make(alloc: Global, options: ReplayOptions) -> Result<Replayer, LogFault>
-        ensures follows { IfOk result (Follows options []) }
-        ensures err { IfErr result (λ e. e ≡ LogFault.Memory) }
+    pub fn make(alloc: Global, options: ReplayOptions) -> Result<Replayer, AllocError>
+        ensures { IfOk result (Follows options []) }
     {
         let ReplayOptions { identity, keys } = options;
         let writer = match EventWriter::make(alloc, identity, Vec::new(alloc)) {
             Ok(writer) => writer,
-            Err(_) => return Err(LogFault::Memory),
+            Err(_) => return Err(AllocError),
         };
         Ok(Replayer {
             assembler: Assembler::make(alloc, Vec::new(alloc), Lsn(0)),

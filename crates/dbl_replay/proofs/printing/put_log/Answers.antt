@@ -1,55 +1,12 @@
-use Rattle.std.proofs.Common.{◌≡◌, ◌∙◌, ℕ, ◌+◌, List, [], ◌∷◌, length, refl, sym, subst, arith, rules}
-use Rattle.dbl_replay.specs.declared.printing.Step.TheVariants as step
-use Rattle.dbl_replay.specs.LogPrinting.{StepFails}
-use Rattle.dbl_replay.proofs.FollowLemmas.{IsLogging, steps_same, logging_begins, logging_more, logging_stops, logging_ends, logging_fails, empty_is}
+use Rattle.std.proofs.Common.{[], refl}
 use Rattle.dbl_replay.proofs.PrintLemmas.{putting_begins, putting_starves}
 use Rattle.dbl_replay.proofs.printing.put_log.Goals as goal
 
 pub returns-in-Err-clause-puts : goal.returns-in-Err-clause-puts
-returns-in-Err-clause-puts g c = λ lines end writes. putting_starves lines lines c.args.buffer.items c.args.buffer.items _ _ (putting_begins lines c.args.buffer.items (g.O.Output.written c.args.output.now))
+returns-in-Err-clause-puts g c = λ lines end writes. putting_starves lines lines [] [] _ _ (putting_begins lines [] (g.O.Output.written c.args.output.now))
 
-pub messages-init : goal.messages-init
-messages-init g c = (
-  subst (λ (left : List (List ℕ)). IsLogging c.args.options c.args.now_ms.now c.args.messages.items left c.args.buffer.items c.args.buffer.items (g.O.Output.written c.args.output.now) (g.O.Output.written c.args.output.now) 0 c.in-Ok.replayer)
-      (sym c.into_iter-bytes-iterator.ensures.into_iter_gives.0)
-      (logging_begins c.args.options c.args.now_ms.now c.args.messages.items c.args.buffer.items (g.O.Output.written c.args.output.now) c.in-Ok.replayer c.in-Ok.ensures.follows),
-  omega arith,
-)
-
-pub put_message-requires : goal.put_message-requires
-put_message-requires g c =
-    let so_far = c.messages.invariant.0 in
-    record { options = c.args.options; ms = so_far.ms; follows = so_far.follows; count = omega (arith, so_far.count) }
-
-pub messages-preserved : goal.messages-preserved
-messages-preserved g c =
-    let so_far = c.messages.invariant.0 in
-    let split : c.messages.bytes-iterator.rest.items ≡ c.in-Some.bytes ∷ c.next.new.self.rest.items = search rules in
-    let same = c.as_slice-bytes.ensures.value ∙ c.items.ensures in
-    let counted : c.messages.number + 1 ≡ length so_far.ms + 1 = omega (arith, so_far.count) in
-    let is = steps_same c.args.options c.args.now_ms.now so_far.ms _ c.in-Some.bytes _ c.put_message.new.replayer c.in-Ok-Put.field-0 (step.Put c.in-Ok-Put.next) _ _ (c.in-Ok-Put.ensures.steps c.args.options so_far.ms so_far.follows counted) same c.in-Ok-Put.field-0-is in
-    (logging_more _ _ _ _ _ _ _ _ _ _ _ _ _ _ _ so_far split is, omega arith)
-
-pub returns-in-Ok-Stopped-clause-puts : goal.returns-in-Ok-Stopped-clause-puts
-returns-in-Ok-Stopped-clause-puts g c =
-    let so_far = c.messages.invariant.0 in
-    let split : c.messages.bytes-iterator.rest.items ≡ c.in-Some.bytes ∷ c.next.new.self.rest.items = search rules in
-    let same = c.as_slice-bytes.ensures.value ∙ c.items.ensures in
-    let counted : c.messages.number + 1 ≡ length so_far.ms + 1 = omega (arith, so_far.count) in
-    let is = steps_same c.args.options c.args.now_ms.now so_far.ms _ c.in-Some.bytes _ c.put_message.new.replayer c.in-Ok-Stopped.field-0 (step.Stopped c.in-Ok-Stopped.put) _ _ (c.in-Ok-Stopped.ensures.steps c.args.options so_far.ms so_far.follows counted) same c.in-Ok-Stopped.field-0-is in
-    logging_stops _ _ _ _ _ _ _ _ _ _ _ _ _ c.in-Ok-Stopped.put is.0 so_far split is.1 is.2
-
-pub returns-in-Err-put_message-clause-puts : goal.returns-in-Err-put_message-clause-puts
-returns-in-Err-put_message-clause-puts g c =
-    let so_far = c.messages.invariant.0 in
-    let split : c.messages.bytes-iterator.rest.items ≡ c.in-Some.bytes ∷ c.next.new.self.rest.items = search rules in
-    let same = c.as_slice-bytes.ensures.value ∙ c.items.ensures in
-    let counted : c.messages.number + 1 ≡ length so_far.ms + 1 = omega (arith, so_far.count) in
-    let fails = subst (λ (b : List ℕ). StepFails c.args.options c.args.now_ms.now so_far.ms b c.messages.filled.items c.in-Err-put_message.error (g.O.Output.written c.messages.output) (g.O.Output.written c.put_message.new.output)) same (c.in-Err-put_message.ensures.steps c.args.options so_far.ms so_far.follows counted) in
-    logging_fails _ _ _ _ _ _ _ _ _ _ _ _ _ _ so_far split fails
+pub put_messages-requires : goal.put_messages-requires
+put_messages-requires g c = (c.args.options, c.in-Ok.ensures)
 
 pub returns-clause-puts : goal.returns-clause-puts
-returns-clause-puts g c =
-    let so_far = c.messages.invariant.0 in
-    let none : c.messages.bytes-iterator.rest.items ≡ [] = empty_is c.messages.bytes-iterator.rest.items (omega (arith, c.in-None.ensures.steps.0, c.messages.bytes-iterator.rest.ok)) in
-    logging_ends _ _ _ _ _ _ _ _ _ _ _ c.inside.result so_far none (c.inside.ensures c.args.options so_far.ms so_far.follows) refl c.unfinished.ensures
+returns-clause-puts g c = c.put_messages.ensures.puts c.args.options c.in-Ok.ensures

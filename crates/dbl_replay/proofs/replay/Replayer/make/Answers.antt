@@ -4,8 +4,8 @@ use Rattle.dbl_txn.specs.Stands.{Stands}
 use Rattle.dbl_replay.specs.Log.{log_start}
 use Rattle.dbl_replay.proofs.replay.Replayer.make.Goals as goal
 
-pub returns-clause-follows : goal.returns-clause-follows
-returns-clause-follows c = record {
+pub returns : goal.returns
+returns c = record {
   infos = [];
   behind = record {
     stands = subst (λ (i : List TableInfo). Stands i log_start [] [] c.make-2.result) c.new-2.ensures.items (c.make-2.ensures []);

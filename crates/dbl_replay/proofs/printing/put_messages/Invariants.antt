@@ -1,0 +1,10 @@
+use Rattle.std.proofs.Common.{◌≤◌, []}
+use Rattle.dbl_replay.specs.declared.options.ReplayOptions.{ReplayOptions}
+use Rattle.dbl_replay.specs.Following.{Follows}
+use Rattle.dbl_replay.proofs.FollowLemmas.{IsLogging}
+use Rattle.dbl_replay.proofs.printing.put_messages.Given as goal
+
+abbrev pub invariant-messages : goal.invariant-messages
+invariant-messages g l =
+    ((options : ReplayOptions) → Follows options [] l.fn.replayer → IsLogging options l.now_ms l.fn.messages.items l.bytes-iterator.rest.items [] l.filled.items (g.O.Output.written l.fn.output) (g.O.Output.written l.output) l.number l.replayer)
+    × (g.O.Output.faults l.fn.output ≤ g.O.Output.faults l.output)

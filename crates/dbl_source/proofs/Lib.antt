@@ -2,6 +2,7 @@ pub mod PlayLemmas
 pub mod CallLemmas
 pub mod PlannedLemmas
 mod NewLemmas
+mod FairExample
 pub mod ReadingLemmas
 pub mod KeptLemmas
 pub mod EntryLemmas

@@ -12,16 +12,17 @@ use Rattle.dbl_source.specs.declared.error.SourceError.TheVariants.{Failed, Memo
 use Rattle.dbl_source.specs.Played.{Played, before_of, inside_of, past_move, released}
 use Rattle.dbl_source.specs.Laws.{FirstCommitsAreFair}
 use Rattle.dbl_source.proofs.PlayLemmas.{fair_same}
-use Rattle.dbl_source.specs.Steps.{WasFair, AddedFirst, FailsToRead}
+use Rattle.dbl_source.specs.Steps.{WasFair, HasCounted, AddedFirst, FailsToRead}
 
 -- these commits stand behind the log, and nothing else changed but the plan
 abbrev pub HasAdded : List (List Message) → Played → Played → Type 0
 HasAdded commits old new = new ≡ record old { log = old.log ++ map Changes commits; plan = new.plan }
 
-added_so : (old new : Played) (commits front : List (List Message)) (count : ℕ) → count ≤ length commits → take count commits ≡ front → HasAdded front old new → AddedFirst commits old new
-added_so old new commits front count few first is = record {
+added_so : (old new : Played) (commits front : List (List Message)) (count : ℕ) → count ≤ length commits → take count commits ≡ front → HasCounted old new.plan → HasAdded front old new → AddedFirst commits old new
+added_so old new commits front count few first counts is = record {
   count = count;
   few = few;
+  counts = counts;
   is = is ∙ ap (λ (l : List (List Message)). record old { log = old.log ++ map Changes l; plan = new.plan }) (sym first);
 }
 
@@ -36,12 +37,12 @@ has_released old new is =
     is ∙ ap (λ (plan : Plan). record (past_move old) { log = old.log ++ map Changes (before_of old); plan = plan }) (sym (ap (λ (p : Played). p.plan) is))
 
 pub added_all : (old new : Played) → new ≡ released old → AddedFirst (before_of old) (past_move old) new
-added_all old new is = added_so (past_move old) new (before_of old) (before_of old) (length (before_of old)) (omega arith) (take_all (length (before_of old)) (before_of old) (omega arith)) (has_released old new is)
+added_all old new is = added_so (past_move old) new (before_of old) (before_of old) (length (before_of old)) (omega arith) (take_all (length (before_of old)) (before_of old) (omega arith)) (inl (ap (λ (p : Played). p.plan) is)) (has_released old new is)
 
 -- of a call that was to add others besides
 pub added_front : (old new : Played) (before inside : List (List Message)) → AddedFirst before old new → AddedFirst (before ++ inside) old new
 added_front old new before inside added =
-    added_so old new (before ++ inside) (take added.count before) added.count (omega (arith, added.few, length-append before inside)) (take-append-le added.count before inside added.few) added.is
+    added_so old new (before ++ inside) (take added.count before) added.count (omega (arith, added.few, length-append before inside)) (take-append-le added.count before inside added.few) added.counts added.is
 
 -- the commits before the call stand, and some of those inside of it
 pub added_inside : (old mid here : Played) (log : List Logged) (asked : List Asked) (inside : List (List Message)) (count : ℕ) → here ≡ mid → mid ≡ released old → count ≤ length inside → log ≡ here.log ++ map Changes (take count inside) → asked ≡ here.asked
@@ -58,7 +59,7 @@ added_inside old mid here log asked inside count same begun few log_is asked_is 
     let made : List Logged → Plan → Played = λ l p. record (past_move old) { log = l; plan = p } in
     let is : HasAdded (before ++ front) (past_move old) now =
     longer ∙ there ∙ ap (λ (l : List Logged). made l (released old).plan) joined ∙ ap (made (old.log ++ map Changes (before ++ front))) (sym plan) in
-    added_so (past_move old) now (before ++ inside) (before ++ front) (length before + count) (omega (arith, few, length-append before inside)) (take-length-append before inside count) is
+    added_so (past_move old) now (before ++ inside) (before ++ front) (length before + count) (omega (arith, few, length-append before inside)) (take-length-append before inside count) (inl plan) is
 
 -- all of them do
 pub added_both : (old mid here : Played) (log : List Logged) (asked : List Asked) (items : List (List Message)) → here ≡ mid → mid ≡ released old → items ≡ inside_of old → log ≡ here.log ++ map Changes items → asked ≡ here.asked

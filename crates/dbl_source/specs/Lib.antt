@@ -5,3 +5,4 @@ pub mod Steps
 pub mod Readings
 pub mod ScriptLaws
 pub mod Laws
+pub mod FairExample

@@ -2,6 +2,7 @@
 use Rattle.std.specs.Prelude.{◌≡◌, ◌⊎◌, ℕ, ◌<◌, ◌≤◌, IsTrue, is_some, Option, Some, IsSomeAnd, Result, Err, IsErr, slice_get, List, ◌∷◌, ◌++◌, length, map, take}
 use Rattle.std.specs.Ordering.{nat_cmp}
 use Rattle.std.specs.BTreeSet.{BTreeSet, contains}
+use Rattle.dbl_base.specs.Memory.{Plan}
 use Rattle.dbl_pgmsg.specs.declared.messages.Message.{Message}
 use Rattle.dbl_pgmsg.specs.Grammar.{Fits, Spells}
 use Rattle.dbl_honest.specs.Standings.{Standing, Left, left_of}
@@ -38,11 +39,16 @@ next_message s place = slice_get (sent_after s.tables place.after s.log) (length
 abbrev pub IsUnfit : Played → Type 0
 IsUnfit s = (place : Place) × (s.place ≡ Some place) × IsSomeAnd (next_message s place) (λ message. ¬ Fits message)
 
--- Memory was wanting in a call that was to add these commits: some first ones of them stand, and nothing else changed but the plan,
--- which counts the call, and its fault where it was to fail.
+-- the plan behind a call: the call is counted, and a fault with it only where it was to fail
+abbrev pub HasCounted : Played → Plan → Type 0
+HasCounted old plan = (plan ≡ (counted old).plan) ⊎ (IsListed old × (plan ≡ (with_fault (counted old)).plan))
+
+-- Memory was wanting in a call that was to add these commits: some first ones of them stand, and nothing else changed but the counts
+-- of the plan.
 pub record AddedFirst (commits : List (List Message)) (old new : Played) : Type 0 where
   pub count : ℕ
   pub few : count ≤ length commits
+  pub counts : HasCounted old new.plan
   pub is : new ≡ record old { log = old.log ++ map Changes (take count commits); plan = new.plan }
 
 -- A read fails as every call does, and where the next message has no spelling.

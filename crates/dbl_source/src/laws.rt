@@ -4,6 +4,7 @@ ghost use Rattle.std.specs.Prelude.{◌↔◌};
 ghost use Rattle.dbl_source.specs.Played.{Played};
 ghost use Rattle.dbl_source.specs.Steps.{WasFair};
 ghost use Rattle.dbl_source.specs.Laws.{NewSourcesAreFair, FirstCommitsAreFair};
+ghost use Rattle.dbl_source.specs.FairExample.{FairSourcesStand};
 
 use crate::{ScriptedSource, Source};
 
@@ -20,4 +21,10 @@ pub fn new_sources_are_fair()
 /// A played source that would be honest with all the commits of a call is so with the first ones, where memory is wanting.
 pub fn first_commits_are_fair()
     ensures { FirstCommitsAreFair }
+{}
+
+/// There is a played source behind other clients' commits, a mark, a select and all reads that was honest so far, and one that
+/// wasn't.
+pub fn fair_sources_stand()
+    ensures { FairSourcesStand }
 {}

@@ -12,7 +12,9 @@ mod source;
 
 pub use dbl_honest::Started;
 pub use error::SourceError;
-pub use laws::{fair_scripts_are_honest, first_commits_are_fair, new_sources_are_fair};
+pub use laws::{
+    fair_scripts_are_honest, fair_sources_stand, first_commits_are_fair, new_sources_are_fair,
+};
 pub use moves::{COMMIT_LIMIT, Move, has_room};
 pub use scripted::ScriptedSource;
 pub use source::Source;

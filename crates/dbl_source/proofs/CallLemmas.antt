@@ -201,14 +201,5 @@ module _ (old mid : Played) (s : Standing) (w : WentOn old mid) (kept : IsKept o
 
 -- ---- where the source behind the call is told by an equation
 
-pub read_to : (old mid new after : Played) → new ≡ after → messages_of after ≡ messages_of mid → WentOn old mid → IsKept old → map spelling (messages_of new) ≡ map spelling (messages_of old)
-read_to old mid new after is same w kept = ap (λ (n : Played). map spelling (messages_of n)) is ∙ ap (map spelling) same ∙ went_read old mid w kept
-
-pub fair_to : (old mid new after : Played) → new ≡ after → (WasFair after → WasFair mid) → WentOn old mid → IsKept old → WasFair new → WasFair old
-fair_to old mid new after is same w kept fair = went_fair old mid w kept (same (subst WasFair is fair))
-
 pub stood_to : (new after : Played) (P : Standing → Type 0) → new ≡ after → Stood StandsFor after P → Stood StandsFor new P
 stood_to new after P is stood = subst (λ (n : Played). Stood StandsFor n P) (sym is) stood
-
-pub left_to : (new after : Played) (l : Left) (Q : Type 0) → new ≡ after → (MayLeave after l → Q) → MayLeave new l → Q
-left_to new after l Q is follows may = follows (subst (λ (n : Played). MayLeave n l) is may)

@@ -11,3 +11,4 @@ pub mod StartLemmas
 pub mod ReadCallLemmas
 pub mod AddedLemmas
 pub mod MemoryLemmas
+pub mod ExitLemmas

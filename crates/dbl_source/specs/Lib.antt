@@ -2,6 +2,8 @@ pub mod Moves
 pub mod Played
 pub mod Fairness
 pub mod Steps
+pub mod Fields
+pub mod Exits
 pub mod Readings
 pub mod ScriptLaws
 pub mod Laws

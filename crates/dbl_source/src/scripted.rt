@@ -1,6 +1,5 @@
 ghost use Rattle.std.specs.Prelude.{◌≡◌, ◌≢◌, ◌⊎◌, ◌↔◌, ◌+◌, ◌≤◌, ◌<◌, ◌^◌, ◌++◌, ◌∷◌, [], ℕ, List, length, map, drop, Option, Some, None, Bool, true, false, is_some, option_map, option_copied, nat_lt, Err, IsTrue, IsErr, IfOk, IfErr, IfSome, OnOk, OnErr, MatchOption, slice_get, slice_index_or};
 ghost use Rattle.std.specs.List.{AllByRecursion};
-ghost use Rattle.std.specs.Vec.Iter.{into_iter_items};
 ghost use Rattle.dbl_base.specs.Streams.{Rose, raised};
 ghost use Rattle.dbl_pgmsg.specs.declared.messages.Message.{Message};
 ghost use Rattle.dbl_pgmsg.specs.Grammar.{Spells};
@@ -15,6 +14,7 @@ ghost use Rattle.dbl_feed.specs.declared.logged.Logged.TheVariants.{Changes, Mar
 ghost use Rattle.dbl_feed.specs.Sent.{index_of};
 ghost use Rattle.dbl_source.specs.declared.asked.Last.TheVariants as answers;
 ghost use Rattle.dbl_source.specs.declared.error.SourceError.TheVariants.{Failed, Memory};
+ghost use Rattle.dbl_source.specs.Exits.{Stays};
 ghost use Rattle.dbl_source.specs.Moves.{HasRoom};
 ghost use Rattle.dbl_source.specs.Played.{new_played, entry_at, told_of, before_of, inside_of, IsListed, IsFullBy, past_move, counted, committed, released, with_fault, FailsAsPlanned, with_answer, with_mark, with_confirmed, started_at, with_start, with_head, next_rows, question_of, with_select};
 ghost use Rattle.dbl_source.specs.Steps.{IsKept, WentOn, AddedFirst, HasFailed, StandsFor, MayLeave, WasFair, IsAtEnd, ReadsAsPlanned, IsReadBy, IsUnmoved, FailsToRead};
@@ -57,25 +57,14 @@ pub struct ScriptedSource {
 }
 
 impl Model for ScriptedSource {
-    ghost use Rattle.std.specs.Prelude.{map};
-    ghost use Rattle.std.specs.Vec.Iter.{into_iter_items};
     ghost use Rattle.dbl_source.specs.Played.{Played};
     ghost use Rattle.dbl_source.specs.Steps.{IsPlayed};
 
     ghost Value = { Played };
 
-    ghost view = { λ s. record {
-      tables = s.tables.items;
-      moves = into_iter_items s.moves;
-      rows = map (λ rows. rows.items) s.rows.items;
-      asked = s.asked.items;
-      log = s.log.items;
-      confirmed = s.confirmed;
-      place = s.place;
-      plan = s.plan;
-      last = s.last;
-      live = s.live;
-    } };
+    ghost use Rattle.dbl_source.specs.Fields.{played_of};
+
+    ghost view = { played_of };
 
     ghost invariant = { λ s.
         IsPlayed s.tables.items s.log.items s.asked.items s.place s.described };
@@ -168,19 +157,22 @@ impl ScriptedSource {
         }
     }
 
-    // A call that adds nothing of its own to the log begins.
-    fn release(&mut self) -> Result<(), SourceError>
+    // A call begins that adds so many commits of its own to the log.
+    fn release(&mut self, own: usize) -> Result<(), SourceError>
         ensures ok { OnOk result (self.new ≡ released self.old) }
+        ensures room { OnOk result
+            (HasRoom (length self.old.log) (length (before_of self.old)) own) }
         ensures was { IsKept self.old }
         ensures went { WentOn self.old self.new }
+        ensures stays { Stays self.old self.new }
         ensures dead { self.new.live ≡ false }
-        ensures planned { FailsAsPlanned 0 self.old self.new result }
+        ensures planned { FailsAsPlanned own self.old self.new result }
         ensures memory { result ≡ Err Memory
             → AddedFirst (before_of self.old) (past_move self.old) self.new }
         ensures later { self.old.plan.faults ≤ self.new.plan.faults }
     {
         let Move { before, inside: _ } = self.next_move();
-        self.begin(before.into_items(), 0)
+        self.begin(before.into_items(), own)
     }
 
     // What is read next, where there is something. The reader stands behind it then.
@@ -284,7 +276,7 @@ impl Source for ScriptedSource {
         ensures played { OnOk result ((place : Option ℕ)
             × (self.new ≡ with_answer (answers.Described place) (released self.old))) }
     {
-        self.release()?;
+        self.release(0)?;
         let place = place_of(&self.tables, name);
         let entry = match place {
             Some(place) => Some(self.tables[place].raw.copy(self.alloc)?),
@@ -314,7 +306,7 @@ impl Source for ScriptedSource {
             → AddedFirst (before_of self.old) (past_move self.old) self.new }
         ensures played { OnOk result (self.new ≡ with_head (released self.old)) }
     {
-        self.release()?;
+        self.release(0)?;
         let lsn = lsn_of(self.log.len() as u64);
         self.last = Last::Head(lsn);
         self.live = true;
@@ -346,7 +338,7 @@ impl Source for ScriptedSource {
         ensures played { IfOk result (λ answer. (answer ≡ started_at after self.old)
             × (self.new ≡ with_start after (released self.old))) }
     {
-        self.release()?;
+        self.release(0)?;
         let answer = if after.0 < self.confirmed.0 {
             self.place = None;
             Started::Gone {
@@ -398,7 +390,7 @@ impl Source for ScriptedSource {
         ensures ends { IfOk result (λ read. (read ≡ None) → (place : Place)
             → self.new.place ≡ Some place → IsAtEnd self.new.log place) }
     {
-        self.release()?;
+        self.release(0)?;
         let read = self.next_bytes()?;
         self.last = if read.is_some() {
             Last::Message
@@ -474,8 +466,7 @@ impl Source for ScriptedSource {
             → AddedFirst (before_of self.old) (past_move self.old) self.new }
         ensures played { OnOk result (self.new ≡ with_mark value.now (released self.old)) }
     {
-        let Move { before, inside: _ } = self.next_move();
-        self.begin(before.into_items(), 1)?;
+        self.release(1)?;
         let copied = value.copy(self.alloc)?;
         self.log.push(Logged::Mark(copied))?;
         self.last = Last::Done;
@@ -504,7 +495,7 @@ impl Source for ScriptedSource {
             → AddedFirst (before_of self.old) (past_move self.old) self.new }
         ensures played { OnOk result (self.new ≡ with_confirmed upto (released self.old)) }
     {
-        self.release()?;
+        self.release(0)?;
         self.confirmed = Lsn(self.confirmed.0.max(upto.0));
         self.last = Last::Done;
         self.live = true;

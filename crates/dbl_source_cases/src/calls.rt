@@ -3,118 +3,18 @@
 //! `describe/public.users`, `head`, `start/0`, `read`, `select/public.users/1/10` (`select/public.users//10` with no key to begin
 //! above), `mark/1-1-L` and `confirm/256`. No call is made behind an error. `room/1 2 3` makes none: it is answered by whether so
 //! many commits, so many before a call and so many of its own are fewer than 2^40.
-//!
-//! Each call tells whether the last start answered that reading begins; None where the source can't be used any more.
 
-ghost use Rattle.std.specs.Prelude.{◌≡◌, ◌≤◌, is_some, true, IsTrue, IfOk, IfSome};
-ghost use Rattle.dbl_honest.specs.Told.{is_ready};
+ghost use Rattle.std.specs.Prelude.{◌≡◌, is_some, true, IsTrue};
 
+use crate::session::{Call, Fault, Session, ask};
 use crate::{script, shown};
 use anyhow::{Result, bail};
 use dbl_base::{Lsn, Seq, Text};
 use dbl_case_items::{items, words};
-use dbl_honest::Started;
-use dbl_source::{ScriptedSource, Source, has_room};
-use dbl_table::{Key, TableName};
+use dbl_source::has_room;
+use dbl_table::Key;
 use std::alloc::Global;
 use std::fmt::Write;
-
-fn describe(
-    source: &mut ScriptedSource,
-    reading: bool,
-    name: &TableName,
-    answers: &mut String,
-) -> Result<Option<bool>>
-    requires live { IsTrue source.old.live }
-    requires reading { reading ≡ true → IsTrue (is_some source.old.place) }
-    ensures live { IfOk result (λ next. IfSome next (λ now. IsTrue source.new.live)) }
-    ensures reading { IfOk result (λ next.
-        IfSome next (λ now. now ≡ true → IsTrue (is_some source.new.place))) }
-{
-    match source.describe(name) {
-        Ok(entry) => {
-            shown::entry(answers, &entry)?;
-            Ok(Some(reading))
-        }
-        Err(error) => {
-            words::said(answers, &error)?;
-            Ok(None)
-        }
-    }
-}
-
-fn head(source: &mut ScriptedSource, reading: bool, answers: &mut String) -> Result<Option<bool>>
-    requires live { IsTrue source.old.live }
-    requires reading { reading ≡ true → IsTrue (is_some source.old.place) }
-    ensures live { IfOk result (λ next. IfSome next (λ now. IsTrue source.new.live)) }
-    ensures reading { IfOk result (λ next.
-        IfSome next (λ now. now ≡ true → IsTrue (is_some source.new.place))) }
-{
-    match source.head() {
-        Ok(lsn) => {
-            words::said(answers, &lsn)?;
-            Ok(Some(reading))
-        }
-        Err(error) => {
-            words::said(answers, &error)?;
-            Ok(None)
-        }
-    }
-}
-
-fn begins(started: &Started) -> bool
-    ensures { result ≡ is_ready started.now }
-{
-    match started {
-        Started::Ready => true,
-        Started::Gone { .. } => false,
-    }
-}
-
-fn start(source: &mut ScriptedSource, after: u64, answers: &mut String) -> Result<Option<bool>>
-    requires { IsTrue source.old.live }
-    ensures live { IfOk result (λ next. IfSome next (λ now. IsTrue source.new.live)) }
-    ensures reading { IfOk result (λ next.
-        IfSome next (λ now. now ≡ true → IsTrue (is_some source.new.place))) }
-{
-    match source.start(Lsn(after)) {
-        Ok(started) => {
-            shown::started(answers, &started)?;
-            Ok(Some(begins(&started)))
-        }
-        Err(error) => {
-            words::said(answers, &error)?;
-            Ok(None)
-        }
-    }
-}
-
-fn read(
-    alloc: Global,
-    source: &mut ScriptedSource,
-    reading: bool,
-    answers: &mut String,
-) -> Result<Option<bool>>
-    requires live { IsTrue source.old.live }
-    requires reading { reading ≡ true → IsTrue (is_some source.old.place) }
-    ensures live { IfOk result (λ next. IfSome next (λ now. IsTrue source.new.live)) }
-    ensures reading { IfOk result (λ next.
-        IfSome next (λ now. now ≡ true → IsTrue (is_some source.new.place))) }
-{
-    if !reading {
-        bail!("not reading");
-    }
-    match source.read() {
-        Ok(read) => {
-            shown::message(alloc, answers, &read)?;
-            Ok(Some(reading))
-        }
-        Err(error) => {
-            words::said(answers, &error)?;
-            Ok(None)
-        }
-    }
-}
 
 fn above(alloc: Global, words: &str) -> Result<Option<Key>> {
     match words {
@@ -125,143 +25,41 @@ fn above(alloc: Global, words: &str) -> Result<Option<Key>> {
     }
 }
 
-fn select_some(
-    source: &mut ScriptedSource,
-    reading: bool,
-    table: &TableName,
-    above: Option<&Key>,
-    limit: u32,
-    answers: &mut String,
-) -> Result<Option<bool>>
-    requires live { IsTrue source.old.live }
-    requires reading { reading ≡ true → IsTrue (is_some source.old.place) }
-    requires positive { 1 ≤ limit }
-    ensures live { IfOk result (λ next. IfSome next (λ now. IsTrue source.new.live)) }
-    ensures reading { IfOk result (λ next.
-        IfSome next (λ now. now ≡ true → IsTrue (is_some source.new.place))) }
-{
-    match source.select(table, above, limit) {
-        Ok(rows) => {
-            shown::rows(answers, &rows)?;
-            Ok(Some(reading))
-        }
-        Err(error) => {
-            words::said(answers, &error)?;
-            Ok(None)
-        }
-    }
+fn select(alloc: Global, fields: &str) -> Result<Call> {
+    Ok(Call::Select {
+        table: items::table_name(alloc, items::field(fields, 0))?,
+        above: above(alloc, items::field(fields, 1))?,
+        limit: items::field(fields, 2).parse()?,
+    })
 }
 
-fn select(
-    alloc: Global,
-    source: &mut ScriptedSource,
-    reading: bool,
-    fields: &str,
-    answers: &mut String,
-) -> Result<Option<bool>>
-    requires live { IsTrue source.old.live }
-    requires reading { reading ≡ true → IsTrue (is_some source.old.place) }
-    ensures live { IfOk result (λ next. IfSome next (λ now. IsTrue source.new.live)) }
-    ensures reading { IfOk result (λ next.
-        IfSome next (λ now. now ≡ true → IsTrue (is_some source.new.place))) }
-{
-    let limit = items::field(fields, 2).parse::<u32>()?;
-    if limit == 0 {
-        bail!("no limit");
-    }
-    let table = items::table_name(alloc, items::field(fields, 0))?;
-    let above = above(alloc, items::field(fields, 1))?;
-    select_some(source, reading, &table, above.as_ref(), limit, answers)
-}
-
-fn mark(
-    source: &mut ScriptedSource,
-    reading: bool,
-    value: &Text,
-    answers: &mut String,
-) -> Result<Option<bool>>
-    requires live { IsTrue source.old.live }
-    requires reading { reading ≡ true → IsTrue (is_some source.old.place) }
-    ensures live { IfOk result (λ next. IfSome next (λ now. IsTrue source.new.live)) }
-    ensures reading { IfOk result (λ next.
-        IfSome next (λ now. now ≡ true → IsTrue (is_some source.new.place))) }
-{
-    if value.as_str().len() > 64 {
-        bail!("too long");
-    }
-    match source.mark(value) {
-        Ok(()) => {
-            words::add(answers, "ok")?;
-            Ok(Some(reading))
-        }
-        Err(error) => {
-            words::said(answers, &error)?;
-            Ok(None)
-        }
-    }
-}
-
-fn confirm(
-    source: &mut ScriptedSource,
-    reading: bool,
-    upto: u64,
-    answers: &mut String,
-) -> Result<Option<bool>>
-    requires live { IsTrue source.old.live }
-    requires reading { reading ≡ true → IsTrue (is_some source.old.place) }
-    ensures live { IfOk result (λ next. IfSome next (λ now. IsTrue source.new.live)) }
-    ensures reading { IfOk result (λ next.
-        IfSome next (λ now. now ≡ true → IsTrue (is_some source.new.place))) }
-{
-    match source.confirm(Lsn(upto)) {
-        Ok(()) => {
-            words::add(answers, "ok")?;
-            Ok(Some(reading))
-        }
-        Err(error) => {
-            words::said(answers, &error)?;
-            Ok(None)
-        }
-    }
-}
-
-fn call(
-    alloc: Global,
-    source: &mut ScriptedSource,
-    reading: bool,
-    call: &str,
-    answers: &mut String,
-) -> Result<Option<bool>>
-    requires live { IsTrue source.old.live }
-    requires reading { reading ≡ true → IsTrue (is_some source.old.place) }
-    ensures live { IfOk result (λ next. IfSome next (λ now. IsTrue source.new.live)) }
-    ensures reading { IfOk result (λ next.
-        IfSome next (λ now. now ≡ true → IsTrue (is_some source.new.place))) }
-{
-    let (word, rest) = words::parted(call, "/");
+// The call that is spelled so.
+fn call(alloc: Global, text: &str) -> Result<Call> {
+    let (word, rest) = words::parted(text, "/");
     match word {
-        "describe" => describe(source, reading, &items::table_name(alloc, rest)?, answers),
-        "head" => head(source, reading, answers),
-        "start" => start(source, rest.parse()?, answers),
-        "read" => read(alloc, source, reading, answers),
-        "select" => select(alloc, source, reading, rest, answers),
-        "mark" => mark(source, reading, &Text::of(alloc, rest)?, answers),
-        "confirm" => confirm(source, reading, rest.parse()?, answers),
+        "describe" => Ok(Call::Describe(items::table_name(alloc, rest)?)),
+        "head" => Ok(Call::Head),
+        "start" => Ok(Call::Start(Lsn(rest.parse()?))),
+        "read" => Ok(Call::Read),
+        "select" => select(alloc, rest),
+        "mark" => Ok(Call::Mark(Text::of(alloc, rest)?)),
+        "confirm" => Ok(Call::Confirm(Lsn(rest.parse()?))),
         _ => bail!("no such call"),
     }
 }
 
 // A line for each call, up to an error.
-fn play(alloc: Global, source: &mut ScriptedSource, case: &str, answers: &mut String) -> Result<()>
-    requires { IsTrue source.old.live }
+fn play(alloc: Global, session: &mut Session, case: &str, answers: &mut String) -> Result<()>
+    requires live { IsTrue session.old.source.live }
+    requires reading { session.old.reading ≡ true → IsTrue (is_some session.old.source.place) }
 {
-    let mut reading = false;
     for item in case.split(" | ") {
         if script::is_call(item) {
             words::add(answers, "\n  ")?;
-            match call(alloc, source, reading, script::call_of(item), answers)? {
-                Some(now) => reading = now,
-                None => return Ok(()),
+            match ask(session, &call(alloc, script::call_of(item))?) {
+                Ok(answer) => shown::answer(alloc, answers, &answer)?,
+                Err(Fault::Source(error)) => return words::said(answers, &error),
+                Err(fault) => bail!("{fault}"),
             }
         }
     }
@@ -291,6 +89,9 @@ fn rooms(case: &str, answers: &mut String) -> Result<()> {
 /// Adds what a case answers.
 pub fn answer(alloc: Global, case: &str, answers: &mut String) -> Result<()> {
     rooms(case, answers)?;
-    let mut source = script::source(alloc, case)?;
-    play(alloc, &mut source, case, answers)
+    let mut session = Session {
+        source: script::source(alloc, case)?,
+        reading: false,
+    };
+    play(alloc, &mut session, case, answers)
 }

@@ -7,6 +7,7 @@
 
 mod calls;
 mod script;
+mod session;
 mod shown;
 
 use anyhow::Result;

@@ -1,5 +1,6 @@
 //! How a case shows what a source answered: a message by its bytes, rows parted by `; `, with `~` for null.
 
+use crate::session::Answer;
 use anyhow::Result;
 use dbl_base::{Bytes, Text};
 use dbl_case_items::words;
@@ -29,16 +30,14 @@ fn table(answers: &mut String, raw: &RawTable) -> Result<()> {
     Ok(())
 }
 
-/// An entry of the catalogue.
-pub fn entry(answers: &mut String, entry: &Option<RawTable>) -> Result<()> {
+fn entry(answers: &mut String, entry: &Option<RawTable>) -> Result<()> {
     match entry {
         Some(raw) => table(answers, raw),
         None => words::add(answers, "no table"),
     }
 }
 
-/// Whether reading begins.
-pub fn started(answers: &mut String, started: &Started) -> Result<()> {
+fn started(answers: &mut String, started: &Started) -> Result<()> {
     match started {
         Started::Ready => words::add(answers, "ready"),
         Started::Gone { first } => {
@@ -48,8 +47,7 @@ pub fn started(answers: &mut String, started: &Started) -> Result<()> {
     }
 }
 
-/// A message, where there is one.
-pub fn message(alloc: Global, answers: &mut String, read: &Option<Bytes>) -> Result<()> {
+fn message(alloc: Global, answers: &mut String, read: &Option<Bytes>) -> Result<()> {
     match read {
         Some(bytes) => {
             let digits = hex::encode(alloc, bytes.items().as_slice())?;
@@ -76,8 +74,7 @@ fn row(answers: &mut String, row: &RawRow) -> Result<()> {
     Ok(())
 }
 
-/// Rows.
-pub fn rows(answers: &mut String, rows: &Vec<RawRow>) -> Result<()> {
+fn rows(answers: &mut String, rows: &Vec<RawRow>) -> Result<()> {
     if rows.is_empty() {
         return words::add(answers, "no rows");
     }
@@ -88,4 +85,16 @@ pub fn rows(answers: &mut String, rows: &Vec<RawRow>) -> Result<()> {
         row(answers, each)?;
     }
     Ok(())
+}
+
+/// Adds what a call answered.
+pub fn answer(alloc: Global, answers: &mut String, answer: &Answer) -> Result<()> {
+    match answer {
+        Answer::Entry(found) => entry(answers, found),
+        Answer::Head(lsn) => words::said(answers, lsn),
+        Answer::Began(began) => started(answers, began),
+        Answer::Message(read) => message(alloc, answers, read),
+        Answer::Rows(found) => rows(answers, found),
+        Answer::Done => words::add(answers, "ok"),
+    }
 }

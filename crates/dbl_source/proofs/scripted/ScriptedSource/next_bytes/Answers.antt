@@ -1,54 +1,37 @@
-use Rattle.std.proofs.Common.{◌≡◌, ◌∙◌, ◌+◌, ◌≤◌, inr, Some, map, refl, sym, ap, subst, arith}
+use Rattle.std.proofs.Common.{◌≡◌, ◌∙◌, ◌+◌, ◌≤◌, inr, Some, refl, sym, ap, subst, arith}
 use Rattle.std.specs.Prelude.{Result}
-use Rattle.std.specs.Vec.Iter.{into_iter_items}
 use Rattle.dbl_base.specs.Memory.{Plan}
 use Rattle.dbl_feed.specs.Sent.{told_at}
 use Rattle.dbl_source.specs.declared.error.SourceError.{SourceError}
 use Rattle.dbl_source.specs.declared.error.SourceError.TheVariants.{Failed}
 use Rattle.dbl_source.specs.declared.reading.Step.{Step}
-use Rattle.dbl_source.specs.Played.{Played, with_fault}
+use Rattle.dbl_source.specs.Played.{Played}
 use Rattle.dbl_source.specs.Steps.{IsReadBy, FailsToRead}
 use Rattle.dbl_source.specs.Readings.{IsNext, Steps}
+use Rattle.dbl_source.specs.Fields.{played_of}
 use Rattle.dbl_source.proofs.StepLemmas.{steps_here, unfit_of, is_unfit, described_more, described_same, next_played}
 use Rattle.dbl_source.proofs.scripted.ScriptedSource.next_bytes.Goals as goal
+use Rattle.dbl_source.proofs.scripted.ScriptedSource.next_bytes.Goals.{After-next_step-next}
 use Rattle.dbl_source.proofs.scripted.ScriptedSource.next_bytes.Goals.{in-Some-described+in_ok-insert, in_default-described}
+
+-- what is promised of the step, of the source's own tables and log
+steps : (c : After-next_step-next) → Steps c.self.inside.tables.items c.self.inside.log.items c.in-Some.place c.next_step-next.result
+steps c =
+    let i = c.self.inside in
+    let place = c.in-Some.place in
+    steps_here i.tables.items c.deref-2.result.now i.log.items c.deref.result.now place i.described c.in-Some-get.entry.now (c.commits_upto.result + place.commits) (c.commits_upto.result + place.commits + 1) c.next_step-next.result
+    c.deref-2.ensures.value c.deref.ensures.value (omega (arith, c.commits_upto.ensures.value)) (omega (arith, c.commits_upto.ensures.value)) c.in-Some-get.ensures.lookup.3.0 c.in-Some-get.ensures.lookup.3.1
+    (c.self.invariant.placed place c.in-Some.is) (c.self.invariant.recalled place c.in-Some.is) c.next_step-next.ensures
 
 pub returns-in-Err-Failed-clause-err : goal.returns-in-Err-Failed-clause-err
 returns-in-Err-Failed-clause-err c =
     let i = c.self.inside in
     let place = c.in-Some.place in
-    let steps : Steps i.tables.items i.log.items place c.next_step-next.result =
-    steps_here i.tables.items c.deref-2.result.now i.log.items c.deref.result.now place i.described c.in-Some-get.entry.now (c.commits_upto.result + place.commits) (c.commits_upto.result + place.commits + 1) c.next_step-next.result
-    c.deref-2.ensures.value c.deref.ensures.value (omega (arith, c.commits_upto.ensures.value)) (omega (arith, c.commits_upto.ensures.value)) c.in-Some-get.ensures.lookup.3.0 c.in-Some-get.ensures.lookup.3.1
-    (c.self.invariant.placed place c.in-Some.is) (c.self.invariant.recalled place c.in-Some.is) c.next_step-next.ensures in
     let failed_is : c.in-Err-Failed.field-0 ≡ Failed = rw c.in-Err-Failed.is at c.in-Err-Failed.field-0-is in
-    let unfit = unfit_of i.tables.items i.log.items place c.next_step-next.result c.in-Err-Failed.field-0 c.in-Err-Failed.is failed_is steps in
-    let before : Played = record {
-      tables = i.tables.items;
-      moves = into_iter_items i.moves;
-      rows = map (λ r. r.items) i.rows.items;
-      asked = i.asked.items;
-      log = i.log.items;
-      confirmed = i.confirmed;
-      place = i.place;
-      plan = i.plan;
-      last = i.last;
-      live = i.live;
-    } in
-    let with_plan : Plan → Played = λ plan. record {
-      tables = i.tables.items;
-      moves = into_iter_items i.moves;
-      rows = map (λ r. r.items) i.rows.items;
-      asked = i.asked.items;
-      log = i.log.items;
-      confirmed = i.confirmed;
-      place = i.place;
-      plan = plan;
-      last = i.last;
-      live = i.live;
-    } in
-    let counted : with_plan c.fault.new.self ≡ with_fault before = ap with_plan c.fault.ensures.counted in
-    let failed : FailsToRead before (with_plan c.fault.new.self) c.from.result = inr (c.from.ensures, counted, is_unfit before place c.in-Some.is unfit) in
+    let unfit =
+    unfit_of i.tables.items i.log.items place c.next_step-next.result c.in-Err-Failed.field-0 c.in-Err-Failed.is failed_is (steps (goal.at.returns-in-Err-Failed-clause-err c).After-next_step-next) in
+    let with_plan : Plan → Played = λ plan. record (played_of i) { plan = plan } in
+    let failed : FailsToRead (played_of i) (with_plan c.fault.new.self) c.from.result = inr (c.from.ensures, ap with_plan c.fault.ensures.counted, is_unfit (played_of i) place c.in-Some.is unfit) in
     subst (λ (old : Played). FailsToRead old (with_plan c.fault.new.self) c.from.result) c.self.view_is failed
 
 pub returns-in-Err-Failed-clause-later : goal.returns-in-Err-Failed-clause-later
@@ -58,11 +41,8 @@ pub invariant_of-self-2 : goal.invariant_of-self-2
 invariant_of-self-2 c =
     let i = c.self.inside in
     let place = c.in-Some.place in
-    let steps : Steps i.tables.items i.log.items place c.next_step-next.result =
-    steps_here i.tables.items c.deref-2.result.now i.log.items c.deref.result.now place i.described c.in-Some-get.entry.now (c.commits_upto.result + place.commits) (c.commits_upto.result + place.commits + 1) c.next_step-next.result
-    c.deref-2.ensures.value c.deref.ensures.value (omega (arith, c.commits_upto.ensures.value)) (omega (arith, c.commits_upto.ensures.value)) c.in-Some-get.ensures.lookup.3.0 c.in-Some-get.ensures.lookup.3.1
-    (c.self.invariant.placed place c.in-Some.is) (c.self.invariant.recalled place c.in-Some.is) c.next_step-next.ensures in
-    let step : IsNext i.tables.items i.log.items place c.in-Ok.next = subst (λ (r : Result Step SourceError). Steps i.tables.items i.log.items place r) c.in-Ok.is steps in
+    let step : IsNext i.tables.items i.log.items place c.in-Ok.next =
+    subst (λ (r : Result Step SourceError). Steps i.tables.items i.log.items place r) c.in-Ok.is (steps (goal.at.invariant_of-self-2 c).After-next_step-next) in
     elim c.match-next-3.branch [
       | in-Some-described+in_ok-insert w ↦ rw w.self-inside-is (
           next_played i.tables.items i.log.items i.asked.items place i.place i.described w.insert.new.self c.in-Ok.next step
@@ -78,42 +58,15 @@ pub returns-clause-read : goal.returns-clause-read
 returns-clause-read c =
     let i = c.self.inside in
     let place = c.in-Some.place in
-    let steps : Steps i.tables.items i.log.items place c.next_step-next.result =
-    steps_here i.tables.items c.deref-2.result.now i.log.items c.deref.result.now place i.described c.in-Some-get.entry.now (c.commits_upto.result + place.commits) (c.commits_upto.result + place.commits + 1) c.next_step-next.result
-    c.deref-2.ensures.value c.deref.ensures.value (omega (arith, c.commits_upto.ensures.value)) (omega (arith, c.commits_upto.ensures.value)) c.in-Some-get.ensures.lookup.3.0 c.in-Some-get.ensures.lookup.3.1
-    (c.self.invariant.placed place c.in-Some.is) (c.self.invariant.recalled place c.in-Some.is) c.next_step-next.ensures in
-    let step : IsNext i.tables.items i.log.items place c.in-Ok.next = subst (λ (r : Result Step SourceError). Steps i.tables.items i.log.items place r) c.in-Ok.is steps in
-    let m = c.match-next-3.self-inside in
-    let before : Played = record {
-      tables = i.tables.items;
-      moves = into_iter_items i.moves;
-      rows = map (λ r. r.items) i.rows.items;
-      asked = i.asked.items;
-      log = i.log.items;
-      confirmed = i.confirmed;
-      place = i.place;
-      plan = i.plan;
-      last = i.last;
-      live = i.live;
-    } in
-    let now : Played = record {
-      tables = m.tables.items;
-      moves = into_iter_items m.moves;
-      rows = map (λ r. r.items) m.rows.items;
-      asked = m.asked.items;
-      log = m.log.items;
-      confirmed = m.confirmed;
-      place = Some c.in-Ok.next.place;
-      plan = m.plan;
-      last = m.last;
-      live = m.live;
-    } in
-    let is : now ≡ record before { place = Some c.in-Ok.next.place } =
+    let step : IsNext i.tables.items i.log.items place c.in-Ok.next =
+    subst (λ (r : Result Step SourceError). Steps i.tables.items i.log.items place r) c.in-Ok.is (steps (goal.at.returns-clause-read c).After-next_step-next) in
+    let now : Played = record (played_of c.match-next-3.self-inside) { place = Some c.in-Ok.next.place } in
+    let is : record (played_of c.match-next-3.self-inside) { place = Some c.in-Ok.next.place } ≡ record (played_of i) { place = Some c.in-Ok.next.place } =
     elim c.match-next-3.branch [
       | in-Some-described+in_ok-insert w ↦ rw w.self-inside-is refl
       | in_default-described w ↦ rw w.self-inside-is refl
     ] in
-    let read : IsReadBy before now c.in-Ok.next.bytes = record {
+    let read : IsReadBy (played_of i) now c.in-Ok.next.bytes = record {
       place = place;
       was = c.in-Some.is;
       next = c.in-Ok.next.place;

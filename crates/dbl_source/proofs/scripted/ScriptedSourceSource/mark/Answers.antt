@@ -1,278 +1,84 @@
-use Rattle.std.proofs.Common.{◌≡◌, ◌∙◌, ◌++◌, ◌∷◌, [], ℕ, List, length, true, map, refl, ap, arith}
-use Rattle.std.specs.Vec.Iter.{into_iter_items}
+use Rattle.std.proofs.Common.{◌≡◌, ◌∙◌, ◌++◌, ◌∷◌, [], ℕ, List, length, ap, arith}
 use Rattle.dbl_honest.specs.Calls.{IsMarked}
-use Rattle.dbl_honest.specs.Leaves.{MayFollow, MayFollowMark}
+use Rattle.dbl_honest.specs.Leaves.{MayFollowMark}
 use Rattle.dbl_honest.proofs.CallLemmas.{without_mark}
 use Rattle.dbl_feed.specs.declared.logged.Logged.{Logged}
 use Rattle.dbl_feed.specs.declared.logged.Logged.TheVariants.{Mark}
 use Rattle.dbl_source.specs.declared.asked.Last.TheVariants as answers
-use Rattle.dbl_source.specs.Played.{Played, with_mark}
-use Rattle.dbl_source.specs.Steps.{WentOn}
-use Rattle.dbl_source.proofs.PlannedLemmas.{went_after, released_so}
-use Rattle.dbl_source.proofs.CallLemmas.{went_follows, went_fair, went_read, mark_leads, mark_follows, stood_to, left_to, read_to, fair_to}
+use Rattle.dbl_source.specs.Played.{Played, before_of, past_move, with_answer, with_mark}
+use Rattle.dbl_source.specs.Exits.{Stays}
+use Rattle.dbl_source.specs.Fields.{played_of}
+use Rattle.dbl_source.proofs.ExitLemmas.{stays_so, Ends, mark_ends}
 use Rattle.dbl_source.proofs.KeptLemmas.{played_marked}
-use Rattle.dbl_source.proofs.AddedLemmas.{room_left, mark_read, mark_fair}
+use Rattle.dbl_source.proofs.AddedLemmas.{room_left}
 use Rattle.dbl_source.proofs.MemoryLemmas.{added_all}
 use Rattle.dbl_source.proofs.scripted.ScriptedSourceSource.mark.Goals as goal
+use Rattle.dbl_source.proofs.scripted.ScriptedSourceSource.mark.Goals.{In_err-push, In_ok-push}
 
--- ---- the call can't begin, or the text has no memory: only other clients have committed
+-- ---- the call can't begin, or there is no memory: only other clients have committed
 
-pub returns-in_err-begin-clause-left : goal.returns-in_err-begin-clause-left
-returns-in_err-begin-clause-left c s l stands may =
-    let went : WentOn c.args.self.now c.begin.new.self = went_after c.args.self.now c.next_move-before.new.self c.begin.new.self c.next_move-before.ensures.past c.begin.ensures.went in
-    let was = c.next_move-before.ensures.was in
-    without_mark c.args.value.now s l (went_follows c.args.self.now c.begin.new.self s l went was stands may)
-
-pub returns-in_err-begin-clause-unmarked : goal.returns-in_err-begin-clause-unmarked
-returns-in_err-begin-clause-unmarked c memory s l stands may =
-    let went : WentOn c.args.self.now c.begin.new.self = went_after c.args.self.now c.next_move-before.new.self c.begin.new.self c.next_move-before.ensures.past c.begin.ensures.went in
-    let was = c.next_move-before.ensures.was in
-    went_follows c.args.self.now c.begin.new.self s l went was stands may
-
-pub returns-in_err-begin-clause-taken : goal.returns-in_err-begin-clause-taken
-returns-in_err-begin-clause-taken c =
-    let went : WentOn c.args.self.now c.begin.new.self = went_after c.args.self.now c.next_move-before.new.self c.begin.new.self c.next_move-before.ensures.past c.begin.ensures.went in
-    let was = c.next_move-before.ensures.was in
-    went_read c.args.self.now c.begin.new.self went was
-
-pub returns-in_err-begin-clause-honest : goal.returns-in_err-begin-clause-honest
-returns-in_err-begin-clause-honest c fair =
-    let went : WentOn c.args.self.now c.begin.new.self = went_after c.args.self.now c.next_move-before.new.self c.begin.new.self c.next_move-before.ensures.past c.begin.ensures.went in
-    let was = c.next_move-before.ensures.was in
-    went_fair c.args.self.now c.begin.new.self went was fair
+pub returns-in_err-release-clause-left : goal.returns-in_err-release-clause-left
+returns-in_err-release-clause-left c s l stands may = without_mark c.args.value.now s l (c.release.ensures.stays.left s l stands may)
 
 pub returns-in_err-copied-clause-left : goal.returns-in_err-copied-clause-left
-returns-in_err-copied-clause-left c s l stands may =
-    let went : WentOn c.args.self.now c.begin.new.self = went_after c.args.self.now c.next_move-before.new.self c.begin.new.self c.next_move-before.ensures.past c.begin.ensures.went in
-    let was = c.next_move-before.ensures.was in
-    without_mark c.args.value.now s l (went_follows c.args.self.now c.begin.new.self s l went was stands may)
-
-pub returns-in_err-copied-clause-unmarked : goal.returns-in_err-copied-clause-unmarked
-returns-in_err-copied-clause-unmarked c memory s l stands may =
-    let went : WentOn c.args.self.now c.begin.new.self = went_after c.args.self.now c.next_move-before.new.self c.begin.new.self c.next_move-before.ensures.past c.begin.ensures.went in
-    let was = c.next_move-before.ensures.was in
-    went_follows c.args.self.now c.begin.new.self s l went was stands may
+returns-in_err-copied-clause-left c s l stands may = without_mark c.args.value.now s l (c.release.ensures.stays.left s l stands may)
 
 pub returns-in_err-copied-clause-memory : goal.returns-in_err-copied-clause-memory
-returns-in_err-copied-clause-memory c memory =
-    added_all c.args.self.now c.begin.new.self
-    (released_so c.args.self.now c.next_move-before.new.self c.begin.new.self c.into_items.result.items c.next_move-before.ensures.past (c.into_items.ensures ∙ c.next_move-before.ensures.before) c.in_ok-begin.ensures.ok)
+returns-in_err-copied-clause-memory c memory = added_all c.args.self.now c.release.new.self c.in_ok-release.ensures.ok
 
-pub returns-in_err-copied-clause-taken : goal.returns-in_err-copied-clause-taken
-returns-in_err-copied-clause-taken c =
-    let went : WentOn c.args.self.now c.begin.new.self = went_after c.args.self.now c.next_move-before.new.self c.begin.new.self c.next_move-before.ensures.past c.begin.ensures.went in
-    let was = c.next_move-before.ensures.was in
-    went_read c.args.self.now c.begin.new.self went was
+unpushed : (c : In_err-push) → record (played_of c.self.inside) { log = c.push.new.self.items } ≡ c.release.new.self
+unpushed c = ap (λ (log : List Logged). record (played_of c.self.inside) { log = log }) c.in_err-push.ensures.items ∙ c.self.view_is
 
-pub returns-in_err-copied-clause-honest : goal.returns-in_err-copied-clause-honest
-returns-in_err-copied-clause-honest c fair =
-    let went : WentOn c.args.self.now c.begin.new.self = went_after c.args.self.now c.next_move-before.new.self c.begin.new.self c.next_move-before.ensures.past c.begin.ensures.went in
-    let was = c.next_move-before.ensures.was in
-    went_fair c.args.self.now c.begin.new.self went was fair
-
--- ---- the log has no memory for the mark
+stayed : (c : In_err-push) → Stays c.args.self.now (record (played_of c.self.inside) { log = c.push.new.self.items })
+stayed c = stays_so c.args.self.now c.release.new.self (record (played_of c.self.inside) { log = c.push.new.self.items }) (unpushed c) c.release.ensures.stays
 
 pub returns-in_err-push-clause-left : goal.returns-in_err-push-clause-left
-returns-in_err-push-clause-left c s l stands may =
-    let went : WentOn c.args.self.now c.begin.new.self = went_after c.args.self.now c.next_move-before.new.self c.begin.new.self c.next_move-before.ensures.past c.begin.ensures.went in
-    let was = c.next_move-before.ensures.was in
-    let i = c.self.inside in
-    let with_log : List Logged → Played = λ log. record {
-      tables = i.tables.items;
-      moves = into_iter_items i.moves;
-      rows = map (λ r. r.items) i.rows.items;
-      asked = i.asked.items;
-      log = log;
-      confirmed = i.confirmed;
-      place = i.place;
-      plan = i.plan;
-      last = i.last;
-      live = i.live;
-    } in
-    let is : with_log c.push.new.self.items ≡ c.begin.new.self = ap with_log c.in_err-push.ensures.items ∙ c.self.view_is in
-    without_mark c.args.value.now s l (left_to (with_log c.push.new.self.items) c.begin.new.self l (MayFollow s l) is (λ leaves. went_follows c.args.self.now c.begin.new.self s l went was stands leaves) may)
+returns-in_err-push-clause-left c s l stands may = without_mark c.args.value.now s l ((stayed (goal.at.returns-in_err-push-clause-left c).In_err-push).left s l stands may)
 
 pub returns-in_err-push-clause-unmarked : goal.returns-in_err-push-clause-unmarked
-returns-in_err-push-clause-unmarked c memory s l stands may =
-    let went : WentOn c.args.self.now c.begin.new.self = went_after c.args.self.now c.next_move-before.new.self c.begin.new.self c.next_move-before.ensures.past c.begin.ensures.went in
-    let was = c.next_move-before.ensures.was in
-    let i = c.self.inside in
-    let with_log : List Logged → Played = λ log. record {
-      tables = i.tables.items;
-      moves = into_iter_items i.moves;
-      rows = map (λ r. r.items) i.rows.items;
-      asked = i.asked.items;
-      log = log;
-      confirmed = i.confirmed;
-      place = i.place;
-      plan = i.plan;
-      last = i.last;
-      live = i.live;
-    } in
-    let is : with_log c.push.new.self.items ≡ c.begin.new.self = ap with_log c.in_err-push.ensures.items ∙ c.self.view_is in
-    left_to (with_log c.push.new.self.items) c.begin.new.self l (MayFollow s l) is (λ leaves. went_follows c.args.self.now c.begin.new.self s l went was stands leaves) may
+returns-in_err-push-clause-unmarked c memory = (stayed (goal.at.returns-in_err-push-clause-unmarked c).In_err-push).left
+
+pub returns-in_err-push-clause-taken : goal.returns-in_err-push-clause-taken
+returns-in_err-push-clause-taken c = (stayed (goal.at.returns-in_err-push-clause-taken c).In_err-push).taken
+
+pub returns-in_err-push-clause-honest : goal.returns-in_err-push-clause-honest
+returns-in_err-push-clause-honest c = (stayed (goal.at.returns-in_err-push-clause-honest c).In_err-push).honest
 
 pub returns-in_err-push-clause-memory : goal.returns-in_err-push-clause-memory
 returns-in_err-push-clause-memory c memory =
-    let i = c.self.inside in
-    let with_log : List Logged → Played = λ log. record {
-      tables = i.tables.items;
-      moves = into_iter_items i.moves;
-      rows = map (λ r. r.items) i.rows.items;
-      asked = i.asked.items;
-      log = log;
-      confirmed = i.confirmed;
-      place = i.place;
-      plan = i.plan;
-      last = i.last;
-      live = i.live;
-    } in
-    let is : with_log c.push.new.self.items ≡ c.begin.new.self = ap with_log c.in_err-push.ensures.items ∙ c.self.view_is in
-    added_all c.args.self.now (with_log c.push.new.self.items)
-    (is ∙ released_so c.args.self.now c.next_move-before.new.self c.begin.new.self c.into_items.result.items c.next_move-before.ensures.past (c.into_items.ensures ∙ c.next_move-before.ensures.before) c.in_ok-begin.ensures.ok)
-
-pub returns-in_err-push-clause-taken : goal.returns-in_err-push-clause-taken
-returns-in_err-push-clause-taken c =
-    let went : WentOn c.args.self.now c.begin.new.self = went_after c.args.self.now c.next_move-before.new.self c.begin.new.self c.next_move-before.ensures.past c.begin.ensures.went in
-    let was = c.next_move-before.ensures.was in
-    let i = c.self.inside in
-    let with_log : List Logged → Played = λ log. record {
-      tables = i.tables.items;
-      moves = into_iter_items i.moves;
-      rows = map (λ r. r.items) i.rows.items;
-      asked = i.asked.items;
-      log = log;
-      confirmed = i.confirmed;
-      place = i.place;
-      plan = i.plan;
-      last = i.last;
-      live = i.live;
-    } in
-    let is : with_log c.push.new.self.items ≡ c.begin.new.self = ap with_log c.in_err-push.ensures.items ∙ c.self.view_is in
-    read_to c.args.self.now c.begin.new.self (with_log c.push.new.self.items) c.begin.new.self is refl went was
-
-pub returns-in_err-push-clause-honest : goal.returns-in_err-push-clause-honest
-returns-in_err-push-clause-honest c fair =
-    let went : WentOn c.args.self.now c.begin.new.self = went_after c.args.self.now c.next_move-before.new.self c.begin.new.self c.next_move-before.ensures.past c.begin.ensures.went in
-    let was = c.next_move-before.ensures.was in
-    let i = c.self.inside in
-    let with_log : List Logged → Played = λ log. record {
-      tables = i.tables.items;
-      moves = into_iter_items i.moves;
-      rows = map (λ r. r.items) i.rows.items;
-      asked = i.asked.items;
-      log = log;
-      confirmed = i.confirmed;
-      place = i.place;
-      plan = i.plan;
-      last = i.last;
-      live = i.live;
-    } in
-    let is : with_log c.push.new.self.items ≡ c.begin.new.self = ap with_log c.in_err-push.ensures.items ∙ c.self.view_is in
-    fair_to c.args.self.now c.begin.new.self (with_log c.push.new.self.items) c.begin.new.self is (λ f. f) went was fair
+    added_all c.args.self.now (record (played_of c.self.inside) { log = c.push.new.self.items }) (unpushed (goal.at.returns-in_err-push-clause-memory c).In_err-push ∙ c.in_ok-release.ensures.ok)
 
 -- ---- the mark stands
+
+pushed : (c : In_ok-push) → c.push.new.self.items ≡ c.self.inside.log.items ++ Mark c.args.value.now ∷ []
+pushed c = c.in_ok-push.ensures.items ∙ ap (λ (v : List ℕ). c.self.inside.log.items ++ Mark v ∷ []) c.in_ok-copied.ensures
 
 pub invariant_of-self-2 : goal.invariant_of-self-2
 invariant_of-self-2 c =
     let i = c.self.inside in
-    let room = room_left c.next_move-before.new.self c.begin.new.self c.into_items.result.items 1 c.in_ok-begin.ensures.ok c.in_ok-begin.ensures.room in
-    let stood : length i.log.items ≡ length c.begin.new.self.log = ap (λ (p : Played). length p.log) c.self.view_is in
-    let log : c.push.new.self.items ≡ i.log.items ++ Mark c.args.value.now ∷ [] = c.in_ok-push.ensures.items ∙ ap (λ (v : List ℕ). i.log.items ++ Mark v ∷ []) c.in_ok-copied.ensures in
-    played_marked i.tables.items i.log.items c.push.new.self.items i.asked.items i.place i.described c.args.value.now log (omega (arith, room, stood)) c.self.invariant
+    let room = room_left (past_move c.args.self.now) c.release.new.self (before_of c.args.self.now) 1 c.in_ok-release.ensures.ok c.in_ok-release.ensures.room in
+    let stood : length i.log.items ≡ length c.release.new.self.log = ap (λ (p : Played). length p.log) c.self.view_is in
+    played_marked i.tables.items i.log.items c.push.new.self.items i.asked.items i.place i.described c.args.value.now (pushed (goal.at.invariant_of-self-2 c).In_ok-push) (omega (arith, room, stood)) c.self.invariant
+
+abbrev marked : In_ok-push → Played
+marked c = with_answer answers.Done (record (played_of c.self.inside) { log = c.push.new.self.items })
+
+marked_is : (c : In_ok-push) → marked c ≡ with_mark c.args.value.now c.release.new.self
+marked_is c =
+    ap (λ (log : List Logged). with_answer answers.Done (record (played_of c.self.inside) { log = log })) (pushed c)
+    ∙ ap (with_mark c.args.value.now) c.self.view_is
+
+ended : (c : In_ok-push) → Ends (IsMarked c.args.value.now) (MayFollowMark c.args.value.now) c.args.self.now (marked c)
+ended c = mark_ends c.args.self.now c.release.new.self (marked c) c.args.value.now (marked_is c) c.release.ensures.went c.release.ensures.was
 
 pub returns-clause-marked : goal.returns-clause-marked
-returns-clause-marked c s stands =
-    let went : WentOn c.args.self.now c.begin.new.self = went_after c.args.self.now c.next_move-before.new.self c.begin.new.self c.next_move-before.ensures.past c.begin.ensures.went in
-    let was = c.next_move-before.ensures.was in
-    let i = c.self.inside in
-    let value = c.args.value.now in
-    let log : c.push.new.self.items ≡ i.log.items ++ Mark value ∷ [] = c.in_ok-push.ensures.items ∙ ap (λ (v : List ℕ). i.log.items ++ Mark v ∷ []) c.in_ok-copied.ensures in
-    let with_log : List Logged → Played = λ log. record {
-      tables = i.tables.items;
-      moves = into_iter_items i.moves;
-      rows = map (λ r. r.items) i.rows.items;
-      asked = i.asked.items;
-      log = log;
-      confirmed = i.confirmed;
-      place = i.place;
-      plan = i.plan;
-      last = answers.Done;
-      live = true;
-    } in
-    let now = with_log c.push.new.self.items in
-    let after = with_mark value c.begin.new.self in
-    let is : now ≡ after = ap with_log log ∙ ap (with_mark value) c.self.view_is in
-    stood_to now after (IsMarked value s) is (mark_leads c.args.self.now c.begin.new.self s went was stands value)
+returns-clause-marked c = (ended (goal.at.returns-clause-marked c).In_ok-push).leads
 
 pub returns-clause-left : goal.returns-clause-left
-returns-clause-left c s l stands may =
-    let went : WentOn c.args.self.now c.begin.new.self = went_after c.args.self.now c.next_move-before.new.self c.begin.new.self c.next_move-before.ensures.past c.begin.ensures.went in
-    let was = c.next_move-before.ensures.was in
-    let i = c.self.inside in
-    let value = c.args.value.now in
-    let log : c.push.new.self.items ≡ i.log.items ++ Mark value ∷ [] = c.in_ok-push.ensures.items ∙ ap (λ (v : List ℕ). i.log.items ++ Mark v ∷ []) c.in_ok-copied.ensures in
-    let with_log : List Logged → Played = λ log. record {
-      tables = i.tables.items;
-      moves = into_iter_items i.moves;
-      rows = map (λ r. r.items) i.rows.items;
-      asked = i.asked.items;
-      log = log;
-      confirmed = i.confirmed;
-      place = i.place;
-      plan = i.plan;
-      last = answers.Done;
-      live = true;
-    } in
-    let now = with_log c.push.new.self.items in
-    let after = with_mark value c.begin.new.self in
-    let is : now ≡ after = ap with_log log ∙ ap (with_mark value) c.self.view_is in
-    left_to now after l (MayFollowMark value s l) is (λ leaves. mark_follows c.args.self.now c.begin.new.self s went was stands value l leaves) may
+returns-clause-left c = (ended (goal.at.returns-clause-left c).In_ok-push).left
 
 pub returns-clause-taken : goal.returns-clause-taken
-returns-clause-taken c =
-    let went : WentOn c.args.self.now c.begin.new.self = went_after c.args.self.now c.next_move-before.new.self c.begin.new.self c.next_move-before.ensures.past c.begin.ensures.went in
-    let was = c.next_move-before.ensures.was in
-    let i = c.self.inside in
-    let value = c.args.value.now in
-    let log : c.push.new.self.items ≡ i.log.items ++ Mark value ∷ [] = c.in_ok-push.ensures.items ∙ ap (λ (v : List ℕ). i.log.items ++ Mark v ∷ []) c.in_ok-copied.ensures in
-    let with_log : List Logged → Played = λ log. record {
-      tables = i.tables.items;
-      moves = into_iter_items i.moves;
-      rows = map (λ r. r.items) i.rows.items;
-      asked = i.asked.items;
-      log = log;
-      confirmed = i.confirmed;
-      place = i.place;
-      plan = i.plan;
-      last = answers.Done;
-      live = true;
-    } in
-    let now = with_log c.push.new.self.items in
-    let after = with_mark value c.begin.new.self in
-    let is : now ≡ after = ap with_log log ∙ ap (with_mark value) c.self.view_is in
-    read_to c.args.self.now c.begin.new.self now after is (mark_read c.args.self.now c.begin.new.self value went was) went was
+returns-clause-taken c = (ended (goal.at.returns-clause-taken c).In_ok-push).taken
 
 pub returns-clause-honest : goal.returns-clause-honest
-returns-clause-honest c fair =
-    let went : WentOn c.args.self.now c.begin.new.self = went_after c.args.self.now c.next_move-before.new.self c.begin.new.self c.next_move-before.ensures.past c.begin.ensures.went in
-    let was = c.next_move-before.ensures.was in
-    let i = c.self.inside in
-    let value = c.args.value.now in
-    let log : c.push.new.self.items ≡ i.log.items ++ Mark value ∷ [] = c.in_ok-push.ensures.items ∙ ap (λ (v : List ℕ). i.log.items ++ Mark v ∷ []) c.in_ok-copied.ensures in
-    let with_log : List Logged → Played = λ log. record {
-      tables = i.tables.items;
-      moves = into_iter_items i.moves;
-      rows = map (λ r. r.items) i.rows.items;
-      asked = i.asked.items;
-      log = log;
-      confirmed = i.confirmed;
-      place = i.place;
-      plan = i.plan;
-      last = answers.Done;
-      live = true;
-    } in
-    let now = with_log c.push.new.self.items in
-    let after = with_mark value c.begin.new.self in
-    let is : now ≡ after = ap with_log log ∙ ap (with_mark value) c.self.view_is in
-    fair_to c.args.self.now c.begin.new.self now after is (mark_fair c.args.self.now c.begin.new.self value went was) went was fair
+returns-clause-honest c = (ended (goal.at.returns-clause-honest c).In_ok-push).honest

@@ -1,4 +1,4 @@
-use Rattle.std.proofs.Common.{◌≡◌, ◌∷◌, List, ℕ, map, refl, sym, ap, subst, arith, rules}
+use Rattle.std.proofs.Common.{◌≡◌, ◌∷◌, List, ℕ, map, sym, ap, subst, arith, rules}
 use Rattle.std.specs.Prelude.{MatchOption}
 use Rattle.dbl_pgmsg.specs.declared.messages.Message.{Message}
 use Rattle.dbl_pgmsg.specs.Grammar.{Spells, spelling}
@@ -8,43 +8,32 @@ use Rattle.dbl_source.specs.declared.error.SourceError.TheVariants.{Memory}
 use Rattle.dbl_source.specs.Played.{Played, messages_of, with_answer}
 use Rattle.dbl_source.specs.Steps.{StandsFor, MayLeave, WasFair, IsUnfit}
 use Rattle.dbl_source.proofs.PlannedLemmas.{planned_ok, reads_planned}
-use Rattle.dbl_source.proofs.CallLemmas.{went_follows, went_fair, went_read, on_err}
+use Rattle.dbl_source.specs.Exits.{Stays}
+use Rattle.dbl_source.proofs.CallLemmas.{on_err}
+use Rattle.dbl_source.proofs.ExitLemmas.{stays}
 use Rattle.dbl_source.proofs.ReadCallLemmas.{went_failed, reads_lead, read_left, read_fair, read_taken, not_unfit}
 use Rattle.dbl_source.proofs.MemoryLemmas.{read_memory}
 use Rattle.dbl_source.proofs.scripted.ScriptedSourceSource.read.Goals as goal
-
-pub returns-in_err-release-clause-left : goal.returns-in_err-release-clause-left
-returns-in_err-release-clause-left c s l stands may = went_follows _ _ s l c.release.ensures.went c.release.ensures.was stands may
-
-pub returns-in_err-release-clause-some : goal.returns-in_err-release-clause-some
-returns-in_err-release-clause-some c s stands = (_, refl)
-
-pub returns-in_err-release-clause-honest : goal.returns-in_err-release-clause-honest
-returns-in_err-release-clause-honest c fair = went_fair _ _ c.release.ensures.went c.release.ensures.was fair
+use Rattle.dbl_source.proofs.scripted.ScriptedSourceSource.read.Goals.{In_err-read}
 
 pub returns-in_err-release-clause-untaken : goal.returns-in_err-release-clause-untaken
-returns-in_err-release-clause-untaken c = on_err _ (went_read _ _ c.release.ensures.went c.release.ensures.was)
+returns-in_err-release-clause-untaken c = on_err _ c.release.ensures.stays.taken
 
 -- ---- the message can't be read
 
+stayed : (c : In_err-read) → Stays c.args.self.now c.next_bytes.new.self
+stayed c =
+    stays c.args.self.now c.next_bytes.new.self
+    (went_failed c.args.self.now c.release.new.self c.next_bytes.new.self c.in_err-read.field-0.0 c.release.ensures.went c.in_err-read.ensures.err) c.release.ensures.was
+
 pub returns-in_err-read-clause-left : goal.returns-in_err-read-clause-left
-returns-in_err-read-clause-left c s l stands may =
-    went_follows c.args.self.now c.next_bytes.new.self s l
-    (went_failed c.args.self.now c.release.new.self c.next_bytes.new.self c.in_err-read.field-0.0 c.release.ensures.went c.in_err-read.ensures.err)
-    c.release.ensures.was stands may
+returns-in_err-read-clause-left c = (stayed (goal.at.returns-in_err-read-clause-left c).In_err-read).left
 
 pub returns-in_err-read-clause-untaken : goal.returns-in_err-read-clause-untaken
-returns-in_err-read-clause-untaken c =
-    on_err _ (
-    went_read c.args.self.now c.next_bytes.new.self
-    (went_failed c.args.self.now c.release.new.self c.next_bytes.new.self c.in_err-read.field-0.0 c.release.ensures.went c.in_err-read.ensures.err)
-    c.release.ensures.was)
+returns-in_err-read-clause-untaken c = on_err _ (stayed (goal.at.returns-in_err-read-clause-untaken c).In_err-read).taken
 
 pub returns-in_err-read-clause-honest : goal.returns-in_err-read-clause-honest
-returns-in_err-read-clause-honest c fair =
-    went_fair c.args.self.now c.next_bytes.new.self
-    (went_failed c.args.self.now c.release.new.self c.next_bytes.new.self c.in_err-read.field-0.0 c.release.ensures.went c.in_err-read.ensures.err)
-    c.release.ensures.was fair
+returns-in_err-read-clause-honest c = (stayed (goal.at.returns-in_err-read-clause-honest c).In_err-read).honest
 
 pub returns-in_err-read-clause-later : goal.returns-in_err-read-clause-later
 returns-in_err-read-clause-later c = omega (arith, c.release.ensures.later, c.in_err-read.ensures.later)
@@ -64,7 +53,7 @@ returns-clause-took c s stands =
 
 pub returns-clause-left : goal.returns-clause-left
 returns-clause-left c s l stands may =
-    went_follows c.args.self.now c.release.new.self s l c.release.ensures.went c.release.ensures.was stands
+    c.release.ensures.stays.left s l stands
     (read_left c.release.new.self c.next_bytes.new.self l c.in_ok-read.read c.in_ok-read.ensures.read (subst (λ (p : Played). MayLeave p l) c.self.view_is may))
 
 pub returns-clause-taken : goal.returns-clause-taken
@@ -75,7 +64,7 @@ returns-clause-taken c =
 
 pub returns-clause-honest : goal.returns-clause-honest
 returns-clause-honest c fair =
-    went_fair c.args.self.now c.release.new.self c.release.ensures.went c.release.ensures.was
+    c.release.ensures.stays.honest
     (read_fair c.release.new.self c.next_bytes.new.self c.in_ok-read.read c.in_ok-read.ensures.read (subst WasFair c.self.view_is fair))
 
 pub returns-clause-planned : goal.returns-clause-planned

@@ -7,10 +7,11 @@
 ghost use Rattle.std.specs.Prelude.{◌≡◌, is_some, true, IsTrue};
 
 use crate::session::{Call, Fault, Session, ask};
-use crate::{script, shown};
+use crate::shown;
 use anyhow::{Result, bail};
 use dbl_base::{Lsn, Seq, Text};
 use dbl_case_items::{items, words};
+use dbl_play_items::script;
 use dbl_source::has_room;
 use dbl_table::Key;
 use std::alloc::Global;

@@ -6,7 +6,6 @@
 #![tactic(auto)]
 
 mod calls;
-mod script;
 mod session;
 mod shown;
 

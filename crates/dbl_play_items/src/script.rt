@@ -4,7 +4,7 @@
 //!   one.
 //! - `fails/1 3`: the calls that are to fail, counted from 1.
 //! - `end/`: the script ends. It has no move of the calls behind it, and no rows for their selects.
-//! - `room/..` is no part of the script. All other items are calls, in their order.
+//! - `room/..`, `window/..`, `after/..` and `left/..` are no part of the script. All other items are calls, in their order.
 //!
 //! Behind a call stands what other clients commit at it, ` before ` it and ` inside ` of it: commits parted by ` + `, and their
 //! messages by `, `; `nothing` is a commit without one. Behind these stand the ` rows ` that a `select` answers, parted by `; `,
@@ -32,6 +32,9 @@ pub fn is_call(item: &str) -> bool {
         && !item.starts_with("fails/")
         && !item.starts_with("room/")
         && item != END
+        && !item.starts_with("window/")
+        && !item.starts_with("after/")
+        && !item.starts_with("left/")
 }
 
 fn without_rows(item: &str) -> &str {

@@ -1,0 +1,23 @@
+use Rattle.std.proofs.Common.{◌≡◌, ◌∙◌, ℤ, Some, ap, subst}
+use Rattle.std.specs.Prelude.{IfOk}
+use Rattle.std.proofs.Math.Facts.{to_z-of_z}
+use Rattle.dbl_event.specs.SnapshotLists.{IsSnapshot}
+use Rattle.dbl_window.specs.Plans.{Chunk}
+use Rattle.dbl_follow.specs.declared.window.Window.{Window}
+use Rattle.dbl_follow.specs.declared.window.Window.TheVariants as windows
+use Rattle.dbl_follow.specs.Followed.{Following}
+use Rattle.dbl_follow.specs.Steps.{closing, closed_of}
+use Rattle.dbl_follow.proofs.SnapshotSteps.{closing_tells}
+use Rattle.dbl_follow.proofs.follower.Follower.see_mark.Goals as goal
+
+pub returns-in-Open-clause-snapshot : goal.returns-in-Open-clause-snapshot
+returns-in-Open-clause-snapshot c chunk told =
+    let f = c.args.self.now in
+    let opened = c.in-Open.opened in
+    let value = c.args.value.now in
+    let window : windows.Open opened ≡ f.window = c.in-Open.ensures.value ∙ ap (λ (g : Following). g.window) c.self.view_is in
+    let own = closing_tells opened chunk value (ap (λ (w : Window). closing w (Some value)) window ∙ told) in
+    subst (λ (x : Chunk). IfOk c.see_high.result (λ records. IsSnapshot f.identity f.infos (closed_of x) c.args.commit.now c.args.now_ms records.items)) own.same
+    (subst (λ (g : Following). IfOk c.see_high.result (λ records. IsSnapshot g.identity g.infos (closed_of opened) c.args.commit.now c.args.now_ms records.items)) c.self.view_is
+    (subst (λ (m : ℤ). IfOk c.see_high.result (λ records. IsSnapshot c.self.inside.writer.identity c.self.inside.writer.infos (closed_of opened) c.args.commit.now m records.items)) (to_z-of_z c.ranges.now_ms)
+    (c.see_high.ensures.snapshot own.own)))

@@ -1,0 +1,4 @@
+pub mod Followed
+pub mod Steps
+pub mod Faults
+pub mod Laws

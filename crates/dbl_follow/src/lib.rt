@@ -1,0 +1,11 @@
+//! A follower of a log: the records of its commits, and the snapshots of the windows that its marks open and close.
+#![tactic(auto)]
+
+mod error;
+mod follower;
+mod laws;
+mod window;
+
+pub use error::FollowError;
+pub use follower::Follower;
+pub use laws::{other_marks_do_nothing, steps_are_one};

@@ -1,0 +1,9 @@
+use dbl_window::{Armed, Open};
+
+// The window that waits for a mark, where there is one.
+#[derive(Drop)]
+pub(crate) enum Window {
+    Absent,
+    Armed(Armed),
+    Open(Open),
+}

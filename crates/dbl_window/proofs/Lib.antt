@@ -1,0 +1,17 @@
+pub mod Overlays
+pub mod LeftLemmas
+pub mod OrderLemmas
+pub mod PromiseLemmas
+pub mod LawLemmas
+pub mod Effects
+pub mod CellLemmas
+pub mod ReadLemmas
+pub mod HonestLemmas
+pub mod FaultLemmas
+pub mod MapLemmas
+pub mod SelectLemmas
+pub mod FitLemmas
+pub mod Loops
+pub mod LoopLemmas
+pub mod FirstFaults
+pub mod RightLemmas

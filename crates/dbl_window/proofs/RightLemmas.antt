@@ -1,0 +1,82 @@
+-- Windows are right: rows that were selected between two marks stay so, and then the promise speaks.
+use Rattle.std.proofs.Common.{◌≡◌, ◌∙◌, ◌+◌, ◌≤◌, ℕ, suc, Some, List, ◌∷◌, ◌++◌, length, refl, sym, ap, subst, arith, length-append, append_assoc}
+use Rattle.std.specs.Prelude.{slice_get}
+use Rattle.dbl_table.specs.declared.table.TableInfo.{TableInfo}
+use Rattle.dbl_table.specs.Rows.{all_changes}
+use Rattle.dbl_history.specs.History.{RawCommit, History}
+use Rattle.dbl_history.specs.Typed.{typed}
+use Rattle.dbl_event.specs.declared.closed.Closed.{Closed}
+use Rattle.dbl_ageing.specs.Windows.{IsRightWindow}
+use Rattle.dbl_honest.specs.Growth.{Marks}
+use Rattle.dbl_window.specs.Plans.{Plan, Chunk}
+use Rattle.dbl_window.specs.Changing.{AreLeft}
+use Rattle.dbl_window.specs.Selected.{IsSelected}
+use Rattle.dbl_window.specs.Promise.{moment_after_first, KeepsPromise}
+use Rattle.dbl_window.specs.Laws.{between}
+use Rattle.dbl_window.specs.RightLaws.{GoesOn, upto_mark, WasSelected, WindowsAreRight}
+use Rattle.dbl_window.proofs.LawLemmas.{stays_by, selected_given}
+
+-- ---- how a history goes on
+
+goes_on_again : (a b c : History) → GoesOn a b → GoesOn b c → GoesOn a c
+goes_on_again a b c one two = (one.0 ++ two.0, two.1 ∙ (ap (λ (l : List RawCommit). l ++ two.0) one.1 ∙ append_assoc a.commits one.0 two.0))
+
+marked_on : (value : List ℕ) (old new : History) → Marks value old new → GoesOn old new
+marked_on value old new marks = (marks.before ++ marks.mark ∷ marks.after, marks.commits ∙ append_assoc old.commits marks.before (marks.mark ∷ marks.after))
+
+longer : (old new : History) → GoesOn old new → length old.commits ≤ length new.commits
+longer old new on =
+    let long : length new.commits ≡ length old.commits + length on.0 = ap length on.1 ∙ length-append old.commits on.0 in
+    omega (arith, long)
+
+-- a mark is one of its history's commits
+counted : (value : List ℕ) (old new : History) → (marks : Marks value old new) → length old.commits + length marks.before + 1 ≤ length new.commits
+counted value old new marks =
+    let front : length (old.commits ++ marks.before) ≡ length old.commits + length marks.before = length-append old.commits marks.before in
+    let long : length new.commits ≡ length (old.commits ++ marks.before) + suc (length marks.after) =
+    ap length marks.commits ∙ length-append (old.commits ++ marks.before) (marks.mark ∷ marks.after) in
+    omega (arith, front, long)
+
+-- ---- what was selected between the marks
+
+widen : (infos : List TableInfo) (history : History) (from upto low high : ℕ) (chunk : Chunk) → low ≤ from → upto ≤ high
+    → IsSelected infos history from upto chunk → IsSelected infos history low high chunk
+widen infos history from upto low high chunk below above sel = record {
+  place = sel.place;
+  not_before = (let le : from ≤ sel.place = sel.not_before in omega (arith, le, below));
+  not_after = (let le : sel.place ≤ upto = sel.not_after in omega (arith, le, above));
+  first = sel.first;
+  through_is = sel.through_is;
+  done_is = sel.done_is;
+}
+
+module _ (infos : List TableInfo) (now : History) (held : Chunk) (was : WasSelected infos now held) where
+  since : GoesOn was.returned now
+  since = goes_on_again was.returned was.asked now was.before_high (goes_on_again was.asked was.last now (marked_on _ was.asked was.last was.high) was.behind_high)
+
+  below : upto_mark was.low ≤ length was.called.commits
+  below =
+      let one : length was.first.commits + length was.low.before + 1 ≤ length was.marked.commits = counted _ was.first was.marked was.low in
+      let two : length was.marked.commits ≤ length was.called.commits = longer was.marked was.called was.behind_low in
+      omega (arith, one, two)
+
+  above : length was.returned.commits ≤ upto_mark was.high
+  above =
+      let le : length was.returned.commits ≤ length was.asked.commits = longer was.returned was.asked was.before_high in
+      omega (arith, le)
+
+  pub selected_between : IsSelected infos now (upto_mark was.low) (upto_mark was.high) held
+  selected_between =
+      widen infos now (length was.called.commits) (length was.returned.commits) (upto_mark was.low) (upto_mark was.high) held below above
+      (stays_by infos was.returned now since.0 (length was.called.commits) (length was.returned.commits) held since.1 (omega arith) was.selected)
+
+pub windows_right : WindowsAreRight
+windows_right infos now held opened closed was captured same left keeps =
+    subst (λ (p : Plan). IsRightWindow infos (all_changes (typed infos now)) (moment_after_first (typed infos now) (upto_mark was.low))
+    (moment_after_first (typed infos now) (upto_mark was.high)) p.above closed) plan_is
+    (keeps infos (typed infos now) (upto_mark was.low) (upto_mark was.high) (subst (λ (p : Plan). slice_get infos p.table ≡ Some p.info) (sym plan_is) captured)
+    (selected_given infos now (upto_mark was.low) (upto_mark was.high) held opened (selected_between infos now held was) plan_is
+    (ap (λ (c : Chunk). c.through) same) (ap (λ (c : Chunk). c.done) same) left))
+  where
+    plan_is : opened.plan ≡ held.plan
+    plan_is = ap (λ (c : Chunk). c.plan) same

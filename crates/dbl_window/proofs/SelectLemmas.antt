@@ -1,0 +1,95 @@
+-- What a select of an honest source leads to.
+use Rattle.std.proofs.Common.{◌≡◌, ◌∙◌, inl, inr, ℕ, Option, Some, None, List, [], length, refl, sym, subst}
+use Rattle.std.specs.Prelude.{Result, Ok, Err, IfOk, IfSome, nat_lt}
+use Rattle.dbl_value.specs.declared.error.ValueError.{ValueError}
+use Rattle.dbl_table.specs.declared.table.RawRow.{RawRow}
+use Rattle.dbl_table.specs.declared.table.TableInfo.{TableInfo}
+use Rattle.dbl_history.specs.Fit.{IsKeyOf, IsFitHistory}
+use Rattle.dbl_history.specs.KeyedRows.{last_key}
+use Rattle.dbl_honest.specs.Standings.{Standing}
+use Rattle.dbl_honest.specs.Selected.{Selects}
+use Rattle.dbl_honest.specs.Calls.{Moved}
+use Rattle.dbl_honest.specs.Told.{Told, Selected, IsTakenBy, Tells}
+use Rattle.dbl_source.specs.declared.error.SourceError.{SourceError}
+use Rattle.dbl_source.specs.declared.error.SourceError.TheVariants as source
+use Rattle.dbl_window.specs.declared.error.WindowError.{WindowError}
+use Rattle.dbl_window.specs.declared.error.WindowError.TheVariants as window
+use Rattle.dbl_window.specs.Errors.{window_fault}
+use Rattle.dbl_window.specs.Plans.{Plan, Chunk}
+use Rattle.dbl_window.specs.Reading.{rows_read, chunk_read}
+use Rattle.dbl_window.specs.Selected.{IsCaptured, IsSelected, SelectsChunk, HasUnreadable, IsReadAs, IsReadFrom}
+use Rattle.dbl_window.proofs.HonestLemmas.{captured_stays, never_bad_chunk, unreadable_cell, selected_chunk}
+
+pub chunk_is : (plan : Plan) (rows : List RawRow) → chunk_read plan rows ≡ rows_read plan 0 plan.above rows
+unfolding chunk_read
+chunk_is plan rows = refl
+
+-- who tells nothing new goes on telling what was told
+pub none_taken : (told : Option Told) → IsTakenBy [] told told
+none_taken None = tt
+none_taken (Some t) = refl
+
+-- a source's want of memory, and its failure, as a window's
+pub memory_was : (e : SourceError) → window_fault e ≡ window.Memory → e ≡ source.Memory
+memory_was source.Failed is = cc
+memory_was source.Memory is = refl
+
+-- ---- what the rows are read as
+
+pub held_so : (plan : Plan) (rows : List RawRow) (Q : Chunk → Type 0) (result : Result Chunk WindowError) → IsReadAs plan rows result → IfOk result (λ held. held.plan ≡ plan)
+    → IfOk result (λ held. held.through ≡ last_key plan.above held.rows) → IfOk result (λ held. held.done ≡ nat_lt (length held.rows) plan.limit)
+    → ((chunk : Chunk) → chunk.plan ≡ plan → chunk_read plan rows ≡ Ok chunk.rows → chunk.through ≡ last_key plan.above chunk.rows → chunk.done ≡ nat_lt (length chunk.rows) plan.limit → Q chunk)
+    → IfOk result Q
+held_so plan rows Q (Ok chunk) read same through done so = so chunk same read through done
+held_so plan rows Q (Err e) read same through done so = tt
+
+pub read_so : (plan : Plan) (told : Option Told) (rows : List RawRow) (result : Result Chunk WindowError) → Tells told (Selected rows) → IsReadAs plan rows result → IsReadFrom plan told result
+read_so plan told rows (Ok chunk) tells read = record { rows = rows; told_so = tells; read_is = read }
+read_so plan told rows (Err e) tells read =
+    elim read [
+      | inl failed ↦ inl failed
+      | inr other ↦ elim other [
+        | inl memory ↦ inr (inl memory)
+        | inr fault ↦ inr (inr (record { rows = rows; told_so = tells; read_is = fault }))
+      ]
+    ]
+
+-- ---- an honest source's rows
+
+moved_captured : (infos : List TableInfo) (plan : Plan) (s t : Standing) → Moved s t → IsCaptured infos s.history plan → IsCaptured infos t.history plan
+moved_captured infos plan s t moved captured = record { are = captured_stays s.history t.history infos moved.grows.tables captured.are; here = captured.here }
+
+pub selects_so : (plan : Plan) (rows : List RawRow) (chunk : Chunk) (s t : Standing) → Moved s t → IfSome plan.above (IsKeyOf plan.info)
+    → Selects plan.info.name plan.above plan.limit s.history t.history rows → chunk.plan ≡ plan → chunk_read plan rows ≡ Ok chunk.rows → chunk.through ≡ last_key plan.above chunk.rows
+    → chunk.done ≡ nat_lt (length chunk.rows) plan.limit → SelectsChunk plan chunk s t
+selects_so plan rows chunk s t moved starts selects plan_is read through done infos captured =
+    (subst (λ (p : Plan). IsCaptured infos t.history p → IfSome p.above (IsKeyOf p.info) → Selects p.info.name p.above p.limit s.history t.history rows → chunk_read p rows ≡ Ok chunk.rows
+    → chunk.through ≡ last_key p.above chunk.rows → chunk.done ≡ nat_lt (length chunk.rows) p.limit
+    → IsSelected infos t.history (length s.history.commits) (length t.history.commits) chunk)
+    plan_is (selected_chunk infos t.history (length s.history.commits) (length t.history.commits) rows chunk))
+    (moved_captured infos plan s t moved captured) starts selects read through done
+
+-- an error of the reading that isn't want of memory is the rows' fault
+fault_of_rows : (plan : Plan) (rows : List RawRow) (result : Result Chunk WindowError) (e : WindowError) → IsReadAs plan rows result → result ≡ Err e → (e ≡ window.Failed → ⊥) → (e ≡ window.Memory → ⊥)
+    → rows_read plan 0 plan.above rows ≡ Err e
+fault_of_rows plan rows result e read is not_failed not_memory =
+    elim (subst (IsReadAs plan rows) is read) [
+      | inl failed ↦ absurd (not_failed failed)
+      | inr other ↦ elim other [
+        | inl memory ↦ absurd (not_memory memory)
+        | inr fault ↦ sym (chunk_is plan rows) ∙ fault
+      ]
+    ]
+
+pub never_so : (plan : Plan) (rows : List RawRow) (result : Result Chunk WindowError) (s t : Standing) (infos : List TableInfo) (row : ℕ) → IsReadAs plan rows result → Moved s t → IsFitHistory t.history
+    → IfSome plan.above (IsKeyOf plan.info) → Selects plan.info.name plan.above plan.limit s.history t.history rows → IsCaptured infos s.history plan → result ≡ Err (window.BadChunk row) → ⊥
+never_so plan rows result s t infos row read moved fit starts selects captured is =
+    never_bad_chunk infos t.history plan (length s.history.commits) (length t.history.commits) rows row fit (moved_captured infos plan s t moved captured) starts selects
+    (fault_of_rows plan rows result (window.BadChunk row) read is (λ e. (let never : ⊥ = cc in never)) (λ e. (let never : ⊥ = cc in never)))
+
+pub cell_so : (plan : Plan) (rows : List RawRow) (result : Result Chunk WindowError) (s t : Standing) (infos : List TableInfo) (name : List ℕ) (error : ValueError) → IsReadAs plan rows result → Moved s t
+    → IsFitHistory t.history → IfSome plan.above (IsKeyOf plan.info) → Selects plan.info.name plan.above plan.limit s.history t.history rows → IsCaptured infos s.history plan
+    → result ≡ Err (window.Cell name error) → HasUnreadable infos t.history plan name error
+cell_so plan rows result s t infos name error read moved fit starts selects captured is =
+    unreadable_cell infos t.history plan (length s.history.commits) (length t.history.commits) rows name error fit (moved_captured infos plan s t moved captured) starts selects
+    (fault_of_rows plan rows result (window.Cell name error) read is (λ e. (let never : ⊥ = cc in never)) (λ e. (let never : ⊥ = cc in never)))

@@ -1,0 +1,29 @@
+use Rattle.std.proofs.Common.{◌≡◌, ◌∙◌, List, ℕ, sym, ap, subst}
+use Rattle.std.specs.Prelude.{Err}
+use Rattle.std.proofs.lemmas.Result.{err_from_is_err_and}
+use Rattle.dbl_source.specs.declared.error.SourceError.{SourceError}
+use Rattle.dbl_source.specs.declared.error.SourceError.TheVariants as source
+use Rattle.dbl_window.specs.declared.error.WindowError.TheVariants as window
+use Rattle.dbl_honest.specs.Standings.{Stood}
+use Rattle.dbl_honest.specs.Calls.{IsMarked}
+use Rattle.dbl_honest.specs.Leaves.{MayFollowMark}
+use Rattle.dbl_window.proofs.SelectLemmas.{memory_was}
+use Rattle.dbl_window.proofs.states.Held.high.Goals as goal
+
+pub returns-in_err-mark-clause-left : goal.returns-in_err-mark-clause-left
+returns-in_err-mark-clause-left g c s l stands may = subst (λ (v : List ℕ). MayFollowMark v s l) c.high_mark.ensures.text (c.mark.ensures.left s l stands may)
+
+pub returns-clause-marks : goal.returns-clause-marks
+returns-clause-marks g c s stands = subst (λ (v : List ℕ). Stood g.S.Source.stands c.mark.new.self (IsMarked v s)) c.high_mark.ensures.text (c.in_ok-mark.ensures.marked s stands)
+
+pub returns-clause-left : goal.returns-clause-left
+returns-clause-left g c s l stands may = subst (λ (v : List ℕ). MayFollowMark v s l) c.high_mark.ensures.text (c.mark.ensures.left s l stands may)
+
+-- a source that wanted memory wrote no mark
+pub returns-in_err-mark-clause-unmarked : goal.returns-in_err-mark-clause-unmarked
+returns-in_err-mark-clause-unmarked g c is =
+    let p = err_from_is_err_and c.from_residual.result c.from_residual.ensures.1 in
+    let both : Err p.0 ≡ Err window.Memory = sym p.1 ∙ is in
+    let fault : p.0 ≡ window.Memory = cc in
+    let memory : c.in_err-mark.field-0.0 ≡ source.Memory = memory_was c.in_err-mark.field-0.0 (sym p.2 ∙ fault) in
+    c.mark.ensures.unmarked (c.in_err-mark.was ∙ ap (λ (e : SourceError). Err e) memory)

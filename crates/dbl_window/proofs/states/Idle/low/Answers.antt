@@ -1,0 +1,52 @@
+use Rattle.std.proofs.Common.{◌≡◌, List, ℕ, ◌∙◌, inl, inr, sym, ap, subst}
+use Rattle.std.specs.Prelude.{Err}
+use Rattle.std.proofs.lemmas.Result.{err_from_is_err_and}
+use Rattle.dbl_source.specs.declared.error.SourceError.{SourceError}
+use Rattle.dbl_source.specs.declared.error.SourceError.TheVariants as source
+use Rattle.dbl_window.specs.declared.error.WindowError.TheVariants as window
+use Rattle.dbl_honest.specs.Standings.{Stood, left_of}
+use Rattle.dbl_honest.specs.Calls.{IsMarked}
+use Rattle.dbl_honest.specs.Leaves.{MayFollowMark}
+use Rattle.dbl_window.specs.Plans.{low_text}
+use Rattle.dbl_window.proofs.SelectLemmas.{none_taken, memory_was}
+use Rattle.dbl_window.proofs.states.Idle.low.Goals as goal
+
+-- where memory is wanting the source was asked for nothing
+pub returns-in_err-marked-clause-left : goal.returns-in_err-marked-clause-left
+returns-in_err-marked-clause-left g c s l stands may = inl (g.met.S.Source.only c.args.src.now s l stands may)
+
+pub returns-in_err-marked-clause-some : goal.returns-in_err-marked-clause-some
+returns-in_err-marked-clause-some g c s stands = (left_of s, g.met.S.Source.may c.args.src.now s stands)
+
+pub returns-in_err-marked-clause-unmarked : goal.returns-in_err-marked-clause-unmarked
+returns-in_err-marked-clause-unmarked g c is s l stands may = inl (g.met.S.Source.only c.args.src.now s l stands may)
+
+pub returns-in_err-marked-clause-taken : goal.returns-in_err-marked-clause-taken
+returns-in_err-marked-clause-taken g c = none_taken (g.S.Source.told c.args.src.now)
+
+pub returns-in_err-marked-clause-comes : goal.returns-in_err-marked-clause-comes
+returns-in_err-marked-clause-comes g c = g.met.S.Source.comes_self c.args.src.now
+
+pub returns-in_err-mark-clause-left : goal.returns-in_err-mark-clause-left
+returns-in_err-mark-clause-left g c s l stands may =
+    let text = c.low_mark.ensures.text ∙ ap low_text c.in_ok-marked.ensures in
+    inr (subst (λ (v : List ℕ). MayFollowMark v s l) text (c.mark.ensures.left s l stands may))
+
+pub returns-clause-marks : goal.returns-clause-marks
+returns-clause-marks g c s stands =
+    let text = c.low_mark.ensures.text ∙ ap low_text c.in_ok-marked.ensures in
+    subst (λ (v : List ℕ). Stood g.S.Source.stands c.mark.new.self (IsMarked v s)) text (c.in_ok-mark.ensures.marked s stands)
+
+pub returns-clause-left : goal.returns-clause-left
+returns-clause-left g c s l stands may =
+    let text = c.low_mark.ensures.text ∙ ap low_text c.in_ok-marked.ensures in
+    inr (subst (λ (v : List ℕ). MayFollowMark v s l) text (c.mark.ensures.left s l stands may))
+
+-- a source that wanted memory wrote no mark
+pub returns-in_err-mark-clause-unmarked : goal.returns-in_err-mark-clause-unmarked
+returns-in_err-mark-clause-unmarked g c is =
+    let p = err_from_is_err_and c.from_residual-in_err-mark.result c.from_residual-in_err-mark.ensures.1 in
+    let both : Err p.0 ≡ Err window.Memory = sym p.1 ∙ is in
+    let fault : p.0 ≡ window.Memory = cc in
+    let memory : c.in_err-mark.field-0.0 ≡ source.Memory = memory_was c.in_err-mark.field-0.0 (sym p.2 ∙ fault) in
+    λ s l stands may. inr (c.mark.ensures.unmarked (c.in_err-mark.was ∙ ap (λ (e : SourceError). Err e) memory) s l stands may)

@@ -1,0 +1,11 @@
+pub mod Plans
+pub mod Errors
+pub mod Reading
+pub mod ReadParts
+pub mod Changing
+pub mod Selected
+pub mod Leaving
+pub mod Promise
+pub mod Laws
+pub mod ClosingLaws
+pub mod RightLaws

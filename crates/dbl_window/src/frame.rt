@@ -1,0 +1,30 @@
+ghost use Rattle.std.specs.Prelude.{◌≡◌};
+ghost use Rattle.std.specs.Option.{option_copied};
+
+use dbl_table::{Key, TableInfo};
+use std::alloc::Global;
+
+// What a window is to read, and under which numbers. Every state of it has one.
+#[derive(Debug, Drop)]
+pub(crate) struct Frame {
+    pub alloc: Global,
+    pub info: TableInfo,
+    // the table's place among the captured ones
+    pub table: u32,
+    // the key behind which the window begins
+    pub above: Option<Key>,
+    pub limit: u32,
+    pub incarnation: u64,
+    pub number: u64,
+}
+
+impl Frame {
+    pub(crate) fn bound(&self) -> Option<&Key>
+        ensures { option_copied result ≡ self.now.above }
+    {
+        match &self.above {
+            Some(key) => Some(key),
+            None => None,
+        }
+    }
+}

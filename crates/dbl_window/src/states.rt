@@ -1,0 +1,466 @@
+//! The states of a window, each consumed by the step to the next one. A state keeps only what other clients' commits can't undo: a
+//! mark that stands in a history which grows, and rows of one place between two marks.
+
+ghost use Rattle.std.specs.Prelude.{◌≡◌, ◌≢◌, ◌⊎◌, ◌↔◌, ◌≤◌, ℕ, List, [], length, nat_lt, IsTrue, IfOk, IfErr, IfSome, IsOk, OnOk};
+ghost use Rattle.std.specs.List.{AllByRecursion};
+ghost use Rattle.dbl_base.specs.Streams.{Rose};
+ghost use Rattle.dbl_value.specs.declared.error.ValueError.{ValueError as SpecValueError};
+ghost use Rattle.dbl_table.specs.declared.table.TableInfo.{TableInfo as SpecInfo};
+ghost use Rattle.dbl_table.specs.Rows.{table_of};
+ghost use Rattle.dbl_history.specs.Fit.{IsKeyOf};
+ghost use Rattle.dbl_history.specs.KeyedRows.{last_key};
+ghost use Rattle.dbl_event.specs.Snapshots.{AreInKeyOrder, FitsChunk};
+ghost use Rattle.dbl_honest.specs.Standings.{Standing, Stood, Leads};
+ghost use Rattle.dbl_honest.specs.Calls.{Moved, IsMarked};
+ghost use Rattle.dbl_honest.specs.Leaves.{Leaves, LeavesSome, MayFollow, MayFollowMark};
+ghost use Rattle.dbl_honest.specs.Selected.{Selects};
+ghost use Rattle.dbl_honest.specs.Told.{Selected, Done, IsTakenBy, Tells};
+ghost use Rattle.dbl_window.specs.Plans.{Chunk, low_text, high_text, IsFitChunk};
+ghost use Rattle.dbl_window.specs.Changing.{FitsTable, IsLeftBy};
+ghost use Rattle.dbl_window.specs.Selected.{IsCaptured, SelectsChunk, HasUnreadable, IsReadAs, IsReadFrom};
+ghost use Rattle.dbl_window.specs.Leaving.{MayStayOrMark, MayStayOrFollow};
+ghost use Rattle.dbl_window.specs.Promise.{KeepsPromise, IsClosedOf};
+
+use crate::frame::Frame;
+use crate::reading::{Read, read_rows};
+use crate::rows::{HeldRows, change_rows, in_order};
+use crate::{WindowError, marks};
+use dbl_base::Text;
+use dbl_event::{Closed, KeyedRows};
+use dbl_source::Source;
+use dbl_table::{Change, Key, RawRow, TableInfo};
+use std::alloc::{AllocError, Global};
+use std::marker::Model;
+
+/// Nothing was done yet. Contracts see a window's plan.
+#[derive(Debug, Drop)]
+pub struct Idle {
+    frame: Frame,
+}
+
+impl Model for Idle {
+    ghost use Rattle.dbl_window.specs.Plans.{Plan, plan_of, IsFrame};
+
+    ghost Value = { Plan };
+
+    ghost view = { λ w. plan_of w.frame };
+
+    ghost invariant = { λ w. IsFrame w.frame };
+}
+
+/// The low mark stands.
+#[derive(Debug, Drop)]
+pub struct Marked {
+    frame: Frame,
+    // the texts of both marks, so that later steps want no memory for them
+    low: Text,
+    high: Text,
+}
+
+impl Model for Marked {
+    ghost use Rattle.dbl_window.specs.Plans.{Plan, plan_of, IsNamed};
+
+    ghost Value = { Plan };
+
+    ghost view = { λ w. plan_of w.frame };
+
+    ghost invariant = { λ w. IsNamed w.frame w.low w.high };
+}
+
+/// The rows were read. Contracts see a window's chunk.
+#[derive(Drop)]
+pub struct Held {
+    frame: Frame,
+    low: Text,
+    high: Text,
+    rows: HeldRows,
+    through: Option<Key>,
+    done: bool,
+}
+
+impl Model for Held {
+    ghost use Rattle.dbl_window.specs.Plans.{Chunk, plan_of, IsHeld};
+
+    ghost Value = { Chunk };
+
+    ghost view = { λ w. record {
+      plan = plan_of w.frame;
+      rows = w.rows.entries;
+      through = w.through;
+      done = w.done;
+    } };
+
+    ghost invariant = { λ w. IsHeld w.frame w.low w.high w.rows.entries w.through };
+}
+
+/// The high mark stands, and the low one hasn't come back in the log yet.
+#[derive(Drop)]
+pub struct Armed {
+    held: Held,
+}
+
+impl Model for Armed {
+    ghost use Rattle.dbl_window.specs.Plans.{Chunk};
+
+    ghost Value = { Chunk };
+
+    ghost view = { λ w. w.held };
+}
+
+/// The low mark came back in the log. Rows leave the window as the log's changes come.
+#[derive(Drop)]
+pub struct Open {
+    held: Held,
+}
+
+impl Model for Open {
+    ghost use Rattle.dbl_window.specs.Plans.{Chunk};
+
+    ghost Value = { Chunk };
+
+    ghost view = { λ w. w.held };
+}
+
+/// What a mark in the log makes of an armed window.
+#[derive(Drop)]
+pub enum Seen {
+    Opened(Open),
+    Waiting(Armed),
+}
+
+/// A window of a captured table that is to read at most `limit` rows behind a key. `table` is the table's place among the captured
+/// ones. Its marks carry the session's incarnation and the window's number in it. Takes no memory; later calls use the allocator.
+pub fn new(
+    alloc: Global,
+    info: TableInfo,
+    table: u32,
+    above: Option<Key>,
+    limit: u32,
+    incarnation: u64,
+    number: u64,
+) -> Idle
+    requires some { 1 ≤ limit }
+    requires most { limit ≤ 100000 }
+    requires above { IfSome above (IsKeyOf info) }
+    ensures { result ≡ record {
+      info = info;
+      table = table;
+      above = above;
+      limit = limit;
+      incarnation = incarnation;
+      number = number;
+    } }
+{
+    Idle {
+        frame: Frame {
+            alloc,
+            info,
+            table,
+            above,
+            limit,
+            incarnation,
+            number,
+        },
+    }
+}
+
+impl Idle {
+    // The window with the texts of its marks.
+    fn named(self) -> Result<Marked, AllocError>
+        ensures { IfOk result (λ marked. marked ≡ self) }
+    {
+        let low = marks::low_text(self.frame.alloc, self.frame.incarnation, self.frame.number)?;
+        let high = marks::high_text(self.frame.alloc, self.frame.incarnation, self.frame.number)?;
+        Ok(Marked {
+            frame: self.frame,
+            low,
+            high,
+        })
+    }
+
+    /// Writes the low mark. After `Failed` it may stand in the log, after `Memory` it doesn't.
+    pub fn low<S: Source>(self, src: &mut S) -> Result<Marked, WindowError>
+        requires { IsTrue (S.is_live src.old) }
+        ensures marks { Leads S.stands src.old src.new result (λ marked. IsMarked (low_text self)) }
+        ensures same { IfOk result (λ marked. marked ≡ self) }
+        ensures errors { IfErr result (λ e. (e ≡ WindowError.Failed) ⊎ (e ≡ WindowError.Memory)) }
+
+        // Of the source, whatever it answers.
+        ensures left { Leaves S.stands S.may_leave src.old src.new (MayStayOrMark (low_text self)) }
+        ensures some { LeavesSome S.stands S.may_leave src.old src.new }
+        ensures unmarked { result ≡ Err WindowError.Memory →
+            Leaves S.stands S.may_leave src.old src.new MayStayOrFollow }
+        ensures told { OnOk result (Tells (S.told src.new) Done) }
+        ensures taken { IsTakenBy [] (S.told src.old) (S.told src.new) }
+        ensures reading { S.is_reading src.new ≡ S.is_reading src.old }
+        ensures live { OnOk result (IsTrue (S.is_live src.new)) }
+        ensures honest { S.honest src.new → S.honest src.old }
+        ensures comes { S.comes_of src.old src.new }
+        ensures later { S.faults src.old ≤ S.faults src.new }
+        ensures failed { result ≡ Err WindowError.Failed →
+            Rose (S.faults src.old) (S.faults src.new) }
+    {
+        let marked = self.named()?;
+        src.mark(marked.low_mark())?;
+        Ok(marked)
+    }
+}
+
+impl Marked {
+    fn low_mark(&self) -> &Text
+        ensures text { result.now ≡ low_text self.now }
+        ensures short { length result.now ≤ 64 }
+    {
+        &self.low
+    }
+
+    // The window with the rows that were answered.
+    fn holding(self, rows: Vec<RawRow>) -> Result<Held, WindowError>
+        ensures read { IsReadAs self rows.items result }
+        ensures no_failure { result ≢ Err WindowError.Failed }
+        ensures same { IfOk result (λ held. held.plan ≡ self) }
+        ensures through { IfOk result (λ held. held.through ≡ last_key self.above held.rows) }
+        ensures done { IfOk result (λ held. held.done ≡ nat_lt (length held.rows) self.limit) }
+        ensures fit { IfOk result (λ held. IsFitChunk self.info self.limit held.rows held.through) }
+    {
+        let Read {
+            rows,
+            through,
+            count,
+        } = read_rows(&self.frame, rows)?;
+        let done = count < self.frame.limit;
+        Ok(Held {
+            frame: self.frame,
+            low: self.low,
+            high: self.high,
+            rows,
+            through,
+            done,
+        })
+    }
+
+    // The rows that the source answers.
+    fn answered<S: Source>(&self, src: &mut S) -> Result<Vec<RawRow>, WindowError>
+        requires { IsTrue (S.is_live src.old) }
+        ensures selected { Leads S.stands src.old src.new result (λ rows s t. Moved s t
+            × (S.honest src.new → Selects self.now.info.name self.now.above self.now.limit
+            s.history t.history rows.items)) }
+        ensures told { IfOk result (λ rows. Tells (S.told src.new) (Selected rows.items)) }
+        ensures starts { IfSome self.now.above (IsKeyOf self.now.info) }
+        ensures errors { IfErr result (λ e. (e ≡ WindowError.Failed) ⊎ (e ≡ WindowError.Memory)) }
+        ensures left { Leaves S.stands S.may_leave src.old src.new MayFollow }
+        ensures some { LeavesSome S.stands S.may_leave src.old src.new }
+        ensures taken { IsTakenBy [] (S.told src.old) (S.told src.new) }
+        ensures reading { S.is_reading src.new ≡ S.is_reading src.old }
+        ensures live { OnOk result (IsTrue (S.is_live src.new)) }
+        ensures honest { S.honest src.new → S.honest src.old }
+        ensures comes { S.comes_of src.old src.new }
+        ensures later { S.faults src.old ≤ S.faults src.new }
+        ensures failed { result ≡ Err WindowError.Failed →
+            Rose (S.faults src.old) (S.faults src.new) }
+    {
+        let frame = &self.frame;
+        Ok(src.select(&frame.info.name, frame.bound(), frame.limit)?)
+    }
+
+    /// Reads the chunk: the first rows of the table behind the window's key, at most as many as its limit.
+    pub fn select<S: Source>(self, src: &mut S) -> Result<Held, WindowError>
+        requires { IsTrue (S.is_live src.old) }
+
+        // The rows are those of one place between the call and the return.
+        ensures held { Leads S.stands src.old src.new result
+            (λ held s t. Moved s t × (S.honest src.new → SelectsChunk self held s t)) }
+        ensures same { IfOk result (λ held. held.plan ≡ self) }
+        ensures few { IfOk result (λ held. length held.rows ≤ self.limit) }
+        ensures through { IfOk result (λ held. held.through ≡ last_key self.above held.rows) }
+        ensures done { IfOk result (λ held. held.done ≡ nat_lt (length held.rows) self.limit) }
+        ensures fit { IfOk result (λ held. IsFitChunk self.info self.limit held.rows held.through) }
+
+        // Which fault of the answered rows comes first, exactly.
+        ensures chunk { IsReadFrom self (S.told src.new) result }
+        ensures never { (s : Standing) (infos : List SpecInfo) (row : ℕ) →
+            S.stands src.old s → S.honest src.new → IsCaptured infos s.history self →
+            result ≢ Err (WindowError.BadChunk row) }
+        ensures cell { (s : Standing) (infos : List SpecInfo)
+            (column : List ℕ) (error : SpecValueError) →
+            S.stands src.old s → S.honest src.new → IsCaptured infos s.history self →
+            result ≡ Err (WindowError.Cell column error) →
+            Stood S.stands src.new (λ t. HasUnreadable infos t.history self column error) }
+
+        // Of the source, whatever it answers.
+        ensures left { Leaves S.stands S.may_leave src.old src.new MayFollow }
+        ensures some { LeavesSome S.stands S.may_leave src.old src.new }
+        ensures taken { IsTakenBy [] (S.told src.old) (S.told src.new) }
+        ensures reading { S.is_reading src.new ≡ S.is_reading src.old }
+        ensures live { OnOk result (IsTrue (S.is_live src.new)) }
+        ensures honest { S.honest src.new → S.honest src.old }
+        ensures comes { S.comes_of src.old src.new }
+        ensures later { S.faults src.old ≤ S.faults src.new }
+        ensures failed { result ≡ Err WindowError.Failed →
+            Rose (S.faults src.old) (S.faults src.new) }
+    {
+        let rows = self.answered(src)?;
+        self.holding(rows)
+    }
+}
+
+impl Held {
+    fn low_mark(&self) -> &Text
+        ensures text { result.now ≡ low_text self.now.plan }
+        ensures ordered { AreInKeyOrder self.now.rows }
+    {
+        in_order(&self.rows);
+        &self.low
+    }
+
+    fn high_mark(&self) -> &Text
+        ensures text { result.now ≡ high_text self.now.plan }
+        ensures short { length result.now ≤ 64 }
+        ensures few { length self.now.rows ≤ self.now.plan.limit }
+    {
+        &self.high
+    }
+
+    /// Writes the high mark. After `Failed` it may stand in the log, after `Memory` it doesn't.
+    pub fn high<S: Source>(self, src: &mut S) -> Result<Armed, WindowError>
+        requires { IsTrue (S.is_live src.old) }
+        ensures marks { Leads S.stands src.old src.new result
+            (λ armed. IsMarked (high_text self.plan)) }
+        ensures same { IfOk result (λ armed. armed ≡ self) }
+        ensures errors { IfErr result (λ e. (e ≡ WindowError.Failed) ⊎ (e ≡ WindowError.Memory)) }
+
+        // Of the source, whatever it answers.
+        ensures left { Leaves S.stands S.may_leave src.old src.new
+            (MayFollowMark (high_text self.plan)) }
+        ensures some { LeavesSome S.stands S.may_leave src.old src.new }
+        ensures unmarked { result ≡ Err WindowError.Memory →
+            Leaves S.stands S.may_leave src.old src.new MayFollow }
+        ensures told { OnOk result (Tells (S.told src.new) Done) }
+        ensures taken { IsTakenBy [] (S.told src.old) (S.told src.new) }
+        ensures reading { S.is_reading src.new ≡ S.is_reading src.old }
+        ensures live { OnOk result (IsTrue (S.is_live src.new)) }
+        ensures honest { S.honest src.new → S.honest src.old }
+        ensures comes { S.comes_of src.old src.new }
+        ensures later { S.faults src.old ≤ S.faults src.new }
+        ensures failed { result ≡ Err WindowError.Failed →
+            Rose (S.faults src.old) (S.faults src.new) }
+    {
+        src.mark(self.high_mark())?;
+        Ok(Armed { held: self })
+    }
+
+    fn change(&mut self, change: &Change) -> Result<(), AllocError>
+        requires { table_of change.now ≡ self.old.plan.table →
+            FitsTable self.old.plan.info change.now }
+        ensures left { OnOk result (IsLeftBy self.old.plan.table self.old.plan.info change.now
+            self.old.rows self.new.rows) }
+        ensures other { (table_of change.now ≢ self.old.plan.table) →
+            IsOk result × (self.new ≡ self.old) }
+        ensures few { length self.new.rows ≤ length self.old.rows }
+        ensures ordered { AreInKeyOrder self.new.rows }
+        ensures same { self.new ≡ record self.old { rows = self.new.rows } }
+    {
+        if change.table() != self.frame.table {
+            in_order(&self.rows);
+            return Ok(());
+        }
+        let changed = change_rows(self.frame.alloc, &self.frame.info, &mut self.rows, change);
+        in_order(&self.rows);
+        changed
+    }
+
+    fn clear(&mut self)
+        ensures { self.new ≡ record self.old { rows = [] } }
+    {
+        self.rows.clear();
+    }
+
+    fn finish(self) -> Closed
+        ensures closed { IsClosedOf self result }
+        ensures ordered { AreInKeyOrder result.rows }
+        ensures fit { IsFitChunk self.plan.info self.plan.limit result.rows result.through }
+    {
+        Closed {
+            table: self.frame.table,
+            rows: KeyedRows::make(self.rows),
+            through: self.through,
+            done: self.done,
+        }
+    }
+}
+
+impl Armed {
+    /// The text of the mark that opens it.
+    pub fn awaited(&self) -> &Text
+        ensures { result.now ≡ low_text self.now.plan }
+    {
+        self.held.low_mark()
+    }
+
+    /// A mark came in the log. The window opens exactly at its own low mark.
+    pub fn see(self, value: &Text) -> Seen
+        ensures opened { (w : Chunk) → result ≡ Seen.Opened w →
+            (value.now ≡ low_text self.plan) × (w ≡ self) }
+        ensures waiting { (w : Chunk) → result ≡ Seen.Waiting w →
+            (value.now ≢ low_text self.plan) × (w ≡ self) }
+        ensures ordered { AreInKeyOrder self.rows }
+    {
+        if marks::is_same(value, self.held.low_mark()) {
+            Seen::Opened(Open { held: self.held })
+        } else {
+            Seen::Waiting(self)
+        }
+    }
+}
+
+impl Open {
+    /// The text of the mark that closes it.
+    pub fn awaited(&self) -> &Text
+        ensures text { result.now ≡ high_text self.now.plan }
+        ensures few { length self.now.rows ≤ self.now.plan.limit }
+    {
+        self.held.high_mark()
+    }
+
+    /// A change came in the log. Of a row that the change gives whole or ends nothing is left; a change that leaves cells unsent is laid
+    /// over the row. A change of another table leaves all rows. After want of memory the window is to be given up.
+    pub fn change(&mut self, change: &Change) -> Result<(), AllocError>
+        requires { table_of change.now ≡ self.old.plan.table →
+            FitsTable self.old.plan.info change.now }
+        ensures left { OnOk result (IsLeftBy self.old.plan.table self.old.plan.info change.now
+            self.old.rows self.new.rows) }
+        ensures other { (table_of change.now ≢ self.old.plan.table) →
+            IsOk result × (self.new ≡ self.old) }
+        ensures few { length self.new.rows ≤ length self.old.rows }
+        ensures ordered { AreInKeyOrder self.new.rows }
+        ensures same { self.new ≡ record self.old { rows = self.new.rows } }
+    {
+        self.held.change(change)
+    }
+
+    /// The table was truncated: no row is left. So a change that clears the table does.
+    pub fn clear(&mut self)
+        ensures { self.new ≡ record self.old { rows = [] } }
+    {
+        self.held.clear();
+    }
+
+    /// Whether a mark in the log closes it: exactly its own high mark.
+    pub fn closes(&self, value: &Text) -> bool
+        ensures { IsTrue result ↔ (value.now ≡ high_text self.now.plan) }
+    {
+        marks::is_same(value, self.held.high_mark())
+    }
+
+    /// The closed window, where its high mark came in the log.
+    pub fn finish(self) -> Closed
+        ensures closed { IsClosedOf self result }
+        ensures promise { KeepsPromise self result }
+        ensures ordered { AreInKeyOrder result.rows }
+        ensures fits { FitsChunk self.plan.info result }
+        ensures keys { AllByRecursion (λ entry. IsKeyOf self.plan.info entry.0) result.rows }
+        ensures few { length result.rows ≤ self.plan.limit }
+    {
+        self.held.finish()
+    }
+}

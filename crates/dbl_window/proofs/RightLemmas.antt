@@ -1,18 +1,15 @@
 -- Windows are right: rows that were selected between two marks stay so, and then the promise speaks.
-use Rattle.std.proofs.Common.{◌≡◌, ◌∙◌, ◌+◌, ◌≤◌, ℕ, suc, Some, List, ◌∷◌, ◌++◌, length, refl, sym, ap, subst, arith, length-append, append_assoc}
+use Rattle.std.proofs.Common.{◌≡◌, ◌∙◌, ◌+◌, ◌≤◌, ℕ, suc, Some, List, ◌∷◌, ◌++◌, length, sym, ap, subst, arith, length-append, append_assoc}
 use Rattle.std.specs.Prelude.{slice_get}
 use Rattle.dbl_table.specs.declared.table.TableInfo.{TableInfo}
 use Rattle.dbl_table.specs.Rows.{all_changes}
 use Rattle.dbl_history.specs.History.{RawCommit, History}
 use Rattle.dbl_history.specs.Typed.{typed}
-use Rattle.dbl_event.specs.declared.closed.Closed.{Closed}
 use Rattle.dbl_ageing.specs.Windows.{IsRightWindow}
 use Rattle.dbl_honest.specs.Growth.{Marks}
 use Rattle.dbl_window.specs.Plans.{Plan, Chunk}
-use Rattle.dbl_window.specs.Changing.{AreLeft}
 use Rattle.dbl_window.specs.Selected.{IsSelected}
-use Rattle.dbl_window.specs.Promise.{moment_after_first, KeepsPromise}
-use Rattle.dbl_window.specs.Laws.{between}
+use Rattle.dbl_window.specs.Promise.{moment_after_first}
 use Rattle.dbl_window.specs.RightLaws.{GoesOn, upto_mark, WasSelected, WindowsAreRight}
 use Rattle.dbl_window.proofs.LawLemmas.{stays_by, selected_given}
 

@@ -29,7 +29,7 @@ FitsTable info (Update table from old cells) = FitsUpdate info from old cells
 FitsTable info (Delete table from old) = FitsDelete info from old
 FitsTable info (Clear table) = Unit {0}
 
--- what a change of this table does to the table's row at a key
+-- For private clauses: what a change of this table does to the table's row at a key.
 abbrev pub effect_at : TableInfo → Change → Key → Effect
 effect_at info (Insert table row) key = at_key true (same_key (key_of info row.cells) key) (Whole row.cells)
 effect_at info (Update table from old cells) key =

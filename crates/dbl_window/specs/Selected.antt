@@ -64,15 +64,15 @@ IsReadAs plan rows result =
     MatchResult result (λ chunk. chunk_read plan rows ≡ Ok chunk.rows)
     (λ e. (e ≡ Failed) ⊎ ((e ≡ Memory) ⊎ (chunk_read plan rows ≡ Err e)))
 
--- Rows were answered that are read as this, a chunk's or their first fault; and a source that tells its last answer tells that it
--- answered these.
+-- There are rows that are read as this, a chunk's or their first fault; and where the source tells its last answer, it answered
+-- these. Of a source that tells nothing no more is said than that there are such rows.
 pub record IsReadOf (plan : Plan) (told : Option Told) (read : Result (List (Key × Row)) WindowError) : Type 0 where
   pub rows : List RawRow
   pub told_so : Tells told (Selected rows)
   pub read_is : chunk_read plan rows ≡ read
 
--- Of every source: the chunk has the rows that it answered, as they are read, and a fault is their first. The source may fail
--- instead, and memory may be wanting.
+-- Where the source tells what it answered: the chunk has these rows, as they are read, and a fault is their first. The source may
+-- fail instead, and memory may be wanting.
 abbrev pub IsReadFrom : Plan → Option Told → Result Chunk WindowError → Type 0
 IsReadFrom plan told result =
     MatchResult result (λ chunk. IsReadOf plan told (Ok chunk.rows))

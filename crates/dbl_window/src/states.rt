@@ -276,7 +276,7 @@ impl Marked {
         ensures done { IfOk result (λ held. held.done ≡ nat_lt (length held.rows) self.limit) }
         ensures fit { IfOk result (λ held. IsFitChunk self.info self.limit held.rows held.through) }
 
-        // Which fault of the answered rows comes first, exactly.
+        // Where the source tells which rows it answered: what they are read as, or which fault of them comes first, exactly.
         ensures chunk { IsReadFrom self (S.told src.new) result }
         ensures never { (s : Standing) (infos : List SpecInfo) (row : ℕ) →
             S.stands src.old s → S.honest src.new → IsCaptured infos s.history self →

@@ -153,7 +153,7 @@ fn begun(source: &mut ScriptedSource, answers: &mut String) -> Result<bool>
     match source.start(Lsn(0)) {
         Ok(started) => Ok(begins(&started)),
         Err(error) => {
-            words::said(answers, &error)?;
+            shown::failed(answers, &error)?;
             Ok(false)
         }
     }

@@ -9,7 +9,6 @@ ghost use Rattle.dbl_window_cases.specs.Reading.{IsReading, IsReady};
 use crate::shown;
 use anyhow::Result;
 use dbl_base::Bytes;
-use dbl_case_items::words;
 use dbl_follow::Follower;
 use dbl_pgmsg::decode;
 use dbl_source::{ScriptedSource, Source};
@@ -52,7 +51,7 @@ fn followed(
             Ok(true)
         }
         Err(error) => {
-            words::said(answers, &error)?;
+            shown::failed(answers, &error)?;
             Ok(false)
         }
     }
@@ -81,7 +80,7 @@ fn turn(alloc: Global, session: &mut Session, answers: &mut String) -> Result<bo
             None => Ok(false),
         },
         Err(error) => {
-            words::said(answers, &error)?;
+            shown::failed(answers, &error)?;
             Ok(false)
         }
     }

@@ -9,7 +9,7 @@ use dbl_history::Cursor;
 use dbl_record::Record;
 use dbl_table::{Commit, Key, Row};
 use std::alloc::Global;
-use std::fmt::Write;
+use std::fmt::{Display, Write};
 
 // Of an event the operation and the row behind it.
 fn event<'a>(answers: &mut String, value: &'a str) -> Result<()> {
@@ -80,6 +80,12 @@ fn cursor(alloc: Global, answers: &mut String, cursor: &Cursor) -> Result<()> {
         words::add(answers, ", done")?;
     }
     Ok(())
+}
+
+/// An error, on a line of its own.
+pub fn failed<T: Display>(answers: &mut String, error: &T) -> Result<()> {
+    words::add(answers, "\n  ")?;
+    words::said(answers, error)
 }
 
 /// A follower.

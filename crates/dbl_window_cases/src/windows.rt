@@ -3,6 +3,7 @@
 ghost use Rattle.std.specs.Prelude.{◌≡◌, ◌≤◌, IsTrue, IfOk, IfSome};
 ghost use Rattle.dbl_history.specs.Fit.{IsKeyOf};
 
+use crate::shown;
 use anyhow::{Result, bail};
 use dbl_base::{Seq, Text};
 use dbl_case_items::{items, words};
@@ -50,7 +51,7 @@ pub fn window(alloc: Global, info: &TableInfo, case: &str) -> Result<Idle>
     Ok(new(alloc, info.copy(alloc)?, 0, above, limit, 1, 1))
 }
 
-// Writes a mark that isn't the window's, and tells whether it was written.
+// Writes a mark that the window doesn't write, and tells whether it was written.
 fn marked(source: &mut ScriptedSource, value: &Text, answers: &mut String) -> Result<bool>
     requires { IsTrue source.old.live }
     ensures { IfOk result (λ on. IsTrue on → IsTrue source.new.live) }
@@ -61,13 +62,13 @@ fn marked(source: &mut ScriptedSource, value: &Text, answers: &mut String) -> Re
     match source.mark(value) {
         Ok(()) => Ok(true),
         Err(error) => {
-            words::said(answers, &error)?;
+            shown::failed(answers, &error)?;
             Ok(false)
         }
     }
 }
 
-/// Writes the marks of these items, none of which is the window's, and tells whether all were written.
+/// Writes the marks of these items, none of which the window writes, and tells whether all were written.
 pub fn other_marks(
     alloc: Global,
     source: &mut ScriptedSource,

@@ -164,6 +164,7 @@ impl<D: Disk> OffsetStore<D> {
         ensures comes { ComesOf D.seen D.may_leave self.old self.new }
         ensures told { (before : List ℕ) → D.seen (disk_of self.old) ≡ Some before → (after : List ℕ) × (D.seen (disk_of self.new) ≡ Some after) }
         ensures loads { OnOk result (self.new.offset ≡ Some offset) }
+        ensures keeps { OnErr result (self.new.offset ≡ self.old.offset) }
         ensures live { OnOk result (IsLive self.new) }
         ensures too_long { (len : ℕ) → (result ≡ Err (OffsetError.TooLong len)) ↔ ((2 ^ 28 < length (spelling offset)) × (len ≡ capped (length (spelling offset)))) }
         ensures failed { result ≡ Err OffsetError.Failed → Rose (D.faults (disk_of self.old)) (D.faults (disk_of self.new)) }

@@ -255,9 +255,11 @@ fn print_workload<O: Output>(
 ) -> u8
     requires rows { rows ≤ 400_000 }
     requires groups { groups ≤ 90_000 }
-    ensures ends { EndsAs (made number rows groups) result (O.written output.old) (O.written output.new) }
+    ensures ends { EndsAs (made number rows groups) result
+        (O.written output.old) (O.written output.new) }
     ensures status { result ≢ status_of Halt.InputFailed }
-    ensures output_failed { result ≡ output_failed_status → Rose (O.faults output.old) (O.faults output.new) }
+    ensures output_failed { result ≡ output_failed_status →
+        Rose (O.faults output.old) (O.faults output.new) }
 {
     match script(alloc, number, rows, groups) {
         Ok(text) => write_text(text.as_str(), 0, output),
@@ -289,14 +291,21 @@ fn say_not_built<O: Output, W, T, F>(
 }
 
 fn read_input<I: Input>(alloc: Global, input: &mut I) -> Result<Bytes, Halt>
-    ensures all { (bytes : List ℕ) → I.left input.old ≡ Some bytes → IfOk result (λ read. read ≡ bytes) }
-    ensures end { (bytes : List ℕ) → I.left input.old ≡ Some bytes → OnOk result (I.left input.new ≡ Some []) }
+    ensures all { (bytes : List ℕ) → I.left input.old ≡ Some bytes →
+        IfOk result (λ read. read ≡ bytes) }
+    ensures end { (bytes : List ℕ) → I.left input.old ≡ Some bytes →
+        OnOk result (I.left input.new ≡ Some []) }
     ensures within { IfOk result (λ read. length read ≤ input_limit) }
-    ensures halts { (bytes : List ℕ) (options : ReplayOptions) (now : ℤ) → I.left input.old ≡ Some bytes → IfErr result (HaltsReplaying options now bytes) }
-    ensures long { (bytes : List ℕ) → I.left input.old ≡ Some bytes → length bytes ≤ input_limit → IfErr result (λ halt. (halt ≡ Halt.InputFailed) ⊎ (halt ≡ Halt.Memory)) }
-    ensures applying { (bytes placeholder : List ℕ) → I.left input.old ≡ Some bytes → IfErr result (HaltsApplying placeholder bytes) }
-    ensures failed { result ≡ Err Halt.InputFailed → Rose (I.faults input.old) (I.faults input.new) }
-    ensures kinds { IfErr result (λ halt. (halt ≡ Halt.InputFailed) ⊎ ((halt ≡ Halt.InputTooLong) ⊎ (halt ≡ Halt.Memory))) }
+    ensures halts { (bytes : List ℕ) (options : ReplayOptions) (now : ℤ) →
+        I.left input.old ≡ Some bytes → IfErr result (HaltsReplaying options now bytes) }
+    ensures long { (bytes : List ℕ) → I.left input.old ≡ Some bytes → length bytes ≤ input_limit →
+        IfErr result (λ halt. (halt ≡ Halt.InputFailed) ⊎ (halt ≡ Halt.Memory)) }
+    ensures applying { (bytes placeholder : List ℕ) → I.left input.old ≡ Some bytes →
+        IfErr result (HaltsApplying placeholder bytes) }
+    ensures failed { result ≡ Err Halt.InputFailed →
+        Rose (I.faults input.old) (I.faults input.new) }
+    ensures kinds { IfErr result
+        (λ halt. (halt ≡ Halt.InputFailed) ⊎ ((halt ≡ Halt.InputTooLong) ⊎ (halt ≡ Halt.Memory))) }
     ensures command { IfErr result (λ halt. halt ≢ Halt.Usage) }
 {
     match read_all(alloc, input) {
@@ -312,7 +321,8 @@ fn messages_of(alloc: Global, text: Bytes) -> Result<Vec<Bytes>, Halt>
     requires { length text ≤ input_limit }
     ensures ok { IfOk result (λ found. found.items ≡ messages_in (lines_of text)) }
     ensures good { OnOk result (first_bad (lines_of text) ≡ None) }
-    ensures halts { (options : ReplayOptions) (now : ℤ) → IfErr result (HaltsReplaying options now text) }
+    ensures halts { (options : ReplayOptions) (now : ℤ) →
+        IfErr result (HaltsReplaying options now text) }
     ensures kinds { IfErr result (λ halt. halt ≢ Halt.InputFailed) }
     ensures command { IfErr result (λ halt. halt ≢ Halt.Usage) }
 {
@@ -331,8 +341,10 @@ fn replay_messages<O: Output>(
     now_ms: &i64,
     output: &mut O,
 ) -> u8
-    ensures told { RunsLog options now_ms.now messages.items result (O.written output.old) (O.written output.new) }
-    ensures output_failed { result ≡ output_failed_status → Rose (O.faults output.old) (O.faults output.new) }
+    ensures told { RunsLog options now_ms.now messages.items result
+        (O.written output.old) (O.written output.new) }
+    ensures output_failed { result ≡ output_failed_status →
+        Rose (O.faults output.old) (O.faults output.new) }
     ensures status { result ≢ status_of Halt.InputFailed }
     ensures known { IsReplayStatus result }
 {
@@ -352,8 +364,10 @@ fn replay_text<O: Output>(
     output: &mut O,
 ) -> u8
     requires { length text ≤ input_limit }
-    ensures told { RunsReplaying options now_ms.now text result (O.written output.old) (O.written output.new) }
-    ensures output_failed { result ≡ output_failed_status → Rose (O.faults output.old) (O.faults output.new) }
+    ensures told { RunsReplaying options now_ms.now text result
+        (O.written output.old) (O.written output.new) }
+    ensures output_failed { result ≡ output_failed_status →
+        Rose (O.faults output.old) (O.faults output.new) }
     ensures status { result ≢ status_of Halt.InputFailed }
     ensures known { IsReplayStatus result }
 {
@@ -370,12 +384,17 @@ fn replay_lines<I: Input, O: Output>(
     input: &mut I,
     output: &mut O,
 ) -> u8
-    ensures told { (bytes : List ℕ) → I.left input.old ≡ Some bytes → RunsReplaying options now_ms.now bytes result (O.written output.old) (O.written output.new)
-        ⊎ FailsReading (I.faults input.old) (I.faults input.new) result (O.written output.old) (O.written output.new) }
-    ensures whole { (bytes : List ℕ) → I.left input.old ≡ Some bytes → length bytes ≤ input_limit → IsReplayAnswer result → I.left input.new ≡ Some [] }
+    ensures told { (bytes : List ℕ) → I.left input.old ≡ Some bytes →
+        RunsReplaying options now_ms.now bytes result (O.written output.old) (O.written output.new)
+        ⊎ FailsReading (I.faults input.old) (I.faults input.new) result
+        (O.written output.old) (O.written output.new) }
+    ensures whole { (bytes : List ℕ) → I.left input.old ≡ Some bytes → length bytes ≤ input_limit →
+        IsReplayAnswer result → I.left input.new ≡ Some [] }
     ensures known { IsReplayStatus result }
-    ensures input_failed { result ≡ status_of Halt.InputFailed → Rose (I.faults input.old) (I.faults input.new) }
-    ensures output_failed { result ≡ output_failed_status → Rose (O.faults output.old) (O.faults output.new) }
+    ensures input_failed { result ≡ status_of Halt.InputFailed →
+        Rose (I.faults input.old) (I.faults input.new) }
+    ensures output_failed { result ≡ output_failed_status →
+        Rose (O.faults output.old) (O.faults output.new) }
 {
     match read_input(alloc, input) {
         Ok(bytes) => replay_text(alloc, options, bytes, now_ms, output),
@@ -385,10 +404,14 @@ fn replay_lines<I: Input, O: Output>(
 
 // Writes the line of a line that isn't applied, and answers its status.
 fn say_fault<O: Output>(alloc: Global, at: &FaultAt, output: &mut O) -> u8
-    ensures told { at.now.fault ≢ LineFault.Memory → EndsAs (line_fault at.now) result (O.written output.old) (O.written output.new) }
-    ensures memory { at.now.fault ≡ LineFault.Memory → Says Halt.Memory result (O.written output.old) (O.written output.new) }
-    ensures output_failed { result ≡ output_failed_status → Rose (O.faults output.old) (O.faults output.new) }
-    ensures status { (result ≡ 13) ⊎ ((result ≡ output_failed_status) ⊎ (result ≡ status_of Halt.Memory)) }
+    ensures told { at.now.fault ≢ LineFault.Memory →
+        EndsAs (line_fault at.now) result (O.written output.old) (O.written output.new) }
+    ensures memory { at.now.fault ≡ LineFault.Memory →
+        Says Halt.Memory result (O.written output.old) (O.written output.new) }
+    ensures output_failed { result ≡ output_failed_status →
+        Rose (O.faults output.old) (O.faults output.new) }
+    ensures status { (result ≡ 13) ⊎
+        ((result ≡ output_failed_status) ⊎ (result ≡ status_of Halt.Memory)) }
 {
     if let LineFault::Memory = &at.fault {
         return say(alloc, Halt::Memory, output);
@@ -401,9 +424,13 @@ fn say_fault<O: Output>(alloc: Global, at: &FaultAt, output: &mut O) -> u8
 
 // Prints the rows that are held, and answers the status.
 fn print_rows<O: Output>(alloc: Global, held: &Consumer, output: &mut O) -> u8
-    ensures told { (taken : List Reading) → Took taken held.now → PrintedAs (consumer_of (placeholder_of held.now) taken) result (O.written output.old) (O.written output.new) }
-    ensures output_failed { result ≡ output_failed_status → Rose (O.faults output.old) (O.faults output.new) }
-    ensures status { (result ≡ 0) ⊎ ((result ≡ output_failed_status) ⊎ (result ≡ status_of Halt.Memory)) }
+    ensures told { (taken : List Reading) → Took taken held.now →
+        PrintedAs (consumer_of (placeholder_of held.now) taken) result
+        (O.written output.old) (O.written output.new) }
+    ensures output_failed { result ≡ output_failed_status →
+        Rose (O.faults output.old) (O.faults output.new) }
+    ensures status { (result ≡ 0) ⊎
+        ((result ≡ output_failed_status) ⊎ (result ≡ status_of Halt.Memory)) }
 {
     match held.print(output) {
         Ok(_) => 0,
@@ -415,8 +442,10 @@ fn print_rows<O: Output>(alloc: Global, held: &Consumer, output: &mut O) -> u8
 // Applies the lines of a text within the limit, and answers the status.
 fn apply_text<O: Output>(alloc: Global, placeholder: Text, text: &[u8], output: &mut O) -> u8
     requires { length text.now ≤ input_limit }
-    ensures told { RunsApplying placeholder text.now result (O.written output.old) (O.written output.new) }
-    ensures output_failed { result ≡ output_failed_status → Rose (O.faults output.old) (O.faults output.new) }
+    ensures told { RunsApplying placeholder text.now result
+        (O.written output.old) (O.written output.new) }
+    ensures output_failed { result ≡ output_failed_status →
+        Rose (O.faults output.old) (O.faults output.new) }
     ensures status { result ≢ status_of Halt.InputFailed }
     ensures known { IsApplyStatus result }
 {
@@ -432,12 +461,17 @@ fn apply_lines<I: Input, O: Output>(
     input: &mut I,
     output: &mut O,
 ) -> u8
-    ensures told { (bytes : List ℕ) → I.left input.old ≡ Some bytes → RunsApplying placeholder bytes result (O.written output.old) (O.written output.new)
-        ⊎ FailsReading (I.faults input.old) (I.faults input.new) result (O.written output.old) (O.written output.new) }
-    ensures whole { (bytes : List ℕ) → I.left input.old ≡ Some bytes → length bytes ≤ input_limit → (result ≡ 0) ⊎ (result ≡ 13) → I.left input.new ≡ Some [] }
+    ensures told { (bytes : List ℕ) → I.left input.old ≡ Some bytes →
+        RunsApplying placeholder bytes result (O.written output.old) (O.written output.new)
+        ⊎ FailsReading (I.faults input.old) (I.faults input.new) result
+        (O.written output.old) (O.written output.new) }
+    ensures whole { (bytes : List ℕ) → I.left input.old ≡ Some bytes → length bytes ≤ input_limit →
+        (result ≡ 0) ⊎ (result ≡ 13) → I.left input.new ≡ Some [] }
     ensures known { IsApplyStatus result }
-    ensures input_failed { result ≡ status_of Halt.InputFailed → Rose (I.faults input.old) (I.faults input.new) }
-    ensures output_failed { result ≡ output_failed_status → Rose (O.faults output.old) (O.faults output.new) }
+    ensures input_failed { result ≡ status_of Halt.InputFailed →
+        Rose (I.faults input.old) (I.faults input.new) }
+    ensures output_failed { result ≡ output_failed_status →
+        Rose (O.faults output.old) (O.faults output.new) }
 {
     match read_input(alloc, input) {
         Ok(bytes) => apply_text(alloc, placeholder, bytes.items().as_slice(), output),

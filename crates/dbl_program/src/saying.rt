@@ -16,7 +16,8 @@ pub(crate) const OUT_OF_MEMORY: &str = "dblog: out of memory\n";
 /// Writes the fault's line, and answers its status.
 pub fn say<O: Output>(alloc: Global, halt: Halt, output: &mut O) -> u8
     ensures says { Says halt result (O.written output.old) (O.written output.new) }
-    ensures output_failed { result ≡ output_failed_status → Rose (O.faults output.old) (O.faults output.new) }
+    ensures output_failed { result ≡ output_failed_status →
+        Rose (O.faults output.old) (O.faults output.new) }
     ensures later { O.faults output.old ≤ O.faults output.new }
 {
     match halt.text(alloc) {
@@ -29,7 +30,8 @@ pub fn say<O: Output>(alloc: Global, halt: Halt, output: &mut O) -> u8
 pub(crate) fn write_text<O: Output>(text: &str, status: u8, output: &mut O) -> u8
     requires { status ≢ output_failed_status }
     ensures writes { Writes status text.now result (O.written output.old) (O.written output.new) }
-    ensures output_failed { result ≡ output_failed_status → Rose (O.faults output.old) (O.faults output.new) }
+    ensures output_failed { result ≡ output_failed_status →
+        Rose (O.faults output.old) (O.faults output.new) }
     ensures later { O.faults output.old ≤ O.faults output.new }
 {
     match output.write(text.as_bytes()) {

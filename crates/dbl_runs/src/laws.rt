@@ -21,7 +21,8 @@ pub fn held_stores_are_read<T: Disk, F: Disk>()
     ensures { (log : OnDisk T) (store : StoreOn F) (groups : List (List Record))
         (offset : Option Offset) → HoldsGroups T.seen T.may_leave log groups →
         Holds F.seen F.may_leave store offset →
-        (t f : List ℕ) × (T.seen log.disk ≡ Some t) × (F.seen (disk_of store) ≡ Some f) × ReadAs t f (record { groups = groups; offset = offset }) }
+        (t f : List ℕ) × (T.seen log.disk ≡ Some t) × (F.seen (disk_of store) ≡ Some f) ×
+        ReadAs t f (record { groups = groups; offset = offset }) }
 {}
 
 /// Each command that only reads the stores has one answer at most, whatever their disks' bytes are.

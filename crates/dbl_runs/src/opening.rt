@@ -31,7 +31,8 @@ pub(crate) fn open_topics<D: Disk>(
         (λ refused. refused.error ≢ RunError.Failed Store.Topics →
         IsSynced D.seen D.may_leave disk refused.disk) }
     ensures keeps { MatchResult result (λ log. Keeps D.seen D.may_leave D.faults ⊥ disk log.disk)
-        (λ refused. Keeps D.seen D.may_leave D.faults (refused.error ≡ RunError.Failed Store.Topics) disk refused.disk) }
+        (λ refused. Keeps D.seen D.may_leave D.faults
+        (refused.error ≡ RunError.Failed Store.Topics) disk refused.disk) }
 {
     match TopicLog::open(alloc, disk) {
         Ok(log) => Ok(log),
@@ -59,7 +60,8 @@ pub(crate) fn open_offsets<D: Disk>(
         IsSynced D.seen D.may_leave disk refused.disk) }
     ensures keeps { MatchResult result
         (λ store. Keeps D.seen D.may_leave D.faults ⊥ disk (disk_of store))
-        (λ refused. Keeps D.seen D.may_leave D.faults (refused.error ≡ RunError.Failed Store.Offsets) disk refused.disk) }
+        (λ refused. Keeps D.seen D.may_leave D.faults
+        (refused.error ≡ RunError.Failed Store.Offsets) disk refused.disk) }
 {
     match OffsetStore::open(alloc, disk) {
         Ok(store) => Ok(store),

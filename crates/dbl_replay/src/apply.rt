@@ -71,9 +71,12 @@ impl FaultAt {
 }
 
 fn take_parsed(held: &mut Consumer, parsed: &ParsedLine) -> Result<(), LineFault>
-    ensures took { (taken : List Reading) → Took taken held.old → OnOk result (Took (taken ++ parsed_as parsed.now ∷ []) held.new) }
-    ensures good { OnOk result (fault_of (placeholder_of held.old) (Some (parsed_as parsed.now)) ≡ None) }
-    ensures bad { IfErr result (λ fault. fault ≢ LineFault.Memory → fault_of (placeholder_of held.old) (Some (parsed_as parsed.now)) ≡ Some fault) }
+    ensures took { (taken : List Reading) → Took taken held.old →
+        OnOk result (Took (taken ++ parsed_as parsed.now ∷ []) held.new) }
+    ensures good { OnOk result
+        (fault_of (placeholder_of held.old) (Some (parsed_as parsed.now)) ≡ None) }
+    ensures bad { IfErr result (λ fault. fault ≢ LineFault.Memory →
+        fault_of (placeholder_of held.old) (Some (parsed_as parsed.now)) ≡ Some fault) }
     ensures placeholder { placeholder_of held.new ≡ placeholder_of held.old }
 {
     match held.apply_values(parsed.topic(), parsed.key(), parsed.value()) {
@@ -84,9 +87,11 @@ fn take_parsed(held: &mut Consumer, parsed: &ParsedLine) -> Result<(), LineFault
 }
 
 fn take_line(alloc: Global, held: &mut Consumer, line: &[u8]) -> Result<(), LineFault>
-    ensures took { (taken : List Reading) → Took taken held.old → OnOk result (Took (taken ++ option_to_list (reading_of_line line.now)) held.new) }
+    ensures took { (taken : List Reading) → Took taken held.old →
+        OnOk result (Took (taken ++ option_to_list (reading_of_line line.now)) held.new) }
     ensures good { OnOk result (fault_in (placeholder_of held.old) line.now ≡ None) }
-    ensures bad { IfErr result (λ fault. fault ≢ LineFault.Memory → fault_in (placeholder_of held.old) line.now ≡ Some fault) }
+    ensures bad { IfErr result (λ fault. fault ≢ LineFault.Memory →
+        fault_in (placeholder_of held.old) line.now ≡ Some fault) }
     ensures placeholder { placeholder_of held.new ≡ placeholder_of held.old }
 {
     if line.is_empty() {
@@ -108,7 +113,8 @@ pub fn consume(alloc: Global, placeholder: Text, text: &[u8]) -> Result<Consumer
     ensures took { IfOk result (Took (readings_of (lines_of text.now))) }
     ensures placeholder { IfOk result (λ held. placeholder_of held ≡ placeholder) }
     ensures good { OnOk result (first_fault placeholder (lines_of text.now) ≡ None) }
-    ensures bad { IfErr result (λ at. at.fault ≢ LineFault.Memory → first_fault placeholder (lines_of text.now) ≡ Some at) }
+    ensures bad { IfErr result (λ at. at.fault ≢ LineFault.Memory →
+        first_fault placeholder (lines_of text.now) ≡ Some at) }
 {
     let mut held = match Consumer::make(alloc, placeholder) {
         Ok(held) => held,

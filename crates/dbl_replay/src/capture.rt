@@ -38,7 +38,8 @@ fn is_named(table: &TableName, schema: &str, name: &str) -> bool
 }
 
 fn is_captured(infos: &Vec<TableInfo>, schema: &str, name: &str) -> bool
-    ensures { result ≡ list_any (λ info. same_name info.name (record { schema = schema.now; name = name.now })) infos.now.items }
+    ensures { result ≡ list_any (λ info. same_name info.name
+        (record { schema = schema.now; name = name.now })) infos.now.items }
 {
     infos.iter().any(|info| is_named(&info.name, schema, name))
 }
@@ -52,7 +53,8 @@ fn is_watermark(schema: &str, name: &str) -> bool
 /// Whether a table of this name is still to be captured. Takes no memory.
 pub fn is_new(infos: &Vec<TableInfo>, schema: &str, name: &str) -> bool
     ensures { let table : TableName = record { schema = schema.now; name = name.now } in
-        result ≡ not (is_watermark table || list_any (λ info. same_name info.name table) infos.now.items) }
+        result ≡ not
+        (is_watermark table || list_any (λ info. same_name info.name table) infos.now.items) }
 {
     !(is_watermark(schema, name) || is_captured(infos, schema, name))
 }
@@ -88,7 +90,8 @@ fn key_names_of(
     name: &str,
     columns: &Vec<RelationColumn>,
 ) -> Result<Vec<Text>, AllocError>
-    ensures { IfOk result (λ names. names.items ≡ key_names_of keys.now.items (record { schema = schema.now; name = name.now }) columns.now.items) }
+    ensures { IfOk result (λ names. names.items ≡ key_names_of keys.now.items
+        (record { schema = schema.now; name = name.now }) columns.now.items) }
 {
     for key in keys {
         if is_named(&key.table, schema, name) {
@@ -106,7 +109,8 @@ pub fn entry_of(
     name: &str,
     columns: &Vec<RelationColumn>,
 ) -> Result<RawTable, AllocError>
-    ensures { IfOk result (λ raw. raw ≡ entry_of keys.now.items (record { schema = schema.now; name = name.now }) columns.now.items) }
+    ensures { IfOk result (λ raw. raw ≡ entry_of keys.now.items
+        (record { schema = schema.now; name = name.now }) columns.now.items) }
 {
     let mut raw_columns = Vec::with_capacity(alloc, columns.len())?;
     for column in columns {

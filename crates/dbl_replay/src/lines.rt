@@ -79,8 +79,10 @@ fn take_line(
     messages: &mut Vec<Bytes>,
 ) -> Result<(), LineError>
     ensures good { OnOk result (is_bad line.now ≡ false) }
-    ensures taken { OnOk result (messages.new.items ≡ messages.old.items ++ option_to_list (message_in line.now)) }
-    ensures bad { (n : ℕ) → result ≡ Err (LineError.BadLine n) → (n ≡ number) × (is_bad line.now ≡ true) }
+    ensures taken { OnOk result
+        (messages.new.items ≡ messages.old.items ++ option_to_list (message_in line.now)) }
+    ensures bad { (n : ℕ) → result ≡ Err (LineError.BadLine n) → (n ≡ number) ×
+        (is_bad line.now ≡ true) }
 {
     if passes_over(line) {
         return Ok(());
@@ -98,7 +100,8 @@ fn take_line(
 pub fn messages(alloc: Global, text: &[u8]) -> Result<Vec<Bytes>, LineError>
     ensures ok { IfOk result (λ found. found.items ≡ messages_in (lines_of text.now)) }
     ensures good { OnOk result (first_bad (lines_of text.now) ≡ None) }
-    ensures bad { (n : ℕ) → result ≡ Err (LineError.BadLine n) → first_bad (lines_of text.now) ≡ Some n }
+    ensures bad { (n : ℕ) → result ≡ Err (LineError.BadLine n) →
+        first_bad (lines_of text.now) ≡ Some n }
 {
     let mut found = Vec::new(alloc);
     let mut rest = text;

@@ -64,10 +64,13 @@ impl<T: Drop> From<AllocFailed<T>> for PrintError {
 
 // Writes what the buffer holds, and empties it.
 fn flush<O: Output>(output: &mut O, buffer: &mut Vec<u8>) -> Result<(), PrintError>
-    ensures wrote { OnOk result (Wrote (O.written output.old) (O.written output.new) buffer.old.items) }
+    ensures wrote { OnOk result
+        (Wrote (O.written output.old) (O.written output.new) buffer.old.items) }
     ensures emptied { OnOk result (buffer.new.items ≡ []) }
-    ensures front { IfErr result (λ error. (error ≡ PrintError.OutputFailed) × WroteFront (O.written output.old) (O.written output.new) buffer.old.items) }
-    ensures failed { result ≡ Err PrintError.OutputFailed → Rose (O.faults output.old) (O.faults output.new) }
+    ensures front { IfErr result (λ error. (error ≡ PrintError.OutputFailed) ×
+        WroteFront (O.written output.old) (O.written output.new) buffer.old.items) }
+    ensures failed { result ≡ Err PrintError.OutputFailed →
+        Rose (O.faults output.old) (O.faults output.new) }
     ensures later { O.faults output.old ≤ O.faults output.new }
 {
     match output.write(buffer.as_slice()) {
@@ -81,9 +84,12 @@ fn flush<O: Output>(output: &mut O, buffer: &mut Vec<u8>) -> Result<(), PrintErr
 
 // Writes what the buffer holds, if it holds anything.
 fn flush_rest<O: Output>(output: &mut O, buffer: &mut Vec<u8>) -> Result<(), PrintError>
-    ensures wrote { OnOk result (Wrote (O.written output.old) (O.written output.new) buffer.old.items) }
-    ensures front { IfErr result (λ error. (error ≡ PrintError.OutputFailed) × WroteFront (O.written output.old) (O.written output.new) buffer.old.items) }
-    ensures failed { result ≡ Err PrintError.OutputFailed → Rose (O.faults output.old) (O.faults output.new) }
+    ensures wrote { OnOk result
+        (Wrote (O.written output.old) (O.written output.new) buffer.old.items) }
+    ensures front { IfErr result (λ error. (error ≡ PrintError.OutputFailed) ×
+        WroteFront (O.written output.old) (O.written output.new) buffer.old.items) }
+    ensures failed { result ≡ Err PrintError.OutputFailed →
+        Rose (O.faults output.old) (O.faults output.new) }
     ensures later { O.faults output.old ≤ O.faults output.new }
 {
     if buffer.is_empty() {
@@ -98,8 +104,11 @@ fn put_line<O: Output>(
     output: &mut O,
     buffer: Vec<u8>,
 ) -> Result<Vec<u8>, PrintError>
-    ensures puts { PutsLine (λ filled. filled.items) (buffer.items ++ line_of event.now ++ 10 ∷ []) result (O.written output.old) (O.written output.new) }
-    ensures failed { result ≡ Err PrintError.OutputFailed → Rose (O.faults output.old) (O.faults output.new) }
+    ensures puts { PutsLine (λ filled. filled.items)
+        (buffer.items ++ line_of event.now ++ 10 ∷ []) result
+        (O.written output.old) (O.written output.new) }
+    ensures failed { result ≡ Err PrintError.OutputFailed →
+        Rose (O.faults output.old) (O.faults output.new) }
     ensures later { O.faults output.old ≤ O.faults output.new }
 {
     let mut filled = match append_line(buffer, event) {
@@ -120,8 +129,11 @@ fn put_records<O: Output>(
     output: &mut O,
     buffer: Vec<u8>,
 ) -> Result<Vec<u8>, PrintError>
-    ensures puts { PutsLines (λ filled. filled.items) (map line_of records.now.items) buffer.items result (O.written output.old) (O.written output.new) }
-    ensures failed { result ≡ Err PrintError.OutputFailed → Rose (O.faults output.old) (O.faults output.new) }
+    ensures puts { PutsLines (λ filled. filled.items)
+        (map line_of records.now.items) buffer.items result
+        (O.written output.old) (O.written output.new) }
+    ensures failed { result ≡ Err PrintError.OutputFailed →
+        Rose (O.faults output.old) (O.faults output.new) }
     ensures later { O.faults output.old ≤ O.faults output.new }
 {
     let mut filled = buffer;
@@ -141,8 +153,11 @@ fn put_left<O: Output>(
     output: &mut O,
     buffer: Vec<u8>,
 ) -> Result<Vec<u8>, PrintError>
-    ensures puts { PutsLines (λ filled. filled.items) (map line_of records.entry) buffer.items result (O.written output.old) (O.written output.new) }
-    ensures failed { result ≡ Err PrintError.OutputFailed → Rose (O.faults output.old) (O.faults output.new) }
+    ensures puts { PutsLines (λ filled. filled.items)
+        (map line_of records.entry) buffer.items result
+        (O.written output.old) (O.written output.new) }
+    ensures failed { result ≡ Err PrintError.OutputFailed →
+        Rose (O.faults output.old) (O.faults output.new) }
     ensures later { O.faults output.old ≤ O.faults output.new }
 {
     let mut left = records;
@@ -212,9 +227,12 @@ fn records_of<'a>(
     now_ms: &i64,
 ) -> Result<RecordsLeft<'a>, EnvelopeError>
     requires { All (Suits writer.now.infos) (changes_of commit.now) }
-    ensures ok { IfOk result (λ left. left ≡ envelopes writer.now.identity writer.now.infos commit.now now_ms.now) }
-    ensures no_clash { OnOk result (clash_of writer.now.identity writer.now.infos commit.now ≡ None) }
-    ensures err { IfErr result (IsClash (clash_of writer.now.identity writer.now.infos commit.now)) }
+    ensures ok { IfOk result
+        (λ left. left ≡ envelopes writer.now.identity writer.now.infos commit.now now_ms.now) }
+    ensures no_clash { OnOk result
+        (clash_of writer.now.identity writer.now.infos commit.now ≡ None) }
+    ensures err { IfErr result
+        (IsClash (clash_of writer.now.identity writer.now.infos commit.now)) }
 {
     writer.records_left(alloc, commit, *now_ms)
 }
@@ -229,8 +247,11 @@ fn put_commit<O: Output>(
     buffer: Vec<u8>,
 ) -> Result<Step, PrintError>
     requires { All (Suits writer.now.infos) (changes_of commit.now) }
-    ensures puts { PutsCommit (commit_fault writer.now.identity writer.now.infos commit.now) (map line_of (envelopes writer.now.identity writer.now.infos commit.now now_ms.now)) buffer.items result (O.written output.old) (O.written output.new) }
-    ensures failed { result ≡ Err PrintError.OutputFailed → Rose (O.faults output.old) (O.faults output.new) }
+    ensures puts { PutsCommit (commit_fault writer.now.identity writer.now.infos commit.now)
+        (map line_of (envelopes writer.now.identity writer.now.infos commit.now now_ms.now))
+        buffer.items result (O.written output.old) (O.written output.new) }
+    ensures failed { result ≡ Err PrintError.OutputFailed →
+        Rose (O.faults output.old) (O.faults output.new) }
     ensures later { O.faults output.old ≤ O.faults output.new }
 {
     let records = match records_of(alloc, writer, commit, now_ms) {
@@ -261,8 +282,12 @@ fn put_ended<O: Output>(
     buffer: Vec<u8>,
 ) -> Result<Step, PrintError>
     requires { IfSome ended.now (λ commit. All (Suits writer.now.infos) (changes_of commit)) }
-    ensures puts { PutsCommit (option_and_then (commit_fault writer.now.identity writer.now.infos) ended.now) (lines_in writer.now.identity writer.now.infos (list_of ended.now) now_ms.now) buffer.items result (O.written output.old) (O.written output.new) }
-    ensures failed { result ≡ Err PrintError.OutputFailed → Rose (O.faults output.old) (O.faults output.new) }
+    ensures puts { PutsCommit
+        (option_and_then (commit_fault writer.now.identity writer.now.infos) ended.now)
+        (lines_in writer.now.identity writer.now.infos (list_of ended.now) now_ms.now)
+        buffer.items result (O.written output.old) (O.written output.new) }
+    ensures failed { result ≡ Err PrintError.OutputFailed →
+        Rose (O.faults output.old) (O.faults output.new) }
     ensures later { O.faults output.old ≤ O.faults output.new }
 {
     match ended {
@@ -295,10 +320,12 @@ fn put_message<O: Output>(
     buffer: Vec<u8>,
 ) -> Result<Step, PrintError>
     requires { IsFollowing replayer.old number.now }
-    ensures steps { (options : ReplayOptions) (ms : List Message) → Follows options ms replayer.old → number.now ≡ length ms + 1
+    ensures steps { (options : ReplayOptions) (ms : List Message) →
+        Follows options ms replayer.old → number.now ≡ length ms + 1
         → Steps options now_ms.now ms bytes buffer.items replayer.new result
         (O.written output.old) (O.written output.new) }
-    ensures failed { result ≡ Err PrintError.OutputFailed → Rose (O.faults output.old) (O.faults output.new) }
+    ensures failed { result ≡ Err PrintError.OutputFailed →
+        Rose (O.faults output.old) (O.faults output.new) }
     ensures later { O.faults output.old ≤ O.faults output.new }
 {
     match take_bytes(alloc, replayer, number, bytes) {
@@ -369,7 +396,8 @@ fn put_log<O: Output>(
 // Puts the line of a log's fault, if there is one, and answers the status.
 fn put_end(alloc: Global, fault: &Option<LogFault>, filled: &mut Vec<u8>) -> Result<u8, PrintError>
     ensures status { IfOk result (λ status. status ≡ end_status fault.now) }
-    ensures line { OnOk result (filled.new.items ≡ filled.old.items ++ lines_text (end_lines fault.now)) }
+    ensures line { OnOk result
+        (filled.new.items ≡ filled.old.items ++ lines_text (end_lines fault.now)) }
     ensures err { IfErr result (λ e. e ≡ PrintError.Memory) }
 {
     match fault {
@@ -386,7 +414,8 @@ fn put_end(alloc: Global, fault: &Option<LogFault>, filled: &mut Vec<u8>) -> Res
 // Puts the line of a log's fault, if there is one, writes what isn't written yet, and answers the status.
 fn finish_log<O: Output>(alloc: Global, put: &mut LogPut, output: &mut O) -> Result<u8, PrintError>
     ensures ends { EndsLog put.old result (O.written output.old) (O.written output.new) }
-    ensures failed { result ≡ Err PrintError.OutputFailed → Rose (O.faults output.old) (O.faults output.new) }
+    ensures failed { result ≡ Err PrintError.OutputFailed →
+        Rose (O.faults output.old) (O.faults output.new) }
     ensures later { O.faults output.old ≤ O.faults output.new }
 {
     let status = match put_end(alloc, &put.fault, &mut put.filled) {
@@ -408,8 +437,10 @@ pub fn print_log<O: Output>(
     now_ms: &i64,
     output: &mut O,
 ) -> Result<u8, PrintError>
-    ensures prints { PrintsLog options now_ms.now messages.items result (O.written output.old) (O.written output.new) }
-    ensures failed { result ≡ Err PrintError.OutputFailed → Rose (O.faults output.old) (O.faults output.new) }
+    ensures prints { PrintsLog options now_ms.now messages.items result
+        (O.written output.old) (O.written output.new) }
+    ensures failed { result ≡ Err PrintError.OutputFailed →
+        Rose (O.faults output.old) (O.faults output.new) }
     ensures later { O.faults output.old ≤ O.faults output.new }
 {
     match put_log(alloc, options, messages, now_ms, output) {

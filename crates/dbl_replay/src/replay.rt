@@ -29,7 +29,8 @@ pub struct Replayer {
 }
 
 fn learn_in(writer: &mut EventWriter, alloc: Global, info: TableInfo) -> Result<(), LogFault>
-    ensures learnt { OnOk result (writer.new ≡ record writer.old { infos = writer.old.infos ++ info ∷ [] }) }
+    ensures learnt { OnOk result
+        (writer.new ≡ record writer.old { infos = writer.old.infos ++ info ∷ [] }) }
     ensures err { IfErr result (λ e. e ≡ LogFault.Memory) }
 {
     match writer.learn(alloc, info) {
@@ -71,14 +72,17 @@ impl Replayer {
 
     /// Whether a transaction is open. Takes no memory.
     pub fn inside(&self) -> bool
-        ensures { (options : ReplayOptions) (ms : List Message) → Follows options ms self.now → result ≡ is_some (begin_of ms) }
+        ensures { (options : ReplayOptions) (ms : List Message) → Follows options ms self.now →
+            result ≡ is_some (begin_of ms) }
     {
         self.assembler.inside()
     }
 
     // Captures one more table.
     fn add(&mut self, alloc: Global, info: TableInfo) -> Result<(), LogFault>
-        ensures added { (options : ReplayOptions) (infos : List TableInfo) (ms : List Message) → IsBehind options infos ms self.old → HasNoRelation info.name ms → OnOk result (IsBehind options (infos ++ info ∷ []) ms self.new) }
+        ensures added { (options : ReplayOptions) (infos : List TableInfo) (ms : List Message) →
+            IsBehind options infos ms self.old → HasNoRelation info.name ms →
+            OnOk result (IsBehind options (infos ++ info ∷ []) ms self.new) }
         ensures err { IfErr result (λ e. e ≡ LogFault.Memory) }
     {
         let copied = info.copy(alloc)?;
@@ -99,7 +103,9 @@ impl Replayer {
         name: &Text,
         columns: &Vec<RelationColumn>,
     ) -> Result<(), LogFault>
-        ensures { (options : ReplayOptions) (ms : List Message) (oid identity : ℕ) → Follows options ms self.old → Prepares options ms (says.Relation oid namespace.now name.now identity columns.now.items) self.new result }
+        ensures { (options : ReplayOptions) (ms : List Message) (oid identity : ℕ) →
+            Follows options ms self.old → Prepares options ms
+            (says.Relation oid namespace.now name.now identity columns.now.items) self.new result }
     {
         let schema = schema_of(namespace);
         let name = name.as_str();
@@ -114,7 +120,8 @@ impl Replayer {
     }
 
     fn prepare(&mut self, alloc: Global, message: &Message) -> Result<(), LogFault>
-        ensures { (options : ReplayOptions) (ms : List Message) → Follows options ms self.old → Prepares options ms message.now self.new result }
+        ensures { (options : ReplayOptions) (ms : List Message) → Follows options ms self.old →
+            Prepares options ms message.now self.new result }
     {
         match message {
             Message::Relation {
@@ -135,7 +142,9 @@ impl Replayer {
         number: &u64,
         message: Message,
     ) -> Result<Option<Commit>, LogFault>
-        ensures { (options : ReplayOptions) (infos : List TableInfo) (ms : List Message) → IsBehind options infos ms self.old → number.now ≡ length ms + 1 → Puts options infos ms message self.new result }
+        ensures { (options : ReplayOptions) (infos : List TableInfo) (ms : List Message) →
+            IsBehind options infos ms self.old → number.now ≡ length ms + 1 →
+            Puts options infos ms message self.new result }
     {
         match self.assembler.take(alloc, message) {
             Ok(ended) => Ok(ended),
@@ -154,7 +163,8 @@ impl Replayer {
         number: &u64,
         bytes: &[u8],
     ) -> Result<Option<Commit>, LogFault>
-        ensures { (options : ReplayOptions) (ms : List Message) → Follows options ms self.old → number.now ≡ length ms + 1 → Takes options ms bytes.now self.new result }
+        ensures { (options : ReplayOptions) (ms : List Message) → Follows options ms self.old →
+            number.now ≡ length ms + 1 → Takes options ms bytes.now self.new result }
     {
         let message = decoded(alloc, number, bytes)?;
         self.prepare(alloc, &message)?;

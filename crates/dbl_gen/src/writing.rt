@@ -24,7 +24,8 @@ fn session_of(group: u32) -> u32
 
 #[tactic(auto, unfolding(crate::specs::Workload::row_line))]
 fn write_row(text: &mut String, key: u32) -> Result<(), AllocError>
-    ensures { OnOk result (string_bytes text.new ≡ string_bytes text.old ++ lines_text (row_line key ∷ [])) }
+    ensures { OnOk result
+        (string_bytes text.new ≡ string_bytes text.old ++ lines_text (row_line key ∷ [])) }
 {
     writeln!(
         text,
@@ -33,7 +34,8 @@ fn write_row(text: &mut String, key: u32) -> Result<(), AllocError>
 }
 
 fn write_insert(text: &mut String, group: u32, key: u64) -> Result<(), AllocError>
-    ensures { OnOk result (string_bytes text.new ≡ string_bytes text.old ++ lines_text (insert_line group key ∷ [])) }
+    ensures { OnOk result
+        (string_bytes text.new ≡ string_bytes text.old ++ lines_text (insert_line group key ∷ [])) }
 {
     let session = session_of(group);
     writeln!(
@@ -43,7 +45,8 @@ fn write_insert(text: &mut String, group: u32, key: u64) -> Result<(), AllocErro
 }
 
 fn write_balance(text: &mut String, group: u32, key: u64, balance: u64) -> Result<(), AllocError>
-    ensures { OnOk result (string_bytes text.new ≡ string_bytes text.old ++ lines_text (balance_line group key balance ∷ [])) }
+    ensures { OnOk result (string_bytes text.new ≡ string_bytes text.old ++ lines_text
+        (balance_line group key balance ∷ [])) }
 {
     let session = session_of(group);
     writeln!(
@@ -53,14 +56,16 @@ fn write_balance(text: &mut String, group: u32, key: u64, balance: u64) -> Resul
 }
 
 fn write_delete(text: &mut String, group: u32, key: u64) -> Result<(), AllocError>
-    ensures { OnOk result (string_bytes text.new ≡ string_bytes text.old ++ lines_text (delete_line group key ∷ [])) }
+    ensures { OnOk result
+        (string_bytes text.new ≡ string_bytes text.old ++ lines_text (delete_line group key ∷ [])) }
 {
     let session = session_of(group);
     writeln!(text, "s{session} delete public.accounts id={key}")
 }
 
 fn write_note(text: &mut String, group: u32, key: u64) -> Result<(), AllocError>
-    ensures { OnOk result (string_bytes text.new ≡ string_bytes text.old ++ lines_text (note_line group key ∷ [])) }
+    ensures { OnOk result
+        (string_bytes text.new ≡ string_bytes text.old ++ lines_text (note_line group key ∷ [])) }
 {
     let session = session_of(group);
     writeln!(
@@ -76,7 +81,8 @@ fn write_change(
     group: u32,
 ) -> Result<(), AllocError>
     requires { rows ≤ 400_000 }
-    ensures line { OnOk result (string_bytes text.new ≡ string_bytes text.old ++ lines_text ((change rows group draws.old.state).0 ∷ [])) }
+    ensures line { OnOk result (string_bytes text.new ≡ string_bytes text.old ++ lines_text
+        ((change rows group draws.old.state).0 ∷ [])) }
     ensures state { OnOk result (draws.new.state ≡ (change rows group draws.old.state).1) }
 {
     let key = 1 + draws.draw() % (u64::from(rows) + 100);
@@ -99,7 +105,8 @@ fn write_change(
 }
 
 fn write_commit(text: &mut String, group: u32) -> Result<(), AllocError>
-    ensures { OnOk result (string_bytes text.new ≡ string_bytes text.old ++ lines_text (commit_line group ∷ [])) }
+    ensures { OnOk result
+        (string_bytes text.new ≡ string_bytes text.old ++ lines_text (commit_line group ∷ [])) }
 {
     let session = session_of(group);
     writeln!(text, "s{session} commit")
@@ -107,7 +114,8 @@ fn write_commit(text: &mut String, group: u32) -> Result<(), AllocError>
 
 // The transaction of the group before commits, where there is one.
 fn write_commit_before(text: &mut String, group: u32) -> Result<(), AllocError>
-    ensures { OnOk result (string_bytes text.new ≡ string_bytes text.old ++ lines_text (lines_before group)) }
+    ensures { OnOk result
+        (string_bytes text.new ≡ string_bytes text.old ++ lines_text (lines_before group)) }
 {
     if group <= 1 {
         return Ok(());
@@ -116,14 +124,16 @@ fn write_commit_before(text: &mut String, group: u32) -> Result<(), AllocError>
 }
 
 fn write_begin(text: &mut String, group: u32) -> Result<(), AllocError>
-    ensures { OnOk result (string_bytes text.new ≡ string_bytes text.old ++ lines_text (begin_line group ∷ [])) }
+    ensures { OnOk result
+        (string_bytes text.new ≡ string_bytes text.old ++ lines_text (begin_line group ∷ [])) }
 {
     let session = session_of(group);
     writeln!(text, "s{session} begin")
 }
 
 fn write_tick(text: &mut String) -> Result<(), AllocError>
-    ensures { OnOk result (string_bytes text.new ≡ string_bytes text.old ++ lines_text (tick_line ∷ [])) }
+    ensures { OnOk result
+        (string_bytes text.new ≡ string_bytes text.old ++ lines_text (tick_line ∷ [])) }
 {
     text.push_str("tick\n")
 }
@@ -135,7 +145,8 @@ fn write_group(
     group: u32,
 ) -> Result<(), AllocError>
     requires { rows ≤ 400_000 }
-    ensures lines { OnOk result (string_bytes text.new ≡ string_bytes text.old ++ lines_text (group_lines rows group draws.old.state).0) }
+    ensures lines { OnOk result (string_bytes text.new ≡ string_bytes text.old ++ lines_text
+        (group_lines rows group draws.old.state).0) }
     ensures state { OnOk result (draws.new.state ≡ (group_lines rows group draws.old.state).1) }
 {
     write_begin(text, group)?;
@@ -149,7 +160,8 @@ fn write_group(
 
 fn write_rows(text: &mut String, rows: u32) -> Result<(), AllocError>
     requires { rows ≤ 400_000 }
-    ensures { OnOk result (string_bytes text.new ≡ string_bytes text.old ++ lines_text (row_lines 1 rows)) }
+    ensures { OnOk result
+        (string_bytes text.new ≡ string_bytes text.old ++ lines_text (row_lines 1 rows)) }
 {
     'rows: for row in 0..rows {
         write_row(text, row + 1)?;
@@ -160,7 +172,8 @@ fn write_rows(text: &mut String, rows: u32) -> Result<(), AllocError>
 fn write_groups(text: &mut String, number: u64, rows: u32, groups: u32) -> Result<(), AllocError>
     requires rows { rows ≤ 400_000 }
     requires groups { groups ≤ 90_000 }
-    ensures { OnOk result (string_bytes text.new ≡ string_bytes text.old ++ lines_text (groups_from rows 1 groups number)) }
+    ensures { OnOk result (string_bytes text.new ≡ string_bytes text.old ++ lines_text
+        (groups_from rows 1 groups number)) }
 {
     let mut draws = Draws { state: number };
     'groups: for group in 0..groups {
@@ -170,7 +183,8 @@ fn write_groups(text: &mut String, number: u64, rows: u32, groups: u32) -> Resul
 }
 
 fn write_last(text: &mut String, groups: u32) -> Result<(), AllocError>
-    ensures { OnOk result (string_bytes text.new ≡ string_bytes text.old ++ lines_text (last_lines groups)) }
+    ensures { OnOk result
+        (string_bytes text.new ≡ string_bytes text.old ++ lines_text (last_lines groups)) }
 {
     if groups == 0 {
         return Ok(());

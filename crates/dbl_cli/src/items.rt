@@ -91,7 +91,8 @@ fn next_of(names: &[Name], waits: bool, word: &str) -> Next
 
 /// Where the flags and options that stand first end, if they are known.
 fn behind(names: &[Name], words: &[&str]) -> Option<usize>
-    ensures words { option_map (λ end. texts (drop end words.now)) result ≡ behind (all_named names.now) false (texts words.now) }
+    ensures words { option_map (λ end. texts (drop end words.now)) result ≡
+        behind (all_named names.now) false (texts words.now) }
     ensures within { IfSome result (λ end. end ≤ length words.now) }
 {
     let mut waits = false;

@@ -40,7 +40,8 @@ fn bare<'a>(alloc: Global) -> clap::Command<'a>
 }
 
 fn with_names<'a>(alloc: Global, names: &[Name]) -> Result<clap::Command<'a>, AllocError>
-    ensures { IfOk result (λ c. app_of c ≡ with_rules bare_app (given_rules (all_named names.now))) }
+    ensures { IfOk result
+        (λ c. app_of c ≡ with_rules bare_app (given_rules (all_named names.now))) }
 {
     let mut parser = bare(alloc);
     for name in names {

@@ -34,7 +34,8 @@ struct Pace {
 }
 
 fn naming(alloc: Global, found: &ArgMatches<'_>) -> Result<Names, CliError>
-    ensures { Reads (names_pass (option_in found.now (codes "prefix")) (option_in found.now (codes "db")) (option_in found.now (codes "placeholder")))
+    ensures { Reads (names_pass (option_in found.now (codes "prefix"))
+        (option_in found.now (codes "db")) (option_in found.now (codes "placeholder")))
         (record {
           prefix = name_or_demo (option_in found.now (codes "prefix"));
           db = name_or_demo (option_in found.now (codes "db"));
@@ -52,7 +53,8 @@ fn naming(alloc: Global, found: &ArgMatches<'_>) -> Result<Names, CliError>
 }
 
 fn pacing(found: &ArgMatches<'_>) -> Result<Pace, CliError>
-    ensures { Reads (pace_passes (option_in found.now (codes "chunk")) (option_in found.now (codes "every")) (option_in found.now (codes "messages")))
+    ensures { Reads (pace_passes (option_in found.now (codes "chunk"))
+        (option_in found.now (codes "every")) (option_in found.now (codes "messages")))
         (record {
           chunk = number_or 1000 (option_in found.now (codes "chunk"));
           every = number_or 100 (option_in found.now (codes "every"));
@@ -89,10 +91,14 @@ fn keys_in(alloc: Global, found: &ArgMatches<'_>) -> Result<Seq<TableKey>, CliEr
 
 fn capture(alloc: Global, found: &ArgMatches<'_>) -> Result<Command, CliError>
     ensures { Reads
-        (capture_passes (option_in found.now (codes "prefix")) (option_in found.now (codes "db")) (option_in found.now (codes "placeholder"))
-        (option_in found.now (codes "chunk")) (option_in found.now (codes "every")) (option_in found.now (codes "messages")) (places_in found.now))
-        (capture_of (option_in found.now (codes "prefix")) (option_in found.now (codes "db")) (option_in found.now (codes "placeholder"))
-        (option_in found.now (codes "chunk")) (option_in found.now (codes "every")) (option_in found.now (codes "messages")) (places_in found.now)) result }
+        (capture_passes (option_in found.now (codes "prefix")) (option_in found.now (codes "db"))
+        (option_in found.now (codes "placeholder"))
+        (option_in found.now (codes "chunk")) (option_in found.now (codes "every"))
+        (option_in found.now (codes "messages")) (places_in found.now))
+        (capture_of (option_in found.now (codes "prefix")) (option_in found.now (codes "db"))
+        (option_in found.now (codes "placeholder"))
+        (option_in found.now (codes "chunk")) (option_in found.now (codes "every"))
+        (option_in found.now (codes "messages")) (places_in found.now)) result }
 {
     let Names {
         prefix,
@@ -113,8 +119,10 @@ fn capture(alloc: Global, found: &ArgMatches<'_>) -> Result<Command, CliError>
 }
 
 fn resume(found: &ArgMatches<'_>) -> Result<Command, CliError>
-    ensures { Reads (pace_passes (option_in found.now (codes "chunk")) (option_in found.now (codes "every")) (option_in found.now (codes "messages")))
-        (resume_of (option_in found.now (codes "chunk")) (option_in found.now (codes "every")) (option_in found.now (codes "messages"))) result }
+    ensures { Reads (pace_passes (option_in found.now (codes "chunk"))
+        (option_in found.now (codes "every")) (option_in found.now (codes "messages")))
+        (resume_of (option_in found.now (codes "chunk")) (option_in found.now (codes "every"))
+        (option_in found.now (codes "messages"))) result }
 {
     let pacing = pacing(found)?;
     Ok(Command::Resume {
@@ -125,7 +133,8 @@ fn resume(found: &ArgMatches<'_>) -> Result<Command, CliError>
 }
 
 fn apply(alloc: Global, lines: bool, placeholder: Option<&str>) -> Result<Command, CliError>
-    ensures { Reads (apply_passes lines (option_copied placeholder.entry)) (apply_of lines (option_copied placeholder.entry)) result }
+    ensures { Reads (apply_passes lines (option_copied placeholder.entry))
+        (apply_of lines (option_copied placeholder.entry)) result }
 {
     if !lines && placeholder.is_some() {
         return Err(CliError::Usage);
@@ -136,8 +145,10 @@ fn apply(alloc: Global, lines: bool, placeholder: Option<&str>) -> Result<Comman
 
 fn replay(alloc: Global, found: &ArgMatches<'_>) -> Result<Command, CliError>
     ensures { Reads
-        (replay_passes (option_in found.now (codes "prefix")) (option_in found.now (codes "db")) (option_in found.now (codes "placeholder")) (places_in found.now))
-        (replay_of (option_in found.now (codes "prefix")) (option_in found.now (codes "db")) (option_in found.now (codes "placeholder")) (places_in found.now)) result }
+        (replay_passes (option_in found.now (codes "prefix")) (option_in found.now (codes "db"))
+        (option_in found.now (codes "placeholder")) (places_in found.now))
+        (replay_of (option_in found.now (codes "prefix")) (option_in found.now (codes "db"))
+        (option_in found.now (codes "placeholder")) (places_in found.now)) result }
 {
     let Names {
         prefix,
@@ -155,7 +166,8 @@ fn replay(alloc: Global, found: &ArgMatches<'_>) -> Result<Command, CliError>
 
 /// The number that the one word in capitals spells, if there is one.
 fn number_in(found: &ArgMatches<'_>) -> Result<u32, CliError>
-    ensures { Reads ((length (places_in found.now) == 1) && list_all (is_number 0 999999999) (places_in found.now)) (number_in (places_in found.now)) result }
+    ensures { Reads ((length (places_in found.now) == 1) && list_all (is_number 0 999999999)
+        (places_in found.now)) (number_in (places_in found.now)) result }
 {
     match found.get_strs(PLACE) {
         Some([word]) => number(word, 0, 999_999_999),
@@ -164,8 +176,10 @@ fn number_in(found: &ArgMatches<'_>) -> Result<u32, CliError>
 }
 
 fn generate(found: &ArgMatches<'_>, run: bool) -> Result<Command, CliError>
-    ensures { Reads ((length (places_in found.now) == 1) && gen_passes (places_in found.now) (option_in found.now (codes "rows")) (option_in found.now (codes "groups")))
-        (gen_of (places_in found.now) (option_in found.now (codes "rows")) (option_in found.now (codes "groups")) run) result }
+    ensures { Reads ((length (places_in found.now) == 1) && gen_passes (places_in found.now)
+        (option_in found.now (codes "rows")) (option_in found.now (codes "groups")))
+        (gen_of (places_in found.now) (option_in found.now (codes "rows"))
+        (option_in found.now (codes "groups")) run) result }
 {
     let number = number_in(found)?;
     let rows = number_or(found.get_str("rows"), 2500, 0, 400_000)?;
@@ -180,7 +194,9 @@ fn generate(found: &ArgMatches<'_>, run: bool) -> Result<Command, CliError>
 
 /// What was found, read as a command.
 pub fn read(alloc: Global, verb: Verb, found: &ArgMatches<'_>) -> Result<Command, CliError>
-    ensures { (settings : List Setting) (words : List (List ℕ)) → Finds verb found.now settings words → Reads (values_pass verb settings words) (command_of verb settings words) result }
+    ensures { (settings : List Setting) (words : List (List ℕ)) →
+        Finds verb found.now settings words →
+        Reads (values_pass verb settings words) (command_of verb settings words) result }
 {
     match verb {
         Verb::Init => Ok(Command::Init),

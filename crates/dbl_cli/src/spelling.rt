@@ -48,7 +48,8 @@ fn texts_of(alloc: Global, words: &[Text]) -> Result<Vec<&str>, AllocError>
 /// none. What it holds is within its limits.
 pub fn command(alloc: Global, words: &Vec<Text>) -> Result<Command, CliError>
     ensures spelled { IfOk result (λ command. Spells words.now.items command) }
-    ensures usage { result ≡ Err CliError.Usage → (command : _) → Spells words.now.items command → ⊥ }
+    ensures usage { result ≡ Err CliError.Usage →
+        (command : _) → Spells words.now.items command → ⊥ }
     ensures limits { IfOk result IsWithin }
 {
     let Some((first, rest)) = words.split_first() else {

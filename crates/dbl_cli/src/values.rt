@@ -48,7 +48,8 @@ pub fn number(text: &str, least: u32, most: u32) -> Result<u32, CliError>
 
 /// The number of an option, or its default.
 pub fn number_or(text: Option<&str>, default: u32, least: u32, most: u32) -> Result<u32, CliError>
-    ensures { Reads (passes (is_number least most) (option_copied text.entry)) (number_or default (option_copied text.entry)) result }
+    ensures { Reads (passes (is_number least most) (option_copied text.entry))
+        (number_or default (option_copied text.entry)) result }
 {
     match text {
         None => Ok(default),
@@ -86,7 +87,8 @@ fn name(alloc: Global, text: &str) -> Result<Text, CliError>
 
 /// The name that an option gives, or `demo`.
 pub fn name_or_demo(alloc: Global, text: Option<&str>) -> Result<Text, CliError>
-    ensures { Reads (passes is_name (option_copied text.entry)) (unwrap_or (option_copied text.entry) (codes "demo")) result }
+    ensures { Reads (passes is_name (option_copied text.entry))
+        (unwrap_or (option_copied text.entry) (codes "demo")) result }
 {
     match text {
         None => Ok(Text::of(alloc, "demo")?),
@@ -105,7 +107,8 @@ fn placeholder(alloc: Global, text: &str) -> Result<Text, CliError>
 
 /// The placeholder that an option gives, or Debezium's own.
 pub fn placeholder_or_own(alloc: Global, text: Option<&str>) -> Result<Text, CliError>
-    ensures { Reads (passes is_placeholder (option_copied text.entry)) (unwrap_or (option_copied text.entry) default_placeholder) result }
+    ensures { Reads (passes is_placeholder (option_copied text.entry))
+        (unwrap_or (option_copied text.entry) default_placeholder) result }
 {
     match text {
         None => Ok(Text::of(alloc, "__debezium_unavailable_value")?),
@@ -126,7 +129,8 @@ fn table(alloc: Global, word: &str) -> Result<TableName, CliError>
 }
 
 fn all_tables(alloc: Global, words: &[&str]) -> Result<Vec<TableName>, CliError>
-    ensures { ReadsBy (λ v. v.items) (list_all is_table (texts words.now)) (map table_in (texts words.now)) result }
+    ensures { ReadsBy (λ v. v.items) (list_all is_table (texts words.now))
+        (map table_in (texts words.now)) result }
 {
     let mut tables = Vec::new(alloc);
     for word in words {
@@ -177,7 +181,8 @@ fn parts(alloc: Global, text: &str) -> Result<Vec<&str>, AllocError>
 }
 
 fn all_columns(alloc: Global, words: &[&str]) -> Result<Vec<Text>, CliError>
-    ensures { ReadsBy (λ v. v.items) (list_all is_column (texts words.now)) (texts words.now) result }
+    ensures { ReadsBy (λ v. v.items) (list_all is_column (texts words.now))
+        (texts words.now) result }
 {
     let mut columns = Vec::new(alloc);
     for word in words {
@@ -206,7 +211,8 @@ fn key(alloc: Global, word: &str) -> Result<TableKey, CliError>
 }
 
 fn all_keys(alloc: Global, words: &[&str]) -> Result<Vec<TableKey>, CliError>
-    ensures { ReadsBy (λ v. v.items) (list_all is_key (texts words.now)) (map key_in (texts words.now)) result }
+    ensures { ReadsBy (λ v. v.items) (list_all is_key (texts words.now))
+        (map key_in (texts words.now)) result }
 {
     let mut keys = Vec::new(alloc);
     for word in words {

@@ -16,7 +16,8 @@ pub enum Verb {
 
 /// The command of this name.
 pub fn verb_of(word: &str) -> Option<Verb>
-    ensures { MatchOption result ((verb : _) → name_of verb ≡ word.now → ⊥) (λ verb. name_of verb ≡ word.now) }
+    ensures { MatchOption result ((verb : _) → name_of verb ≡ word.now → ⊥)
+        (λ verb. name_of verb ≡ word.now) }
 {
     if word == "init" {
         Some(Verb::Init)

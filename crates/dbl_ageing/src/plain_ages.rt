@@ -67,7 +67,8 @@ fn is_at_key(
     cells: &Seq<Val>,
     key: &Key,
 ) -> Result<bool, AllocError>
-    ensures { IfOk result (λ same. Decides same (key_at (key_places infos.now.items table) cells.now ≡ key.now)) }
+    ensures { IfOk result
+        (λ same. Decides same (key_at (key_places infos.now.items table) cells.now ≡ key.now)) }
 {
     let new_key = key_at(alloc, key_places(infos, table), cells)?;
     Ok(is_same(&new_key, key))
@@ -96,7 +97,8 @@ fn is_whole_update(
     cells: &Seq<Cell>,
     key: &Key,
 ) -> Result<bool, AllocError>
-    ensures { IfOk result (λ whole. Decides whole (IsWholeUpdate infos.now.items table from.now cells.now key.now)) }
+    ensures { IfOk result
+        (λ whole. Decides whole (IsWholeUpdate infos.now.items table from.now cells.now key.now)) }
 {
     let row = given_or_nulls(alloc, cells)?;
     let stays = is_at_key(alloc, infos, table, &row, key)?;
@@ -112,7 +114,8 @@ fn is_whole_here(
     change: &Change,
     key: &Key,
 ) -> Result<bool, AllocError>
-    ensures { IfOk result (λ whole. Decides whole (IsWholeHere infos.now.items change.now key.now)) }
+    ensures { IfOk result
+        (λ whole. Decides whole (IsWholeHere infos.now.items change.now key.now)) }
 {
     match change {
         Change::Insert { table, row } => is_at_key(alloc, infos, *table, &row.cells, key),
@@ -139,7 +142,8 @@ fn is_whole_for(
     table: u32,
     key: &Key,
 ) -> Result<bool, AllocError>
-    ensures { IfOk result (λ whole. Decides whole (IsWholeFor infos.now.items change.now table key.now)) }
+    ensures { IfOk result
+        (λ whole. Decides whole (IsWholeFor infos.now.items change.now table key.now)) }
 {
     let own = change.table();
     if own == table {
@@ -164,7 +168,8 @@ fn is_touched_in(
     table: u32,
     key: &Key,
 ) -> Result<bool, AllocError>
-    ensures { IfOk result (λ touched. Decides touched (IsTouched infos.now.items changes.now from to table key.now)) }
+    ensures { IfOk result
+        (λ touched. Decides touched (IsTouched infos.now.items changes.now from to table key.now)) }
 {
     for (i, change) in changes.items().iter().enumerate() {
         let whole = is_whole_for(alloc, infos, change, table, key)?;
@@ -184,7 +189,8 @@ fn is_touched_by(
     table: u32,
     key: &Key,
 ) -> Result<bool, AllocError>
-    ensures { IfOk result (λ touched. Decides touched (IsTouched infos.now.items (changes_of commit.now) from to table key.now)) }
+    ensures { IfOk result (λ touched. Decides touched
+        (IsTouched infos.now.items (changes_of commit.now) from to table key.now)) }
 {
     match &commit.body {
         Body::Changes(changes) => is_touched_in(alloc, infos, changes, from, to, table, key),
@@ -213,7 +219,8 @@ pub fn is_touched(
     table: u32,
     key: &Key,
 ) -> Result<bool, AllocError>
-    ensures { IfOk result (λ touched. Decides touched (IsTouched infos.now.items (all_changes commits.now.items) from to table key.now)) }
+    ensures { IfOk result (λ touched. Decides touched
+        (IsTouched infos.now.items (all_changes commits.now.items) from to table key.now)) }
 {
     let mut left_from = from;
     let mut left_to = to;
@@ -243,7 +250,8 @@ fn is_text(text: &Option<Text>, wanted: Option<&Text>) -> bool
 }
 
 fn is_so_at(text: &Option<Text>, moment: u64, from: u64, to: u64, wanted: Option<&Text>) -> bool
-    ensures { Decides result ((from ≤ moment) × (moment ≤ to) × (text.now ≡ option_copied wanted.entry)) }
+    ensures { Decides result ((from ≤ moment) × (moment ≤ to) ×
+        (text.now ≡ option_copied wanted.entry)) }
 {
     from <= moment && moment <= to && is_text(text, wanted)
 }
@@ -258,7 +266,8 @@ fn is_there_at(text: &Option<Text>, moment: u64, from: u64, to: u64) -> bool
 /// the definitions.
 pub fn occurs(life: &Vec<Option<Text>>, from: u64, to: u64, wanted: Option<&Text>) -> bool
     requires { to < length life.now.items }
-    ensures { Decides result (Occurs (life_of life.now.items) from to (option_copied wanted.entry)) }
+    ensures { Decides result
+        (Occurs (life_of life.now.items) from to (option_copied wanted.entry)) }
 {
     for (i, text) in life.iter().enumerate() {
         if is_so_at(text, i as u64, from, to, wanted) {
@@ -271,7 +280,8 @@ pub fn occurs(life: &Vec<Option<Text>>, from: u64, to: u64, wanted: Option<&Text
 // Whether it was there, with some text.
 fn was_there(life: &Vec<Option<Text>>, from: u64, to: u64) -> bool
     requires { to < length life.now.items }
-    ensures { Decides result ((text : List ℕ) × Occurs (life_of life.now.items) from to (Some text)) }
+    ensures { Decides result ((text : List ℕ) ×
+        Occurs (life_of life.now.items) from to (Some text)) }
 {
     for (i, text) in life.iter().enumerate() {
         if is_there_at(text, i as u64, from, to) {
@@ -294,7 +304,8 @@ fn was_lacked(known: bool, life: &Vec<Option<Text>>, from: u64, to: u64) -> bool
 
 fn may_be_unknown(known: bool, life: &Vec<Option<Text>>, from: u64, to: u64) -> bool
     requires { to < length life.now.items }
-    ensures { Decides result (IsAgedCell (IsTrue known) (life_of life.now.items) from to (Some Unknown)) }
+    ensures { Decides result
+        (IsAgedCell (IsTrue known) (life_of life.now.items) from to (Some Unknown)) }
 {
     if !was_there(life, from, to) {
         return false;
@@ -312,7 +323,8 @@ pub fn is_aged_cell(
     held: Option<&HeldCell>,
 ) -> bool
     requires { to < length life.now.items }
-    ensures { Decides result (IsAgedCell (IsTrue known) (life_of life.now.items) from to (option_copied held.entry)) }
+    ensures { Decides result
+        (IsAgedCell (IsTrue known) (life_of life.now.items) from to (option_copied held.entry)) }
 {
     match held {
         Some(HeldCell::Known(text)) => occurs(life, from, to, Some(text)),

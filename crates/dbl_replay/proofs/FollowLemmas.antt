@@ -29,7 +29,7 @@ use Rattle.dbl_replay.specs.declared.printing.PrintError.TheVariants.{Memory}
 use Rattle.dbl_replay.specs.declared.replay.Replayer.{Replayer}
 use Rattle.dbl_replay.specs.Captures.{entry_of, capture_fault, tables_in, told_fault}
 use Rattle.dbl_replay.specs.Log.{log_start, lines_in, commit_fault, IsRead, read_fault, IsLogFault, no_message, no_table, no_place, IsTaken, end_fault, LogWrites}
-use Rattle.dbl_replay.specs.Following.{IsBehind, Follows, ReadFails, IsReady, IsPut, Puts, IsNext, Takes}
+use Rattle.dbl_replay.specs.Following.{IsBehind, Follows, ReadFails, IsReady, IsAppended, Appends, IsNext, Takes}
 use Rattle.dbl_replay.specs.Printing as printing
 use Rattle.dbl_replay.specs.Printing.{LinesFail}
 use Rattle.dbl_replay.specs.LogPrinting.{IsHalted, starved, cut, PutsCommit, IsStepped, StepFails, step_starved, step_cut, Steps, IsLogPut}
@@ -126,7 +126,7 @@ ended_fault : (options : ReplayOptions) (ms : List Message) (m : Message) (infos
 ended_fault options ms m infos o clean is =
     ap₂ (λ (t : Option TxnError) (c : Option Commit). option_or (option_map (log.Transaction (length ms + 1)) t) (option_and_then (commit_fault options.identity infos) c)) clean (sym is)
 
-pub taken_next : (options : ReplayOptions) (ms : List Message) (bytes : List ℕ) (m : Message) (r s : Replayer) (o : Option Commit) (ready : IsReady options ms m r) → Spells bytes m → IsPut options ready.infos ms m s o
+pub taken_next : (options : ReplayOptions) (ms : List Message) (bytes : List ℕ) (m : Message) (r s : Replayer) (o : Option Commit) (ready : IsReady options ms m r) → Spells bytes m → IsAppended options ready.infos ms m s o
     → AllByRecursion FitsFields ms → IsNext options ms bytes s o
 taken_next options ms bytes m r s o ready spells put fields = record {
   m = m;
@@ -139,7 +139,7 @@ taken_next options ms bytes m r s o ready spells put fields = record {
 }
 
 pub put_takes : (options : ReplayOptions) (ms : List Message) (bytes : List ℕ) (m : Message) (r s : Replayer) (result : Result (Option Commit) LogFault) (ready : IsReady options ms m r) → Spells bytes m → AllByRecursion FitsFields ms
-    → Puts options ready.infos ms m s result → Takes options ms bytes s result
+    → Appends options ready.infos ms m s result → Takes options ms bytes s result
 put_takes options ms bytes m r s (Ok o) ready spells fields put = taken_next options ms bytes m r s o ready spells put fields
 put_takes options ms bytes m r s (Err fault) ready spells fields put = put_fails options ms bytes m r fault ready spells put
 

@@ -9,7 +9,7 @@ use Rattle.dbl_replay.specs.declared.printing.PrintError.{PrintError}
 use Rattle.dbl_replay.specs.declared.printing.PrintError.TheVariants as print_error
 use Rattle.dbl_replay.specs.Log.{LogWrites, end_status, end_lines}
 use Rattle.dbl_replay.specs.Printing.{LinesFail}
-use Rattle.dbl_replay.specs.LogPrinting.{IsLogPut, IsLogPrinted, LogFails, PrintsLog, EndsLog}
+use Rattle.dbl_replay.specs.LogPrinting.{IsLogPut, IsLogPrinted, LogFails, PrintsLog, FinishesLog}
 use Rattle.dbl_consume.specs.Printing.{Wrote, WroteFront}
 use Rattle.dbl_consume.proofs.PrintingLemmas.{front_more}
 use Rattle.dbl_replay.proofs.LogLemmas.{log_one}
@@ -55,7 +55,7 @@ cuts_log options now bs gathered later put before between after none is text fro
     subst (WroteFront before after) (ap₂ (λ (l : List (List ℕ)) (e : Option LogFault). lines_text (l ++ end_lines e)) same.lines same.end) cut
 
 pub ended_log : (options : ReplayOptions) (now : ℤ) (bs : List (List ℕ)) (gathered : List ℕ) (put : LogPut) (result : Result ℕ PrintError) (before between after : Option (List ℕ)) → gathered ≡ [] → IsLogPut options now bs gathered put before between
-    → EndsLog put result between after → PrintsLog options now bs result before after
+    → FinishesLog put result between after → PrintsLog options now bs result before after
 ended_log options now bs gathered put (Ok status) before between after none is ends =
     prints_log options now bs gathered (put.filled.items ++ lines_text (end_lines put.fault)) put status before between after none is refl ends.0 ends.1
 ended_log options now bs gathered put (Err print_error.OutputFailed) before between after none is ends =

@@ -53,14 +53,14 @@ Prepares options ms m r (Ok x) = IsReady options ms m r
 Prepares options ms m r (Err e) = (e ≡ log.Memory) ⊎ (told_fault options.keys (tables_in options.keys ms) m ≡ Some e)
 
 -- the next message was taken, and ends this commit
-pub record IsPut (options : ReplayOptions) (infos : List TableInfo) (ms : List Message) (m : Message) (r : Replayer) (o : Option Commit) : Type 0 where
+pub record IsAppended (options : ReplayOptions) (infos : List TableInfo) (ms : List Message) (m : Message) (r : Replayer) (o : Option Commit) : Type 0 where
   pub clean : transaction_fault infos log_start m ms ≡ None
   pub commit : o ≡ ended infos m ms
   pub behind : IsBehind options infos (m ∷ ms) r
 
-abbrev pub Puts : ReplayOptions → List TableInfo → List Message → Message → Replayer → Result (Option Commit) LogFault → Type 0
-Puts options infos ms m r (Ok o) = IsPut options infos ms m r o
-Puts options infos ms m r (Err e) = (e ≡ log.Memory) ⊎ (option_map (log.Transaction (length ms + 1)) (transaction_fault infos log_start m ms) ≡ Some e)
+abbrev pub Appends : ReplayOptions → List TableInfo → List Message → Message → Replayer → Result (Option Commit) LogFault → Type 0
+Appends options infos ms m r (Ok o) = IsAppended options infos ms m r o
+Appends options infos ms m r (Err e) = (e ≡ log.Memory) ⊎ (option_map (log.Transaction (length ms + 1)) (transaction_fault infos log_start m ms) ≡ Some e)
 
 -- bytes were taken that spell a message which may stand where it stands, and end this commit
 pub record IsNext (options : ReplayOptions) (ms : List Message) (bytes : List ℕ) (r : Replayer) (o : Option Commit) : Type 0 where

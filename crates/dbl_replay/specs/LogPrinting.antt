@@ -88,6 +88,6 @@ abbrev pub EndFails : LogPut → PrintError → Option (List ℕ) → Option (Li
 EndFails put OutputFailed before after = WroteFront before after (put.filled.items ++ lines_text (end_lines put.fault))
 EndFails put Memory before after = after ≡ before
 
-abbrev pub EndsLog : LogPut → Result ℕ PrintError → Option (List ℕ) → Option (List ℕ) → Type 0
-EndsLog put (Ok status) before after = (status ≡ end_status put.fault) × Wrote before after (put.filled.items ++ lines_text (end_lines put.fault))
-EndsLog put (Err error) before after = EndFails put error before after
+abbrev pub FinishesLog : LogPut → Result ℕ PrintError → Option (List ℕ) → Option (List ℕ) → Type 0
+FinishesLog put (Ok status) before after = (status ≡ end_status put.fault) × Wrote before after (put.filled.items ++ lines_text (end_lines put.fault))
+FinishesLog put (Err error) before after = EndFails put error before after

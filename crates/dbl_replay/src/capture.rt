@@ -72,7 +72,7 @@ fn flagged_names(alloc: Global, columns: &Vec<RelationColumn>) -> Result<Vec<Tex
     Ok(names)
 }
 
-fn copied(alloc: Global, names: &Vec<Text>) -> Result<Vec<Text>, AllocError>
+fn copy_texts(alloc: Global, names: &Vec<Text>) -> Result<Vec<Text>, AllocError>
     ensures { IfOk result (λ copies. copies.items ≡ names.now.items) }
 {
     let mut copies = Vec::with_capacity(alloc, names.len())?;
@@ -95,7 +95,7 @@ fn key_names_of(
 {
     for key in keys {
         if is_named(&key.table, schema, name) {
-            return copied(alloc, key.columns.items());
+            return copy_texts(alloc, key.columns.items());
         }
     }
     flagged_names(alloc, columns)
@@ -130,7 +130,7 @@ pub fn entry_of(
     })
 }
 
-fn made(alloc: Global, raw: &RawTable) -> Result<TableInfo, LogFault>
+fn make_info(alloc: Global, raw: &RawTable) -> Result<TableInfo, LogFault>
     ensures info { IfOk result (IsInfoOf raw.now) }
     ensures fault { Judges (option_map LogFault.Table (table_fault raw.now)) result }
 {
@@ -142,11 +142,11 @@ fn made(alloc: Global, raw: &RawTable) -> Result<TableInfo, LogFault>
 }
 
 /// What is captured of a table, beside so many others.
-pub fn captured(alloc: Global, count: usize, raw: &RawTable) -> Result<TableInfo, LogFault>
+pub fn capture_table(alloc: Global, count: usize, raw: &RawTable) -> Result<TableInfo, LogFault>
     ensures info { IfOk result (IsInfoOf raw.now) }
     ensures fault { Judges (capture_fault count raw.now) result }
 {
-    let info = made(alloc, raw)?;
+    let info = make_info(alloc, raw)?;
     if count >= TABLE_LIMIT {
         return Err(LogFault::TooManyTables);
     }

@@ -43,7 +43,7 @@ impl<T: Drop> From<AllocFailed<T>> for LineError {
     }
 }
 
-fn decoded(alloc: Global, digits: &[u8]) -> Result<Option<Bytes>, AllocError>
+fn decode_digits(alloc: Global, digits: &[u8]) -> Result<Option<Bytes>, AllocError>
     ensures { IfOk result (λ found. found ≡ result_ok (decode_of digits.now)) }
 {
     match hex::decode(alloc, digits) {
@@ -63,10 +63,10 @@ fn bytes_of(alloc: Global, line: &[u8]) -> Result<Option<Bytes>, AllocError>
     ensures { IfOk result (λ found. found ≡ bytes_in line.now) }
 {
     match memchr(b' ', line) {
-        None => decoded(alloc, line),
+        None => decode_digits(alloc, line),
         Some(_) => {
             let digits = without_spaces(alloc, line)?;
-            decoded(alloc, digits.as_slice())
+            decode_digits(alloc, digits.as_slice())
         }
     }
 }

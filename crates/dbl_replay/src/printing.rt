@@ -14,7 +14,7 @@ ghost use Rattle.dbl_replay.specs.Following.{Follows, IsFollowing, Takes};
 ghost use Rattle.dbl_replay.specs.Log.{lines_in, commit_fault, end_fault, end_status, end_lines};
 ghost use Rattle.dbl_consume.specs.Printing.{Wrote, WroteFront};
 ghost use Rattle.dbl_replay.specs.Printing.{PutsLine, PutsLines};
-ghost use Rattle.dbl_replay.specs.LogPrinting.{PutsCommit, Steps, PutsLog, PrintsLog, EndsLog};
+ghost use Rattle.dbl_replay.specs.LogPrinting.{PutsCommit, Steps, PutsLog, PrintsLog, FinishesLog};
 
 use crate::log_fault::LogFault;
 use crate::options::ReplayOptions;
@@ -193,7 +193,7 @@ enum Step {
     Stopped { put: LogPut },
 }
 
-fn unfinished(inside: bool) -> Option<LogFault>
+fn unfinished_fault(inside: bool) -> Option<LogFault>
     ensures { result ≡ end_fault inside }
 {
     if inside {
@@ -368,7 +368,7 @@ fn put_messages<O: Output>(
     }
     Ok(LogPut {
         filled,
-        fault: unfinished(replayer.inside()),
+        fault: unfinished_fault(replayer.inside()),
     })
 }
 
@@ -413,7 +413,7 @@ fn put_end(alloc: Global, fault: &Option<LogFault>, filled: &mut Vec<u8>) -> Res
 
 // Puts the line of a log's fault, if there is one, writes what isn't written yet, and answers the status.
 fn finish_log<O: Output>(alloc: Global, put: &mut LogPut, output: &mut O) -> Result<u8, PrintError>
-    ensures ends { EndsLog put.old result (O.written output.old) (O.written output.new) }
+    ensures ends { FinishesLog put.old result (O.written output.old) (O.written output.new) }
     ensures failed { result ≡ Err PrintError.OutputFailed →
         Rose (O.faults output.old) (O.faults output.new) }
     ensures later { O.faults output.old ≤ O.faults output.new }

@@ -7,9 +7,9 @@ ghost use Rattle.dbl_pgmsg.specs.Grammar.{Spells};
 ghost use Rattle.dbl_table.specs.declared.table.TableInfo.{TableInfo};
 ghost use Rattle.dbl_commit.specs.Past.{begin_of, HasNoRelation};
 ghost use Rattle.dbl_replay.specs.declared.options.ReplayOptions.{ReplayOptions};
-ghost use Rattle.dbl_replay.specs.Following.{IsBehind, Follows, ReadFails, Prepares, Puts, Takes};
+ghost use Rattle.dbl_replay.specs.Following.{IsBehind, Follows, ReadFails, Prepares, Appends, Takes};
 
-use crate::capture::{captured, entry_of, is_new, schema_of};
+use crate::capture::{capture_table, entry_of, is_new, schema_of};
 use crate::log_fault::LogFault;
 use crate::options::ReplayOptions;
 use dbl_base::{Lsn, Seq, Text};
@@ -39,7 +39,7 @@ fn learn_in(writer: &mut EventWriter, alloc: Global, info: TableInfo) -> Result<
     }
 }
 
-fn decoded(alloc: Global, number: &u64, bytes: &[u8]) -> Result<Message, LogFault>
+fn decode_message(alloc: Global, number: &u64, bytes: &[u8]) -> Result<Message, LogFault>
     ensures spelled { IfOk result (Spells bytes.now) }
     ensures refused { IfErr result (ReadFails number.now bytes.now) }
 {
@@ -114,7 +114,7 @@ impl Replayer {
             return Ok(());
         }
         let entry = entry_of(alloc, self.keys.items(), schema, name, columns)?;
-        let info = captured(alloc, infos.len(), &entry)?;
+        let info = capture_table(alloc, infos.len(), &entry)?;
         self.add(alloc, info)?;
         Ok(())
     }
@@ -135,8 +135,8 @@ impl Replayer {
         }
     }
 
-    // Puts a message that was prepared for behind the others, and answers the commit that it ends.
-    fn put(
+    // Appends a message that was prepared for to those that were taken, and answers the commit that it ends.
+    fn append(
         &mut self,
         alloc: Global,
         number: &u64,
@@ -144,7 +144,7 @@ impl Replayer {
     ) -> Result<Option<Commit>, LogFault>
         ensures { (options : ReplayOptions) (infos : List TableInfo) (ms : List Message) →
             IsBehind options infos ms self.old → number.now ≡ length ms + 1 →
-            Puts options infos ms message self.new result }
+            Appends options infos ms message self.new result }
     {
         match self.assembler.take(alloc, message) {
             Ok(ended) => Ok(ended),
@@ -166,8 +166,8 @@ impl Replayer {
         ensures { (options : ReplayOptions) (ms : List Message) → Follows options ms self.old →
             number.now ≡ length ms + 1 → Takes options ms bytes.now self.new result }
     {
-        let message = decoded(alloc, number, bytes)?;
+        let message = decode_message(alloc, number, bytes)?;
         self.prepare(alloc, &message)?;
-        self.put(alloc, number, message)
+        self.append(alloc, number, message)
     }
 }

@@ -1,7 +1,7 @@
 use Rattle.std.proofs.Common.{◌∙◌, inr, arith}
 use Rattle.std.proofs.lemmas.Result.{err_from_is_err_and}
 use Rattle.dbl_replay.proofs.CaptureLemmas.{entry_fails, entry_fits, room_full, room_left}
-use Rattle.dbl_replay.proofs.capture.captured.Goals as goal
+use Rattle.dbl_replay.proofs.capture.capture_table.Goals as goal
 
 pub returns-in_err-info-clause-fault : goal.returns-in_err-info-clause-fault
 returns-in_err-info-clause-fault c =

@@ -257,7 +257,7 @@ fn print_workload<O: Output>(
     requires groups { groups ≤ 90_000 }
     ensures ends { EndsAs (made number rows groups) result
         (O.written output.old) (O.written output.new) }
-    ensures status { result ≢ status_of Halt.InputFailed }
+    ensures not_input { result ≢ status_of Halt.InputFailed }
     ensures output_failed { result ≡ output_failed_status →
         Rose (O.faults output.old) (O.faults output.new) }
 {
@@ -275,7 +275,7 @@ fn say_not_built<O: Output, W, T, F>(
     offsets: F,
 ) -> Finished<W, T, F>
     ensures ends { EndsAs not_built result.status (O.written output.old) (O.written output.new) }
-    ensures status { result.status ≢ status_of Halt.InputFailed }
+    ensures not_input { result.status ≢ status_of Halt.InputFailed }
     ensures output_failed { result.status ≡ output_failed_status →
         Rose (O.faults output.old) (O.faults output.new) }
     ensures wal_stays { result.wal ≡ wal }
@@ -345,7 +345,7 @@ fn replay_messages<O: Output>(
         (O.written output.old) (O.written output.new) }
     ensures output_failed { result ≡ output_failed_status →
         Rose (O.faults output.old) (O.faults output.new) }
-    ensures status { result ≢ status_of Halt.InputFailed }
+    ensures not_input { result ≢ status_of Halt.InputFailed }
     ensures known { IsReplayStatus result }
 {
     match print_log(alloc, options, messages, now_ms, output) {
@@ -368,7 +368,7 @@ fn replay_text<O: Output>(
         (O.written output.old) (O.written output.new) }
     ensures output_failed { result ≡ output_failed_status →
         Rose (O.faults output.old) (O.faults output.new) }
-    ensures status { result ≢ status_of Halt.InputFailed }
+    ensures not_input { result ≢ status_of Halt.InputFailed }
     ensures known { IsReplayStatus result }
 {
     match messages_of(alloc, text) {
@@ -410,7 +410,7 @@ fn say_fault<O: Output>(alloc: Global, at: &FaultAt, output: &mut O) -> u8
         Says Halt.Memory result (O.written output.old) (O.written output.new) }
     ensures output_failed { result ≡ output_failed_status →
         Rose (O.faults output.old) (O.faults output.new) }
-    ensures status { (result ≡ 13) ⊎
+    ensures known { (result ≡ 13) ⊎
         ((result ≡ output_failed_status) ⊎ (result ≡ status_of Halt.Memory)) }
 {
     if let LineFault::Memory = &at.fault {
@@ -429,7 +429,7 @@ fn print_rows<O: Output>(alloc: Global, held: &Consumer, output: &mut O) -> u8
         (O.written output.old) (O.written output.new) }
     ensures output_failed { result ≡ output_failed_status →
         Rose (O.faults output.old) (O.faults output.new) }
-    ensures status { (result ≡ 0) ⊎
+    ensures known { (result ≡ 0) ⊎
         ((result ≡ output_failed_status) ⊎ (result ≡ status_of Halt.Memory)) }
 {
     match held.print(output) {
@@ -446,7 +446,7 @@ fn apply_text<O: Output>(alloc: Global, placeholder: Text, text: &[u8], output: 
         (O.written output.old) (O.written output.new) }
     ensures output_failed { result ≡ output_failed_status →
         Rose (O.faults output.old) (O.faults output.new) }
-    ensures status { result ≢ status_of Halt.InputFailed }
+    ensures not_input { result ≢ status_of Halt.InputFailed }
     ensures known { IsApplyStatus result }
 {
     match consume(alloc, placeholder, text) {

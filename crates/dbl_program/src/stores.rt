@@ -36,7 +36,7 @@ pub(crate) fn run_topics<O: Output, W, T: Disk, F>(
         topics_status result.status topics result.topics }
     ensures wal_stays { result.wal ≡ wal }
     ensures offsets_stay { result.offsets ≡ offsets }
-    ensures status { result.status ≢ status_of Halt.InputFailed }
+    ensures not_input { result.status ≢ status_of Halt.InputFailed }
     ensures output_failed { result.status ≡ output_failed_status →
         Rose (O.faults output.old) (O.faults output.new) }
 {
@@ -69,7 +69,7 @@ pub(crate) fn run_offsets<O: Output, W, T, F: Disk>(
         offsets_status result.status offsets result.offsets }
     ensures wal_stays { result.wal ≡ wal }
     ensures topics_stay { result.topics ≡ topics }
-    ensures status { result.status ≢ status_of Halt.InputFailed }
+    ensures not_input { result.status ≢ status_of Halt.InputFailed }
     ensures output_failed { result.status ≡ output_failed_status →
         Rose (O.faults output.old) (O.faults output.new) }
 {
@@ -109,7 +109,7 @@ pub(crate) fn run_apply<O: Output, W, T: Disk, F: Disk>(
     ensures unopened { (t : List ℕ) → T.seen topics ≡ Some t →
         ((groups : List (List Record)) → ¬ IsLog t groups) → result.offsets ≡ offsets }
     ensures wal_stays { result.wal ≡ wal }
-    ensures status { result.status ≢ status_of Halt.InputFailed }
+    ensures not_input { result.status ≢ status_of Halt.InputFailed }
     ensures output_failed { result.status ≡ output_failed_status →
         Rose (O.faults output.old) (O.faults output.new) }
 {

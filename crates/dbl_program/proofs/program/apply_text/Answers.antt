@@ -9,7 +9,7 @@ pub returns-in-Err-clause-told : goal.returns-in-Err-clause-told
 returns-in-Err-clause-told g c = fault_applies c.args.placeholder c.args.text.now c.in-Err.at c.say_fault.result _ _ c.requires c.in-Err.ensures.bad c.say_fault.ensures.told c.say_fault.ensures.memory
 
 pub returns-in-Ok-clause-known : goal.returns-in-Ok-clause-known
-returns-in-Ok-clause-known g c = rows_known _ c.print_rows.ensures.status
+returns-in-Ok-clause-known g c = rows_known _ c.print_rows.ensures.known
 
 pub returns-in-Err-clause-known : goal.returns-in-Err-clause-known
-returns-in-Err-clause-known g c = fault_known _ c.say_fault.ensures.status
+returns-in-Err-clause-known g c = fault_known _ c.say_fault.ensures.known

@@ -8,8 +8,8 @@ returns-in-Ok-clause-told g c = printed_runs c.args.options c.args.now_ms.now c.
 pub returns-in-Ok-clause-output_failed : goal.returns-in-Ok-clause-output_failed
 returns-in-Ok-clause-output_failed g c = λ is. absurd (printed_no_output c.args.options c.args.now_ms.now c.args.messages.items c.in-Ok.status _ _ c.in-Ok.ensures.prints is)
 
-pub returns-in-Ok-clause-status : goal.returns-in-Ok-clause-status
-returns-in-Ok-clause-status g c = printed_no_input c.args.options c.args.now_ms.now c.args.messages.items c.in-Ok.status _ _ c.in-Ok.ensures.prints
+pub returns-in-Ok-clause-not_input : goal.returns-in-Ok-clause-not_input
+returns-in-Ok-clause-not_input g c = printed_no_input c.args.options c.args.now_ms.now c.args.messages.items c.in-Ok.status _ _ c.in-Ok.ensures.prints
 
 pub returns-in-Ok-clause-known : goal.returns-in-Ok-clause-known
 returns-in-Ok-clause-known g c = printed_known c.args.options c.args.now_ms.now c.args.messages.items c.in-Ok.status _ _ c.in-Ok.ensures.prints

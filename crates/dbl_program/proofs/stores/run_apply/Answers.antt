@@ -24,8 +24,8 @@ returns-clause-offsets_read g c =
 pub returns-clause-unopened : goal.returns-clause-unopened
 returns-clause-unopened g c = c.apply-applied.ensures.unopened
 
-pub returns-clause-status : goal.returns-clause-status
-returns-clause-status g c = rows_no_input c.finish.result (rows_status c.apply-applied.result.end c.finish.result _ _ c.finish.ensures.finishes)
+pub returns-clause-not_input : goal.returns-clause-not_input
+returns-clause-not_input g c = rows_no_input c.finish.result (rows_status c.apply-applied.result.end c.finish.result _ _ c.finish.ensures.finishes)
 
 pub returns-clause-output_failed : goal.returns-clause-output_failed
 returns-clause-output_failed g c = λ is.

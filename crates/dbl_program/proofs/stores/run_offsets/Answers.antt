@@ -16,8 +16,8 @@ pub returns-clause-offsets_read : goal.returns-clause-offsets_read
 returns-clause-offsets_read g c =
     only_read g.F.Disk.seen g.F.Disk.may_leave g.F.Disk.faults _ _ _ _ _ (nine_fails c.print_offset-ended.result.end c.finish.result _ _ c.finish.ensures.finishes) (fails_nine c.print_offset-ended.result.end c.finish.result _ _ c.finish.ensures.finishes) c.print_offset-ended.ensures.keeps
 
-pub returns-clause-status : goal.returns-clause-status
-returns-clause-status g c = offsets_no_input c.finish.result (offsets_known c.print_offset-ended.result.end c.finish.result _ _ c.print_offset-ended.ensures.kinds c.finish.ensures.finishes)
+pub returns-clause-not_input : goal.returns-clause-not_input
+returns-clause-not_input g c = offsets_no_input c.finish.result (offsets_known c.print_offset-ended.result.end c.finish.result _ _ c.print_offset-ended.ensures.kinds c.finish.ensures.finishes)
 
 pub returns-clause-output_failed : goal.returns-clause-output_failed
 returns-clause-output_failed g c = λ is.

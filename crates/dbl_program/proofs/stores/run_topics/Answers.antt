@@ -16,8 +16,8 @@ pub returns-clause-topics_read : goal.returns-clause-topics_read
 returns-clause-topics_read g c =
     only_read g.T.Disk.seen g.T.Disk.may_leave g.T.Disk.faults _ _ _ _ _ (eight_fails c.print_topics-ended.result.end c.finish.result _ _ c.finish.ensures.finishes) (fails_eight c.print_topics-ended.result.end c.finish.result _ _ c.finish.ensures.finishes) c.print_topics-ended.ensures.keeps
 
-pub returns-clause-status : goal.returns-clause-status
-returns-clause-status g c = topics_no_input c.finish.result (topics_known c.print_topics-ended.result.end c.finish.result _ _ c.print_topics-ended.ensures.kinds c.finish.ensures.finishes)
+pub returns-clause-not_input : goal.returns-clause-not_input
+returns-clause-not_input g c = topics_no_input c.finish.result (topics_known c.print_topics-ended.result.end c.finish.result _ _ c.print_topics-ended.ensures.kinds c.finish.ensures.finishes)
 
 pub returns-clause-output_failed : goal.returns-clause-output_failed
 returns-clause-output_failed g c = λ is.

@@ -17,7 +17,7 @@ use Rattle.dbl_envelope.specs.declared.error.EnvelopeError.TheVariants as envelo
 use Rattle.dbl_envelope.specs.Clashing.{clash_error, IsClash}
 use Rattle.dbl_replay.specs.declared.log_fault.LogFault.TheVariants as log
 use Rattle.dbl_replay.specs.declared.printing.PrintError.{PrintError}
-use Rattle.dbl_replay.specs.declared.printing.Step.{Step}
+use Rattle.dbl_replay.specs.declared.log.Step.{Step}
 use Rattle.dbl_replay.specs.Log.{lines_in, placeholder_fault, commit_fault}
 use Rattle.dbl_replay.specs.Printing.{Puts, LinesFail}
 use Rattle.dbl_replay.specs.LogPrinting.{PutsCommit}

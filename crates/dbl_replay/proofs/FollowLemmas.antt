@@ -21,9 +21,9 @@ use Rattle.dbl_commit.specs.Stated.{list_of, ended, transaction_fault}
 use Rattle.dbl_replay.specs.declared.log_fault.LogFault.{LogFault}
 use Rattle.dbl_replay.specs.declared.log_fault.LogFault.TheVariants as log
 use Rattle.dbl_replay.specs.declared.options.ReplayOptions.{ReplayOptions}
-use Rattle.dbl_replay.specs.declared.printing.LogPut.{LogPut}
-use Rattle.dbl_replay.specs.declared.printing.Step.{Step}
-use Rattle.dbl_replay.specs.declared.printing.Step.TheVariants as step
+use Rattle.dbl_replay.specs.declared.log.LogPut.{LogPut}
+use Rattle.dbl_replay.specs.declared.log.Step.{Step}
+use Rattle.dbl_replay.specs.declared.log.Step.TheVariants as step
 use Rattle.dbl_replay.specs.declared.printing.PrintError.{PrintError}
 use Rattle.dbl_replay.specs.declared.printing.PrintError.TheVariants.{Memory}
 use Rattle.dbl_replay.specs.declared.replay.Replayer.{Replayer}

@@ -4,7 +4,7 @@ use Rattle.dbl_base.specs.Lines.{lines_text}
 use Rattle.dbl_base.proofs.LineLemmas.{lines_text-append}
 use Rattle.dbl_replay.specs.declared.log_fault.LogFault.{LogFault}
 use Rattle.dbl_replay.specs.declared.options.ReplayOptions.{ReplayOptions}
-use Rattle.dbl_replay.specs.declared.printing.LogPut.{LogPut}
+use Rattle.dbl_replay.specs.declared.log.LogPut.{LogPut}
 use Rattle.dbl_replay.specs.declared.printing.PrintError.{PrintError}
 use Rattle.dbl_replay.specs.declared.printing.PrintError.TheVariants as print_error
 use Rattle.dbl_replay.specs.Log.{LogWrites, end_status, end_lines}

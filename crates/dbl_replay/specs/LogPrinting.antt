@@ -6,9 +6,9 @@ use Rattle.dbl_table.specs.declared.table.TableInfo.{TableInfo}
 use Rattle.dbl_commit.specs.Stated.{list_of, ended}
 use Rattle.dbl_replay.specs.declared.log_fault.LogFault.{LogFault}
 use Rattle.dbl_replay.specs.declared.options.ReplayOptions.{ReplayOptions}
-use Rattle.dbl_replay.specs.declared.printing.LogPut.{LogPut}
-use Rattle.dbl_replay.specs.declared.printing.Step.{Step}
-use Rattle.dbl_replay.specs.declared.printing.Step.TheVariants.{Put, Stopped}
+use Rattle.dbl_replay.specs.declared.log.LogPut.{LogPut}
+use Rattle.dbl_replay.specs.declared.log.Step.{Step}
+use Rattle.dbl_replay.specs.declared.log.Step.TheVariants.{Put, Stopped}
 use Rattle.dbl_replay.specs.declared.printing.PrintError.{PrintError}
 use Rattle.dbl_replay.specs.declared.printing.PrintError.TheVariants.{OutputFailed, Memory}
 use Rattle.dbl_replay.specs.declared.replay.Replayer.{Replayer}

@@ -5,6 +5,7 @@ mod apply;
 mod capture;
 pub mod laws;
 mod lines;
+mod log;
 mod log_fault;
 mod options;
 mod printing;
@@ -12,6 +13,7 @@ mod replay;
 
 pub use apply::{FaultAt, LineFault, consume};
 pub use lines::{LineError, messages};
+pub use log::print_log;
 pub use log_fault::LogFault;
 pub use options::ReplayOptions;
-pub use printing::{PrintError, print_log};
+pub use printing::PrintError;

@@ -1,8 +1,8 @@
 use Rattle.std.proofs.Common.{◌≡◌, ℕ, ◌+◌, List, [], ◌∷◌, length, refl, sym, subst, arith, rules}
-use Rattle.dbl_replay.specs.declared.printing.Step.TheVariants as step
+use Rattle.dbl_replay.specs.declared.log.Step.TheVariants as step
 use Rattle.dbl_replay.proofs.FollowLemmas.{IsLogging, steps_same, logging_begins, logging_more, logging_stops, logging_ends, logging_fails, empty_is}
 use Rattle.dbl_replay.proofs.PrintLemmas.{putting_begins, putting_starves}
-use Rattle.dbl_replay.proofs.printing.put_messages.Goals as goal
+use Rattle.dbl_replay.proofs.log.put_messages.Goals as goal
 
 pub returns-in-Err-clause-puts : goal.returns-in-Err-clause-puts
 returns-in-Err-clause-puts g c = λ options follows lines end writes. putting_starves lines lines [] [] _ _ (putting_begins lines [] (g.O.Output.written c.args.output.now))

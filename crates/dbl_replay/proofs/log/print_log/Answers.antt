@@ -1,6 +1,6 @@
 use Rattle.std.proofs.Common.{refl}
 use Rattle.dbl_replay.proofs.LogPrintLemmas.{fails_log, ended_log}
-use Rattle.dbl_replay.proofs.printing.print_log.Goals as goal
+use Rattle.dbl_replay.proofs.log.print_log.Goals as goal
 
 pub returns-in-Err-clause-prints : goal.returns-in-Err-clause-prints
 returns-in-Err-clause-prints g c = λ lines end writes. fails_log lines end _ c.in-Err.error _ _ refl (c.in-Err.ensures.puts lines end writes)

@@ -2,7 +2,7 @@ use Rattle.std.proofs.Common.{refl}
 use Rattle.dbl_replay.specs.declared.log_fault.LogFault.TheVariants as log
 use Rattle.dbl_replay.specs.LogPrinting.{starved, cut}
 use Rattle.dbl_replay.proofs.CommitLemmas.{clash_told, no_clash_is, records_put, records_cut}
-use Rattle.dbl_replay.proofs.printing.put_commit.Goals as goal
+use Rattle.dbl_replay.proofs.log.put_commit.Goals as goal
 
 pub returns-in-Ok-put_left-clause-puts : goal.returns-in-Ok-put_left-clause-puts
 returns-in-Ok-put_left-clause-puts g c = (no_clash_is c.args.writer.now.identity c.args.writer.now.infos c.args.commit.now c.in-Ok.ensures.no_clash, records_put _ _ _ _ _ _ c.in-Ok.ensures.ok c.in-Ok-put_left.ensures.puts)

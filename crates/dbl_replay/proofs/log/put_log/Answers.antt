@@ -1,6 +1,6 @@
 use Rattle.std.proofs.Common.{[], refl}
 use Rattle.dbl_replay.proofs.PrintLemmas.{putting_begins, putting_starves}
-use Rattle.dbl_replay.proofs.printing.put_log.Goals as goal
+use Rattle.dbl_replay.proofs.log.put_log.Goals as goal
 
 pub returns-in-Err-clause-puts : goal.returns-in-Err-clause-puts
 returns-in-Err-clause-puts g c = λ lines end writes. putting_starves lines lines [] [] _ _ (putting_begins lines [] (g.O.Output.written c.args.output.now))

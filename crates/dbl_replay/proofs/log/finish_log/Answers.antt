@@ -1,6 +1,6 @@
 use Rattle.std.proofs.Common.{List, ℕ, subst}
 use Rattle.dbl_consume.specs.Printing.{Wrote}
-use Rattle.dbl_replay.proofs.printing.finish_log.Goals as goal
+use Rattle.dbl_replay.proofs.log.finish_log.Goals as goal
 
 pub returns-in-Ok-flush_rest-clause-ends : goal.returns-in-Ok-flush_rest-clause-ends
 returns-in-Ok-flush_rest-clause-ends g c =

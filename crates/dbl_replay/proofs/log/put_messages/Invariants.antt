@@ -2,7 +2,7 @@ use Rattle.std.proofs.Common.{◌≤◌, []}
 use Rattle.dbl_replay.specs.declared.options.ReplayOptions.{ReplayOptions}
 use Rattle.dbl_replay.specs.Following.{Follows}
 use Rattle.dbl_replay.proofs.FollowLemmas.{IsLogging}
-use Rattle.dbl_replay.proofs.printing.put_messages.Given as goal
+use Rattle.dbl_replay.proofs.log.put_messages.Given as goal
 
 abbrev pub invariant-messages : goal.invariant-messages
 invariant-messages g l =

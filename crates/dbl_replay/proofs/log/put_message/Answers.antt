@@ -1,6 +1,6 @@
 use Rattle.dbl_replay.proofs.FollowLemmas.{steps, steps_stopped}
 use Rattle.dbl_replay.proofs.SuitLemmas.{next_suits}
-use Rattle.dbl_replay.proofs.printing.put_message.Goals as goal
+use Rattle.dbl_replay.proofs.log.put_message.Goals as goal
 
 pub put_ended-requires : goal.put_ended-requires
 put_ended-requires g c = let f = c.requires in next_suits f.options f.ms c.args.bytes c.take_bytes.new.replayer c.in-Ok.ended (c.in-Ok.ensures f.options f.ms f.follows f.count)

@@ -176,7 +176,7 @@ no_stop names word is = go (behind_hyphens word) is
     go None h = cc
     go (Some rest) h = by (list_any is_equals rest) (has_value names (before_first is_equals rest)) h
 
--- the front that is passed over is flags and options
+-- the prefix that is passed over is flags and options
 pub front_sound : (names : List Named) (words rest : List (List ℕ))
     → (behind names false words ≡ Some rest → Front names words rest) × (behind names true words ≡ Some rest → Valued names words rest)
 unfolding behind

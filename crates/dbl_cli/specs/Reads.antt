@@ -3,7 +3,7 @@ use Rattle.std.specs.Prelude.{◌≡◌, ◌⊎◌, Bool, true, false, Result, O
 use Rattle.dbl_cli.specs.declared.error.CliError.{CliError}
 use Rattle.dbl_cli.specs.declared.error.CliError.TheVariants.{Memory}
 
--- The value where the test passes. Else an error, and an error where it passes only for want of memory.
+-- The value where the test passes. Else an error, and an error where it passes only where memory runs out.
 abbrev pub Reads : {A : Type 0} → Bool → A → Result A CliError → Type 0
 Reads test want (Ok a) = (test ≡ true) × (a ≡ want)
 Reads test want (Err e) = (e ≡ Memory) ⊎ (test ≡ false)

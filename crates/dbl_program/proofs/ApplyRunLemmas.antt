@@ -35,7 +35,7 @@ pub memory_written : (status : ℕ) (before after : Option (List ℕ)) → Says 
 memory_written status before after (inl writes) = writes
 memory_written status before after (inr writes) = writes
 
--- memory was wanting, before anything was written
+-- memory ran out, before anything was written
 pub starved : (answer : Answer) (status : ℕ) (before after : Option (List ℕ)) → Says Memory status before after → EndsAs answer status before after
 starved answer status before after says = record { ended = memory_ends answer status before after (memory_written status before after says); told = inl (memory_outside status before after says) }
 
@@ -65,7 +65,7 @@ line_ends at status before after writes = record {
   told = elim (written_or_outside _ _ status before after writes) [ inl is ↦ inr (sym is) | inr outside ↦ inl outside ];
 }
 
--- a run whose first line that isn't applied was found, unless memory was wanting there
+-- a run whose first line that isn't applied was found, unless memory ran out there
 pub fault_applies : (placeholder : List ℕ) (bytes : List ℕ) (at : FaultAt) (status : ℕ) (before after : Option (List ℕ)) → length bytes ≤ input_limit
     → (at.fault ≢ line.Memory → first_fault placeholder (lines_of bytes) ≡ Some at) → (at.fault ≢ line.Memory → EndsAs (line_fault at) status before after)
     → (at.fault ≡ line.Memory → Says Memory status before after) → RunsApplying placeholder bytes status before after

@@ -127,7 +127,7 @@ written_ends answer text status before after is writes = record {
   told = elim (written_or_outside _ _ status before after writes) [ inl same ↦ inr (sym same) | inr outside ↦ inl outside ];
 }
 
--- want of memory is a status of every command, and tells nothing of the input
+-- out of memory is a status of every command, and tells nothing of the input
 pub cut_short : (status : ℕ) (before after : Option (List ℕ)) → Says Memory status before after → IsCutShort status
 cut_short status before after says = elim (says_is Memory status before after says) [ inl is ↦ inr is | inr outside ↦ outside ]
 

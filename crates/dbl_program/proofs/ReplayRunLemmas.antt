@@ -128,7 +128,7 @@ replay_said Memory status before after other says = elim (says_is Memory status 
 replay_said (BadLine number) status before after other says = elim (says_is (BadLine number) status before after says) [ inl is ↦ inl (inr (inr (inr is))) | inr outside ↦ inr (outside_of status outside) ]
 replay_said InputTooLong status before after other says = elim (says_is InputTooLong status before after says) [ inl is ↦ inl (inr (inr (inr is))) | inr outside ↦ inr (outside_of status outside) ]
 
--- want of memory, or a fault of the input, tells nothing of what it means
+-- out of memory, or a fault of the input, tells nothing of what it means
 memory_no_answer : (status : ℕ) → (status ≡ output_failed_status) ⊎ (status ≡ status_of Memory) → IsReplayAnswer status → ⊥
 memory_no_answer status (inl is) (inl told) = cc
 memory_no_answer status (inl is) (inr (inl told)) = cc

@@ -33,7 +33,7 @@ pub says_ends : (halt : Halt) (status : ℕ) (before after : Option (List ℕ)) 
 says_ends halt status before after (inl writes) = record { wanted = status_of halt; text = lines_text (fault_line halt ∷ []); may = whole refl refl; writes = writes }
 says_ends halt status before after (inr writes) = record { wanted = status_of Memory; text = lines_text (fault_line Memory ∷ []); may = out_of_memory 0 refl refl; writes = writes }
 
--- want of memory ends a run of any answer
+-- out of memory ends a run of any answer
 pub memory_ends : (answer : Answer) (status : ℕ) (before after : Option (List ℕ)) → Writes (status_of Memory) (lines_text (fault_line Memory ∷ [])) status before after → Ends answer status before after
 memory_ends answer status before after writes = record { wanted = status_of Memory; text = lines_text (fault_line Memory ∷ []); may = out_of_memory 0 refl refl; writes = writes }
 

@@ -189,7 +189,7 @@ unbuilt c status known same = by_built (is_built c) refl
 pub spell_unbuilt : (words : List (List ℕ)) (c : Command) (status : ℕ) → Spells words c → IsStatusOf c status → status ≡ 16 → SpellUnbuilt words
 spell_unbuilt words c status spells known same = (c, spells, unbuilt c status known same)
 
--- ---- words that spell no command, and want of memory
+-- ---- words that spell no command, and runs out of memory
 
 pub usage_no_wal : (status : ℕ) (before after : Option (List ℕ)) → Says Usage status before after → status ≡ wal_status → ⊥
 usage_no_wal status before after says = said_other Usage 7 status before after (λ e. cc) (λ e. cc, λ e. cc) says

@@ -57,13 +57,13 @@ pub record DiskFails (failed : Store → Type 0) (answer : Answer) (status : ℕ
 abbrev pub EndsOrFails : (Store → Type 0) → Answer → ℕ → Option (List ℕ) → Option (List ℕ) → Type 0
 EndsOrFails failed answer status before after = Ends answer status before after ⊎ DiskFails failed answer status before after
 
--- the output failed, or memory was wanting
+-- the output failed, or memory ran out
 abbrev pub IsCutShort : ℕ → Type 0
 IsCutShort status = (status ≡ output_failed_status) ⊎ (status ≡ status_of Memory)
 
--- What a run that ends with this status leaves of a disk that it only reads: what a read gives is the same, and each image at
--- its end was one before, so it is no longer than it was. The status of its fault comes only where its count of faults rose; and
--- where it tells its bytes the count rises nowhere else, unless memory was wanting or the output failed.
+-- What a run that ends with this status leaves of a disk that it only reads: what a read gives is the same, and a crash leaves
+-- nothing that it couldn't leave before, so it is no longer than it was. The status of its fault comes only where its count of
+-- faults rose; and where it tells its bytes the count rises nowhere else, unless memory ran out or the output failed.
 pub record IsOnlyRead
     {D : Type 0}
     (seen : D → Option (List ℕ))
@@ -77,7 +77,7 @@ pub record IsOnlyRead
   pub cause : status ≡ fault → Rose (faults old) (faults new)
   pub steady : status ≢ fault → ¬ IsCutShort status → IsSteady seen faults old new
 
--- for private clauses: the error's line was to be written and its status answered, or those of want of memory
+-- for private clauses: the error's line was to be written and its status answered, or those of a run out of memory
 abbrev pub SaysError : RunError → ℕ → Option (List ℕ) → Option (List ℕ) → Type 0
 SaysError error status before after =
     Writes (error_status error) (lines_text (error_line error ∷ [])) status before after

@@ -49,7 +49,7 @@ pub data Applies (placeholder bytes : List ℕ) (answer : Answer) : Type 0 where
   applied : (rows : List HeldRow) → length bytes ≤ input_limit → first_fault placeholder (lines_of bytes) ≡ None
       → AreRowsOf (consumer_of placeholder (readings_of (lines_of bytes))) rows → answer ≡ done (map row_line rows) → Applies placeholder bytes answer
 
--- a run of this answer may be about to write this text and answer this status: the answer's own, or where memory is wanting
+-- a run of this answer may be about to write this text and answer this status: the answer's own, or where memory runs out
 -- that fault's, behind some first ones of the lines that come one by one
 pub data MayEnd (answer : Answer) (status : ℕ) (text : List ℕ) : Type 0 where
   whole : status ≡ answer.status → text ≡ lines_text answer.lines → MayEnd answer status text
@@ -66,7 +66,7 @@ pub record Ends (answer : Answer) (status : ℕ) (before after : Option (List �
   pub may : MayEnd answer wanted text
   pub writes : Writes wanted text status before after
 
--- the statuses of a fault of the outside: of the input, of the output, and want of memory
+-- the statuses of a fault of the outside: of the input, of the output, and of memory
 abbrev pub IsOutside : ℕ → Type 0
 IsOutside status = (status ≡ status_of InputFailed) ⊎ ((status ≡ output_failed_status) ⊎ (status ≡ status_of Memory))
 
@@ -81,7 +81,7 @@ IsReplayStatus status = IsReplayAnswer status ⊎ IsOutside status
 abbrev pub IsApplyStatus : ℕ → Type 0
 IsApplyStatus status = (status ≡ 0) ⊎ ((status ≡ 13) ⊎ IsOutside status)
 
--- the fault's line was to be written and its status answered, or those of want of memory
+-- the fault's line was to be written and its status answered, or those of a run out of memory
 abbrev pub Says : Halt → ℕ → Option (List ℕ) → Option (List ℕ) → Type 0
 Says halt status before after =
     Writes (status_of halt) (lines_text (fault_line halt ∷ [])) status before after

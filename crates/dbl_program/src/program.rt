@@ -62,7 +62,7 @@ pub fn run<I: Input, O: Output, W: Disk, T: Disk, F: Disk>(
         ⊎ InputFails words.now.items (I.faults input.old) (I.faults input.new) result.status
         (O.written output.old) (O.written output.new) }
 
-    // Words that spell no command are usage, whatever the streams and the disks tell.
+    // Invalid arguments are usage, whatever the streams and the disks tell.
     ensures usage { ((command : Command) → Spells words.now.items command → ⊥) →
         Says Halt.Usage result.status (O.written output.old) (O.written output.new) }
 
@@ -102,7 +102,7 @@ pub fn run<I: Input, O: Output, W: Disk, T: Disk, F: Disk>(
         opens_topics command ≡ true → T.seen topics ≡ Some bytes →
         ((groups : List (List Record)) → ¬ IsLog bytes groups) → result.offsets ≡ offsets }
 
-    // A disk that was opened, as the status tells, was synced: of one that tells its bytes a stop leaves these alone.
+    // A disk that was opened, as the status tells, was synced: of one that tells its bytes a crash leaves these alone.
     ensures topics_synced { (command : Command) → Spells words.now.items command →
         opens_topics command ≡ true → HasOpenedTopics result.status →
         IsSynced T.seen T.may_leave topics result.topics }

@@ -23,7 +23,7 @@ fails_log lines end gathered print_error.OutputFailed before after none fails =
     subst (WroteFront before after) (sym (lines_text-append lines (end_lines end))) (front_more before after (lines_text lines) (lines_text (end_lines end)) (put_fails_prints lines gathered print_error.OutputFailed before after none fails))
 fails_log lines end gathered print_error.Memory before after none fails = put_fails_prints lines gathered print_error.Memory before after none fails
 
--- the line of the fault wasn't put, as memory was wanting
+-- the line of the fault wasn't put, as memory ran out
 pub starves_log : (options : ReplayOptions) (now : ℤ) (bs : List (List ℕ)) (gathered : List ℕ) (put : LogPut) (before after : Option (List ℕ)) → gathered ≡ [] → IsLogPut options now bs gathered put before after
     → (lines : List (List ℕ)) (end : Option LogFault) → LogWrites options now [] bs lines end → LogFails lines end print_error.Memory before after
 starves_log options now bs gathered put before after none is lines end writes =

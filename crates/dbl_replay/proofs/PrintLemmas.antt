@@ -111,7 +111,7 @@ putting_line_fails all left next line gathered middle error before now after so_
 
 -- ---- at the end
 
--- lines were to be written, and were, or in part where the output failed or memory was wanting
+-- lines were to be written, and were, or in part where the output failed or memory ran out
 abbrev pub PrintFails : List (List ℕ) → PrintError → Option (List ℕ) → Option (List ℕ) → Type 0
 PrintFails lines OutputFailed before after = WroteFront before after (lines_text lines)
 PrintFails lines Memory before after = (n : ℕ) × Wrote before after (lines_text (take n lines))

@@ -1,4 +1,4 @@
--- For private clauses: what a function answers beside a fault by its definition. Memory may always be wanting.
+-- For private clauses: what a function answers beside a fault by its definition. Memory may always run out.
 use Rattle.std.specs.Prelude.{◌≡◌, ◌⊎◌, Option, None, Some, Result, Ok, Err}
 use Rattle.dbl_replay.specs.declared.log_fault.LogFault.{LogFault}
 use Rattle.dbl_replay.specs.declared.log_fault.LogFault.TheVariants.{Memory}

@@ -23,7 +23,7 @@ pub record IsHalted (fault : LogFault) (gathered : List ℕ) (put : LogPut) (bef
   pub filled : put.filled.items ≡ gathered
   pub same : after ≡ before
 
--- the lines of a commit weren't put: memory was wanting before the first, or the commit has no fault, and some were put
+-- the lines of a commit weren't put: memory ran out before the first, or the commit has no fault, and some were put
 pub data CommitFails (fault : Option LogFault) (lines : List (List ℕ)) (gathered : List ℕ) (error : PrintError) (before after : Option (List ℕ)) : Type 0 where
   starved : error ≡ Memory → after ≡ before → CommitFails fault lines gathered error before after
   cut : fault ≡ None → LinesFail lines gathered error before after → CommitFails fault lines gathered error before after
@@ -73,7 +73,7 @@ pub record IsLogPrinted (options : ReplayOptions) (now : ℤ) (bs : List (List �
   pub is : status ≡ end_status end
   pub wrote : Wrote before after (lines_text (lines ++ end_lines end))
 
--- or a part was, where the output failed or memory was wanting
+-- or a part was, where the output failed or memory ran out
 abbrev pub LogFails : List (List ℕ) → Option LogFault → PrintError → Option (List ℕ) → Option (List ℕ) → Type 0
 LogFails lines end OutputFailed before after = WroteFront before after (lines_text (lines ++ end_lines end))
 LogFails lines end Memory before after = (n : ℕ) × Wrote before after (lines_text (take n lines))
@@ -82,8 +82,8 @@ abbrev pub PrintsLog : ReplayOptions → ℤ → List (List ℕ) → Result ℕ 
 PrintsLog options now bs (Ok status) before after = IsLogPrinted options now bs status before after
 PrintsLog options now bs (Err error) before after = (lines : List (List ℕ)) (end : Option LogFault) → LogWrites options now [] bs lines end → LogFails lines end error before after
 
--- the line of the fault was put behind what was gathered, and all of that was written, or a front of it where the output
--- failed, and nothing where memory was wanting
+-- the line of the fault was put behind what was gathered, and all of that was written, or a prefix of it where the output
+-- failed, and nothing where memory ran out
 abbrev pub EndFails : LogPut → PrintError → Option (List ℕ) → Option (List ℕ) → Type 0
 EndFails put OutputFailed before after = WroteFront before after (put.filled.items ++ lines_text (end_lines put.fault))
 EndFails put Memory before after = after ≡ before

@@ -19,7 +19,7 @@ use std::str;
 pub enum LineFault {
     /// The line isn't UTF-8, or tells no record.
     BadRecord,
-    /// The consumer refuses the line's record, for another cause than want of memory.
+    /// The consumer refuses the line's record, for another cause than memory that ran out.
     Refused { error: ConsumeError },
     Memory,
 }

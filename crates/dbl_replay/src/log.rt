@@ -51,7 +51,7 @@ fn unfinished_fault(inside: bool) -> Option<LogFault>
     }
 }
 
-// The lines before a fault, unless memory was wanting.
+// The lines before a fault, unless memory ran out.
 fn stopped(filled: Vec<u8>, fault: LogFault) -> Result<LogPut, PrintError>
     ensures filled { IfOk result (λ put. put.filled.items ≡ filled.items) }
     ensures fault { IfOk result (λ put. put.fault ≡ Some fault) }

@@ -96,7 +96,7 @@ pub refused_running : (number : ℕ) (P : Type 0) (error : RunError) → (error 
 refused_running number P error (inl memory) f = let contra : Memory ≡ Failed Topics = sym memory ∙ f in cc
 refused_running number P error (inr bad) f = let contra : BadEntry Topics number ≡ Failed Topics = sym bad.0 ∙ f in cc
 
--- ---- memory was wanting before any group was read
+-- ---- memory ran out before any group was read
 
 pub wanting_outside : (error : RunError) → error ≡ Memory → IsOutside error
 wanting_outside error memory = subst IsOutside (sym memory) tt

@@ -1,4 +1,4 @@
--- Stores that were opened: what is told behind it, and what a stop leaves of their disks.
+-- Stores that were opened: what is told behind it, and what a crash leaves of their disks.
 use Rattle.std.proofs.Common.{◌≡◌, ◌⊎◌, ◌∙◌, ℕ, Option, Ok, Err, IfErr, List, sym, ap, subst, inl, inr}
 use Rattle.dbl_journal.specs.declared.error.JournalError.TheVariants as journal
 use Rattle.dbl_topic.specs.declared.error.TopicError.{TopicError}
@@ -64,7 +64,7 @@ not_yet_opened (BadEntry store index) kind opened = apart (sym kind ∙ opened)
 pub opened_running : (error : RunError) → HasOpenedOffset (Err error) → error ≡ Failed Offsets → ⊥
 opened_running error opened e = subst (λ (x : RunError). HasOpenedOffset (Err x)) e opened
 
--- ---- what a stop leaves
+-- ---- what a crash leaves
 
 module _ {D : Type 0} (seen : D → Option (List ℕ)) (may_leave : D → List ℕ → Type 0) (faults : D → ℕ) where
   -- a disk that was synced stays so where it is only read

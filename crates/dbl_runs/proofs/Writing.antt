@@ -26,7 +26,7 @@ print_cuts lines print.Memory told before after is fails = subst (λ e. CutsLine
 pub none_written : (lines : List (List ℕ)) (before after : Option (List ℕ)) → after ≡ before → WroteFirst lines before after
 none_written lines before after same = (0, λ bytes told. same ∙ told ∙ ap Some (sym (append-nil bytes)))
 
--- lines are cut where memory is wanting or a disk fails
+-- lines are cut where memory runs out or a disk fails
 pub outside_cuts : (lines : List (List ℕ)) (error : RunError) (before after : Option (List ℕ)) → IsOutside error → WroteFirst lines before after → CutsLines lines error before after
 outside_cuts lines OutputFailed before after outside first = absurd outside
 outside_cuts lines Memory before after outside first = first

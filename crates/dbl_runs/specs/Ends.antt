@@ -19,7 +19,7 @@ End = Result (Unit {0}) RunError
 abbrev pub WroteFirst : List (List ℕ) → Option (List ℕ) → Option (List ℕ) → Type 0
 WroteFirst lines before after = (n : ℕ) × Wrote before after (lines_text (take n lines))
 
--- lines were being written when this error came: the output may have taken a front of their text, and where memory was wanting
+-- lines were being written when this error came: the output may have taken a prefix of their text, and where memory ran out
 -- or a disk failed, it has some first lines
 abbrev pub CutsLines : List (List ℕ) → RunError → Option (List ℕ) → Option (List ℕ) → Type 0
 CutsLines lines OutputFailed before after = WroteFront before after (lines_text lines)
@@ -34,7 +34,7 @@ Ends (Ok lines) (Err error) before after = CutsLines lines error before after
 Ends (Err error) (Ok done) before after = ⊥
 Ends (Err error) (Err told) before after = (told ≡ error) × (after ≡ before)
 
--- memory was wanting, or a disk failed
+-- memory ran out, or a disk failed
 abbrev pub IsOutside : RunError → Type 0
 IsOutside Memory = Unit {0}
 IsOutside (Failed store) = Unit {0}
@@ -44,7 +44,7 @@ abbrev pub IsCut : End → Type 0
 IsCut (Ok done) = ⊥
 IsCut (Err error) = IsOutside error
 
--- What a run of a command writes that has these answers. Before it has an answer memory may be wanting or a disk fail; then
+-- What a run of a command writes that has these answers. Before it has an answer memory may run out or a disk fail; then
 -- nothing was written.
 pub data Runs (Answers : Answer → Type 0) (end : End) (before after : Option (List ℕ)) : Type 0 where
   answered : (answer : Answer) → Answers answer → Ends answer end before after → Runs Answers end before after
@@ -78,12 +78,13 @@ HasOpenedOffset (Err (NotAStore store at)) = store ≡ Offsets
 HasOpenedOffset (Err (BadEntry store index)) = store ≡ Offsets
 HasOpenedOffset (Err error) = ⊥
 
--- Of a disk that told its bytes a stop leaves these alone: it was synced, and only read since.
+-- Of a disk that told its bytes a crash leaves these alone: it was synced, and only read since.
 abbrev pub IsSynced : {D : Type 0} → (D → Option (List ℕ)) → (D → List ℕ → Type 0) → D → D → Type 0
 IsSynced seen may_leave old new = (bytes : List ℕ) → seen old ≡ Some bytes → IsOnly bytes (may_leave new)
 
--- What is left of a disk that was only read. A read gives the same, and each image was one before: so it is no longer than it
--- was. It is told to have failed only where its count of faults rose, and where it tells its bytes, wherever the count rose.
+-- What is left of a disk that was only read. A read gives the same, and a crash leaves nothing that it couldn't leave before:
+-- so it is no longer than it was. It is told to have failed only where its count of faults rose, and where it tells its bytes,
+-- wherever the count rose.
 pub record Keeps
     {D : Type 0}
     (seen : D → Option (List ℕ))

@@ -44,7 +44,7 @@ pub fn apply<T: Disk, F: Disk, O: Output>(
     ensures no_store { (at : ℕ) → result.end ≡ Err (RunError.NotAStore Store.Topics at) →
         result.offsets ≡ offsets }
 
-    // A disk that was opened was synced: of one that tells its bytes a stop leaves these alone.
+    // A disk that was opened was synced: of one that tells its bytes a crash leaves these alone.
     ensures topics_stable { result.end ≢ Err (RunError.Failed Store.Topics) →
         IsSynced T.seen T.may_leave topics result.topics }
     ensures offsets_stable { HasOpenedOffset result.end →

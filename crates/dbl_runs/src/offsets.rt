@@ -27,7 +27,7 @@ pub fn print_offset<D: Disk, O: Output>(alloc: Global, disk: D, output: &mut O) 
     ensures told { (bytes : List ℕ) → D.seen disk ≡ Some bytes →
         Runs (AnswersOffsets bytes) result.end (O.written output.old) (O.written output.new) }
 
-    // Unless it failed, it was synced: where it tells its bytes, a stop leaves these alone.
+    // Unless it failed, it was synced: where it tells its bytes, a crash leaves these alone.
     ensures stable { result.end ≢ Err (RunError.Failed Store.Offsets) →
         IsSynced D.seen D.may_leave disk result.disk }
 

@@ -24,7 +24,7 @@ pub fn print_topics<D: Disk, O: Output>(alloc: Global, disk: D, output: &mut O) 
     ensures unwritten { (bytes : List ℕ) → D.seen disk ≡ Some bytes →
         IfErr result.end (λ error. IsRefusal error → output.new ≡ output.old) }
 
-    // Unless it failed, it was synced: where it tells its bytes, a stop leaves these alone.
+    // Unless it failed, it was synced: where it tells its bytes, a crash leaves these alone.
     ensures stable { result.end ≢ Err (RunError.Failed Store.Topics) →
         IsSynced D.seen D.may_leave disk result.disk }
 

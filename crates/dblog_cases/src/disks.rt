@@ -50,7 +50,7 @@ impl Disks {
         }
     }
 
-    /// The disks as they are found after a stop.
+    /// The disks as they are found after a crash.
     pub fn crash(&self, choice: Choice) -> Result<Disks, AllocError> {
         Ok(Disks {
             wal: self.wal.crash(choice)?,

@@ -87,7 +87,7 @@ returns-in-Err-Usage-clause-topics_read g c = not_read g.T.Disk.seen g.T.Disk.ma
 pub returns-in-Err-Usage-clause-offsets_read : goal.returns-in-Err-Usage-clause-offsets_read
 returns-in-Err-Usage-clause-offsets_read g c = not_read g.F.Disk.seen g.F.Disk.may_leave g.F.Disk.faults _ _ _ _ (usage_no_offsets c.say.result _ _ c.say.ensures.says) refl
 
--- ---- memory was wanting
+-- ---- memory ran out
 
 pub returns-in-Err-Memory-clause-told : goal.returns-in-Err-Memory-clause-told
 returns-in-Err-Memory-clause-told g c = λ given tell. inl (memory_runs _ c.args.now_ms given _ _ _ _ c.say-in-Err-Memory.ensures.says)

@@ -51,7 +51,7 @@ returns-in-Ok-open_offsets-clause-no_store g c = λ at e. absurd (end_behind c.p
 pub returns-in-Err-open_offsets-clause-no_store : goal.returns-in-Err-open_offsets-clause-no_store
 returns-in-Err-open_offsets-clause-no_store g c = λ at e. absurd (other_no_store c.in-Err-open_offsets.field-0.error at c.in-Err-open_offsets.ensures.kinds (err_one c.in-Err-open_offsets.field-0.error _ e))
 
--- ---- what a stop leaves of the disks
+-- ---- what a crash leaves of the disks
 
 pub returns-in-Err-clause-topics_stable : goal.returns-in-Err-clause-topics_stable
 returns-in-Err-clause-topics_stable g c = λ other. c.in-Err.ensures.stable (λ e. other (ap failed_with e))

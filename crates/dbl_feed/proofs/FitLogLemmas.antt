@@ -139,7 +139,7 @@ known_from tables [] n at fit = tt
 known_from tables (entry ∷ log) n at fit = (known_changes tables (raw_changes_of (body_at tables at entry)) at fit.0.changes, known_from tables log (n + 1) (text_rows_at tables at entry) fit.1)
 
 -- LSNs, times and numbers of fewer than 2^41 commits
-commit_in_range : (tables : List LogTable) (at : TextRows) (n : ℕ) (entry : Logged) → n < 2 ^ 41 → IsRawBodyInRange (body_at tables at entry) → IsRawCommitInRange (commit_at tables at n entry)
+pub commit_in_range : (tables : List LogTable) (at : TextRows) (n : ℕ) (entry : Logged) → n < 2 ^ 41 → IsRawBodyInRange (body_at tables at entry) → IsRawCommitInRange (commit_at tables at n entry)
 commit_in_range tables at n entry few range =
     let time : 1000000 * n < 2 ^ 63 = omega arith in
     record {

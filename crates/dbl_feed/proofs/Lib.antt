@@ -10,3 +10,4 @@ pub mod InsideLemmas
 pub mod ReaderLemmas
 pub mod RowTexts
 pub mod FitLogLemmas
+pub mod MarkLemmas

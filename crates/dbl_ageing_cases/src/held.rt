@@ -197,16 +197,28 @@ fn tell(
     }
 }
 
+// Takes an item, and answers it where it asks.
+fn answer_item(
+    alloc: Global,
+    source: &Source,
+    held: &mut Held,
+    shown: &mut Option<Shown>,
+    item: &str,
+    answers: &mut String,
+) -> Result<()> {
+    take(alloc, source, held, item)?;
+    if let Some(fields) = item.strip_prefix("window/") {
+        *shown = Some(window(alloc, fields)?);
+    }
+    tell(alloc, source, held, shown, item, answers)
+}
+
 /// Adds what a case answers: a line for each thing that it asks.
 pub fn answer(alloc: Global, source: &Source, items: &str, answers: &mut String) -> Result<()> {
     let mut held = nothing_held(alloc, source)?;
     let mut shown = None;
     for item in items.split(" | ") {
-        take(alloc, source, &mut held, item)?;
-        if let Some(fields) = item.strip_prefix("window/") {
-            shown = Some(window(alloc, fields)?);
-        }
-        tell(alloc, source, &held, &shown, item, answers)?;
+        answer_item(alloc, source, &mut held, &mut shown, item, answers)?;
     }
     Ok(())
 }

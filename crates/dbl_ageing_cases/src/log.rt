@@ -44,12 +44,17 @@ fn text_or_null(alloc: Global, text: &Option<Text>) -> Result<Text> {
     }
 }
 
-fn deliver(alloc: Global, held: &mut Held, record: Record) -> Result<()> {
+fn apply(alloc: Global, held: &mut Held, record: &Record) -> Result<()> {
     let key = text_or_null(alloc, &record.key)?;
     let value = text_or_null(alloc, &record.value)?;
     if let Err(ConsumeError::Memory) = held.consumer.apply(&record.topic, &key, &value) {
         bail!("out of memory");
     }
+    Ok(())
+}
+
+fn deliver(alloc: Global, held: &mut Held, record: Record) -> Result<()> {
+    apply(alloc, held, &record)?;
     // A record that is refused changes nothing that is held, and stands in the log as well.
     held.records.push(record)?;
     Ok(())

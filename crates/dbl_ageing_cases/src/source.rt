@@ -51,12 +51,16 @@ fn key_names(alloc: Global) -> Result<Seq<Text>> {
     Ok(Seq::make(names))
 }
 
-fn info(alloc: Global, table: u32) -> Result<TableInfo> {
-    let raw = RawTable {
+fn raw(alloc: Global, table: u32) -> Result<RawTable> {
+    Ok(RawTable {
         name: name(alloc, table)?,
         columns: columns(alloc)?,
         key: key_names(alloc)?,
-    };
+    })
+}
+
+fn info(alloc: Global, table: u32) -> Result<TableInfo> {
+    let raw = raw(alloc, table)?;
     Ok(TableInfo::make(alloc, &raw)?)
 }
 

@@ -48,18 +48,27 @@ fn table(name: &str) -> u32 {
     }
 }
 
+fn closed_of(alloc: Global, fields: &str) -> Result<Closed> {
+    let done = words::field(fields, 5).parse::<bool>()?;
+    let through = bound(alloc, words::field(fields, 4))?;
+    Ok(Closed {
+        table: table(words::field(fields, 0)),
+        rows: rows(alloc, words::field(fields, 6))?,
+        through,
+        done,
+    })
+}
+
 /// The window of these fields.
 pub fn window(alloc: Global, fields: &str) -> Result<Shown> {
+    let low = words::field(fields, 1).parse::<u64>()?;
+    let high = words::field(fields, 2).parse::<u64>()?;
+    let above = bound(alloc, words::field(fields, 3))?;
     Ok(Shown {
-        low: words::field(fields, 1).parse()?,
-        high: words::field(fields, 2).parse()?,
-        above: bound(alloc, words::field(fields, 3))?,
-        closed: Closed {
-            table: table(words::field(fields, 0)),
-            rows: rows(alloc, words::field(fields, 6))?,
-            through: bound(alloc, words::field(fields, 4))?,
-            done: words::field(fields, 5).parse()?,
-        },
+        low,
+        high,
+        above,
+        closed: closed_of(alloc, fields)?,
     })
 }
 

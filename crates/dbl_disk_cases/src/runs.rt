@@ -30,18 +30,29 @@ pub fn answer(alloc: Global, call: &str, arguments: &str) -> Result<String> {
     Ok(shown)
 }
 
-// What the steps answer, and then what the command answers on the disks, twice.
+// Takes a case on disks of its own.
 fn runs(alloc: Global, shown: &mut String, command: &str, arguments: &str) -> Result<()> {
-    let (steps, fails) = words::parted(arguments, " fails ");
     let mut disks = Disks {
         topics: steps::empty(alloc),
         offsets: steps::empty(alloc),
     };
-    prepare(alloc, shown, &mut disks, command, steps)?;
-    run(alloc, shown, &mut disks, command, fails)?;
-    crash(alloc, &mut disks)?;
+    run_twice(alloc, shown, &mut disks, command, arguments)
+}
+
+// What the steps answer, and then what the command answers on the disks, twice.
+fn run_twice(
+    alloc: Global,
+    shown: &mut String,
+    disks: &mut Disks,
+    command: &str,
+    arguments: &str,
+) -> Result<()> {
+    let (steps, fails) = words::parted(arguments, " fails ");
+    prepare(alloc, shown, disks, command, steps)?;
+    run(alloc, shown, disks, command, fails)?;
+    crash(alloc, disks)?;
     shown.push_str("\nagain:")?;
-    run(alloc, shown, &mut disks, command, "")
+    run(alloc, shown, disks, command, "")
 }
 
 // Takes the steps of the disks that the command reads; those of `apply` have a bar between them.

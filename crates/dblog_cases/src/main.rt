@@ -12,14 +12,33 @@ mod transcript;
 mod trials;
 
 use crate::transcript::Transcript;
-use std::io::{self, BufRead, BufReader, BufWriter, Write};
+use std::alloc::Global;
+use std::io::{self, BufRead, BufReader, BufWriter, Read, Write};
+
+// Takes each line that is read, and ends the last run.
+fn take_lines<R: Read + Drop, W: Write>(
+    alloc: Global,
+    reader: R,
+    transcript: &mut Transcript,
+    writer: &mut W,
+) -> io::Result<()> {
+    for line in BufReader::new(alloc, reader)?.lines(alloc) {
+        transcript.take(line?.as_str(), writer)?;
+    }
+    transcript.end(writer)
+}
+
+fn answer_all<R: Read + Drop, W: Write>(
+    alloc: Global,
+    reader: R,
+    writer: &mut W,
+) -> io::Result<()> {
+    let mut transcript = Transcript::make(alloc);
+    take_lines(alloc, reader, &mut transcript, writer)
+}
 
 fn main(rt: HostRuntime) -> io::Result<()> {
     let mut writer = BufWriter::new(rt.alloc(), io::writer(&rt))?;
-    let mut transcript = Transcript::make(rt.alloc());
-    for line in BufReader::new(rt.alloc(), rt.reader())?.lines(rt.alloc()) {
-        transcript.take(line?.as_str(), &mut writer)?;
-    }
-    transcript.end(&mut writer)?;
+    answer_all(rt.alloc(), rt.reader(), &mut writer)?;
     writer.flush()
 }

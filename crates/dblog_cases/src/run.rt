@@ -109,35 +109,60 @@ impl Run {
 
     /// What the program answers, and the disks as it leaves them.
     pub fn perform(self, alloc: Global, disks: Disks) -> Result<(Answer, Disks), AllocError> {
-        let Disks {
-            wal,
-            topics,
-            offsets,
-        } = disks;
-        let mut input = MemInput::make(self.input, self.failing_reads);
-        let mut output = MemOutput::make(alloc, self.failing_writes);
-        let finished = dbl_program::run(
-            alloc,
-            &self.words,
-            self.now_ms,
-            &mut input,
-            &mut output,
-            FuseDisk::make(wal, self.fuses.wal),
-            FuseDisk::make(topics, self.fuses.topics),
-            FuseDisk::make(offsets, self.fuses.offsets),
-        );
+        let Run {
+            words,
+            now_ms,
+            input,
+            failing_reads,
+            failing_writes,
+            tail,
+            fuses,
+            sweep: _,
+        } = self;
+        let input = MemInput::make(input, failing_reads);
+        let mut output = MemOutput::make(alloc, failing_writes);
+        let (status, left) = run_on(alloc, words, now_ms, input, &mut output, disks, fuses);
         let text = output.bytes().as_slice().to_vec(alloc)?;
-        let Finished {
-            status,
-            wal,
-            topics,
-            offsets,
-        } = finished;
-        let left = Disks {
-            wal: wal.into_inner(),
-            topics: topics.into_inner(),
-            offsets: offsets.into_inner(),
-        };
-        Ok((Answer::make(status, text, self.tail), left))
+        Ok((Answer::make(status, text, tail), left))
     }
+}
+
+// The status with which the program ends, and the disks as it leaves them.
+fn run_on(
+    alloc: Global,
+    words: Vec<Text>,
+    now_ms: i64,
+    input: MemInput,
+    output: &mut MemOutput,
+    disks: Disks,
+    fuses: Fuses,
+) -> (u8, Disks) {
+    let Disks {
+        wal,
+        topics,
+        offsets,
+    } = disks;
+    let mut input = input;
+    let finished = dbl_program::run(
+        alloc,
+        &words,
+        now_ms,
+        &mut input,
+        output,
+        FuseDisk::make(wal, fuses.wal),
+        FuseDisk::make(topics, fuses.topics),
+        FuseDisk::make(offsets, fuses.offsets),
+    );
+    let Finished {
+        status,
+        wal,
+        topics,
+        offsets,
+    } = finished;
+    let left = Disks {
+        wal: wal.into_inner(),
+        topics: topics.into_inner(),
+        offsets: offsets.into_inner(),
+    };
+    (status, left)
 }

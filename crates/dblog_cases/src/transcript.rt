@@ -3,6 +3,7 @@ use crate::disks::{Disks, Place};
 use crate::run::Run;
 use crate::step::{Part, Step, read_step};
 use crate::trials::tell_each;
+use dbl_disk::Choice;
 use std::alloc::{AllocError, Global};
 use std::io::{self, Write};
 use std::mem;
@@ -30,7 +31,7 @@ impl Transcript {
             Some(Step::Comment) => Ok(()),
             Some(Step::Case) => {
                 self.end(writer)?;
-                self.disks = Disks::empty(self.alloc);
+                self.clear();
                 tell_line(line, writer)
             }
             Some(Step::Words { words }) => {
@@ -45,7 +46,7 @@ impl Transcript {
             }
             Some(Step::Crash { choice }) => {
                 self.end(writer)?;
-                self.disks = self.disks.crash(choice)?;
+                self.crash(choice)?;
                 tell_line(line, writer)
             }
             Some(Step::Part { part }) => self.add(part, line, writer),
@@ -63,6 +64,16 @@ impl Transcript {
         }
         let answer = self.perform(run)?;
         answer.tell(writer)
+    }
+
+    // Puts empty disks in place of the case's.
+    fn clear(&mut self) {
+        self.disks = Disks::empty(self.alloc);
+    }
+
+    fn crash(&mut self, choice: Choice) -> Result<(), AllocError> {
+        self.disks = self.disks.crash(choice)?;
+        Ok(())
     }
 
     // Makes the run, which leaves the disks to the next one.

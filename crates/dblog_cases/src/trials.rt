@@ -34,6 +34,36 @@ fn count(sweep: Sweep, disks: &Disks) -> u64 {
     }
 }
 
+// Changes what the run with this number finds on its disks.
+fn change(
+    alloc: Global,
+    found: &mut Disks,
+    disks: &Disks,
+    sweep: Sweep,
+    number: u64,
+) -> Result<(), AllocError> {
+    match sweep {
+        Sweep::Cut { place } => {
+            let bytes = cut(disks.bytes(place), number)?;
+            found.put(alloc, place, bytes.as_slice())
+        }
+        Sweep::Byte { place } | Sweep::Bit { place } => {
+            let bytes = turned(disks.bytes(place), number)?;
+            found.put(alloc, place, bytes.as_slice())
+        }
+        Sweep::Fuse { .. } => Ok(()),
+    }
+}
+
+// The run with this number.
+fn next(alloc: Global, run: &Run, sweep: Sweep, number: u64) -> Result<Run, AllocError> {
+    let mut next = run.again(alloc)?;
+    if let Sweep::Fuse { place, most: _ } = sweep {
+        next.set_fuse(place, number);
+    }
+    Ok(next)
+}
+
 // What the program answers in the run with this number, and how it leaves the disks.
 fn perform(
     alloc: Global,
@@ -42,20 +72,9 @@ fn perform(
     sweep: Sweep,
     number: u64,
 ) -> Result<(Answer, Disks), AllocError> {
-    let mut next = run.again(alloc)?;
     let mut found = disks.crash(Choice::New)?;
-    match sweep {
-        Sweep::Cut { place } => {
-            let bytes = cut(disks.bytes(place), number)?;
-            found.put(alloc, place, bytes.as_slice())?;
-        }
-        Sweep::Byte { place } | Sweep::Bit { place } => {
-            let bytes = turned(disks.bytes(place), number)?;
-            found.put(alloc, place, bytes.as_slice())?;
-        }
-        Sweep::Fuse { place, most: _ } => next.set_fuse(place, number),
-    }
-    next.perform(alloc, found)
+    change(alloc, &mut found, disks, sweep, number)?;
+    next(alloc, run, sweep, number)?.perform(alloc, found)
 }
 
 fn status_of(

@@ -1,0 +1,10 @@
+pub mod Acts
+pub mod Seen
+pub mod Locks
+pub mod Cells
+pub mod Sending
+pub mod Refusals
+pub mod Steps
+pub mod Serial
+pub mod Selects
+pub mod Given

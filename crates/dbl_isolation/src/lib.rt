@@ -1,0 +1,10 @@
+//! What sessions with row locks commit is fit, one commit after the other: laws over their steps.
+#![tactic(auto)]
+
+mod laws;
+
+pub use laws::{
+    commits_show_what_was_seen, first_rows_are_one_list, held_rows_stay, locks_are_apart,
+    open_changes_are_fit, rollbacks_leave_nothing, sent_changes_move_at_most, serial_runs_are_fair,
+    serial_runs_are_fit, steps_are_private, steps_show_their_rows,
+};

@@ -1,0 +1,4 @@
+pub mod SlotLemmas
+pub mod EndKeys
+pub mod RowLemmas
+pub mod LeastLemmas

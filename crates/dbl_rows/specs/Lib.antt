@@ -1,0 +1,5 @@
+pub mod Views
+pub mod Holders
+pub mod Listed
+pub mod Changing
+pub mod Ends

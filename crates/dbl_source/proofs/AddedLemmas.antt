@@ -1,19 +1,18 @@
 -- A played source to whose log a call adds, by its states before and behind.
-use Rattle.std.proofs.Common.{◌≡◌, ◌∙◌, ◌+◌, ◌<◌, ℕ, true, Option, Some, List, [], ◌∷◌, ◌++◌, length, map, refl, sym, ap, subst, arith, append_assoc, length-append}
+use Rattle.std.proofs.Common.{◌≡◌, ◌∙◌, ◌+◌, ◌<◌, ℕ, Option, Some, List, [], ◌∷◌, ◌++◌, length, map, refl, ap, subst, arith, length-append}
 use Rattle.std.specs.Prelude.{slice_get}
-use Rattle.std.proofs.lemmas.List.{length-map, map-append}
+use Rattle.std.proofs.lemmas.List.{length-map}
 use Rattle.dbl_pgmsg.specs.declared.messages.Message.{Message}
 use Rattle.dbl_table.specs.declared.row.Key.{Key}
 use Rattle.dbl_table.specs.declared.table.TableName.{TableName}
-use Rattle.dbl_feed.specs.declared.logged.Logged.{Logged}
 use Rattle.dbl_feed.specs.declared.logged.Logged.TheVariants.{Changes, Mark}
 use Rattle.dbl_source.specs.declared.asked.Asked.{Asked}
 use Rattle.dbl_source.specs.declared.asked.Last.TheVariants as answers
 use Rattle.dbl_source.specs.Moves.{commit_limit, HasRoom}
-use Rattle.dbl_source.specs.Played.{Played, messages_of, inside_of, counted, committed, question_of, with_mark, with_select}
-use Rattle.dbl_source.specs.Steps.{IsKept, WentOn, WasFair}
+use Rattle.dbl_source.specs.Played.{Played, messages_of, inside_of, counted, committed, released, with_answer, question_of, with_mark, with_select}
+use Rattle.dbl_source.specs.Steps.{IsKept, WasFair}
 use Rattle.dbl_source.proofs.PlayLemmas.{WereAsked, fair_before, fair_same}
-use Rattle.dbl_source.proofs.CallLemmas.{messages_stay, went_placed}
+use Rattle.dbl_source.proofs.CallLemmas.{WentOn, messages_stay, went_placed}
 
 -- behind the commits before a call there is room for its own
 pub room_left : (mid new : Played) (before : List (List Message)) (own : ℕ) → new ≡ committed before (counted mid) → HasRoom (length mid.log) (length before) own → length new.log + own < commit_limit
@@ -27,45 +26,21 @@ went_asked old mid w kept n question found =
 
 -- ---- commits inside of a call
 
--- more of other clients' commits, and what was asked told by an equation
-pub went_on : (old mid v : Played) (log : List Logged) (asked : List Asked) (more : List (List Message)) → v ≡ mid → WentOn old mid → log ≡ v.log ++ map Changes more → asked ≡ v.asked → WentOn old (record v { log = log; asked = asked })
-went_on old mid v log asked more same w is asked_is =
-    let u : WentOn old v = subst (WentOn old) (sym same) w in
-    record {
-      more = u.more ++ more;
-      log =
-          is
-          ∙ ap (λ (l : List Logged). l ++ map Changes more) u.log
-          ∙ append_assoc old.log (map Changes u.more) (map Changes more)
-          ∙ ap (λ (l : List Logged). old.log ++ l) (sym (map-append Changes u.more more));
-      tables = u.tables;
-      rows = u.rows;
-      asked = asked_is ∙ u.asked;
-      confirmed = u.confirmed;
-      place = u.place;
-      last = u.last;
-    }
-
--- what a select makes of a source, by the parts that it has made
-pub select_is : (old mid here : Played) (table : TableName) (above : Option Key) (limit from upto number : ℕ) (log : List Logged) (asked : List Asked) (question : Asked) → here ≡ mid → from ≡ length old.log → number ≡ length here.asked
-    → log ≡ here.log ++ map Changes (inside_of old) → upto ≡ length log → question ≡ question_of table above limit from upto → asked ≡ here.asked ++ question ∷ []
-    → record here { log = log; asked = asked; last = answers.Rows number; live = true } ≡ with_select table above limit (length old.log) (inside_of old) mid
-select_is old mid here table above limit from upto number log asked question same from_is number_is log_is upto_is question_is asked_is =
+-- what a select makes of a source: other clients committed around it, its question is kept, and it answered
+pub select_is : (old around kept new : Played) (table : TableName) (above : Option Key) (limit from number : ℕ) → new ≡ with_answer (answers.Rows number) kept
+    → kept ≡ record around { asked = around.asked ++ question_of table above limit from (length around.log) ∷ [] } → around ≡ committed (inside_of old) (released old) → from ≡ length old.log → number ≡ length around.asked
+    → new ≡ with_select table above limit (length old.log) (inside_of old) (released old)
+select_is old around kept new table above limit from number is kept_is around_is from_is number_is =
+    let mid : Played = released old in
     let inside : List (List Message) = inside_of old in
-    let long : upto ≡ length here.log + length inside = omega (arith, upto_is, ap length log_is, length-append here.log (map Changes inside), length-map inside Changes) in
-    let now : Asked = question_of table above limit (length old.log) (length here.log + length inside) in
-    let asks : asked ≡ here.asked ++ now ∷ [] =
-    asked_is
-    ∙ ap (λ (q : Asked). here.asked ++ q ∷ []) (
-    question_is
-    ∙ ap (λ (n : ℕ). question_of table above limit n upto) from_is
-    ∙ ap (λ (n : ℕ). question_of table above limit (length old.log) n) long
-    ) in
-    let made : List Logged → List Asked → ℕ → Played = λ l qs n. record here { log = l; asked = qs; last = answers.Rows n; live = true } in
-    ap (λ (l : List Logged). made l asked number) log_is
-    ∙ ap (λ (qs : List Asked). made (here.log ++ map Changes inside) qs number) asks
-    ∙ ap (λ (n : ℕ). made (here.log ++ map Changes inside) (here.asked ++ now ∷ []) n) number_is
-    ∙ ap (λ (p : Played). with_select table above limit (length old.log) inside p) same
+    let long : length (mid.log ++ map Changes inside) ≡ length mid.log + length inside = omega (arith, length-append mid.log (map Changes inside), length-map inside Changes) in
+    let made : Played → ℕ → ℕ → ℕ → Played = λ s f u n. with_answer (answers.Rows n) (record s { asked = s.asked ++ question_of table above limit f u ∷ [] }) in
+    is
+    ∙ ap (with_answer (answers.Rows number)) kept_is
+    ∙ ap (λ (n : ℕ). made around from (length around.log) n) number_is
+    ∙ ap (λ (f : ℕ). made around f (length around.log) (length around.asked)) from_is
+    ∙ ap (λ (s : Played). made s (length old.log) (length s.log) (length s.asked)) around_is
+    ∙ ap (λ (u : ℕ). made (committed inside mid) (length old.log) u (length mid.asked)) long
 
 pub select_read : (old mid : Played) (table : TableName) (above : Option Key) (limit from : ℕ) (inside : List (List Message)) → WentOn old mid → IsKept old → messages_of (with_select table above limit from inside mid) ≡ messages_of mid
 select_read old mid table above limit from inside w kept = messages_stay mid.tables mid.log (map Changes inside) mid.place (went_placed old mid w kept)

@@ -32,8 +32,19 @@ use Rattle.dbl_source.specs.declared.asked.Asked.{Asked}
 use Rattle.dbl_source.specs.declared.asked.Last.{Last}
 use Rattle.dbl_source.specs.declared.asked.Last.TheVariants as answers
 use Rattle.dbl_source.specs.Played.{Played, messages_of, reading_at, standing_at, standing_of, with_answer, with_mark, with_confirmed, started_at, place_of, with_start, with_head, next_rows, question_of, with_select}
-use Rattle.dbl_source.specs.Steps.{IsKept, WentOn, StandsFor, MayLeave, WasFair}
+use Rattle.dbl_source.specs.Steps.{IsKept, StandsFor, MayLeave, WasFair}
 use Rattle.dbl_source.proofs.PlayLemmas.{IsAtPlace, moved, marked_at, gone_behind, begun_behind, read_all, is_head, selects_right, fair_same}
+
+-- other clients committed, and what a reader, a confirm and a select have made of the source is as it was
+pub record WentOn (old new : Played) : Type 0 where
+  pub more : List (List Message)
+  pub log : new.log ≡ old.log ++ map Changes more
+  pub tables : new.tables ≡ old.tables
+  pub rows : new.rows ≡ old.rows
+  pub asked : new.asked ≡ old.asked
+  pub confirmed : new.confirmed ≡ old.confirmed
+  pub place : new.place ≡ old.place
+  pub last : new.last ≡ old.last
 
 -- so it stands for its old parts over the longer log
 pub standing_went : (old new : Played) (w : WentOn old new) → standing_of new ≡ standing_at old.tables (old.log ++ map Changes w.more) old.confirmed old.place

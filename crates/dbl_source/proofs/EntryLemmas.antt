@@ -1,11 +1,10 @@
 -- The catalogue's entry of a name, by the place of the log's table.
-use Rattle.std.proofs.Common.{◌≡◌, ◌∙◌, ◌+◌, ◌<◌, ℕ, Bool, true, false, cond, Option, Some, None, List, [], ◌∷◌, ◌++◌, length, get_or, refl, sym, ap, arith, append_assoc, length-append}
-use Rattle.std.specs.Prelude.{not, option_map, option_and_then, find, IfSome, slice_get}
+use Rattle.std.proofs.Common.{◌≡◌, ◌∙◌, ◌+◌, ℕ, Bool, true, false, cond, Option, Some, None, List, [], ◌∷◌, ◌++◌, length, refl, sym, ap, arith, append_assoc, length-append}
+use Rattle.std.specs.Prelude.{IfSome, not, option_map, option_and_then, find, slice_get}
 use Rattle.std.specs.List.{position_from}
-use Rattle.std.proofs.lemmas.Option.{slice_get_within, slice_get_read}
 use Rattle.dbl_table.specs.declared.table.TableName.{TableName}
+use Rattle.dbl_table.specs.declared.table.RawTable.{RawTable}
 use Rattle.dbl_table.specs.Tables.{is_watermark, same_name}
-use Rattle.dbl_table.proofs.Lists.{position_from-at}
 use Rattle.dbl_history.specs.History.{entry_of}
 use Rattle.dbl_honest.specs.Told.{Answer, Told}
 use Rattle.dbl_feed.specs.declared.logged.LogTable.{LogTable}
@@ -47,15 +46,14 @@ entry_placed us name place plain is =
     ∙ ap (option_map (λ (t : LogTable). t.raw)) (found_at (λ (t : LogTable). same_name t.raw.name name) [] us 0 refl)
     ∙ sym (entry_named us name plain)
 
-pub placed_within : (us : List LogTable) (name : TableName) (place : Option ℕ) → place ≡ position_from (λ t. same_name t.raw.name name) 0 us → IfSome place (λ i. i < length us)
-placed_within us name None is = tt
-placed_within us name (Some i) is =
-    let found = position_from-at (λ (t : LogTable). same_name t.raw.name name) 0 us i (sym is) in
-    omega (arith, found.1, slice_get_within us found.0 found.2.0 found.2.1)
-
--- what is read at a place of the log's tables is the entry there
-pub entry_there : (us : List LogTable) (place : ℕ) (u : LogTable) → place < length us → u ≡ get_or us place u → Some u.raw ≡ entry_at us (Some place)
-entry_there us place u within is = ap (option_map (λ (t : LogTable). t.raw)) (sym (slice_get_read us (length us) place u refl within is))
+-- an entry that is found has the name that was asked for
+pub found_named : (raws : List RawTable) (name : TableName) → IfSome (find (λ r. same_name r.name name) raws) (λ raw. raw.name ≡ name)
+found_named [] name = tt
+found_named (raw ∷ raws) name = by (same_name raw.name name) refl (found_named raws name)
+  where
+    by : (b : Bool) → same_name raw.name name ≡ b → IfSome (find (λ r. same_name r.name name) raws) (λ r. r.name ≡ name) → IfSome (cond b (Some raw) (find (λ r. same_name r.name name) raws)) (λ r. r.name ≡ name)
+    by true same rest = name_same raw.name name same
+    by false same rest = rest
 
 -- who tells one thing tells its answer
 pub answer_told : (told t : Told) (answer : Answer) → Some told ≡ Some t → told.answer ≡ answer → t.answer ≡ answer

@@ -1,69 +1,153 @@
--- What a call of a played source leaves, by the way that it ended.
-use Rattle.std.proofs.Common.{◌≡◌, ◌∙◌, ℕ, List, length, map, refl, sym, ap, subst}
+-- What a source promises of each call, from what the call made of the script.
+use Rattle.std.proofs.Common.{◌≡◌, ◌∙◌, inl, inr, ◌≤◌, ℕ, false, List, [], map, take, refl, sym, ap, subst, arith}
+use Rattle.std.specs.Prelude.{IsTrue, is_some, Option, Some, Result, Ok, Err, IfOk, OnOk, OnErr}
+use Rattle.std.proofs.lemmas.List.{append-nil}
+use Rattle.dbl_base.specs.Streams.{Rose, raised}
+use Rattle.dbl_pgmsg.specs.declared.messages.Message.{Message}
 use Rattle.dbl_pgmsg.specs.Grammar.{spelling}
-use Rattle.dbl_honest.specs.Standings.{Standing, Left, left_of, Stood}
-use Rattle.dbl_honest.specs.Calls.{IsMarked}
-use Rattle.dbl_honest.specs.Leaves.{Leaves, MayFollow, MayFollowMark}
-use Rattle.dbl_honest.specs.Answered.{IsSelected}
-use Rattle.dbl_table.specs.declared.row.Key.{Key}
-use Rattle.dbl_table.specs.declared.table.TableName.{TableName}
-use Rattle.dbl_table.specs.declared.table.RawRow.{RawRow}
-use Rattle.std.specs.Prelude.{Option}
-use Rattle.dbl_source.specs.Played.{Played, messages_of, standing_of, inside_of, past_move, next_rows, with_mark, with_select}
-use Rattle.dbl_source.specs.Steps.{IsKept, WentOn, StandsFor, MayLeave, WasFair}
-use Rattle.dbl_source.specs.Exits.{Stays}
-use Rattle.dbl_source.proofs.PlannedLemmas.{went_after}
-use Rattle.dbl_source.proofs.CallLemmas.{went_follows, went_fair, went_read, mark_leads, mark_follows, select_leads, select_follows}
-use Rattle.dbl_source.proofs.AddedLemmas.{mark_read, mark_fair, select_read, select_fair}
+use Rattle.dbl_honest.specs.Standings.{Standing, Left, left_of}
+use Rattle.dbl_honest.specs.Leaves.{Leaves, LeavesSome, MayFollow}
+use Rattle.dbl_honest.specs.Told.{Answer, Tells}
+use Rattle.dbl_feed.specs.declared.place.Place.{Place}
+use Rattle.dbl_source.specs.declared.error.SourceError.{SourceError}
+use Rattle.dbl_source.specs.declared.error.SourceError.TheVariants.{Failed, Memory}
+use Rattle.dbl_source.specs.Played.{Played, messages_of, standing_of, told_of, before_of, past_move, called, released, with_fault}
+use Rattle.dbl_source.specs.Steps.{IsKept, AddedFirst, StandsFor, MayLeave, WasFair}
+use Rattle.dbl_source.specs.Exits.{Plays}
+use Rattle.dbl_source.proofs.PlannedLemmas.{no_err}
+use Rattle.dbl_source.proofs.CallLemmas.{WentOn, went_follows, went_fair, went_read}
 
 -- ---- other clients committed, and nothing else happened
 
-pub stays : (old new : Played) → WentOn old new → IsKept old → Stays old new
-stays old new w kept = record {
-  left = λ s l stands may. went_follows old new s l w kept stands may;
-  some = λ s stands. (left_of (standing_of new), refl);
-  taken = went_read old new w kept;
-  honest = λ fair. went_fair old new w kept fair;
+went_called : (old : Played) → WentOn old (called old)
+went_called old = record { more = []; log = sym (append-nil old.log); tables = refl; rows = refl; asked = refl; confirmed = refl; place = refl; last = refl }
+
+pub went_released : (old : Played) → WentOn old (released old)
+went_released old = record { more = before_of old; log = refl; tables = refl; rows = refl; asked = refl; confirmed = refl; place = refl; last = refl }
+
+went_added : (commits : List (List Message)) (old new : Played) → AddedFirst commits (past_move old) new → WentOn old new
+went_added commits old new added = record {
+  more = take added.count commits;
+  log = ap (λ (p : Played). p.log) added.is;
+  tables = ap (λ (p : Played). p.tables) added.is;
+  rows = ap (λ (p : Played). p.rows) added.is;
+  asked = ap (λ (p : Played). p.asked) added.is;
+  confirmed = ap (λ (p : Played). p.confirmed) added.is;
+  place = ap (λ (p : Played). p.place) added.is;
+  last = ap (λ (p : Played). p.last) added.is;
 }
 
--- behind the move of the call
-pub stays_after : (old mid new : Played) → mid ≡ past_move old → WentOn mid new → IsKept old → Stays old new
-stays_after old mid new past w kept = stays old new (went_after old mid new past w) kept
+-- ---- the call failed
 
-pub stays_so : (old mid new : Played) → new ≡ mid → Stays old mid → Stays old new
-stays_so old mid new is s = subst (Stays old) (sym is) s
+pub record Ended (old new : Played) (e : SourceError) : Type 0 where
+  pub went : WentOn old new
+  pub dead : new.live ≡ false
+  pub rose : e ≡ Failed → Rose old.plan.faults new.plan.faults
+
+ended_faulty : (old mid new : Played) → WentOn old mid → mid.live ≡ false → mid.plan.faults ≡ old.plan.faults → new ≡ with_fault mid → Ended old new Failed
+ended_faulty old mid new w dead same is =
+    let faulty : WentOn old (with_fault mid) = record { more = w.more; log = w.log; tables = w.tables; rows = w.rows; asked = w.asked; confirmed = w.confirmed; place = w.place; last = w.last } in
+    let one : new.plan.faults ≡ raised old.plan.faults = ap (λ (p : Played). p.plan.faults) is ∙ ap raised same in
+    record {
+      went = subst (WentOn old) (sym is) faulty;
+      dead = ap (λ (p : Played). p.live) is ∙ dead;
+      rose = λ failed. (let least : raised old.plan.faults ≤ raised old.plan.faults = omega arith in subst (λ (n : ℕ). raised old.plan.faults ≤ n) (sym one) least);
+    }
+
+pub ended : {T : Type 0} (own : ℕ) (more : Type 0) (commits : List (List Message)) (done : T → Played → Type 0) (old new : Played) (e : SourceError) → Plays own more commits done old new (Err e) → Ended old new e
+ended own more commits done old new Memory p =
+    let added : AddedFirst commits (past_move old) new = p.memory refl in
+    record {
+      went = went_added commits old new added;
+      dead = ap (λ (q : Played). q.live) added.is;
+      rose = λ is. (let never : Memory ≡ Failed = is in cc);
+    }
+ended own more commits done old new Failed p = elim (p.planned.failed refl) [
+  | inl full ↦ ended_faulty old (called old) new (went_called old) refl refl full.1
+  | inr behind ↦ elim behind [
+    | inl listed ↦ ended_faulty old (released old) new (went_released old) refl refl listed.2
+    | inr other ↦ ended_faulty old (released old) new (went_released old) refl refl other.3
+  ]
+]
 
 -- ---- the call answered
 
--- what the source stands for then, what a stop leaves, what was read, and honesty
-pub record Ends (Leads : Standing → Standing → Type 0) (Follows : Standing → Left → Type 0) (old new : Played) : Type 0 where
-  pub leads : (s : Standing) → StandsFor old s → Stood StandsFor new (Leads s)
+-- the bytes of the messages that were read are the same, and whether there is a reader
+abbrev pub SameRead : Played → Played → Type 0
+SameRead old new = map spelling (messages_of new) ≡ map spelling (messages_of old)
+
+abbrev pub SameReader : Played → Played → Type 0
+SameReader old new = is_some new.place ≡ is_some old.place
+
+pub record Ends (G : Standing → Type 0) (Follows : Standing → Left → Type 0) (answer : Answer) (K R : Type 0) (old new : Played) : Type 0 where
+  pub leads : (s : Standing) → StandsFor old s → G s
   pub left : Leaves StandsFor MayLeave old new Follows
-  pub taken : map spelling (messages_of new) ≡ map spelling (messages_of old)
+  pub live : IsTrue new.live
   pub honest : WasFair new → WasFair old
+  pub told : Tells (Some (told_of new)) answer
+  pub taken : K
+  pub reading : R
 
--- a mark
-pub mark_ends : (old mid new : Played) (value : List ℕ) → new ≡ with_mark value mid → WentOn old mid → IsKept old → Ends (IsMarked value) (MayFollowMark value) old new
-mark_ends old mid new value is w kept =
-    let ends : Ends (IsMarked value) (MayFollowMark value) old (with_mark value mid) = record {
-      leads = λ s stands. mark_leads old mid s w kept stands value;
-      left = λ s l stands may. mark_follows old mid s w kept stands value l may;
-      taken = ap (map spelling) (mark_read old mid value w kept) ∙ went_read old mid w kept;
-      honest = λ fair. went_fair old mid w kept (mark_fair old mid value w kept fair);
-    } in
-    subst (λ (n : Played). Ends (IsMarked value) (MayFollowMark value) old n) (sym is) ends
+-- ---- whatever it answered
 
--- a select that began with the log of the source before it
-pub select_ends : (old mid new : Played) (table : TableName) (above : Option Key) (limit : ℕ) (rows : List RawRow) → new ≡ with_select table above limit (length old.log) (inside_of old) mid → rows ≡ next_rows mid → WentOn old mid → IsKept old
-    → Ends (IsSelected (WasFair new) table above limit rows) MayFollow old new
-select_ends old mid new table above limit rows is rows_are w kept =
-    let from : ℕ = length old.log in
-    let after : Played = with_select table above limit from (inside_of old) mid in
-    let ends : Ends (IsSelected (WasFair after) table above limit (next_rows mid)) MayFollow old after = record {
-      leads = λ s stands. select_leads old mid s w kept stands table above limit (inside_of old);
-      left = λ s l stands may. select_follows old mid s w kept stands table above limit (inside_of old) l may;
-      taken = ap (map spelling) (select_read old mid table above limit from (inside_of old) w kept) ∙ went_read old mid w kept;
-      honest = λ fair. went_fair old mid w kept (select_fair old mid table above limit from (inside_of old) w kept fair);
-    } in
-    subst (λ (n : Played). Ends (IsSelected (WasFair n) table above limit rows) MayFollow old n) (sym is)
-    (subst (λ (found : List RawRow). Ends (IsSelected (WasFair after) table above limit found) MayFollow old after) (sym rows_are) ends)
+pub record Held {T : Type 0} (G : T → Standing → Type 0) (Follows : Standing → Left → Type 0) (answer : T → Answer) (K R : T → Type 0) (old new : Played) (result : Result T SourceError) : Type 0 where
+  pub leads : (s : Standing) → StandsFor old s → IfOk result (λ x. G x s)
+  pub left : Leaves StandsFor MayLeave old new Follows
+  pub some : LeavesSome StandsFor MayLeave old new
+  pub without : result ≡ Err Memory → Leaves StandsFor MayLeave old new MayFollow
+  pub live : OnOk result (IsTrue new.live)
+  pub dead : OnErr result (new.live ≡ false)
+  pub honest : WasFair new → WasFair old
+  pub failed : result ≡ Err Failed → Rose old.plan.faults new.plan.faults
+  pub told : IfOk result (λ x. Tells (Some (told_of new)) (answer x))
+  pub taken : IfOk result (λ x. K x)
+  pub untaken : OnErr result (SameRead old new)
+  pub reading : IfOk result (λ x. R x)
+  pub unread : OnErr result (SameReader old new)
+
+one_err : (T : Type 0) (e d : SourceError) (x y : Result T SourceError) → x ≡ Err e → y ≡ Err d → x ≡ y → e ≡ d
+one_err T e d x y at there same = cc
+
+pub held : {T : Type 0} (G : T → Standing → Type 0) (Follows : Standing → Left → Type 0) (answer : T → Answer) (K R : T → Type 0) (own : ℕ) (more : Type 0) (commits : List (List Message)) (done : T → Played → Type 0) (old new : Played)
+    (result : Result T SourceError) → Plays own more commits done old new result → ((s : Standing) (l : Left) → MayFollow s l → Follows s l) → ((x : T) → IsKept old → done x new → Ends (G x) Follows (answer x) (K x) (R x) old new)
+    → Held G Follows answer K R old new result
+held G Follows answer K R own more commits done old new (Ok x) p weaker ends =
+    let e : Ends (G x) Follows (answer x) (K x) (R x) old new = ends x p.kept p.played in
+    record {
+      leads = e.leads;
+      left = e.left;
+      some = λ s stands. (left_of (standing_of new), refl);
+      without = λ is. absurd (no_err x Memory is);
+      live = e.live;
+      dead = tt;
+      honest = e.honest;
+      failed = λ is. absurd (no_err x Failed is);
+      told = e.told;
+      taken = e.taken;
+      untaken = tt;
+      reading = e.reading;
+      unread = tt;
+    }
+held {T = T} G Follows answer K R own more commits done old new (Err e) p weaker ends =
+    let d : Ended old new e = ended own more commits done old new e p in
+    let follows : Leaves StandsFor MayLeave old new MayFollow = λ s l stands may. went_follows old new s l d.went p.kept stands may in
+    record {
+      leads = λ s stands. tt;
+      left = λ s l stands may. weaker s l (follows s l stands may);
+      some = λ s stands. (left_of (standing_of new), refl);
+      without = λ is. follows;
+      live = tt;
+      dead = d.dead;
+      honest = λ fair. went_fair old new d.went p.kept fair;
+      failed = λ is. d.rose (one_err T e Failed (Err e) (Err Failed) refl refl is);
+      told = tt;
+      taken = tt;
+      untaken = went_read old new d.went p.kept;
+      reading = tt;
+      unread = ap (λ (o : Option Place). is_some o) d.went.place;
+    }
+
+-- what holds of an answer and behind an error holds
+pub both : {T E P : Type 0} (r : Result T E) → OnOk r P → OnErr r P → P
+both (Ok x) holds other = holds
+both (Err e) other holds = holds

@@ -27,6 +27,8 @@ use Rattle.dbl_table.specs.Keys.{same_key}
 use Rattle.dbl_table.specs.Rows.{at_key, row_after}
 use Rattle.dbl_table.specs.Rows.Effect.{Whole}
 use Rattle.dbl_table.proofs.InfoLemmas.{one_info}
+use Rattle.dbl_table.proofs.KeyLemmas.{same_key-is}
+use Rattle.dbl_table.specs.declared.table.RawRow.{RawRow}
 use Rattle.dbl_history.specs.History.{History}
 use Rattle.dbl_history.specs.Fit.{AreInfosOf}
 use Rattle.dbl_commit.specs.Stated.{row_stated, err_of, stated_in}
@@ -48,7 +50,7 @@ use Rattle.dbl_source.specs.declared.asked.Asked.{Asked}
 use Rattle.dbl_source.specs.Played.{keyed_table, question_of}
 use Rattle.dbl_source.specs.Fairness.{IsAnswered}
 use Rattle.dbl_source.specs.Steps.{WasFair}
-use Rattle.dbl_source.specs.FairExample.{example_name, example_table, inserting, row_of, example_rows, read_example, stale_example, FairSourcesStand}
+use Rattle.dbl_source.specs.FairExample.{example_name, example_table, inserting, row_of, read_example, first_example, last_example, stale_example, FairSourcesStand}
 
 -- ---- the source
 
@@ -216,7 +218,7 @@ fair_log = record {
   changes = (tt, (((change_of_table (codes "a") plain_a refl, few_faults (codes "a")), tt), (((change_of_table (codes "b") plain_b refl, few_faults (codes "b")), tt), tt)));
 }
 
--- ---- the rows of its select are those of the position between the inserts
+-- ---- the rows of its select are those of a position of the call: before the inserts, between them, and behind them
 
 abbrev keyed : List ℕ → Key
 keyed text = record { cells = val.Text text ∷ [] }
@@ -240,33 +242,84 @@ first_row = record {
   };
 }
 
-abbrev AreRows : List TableInfo → Type 0
-AreRows infos = IfSome (number_of infos example_name) (λ table. (info : TableInfo) × AreFirstOf infos table info (rows_behind infos history 2) None 10 (row_of (codes "a") ∷ []))
+abbrev AreRows : ℕ → List RawRow → List TableInfo → Type 0
+AreRows place rows infos = IfSome (number_of infos example_name) (λ table. (info : TableInfo) × AreFirstOf infos table info (rows_behind infos history place) None 10 rows)
 
-has_table : Some example_table ≡ None → row_of (codes "a") ∷ [] ≡ []
-has_table none = cc
+-- none before the first insert
+empty : AreFirstOf (info_of ∷ []) 0 info_of (rows_behind (info_of ∷ []) history 1) None 10 []
+empty = record {
+  captured = refl;
+  none_above = λ never. refl;
+  first = λ above. record { keys = tt; ordered = tt; few = omega arith; right = λ key is_key behind range. refl };
+}
 
-between : AreAnswered history 1 3 example_name None 10 (row_of (codes "a") ∷ [])
-between = record {
-  absent = has_table;
-  place = 2;
-  not_before = omega arith;
-  not_after = omega arith;
+-- both behind the second one: no key is that of both
+apart : (key : Key) → same_key (keyed (codes "a")) key ≡ true → same_key (keyed (codes "b")) key ≡ true → ⊥
+apart key first second =
+    let other : false ≡ true = subst (λ (k : Key). same_key (keyed (codes "b")) k ≡ true) (sym (same_key-is (keyed (codes "a")) key first)) second in
+    cc
+
+two_rows : (p q : Bool) (a b : List Val) → (p ≡ true → q ≡ true → ⊥) → (if p then Some a else (if q then Some b else None)) ≡ row_after (at_key true q (Whole b)) (row_after (at_key true p (Whole a)) None)
+two_rows true true a b never = absurd (never refl refl)
+two_rows true false a b never = refl
+two_rows false true a b never = refl
+two_rows false false a b never = refl
+
+both_rows : AreFirstOf (info_of ∷ []) 0 info_of (rows_behind (info_of ∷ []) history 3) None 10 (row_of (codes "a") ∷ row_of (codes "b") ∷ [])
+both_rows = record {
+  captured = refl;
+  none_above = λ never. absurd (never tt);
+  first = λ above. record {
+    keys = ((text_of_type (codes "a") plain_a, tt), ((text_of_type (codes "b") plain_b, tt), tt));
+    ordered = (tt, (refl, tt));
+    few = omega arith;
+    right = λ key is_key behind range. two_rows (same_key (keyed (codes "a")) key) (same_key (keyed (codes "b")) key) (val.Text (codes "a") ∷ []) (val.Text (codes "b") ∷ []) (apart key);
+  };
+}
+
+has_table : (rows : List RawRow) → Some example_table ≡ None → rows ≡ []
+has_table rows none = cc
+
+at_place : (place : ℕ) (rows : List RawRow) → 1 ≤ place → place ≤ 3 → AreFirstOf (info_of ∷ []) 0 info_of (rows_behind (info_of ∷ []) history place) None 10 rows → AreAnswered history 1 3 example_name None 10 rows
+at_place place rows low high first = record {
+  absent = has_table rows;
+  place = place;
+  not_before = low;
+  not_after = high;
   are = λ infos are. elim (captured log infos are) [
-    | inl none ↦ subst AreRows (sym none) tt
-    | inr alone ↦ subst AreRows (sym alone) (info_of, first_row)
+    | inl none ↦ subst (AreRows place rows) (sym none) tt
+    | inr alone ↦ subst (AreRows place rows) (sym alone) (info_of, first)
   ];
 }
 
-answered : (n : ℕ) (question : Asked) → slice_get read_example.asked n ≡ Some question → IsAnswered tables log question (slice_index_or example_rows n [])
-answered zero question is =
+answered : (rows : List RawRow) (later : List (List RawRow)) → AreAnswered history 1 3 example_name None 10 rows → (n : ℕ) (question : Asked) → slice_get read_example.asked n ≡ Some question
+    → IsAnswered tables log question (slice_index_or (rows ∷ later) n [])
+answered rows later are zero question is =
     let found : Some (question_of example_name None 10 1 3) ≡ Some question = is in
     let same : question_of example_name None 10 1 3 ≡ question = cc in
-    subst (λ (q : Asked). IsAnswered tables log q (row_of (codes "a") ∷ [])) same between
-answered (suc n) question is = let none : None ≡ Some question = is in cc
+    subst (λ (q : Asked). IsAnswered tables log q rows) same are
+answered rows later are (suc n) question is = let none : None ≡ Some question = is in cc
 
 was_fair : WasFair read_example
-was_fair = record { fit = fit_histories tables log fit_log; changes = fair_log; selects = answered }
+was_fair = record {
+  fit = fit_histories tables log fit_log;
+  changes = fair_log;
+  selects = answered (row_of (codes "a") ∷ []) ((row_of (codes "a") ∷ []) ∷ []) (at_place 2 (row_of (codes "a") ∷ []) (omega arith) (omega arith) first_row);
+}
+
+was_fair_first : WasFair first_example
+was_fair_first = record {
+  fit = fit_histories tables log fit_log;
+  changes = fair_log;
+  selects = answered [] [] (at_place 1 [] (omega arith) (omega arith) empty);
+}
+
+was_fair_last : WasFair last_example
+was_fair_last = record {
+  fit = fit_histories tables log fit_log;
+  changes = fair_log;
+  selects = answered (row_of (codes "a") ∷ row_of (codes "b") ∷ []) [] (at_place 3 (row_of (codes "a") ∷ row_of (codes "b") ∷ []) (omega arith) (omega arith) both_rows);
+}
 
 -- ---- behind the next select b has a row, which isn't answered
 
@@ -287,4 +340,4 @@ is_stale fair =
     cc
 
 pub fair_stands : FairSourcesStand
-fair_stands = (was_fair, is_stale)
+fair_stands = (was_fair, was_fair_first, was_fair_last, is_stale)

@@ -16,27 +16,24 @@ use Rattle.dbl_source.specs.Steps.{Describes, IsPlayed}
 use Rattle.dbl_source.proofs.PlayLemmas.{asked_more}
 use Rattle.dbl_source.proofs.CallLemmas.{placed_on}
 
-pub played_on : (tables : List LogTable) (log new : List Logged) (asked : List Asked) (place : Option Place) (described : BTreeSet ℕ) (more : List (List Message)) → new ≡ log ++ map Changes more → length log + length more < commit_limit
-    → IsPlayed tables log asked place described → IsPlayed tables new asked place described
-played_on tables log new asked place described more is few played =
-    let longer : length new ≡ length log + length more = omega (arith, ap length is, length-append log (map Changes more), length-map more Changes) in
+played_more : (tables : List LogTable) (log new more : List Logged) (asked : List Asked) (place : Option Place) (described : BTreeSet ℕ) → new ≡ log ++ more → length log + length more < commit_limit → IsPlayed tables log asked place described
+    → IsPlayed tables new asked place described
+played_more tables log new more asked place described is few played =
+    let longer : length new ≡ length log + length more = omega (arith, ap length is, length-append log more) in
     record {
       few = omega (arith, longer, few);
       before = λ n question found. omega (arith, longer, played.before n question found);
-      placed = λ p at. subst (λ (l : List Logged). IsPlaceIn l p) (sym is) (placed_on log (map Changes more) p (played.placed p at));
-      recalled = λ p at. subst (λ (l : List Logged). Describes described (told_at tables l p)) (sym is) (subst (Describes described) (sym (told_at-grown tables log (map Changes more) p (played.placed p at))) (played.recalled p at));
+      placed = λ p at. subst (λ (l : List Logged). IsPlaceIn l p) (sym is) (placed_on log more p (played.placed p at));
+      recalled = λ p at. subst (λ (l : List Logged). Describes described (told_at tables l p)) (sym is) (subst (Describes described) (sym (told_at-grown tables log more p (played.placed p at))) (played.recalled p at));
     }
+
+pub played_on : (tables : List LogTable) (log new : List Logged) (asked : List Asked) (place : Option Place) (described : BTreeSet ℕ) (more : List (List Message)) → new ≡ log ++ map Changes more → length log + length more < commit_limit
+    → IsPlayed tables log asked place described → IsPlayed tables new asked place described
+played_on tables log new asked place described more is few = played_more tables log new (map Changes more) asked place described is (omega (arith, few, length-map more Changes))
 
 pub played_marked : (tables : List LogTable) (log new : List Logged) (asked : List Asked) (place : Option Place) (described : BTreeSet ℕ) (value : List ℕ) → new ≡ log ++ Mark value ∷ [] → length log + 1 < commit_limit
     → IsPlayed tables log asked place described → IsPlayed tables new asked place described
-played_marked tables log new asked place described value is few played =
-    let longer : length new ≡ length log + 1 = omega (arith, ap length is, length-append log (Mark value ∷ [])) in
-    record {
-      few = omega (arith, longer, few);
-      before = λ n question found. omega (arith, longer, played.before n question found);
-      placed = λ p at. subst (λ (l : List Logged). IsPlaceIn l p) (sym is) (placed_on log (Mark value ∷ []) p (played.placed p at));
-      recalled = λ p at. subst (λ (l : List Logged). Describes described (told_at tables l p)) (sym is) (subst (Describes described) (sym (told_at-grown tables log (Mark value ∷ []) p (played.placed p at))) (played.recalled p at));
-    }
+played_marked tables log new asked place described value is few = played_more tables log new (Mark value ∷ []) asked place described is (omega (arith, few))
 
 -- a select more, that returned now
 pub played_asked : (tables : List LogTable) (log : List Logged) (asked now : List Asked) (question : Asked) (place : Option Place) (described : BTreeSet ℕ) → now ≡ asked ++ question ∷ [] → question.upto ≡ length log

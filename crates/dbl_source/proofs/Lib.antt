@@ -1,7 +1,7 @@
 pub mod PlayLemmas
 pub mod CallLemmas
 pub mod PlannedLemmas
-mod NewLemmas
+pub mod NewLemmas
 mod FairExample
 pub mod ReadingLemmas
 pub mod KeptLemmas
@@ -11,4 +11,7 @@ pub mod StartLemmas
 pub mod ReadCallLemmas
 pub mod AddedLemmas
 pub mod MemoryLemmas
+pub mod PlayedLemmas
 pub mod ExitLemmas
+pub mod EndLemmas
+pub mod MarkLemmas

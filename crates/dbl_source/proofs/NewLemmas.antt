@@ -1,8 +1,21 @@
 -- A source that has been asked nothing.
-use Rattle.std.proofs.Common.{List, map}
+use Rattle.std.proofs.Common.{◌≡◌, ◌∷◌, List, [], map, refl, sym, ap, subst}
+use Rattle.std.specs.Prelude.{◌≢◌, IsTrue}
+use Rattle.std.specs.List.{AllByRecursion}
+use Rattle.dbl_pgmsg.specs.Grammar.{Fits}
+use Rattle.dbl_table.specs.declared.table.TableName.{TableName}
+use Rattle.dbl_table.specs.declared.table.RawTable.{RawTable}
+use Rattle.dbl_table.specs.declared.table.RawRow.{RawRow}
+use Rattle.dbl_table.specs.Tables.{same_name, are_distinct}
+use Rattle.dbl_history.specs.Ranges.{IsEntryInRange}
+use Rattle.dbl_feed.specs.declared.logged.Logged.{Logged}
+use Rattle.dbl_feed.specs.Relations.{catalogue, all_relations}
+use Rattle.dbl_feed.specs.Fair.{AreNamed}
 use Rattle.dbl_feed.specs.declared.logged.LogTable.{LogTable}
 use Rattle.dbl_feed.proofs.FitLogLemmas.{catalogue_distinct}
+use Rattle.dbl_source.specs.declared.asked.Asked.{Asked}
 use Rattle.dbl_source.specs.Played.{keyed_table}
+use Rattle.dbl_source.specs.Fairness.{IsFair}
 use Rattle.dbl_source.specs.Laws.{NewSourcesAreFair}
 
 pub new_fair : NewSourcesAreFair
@@ -19,3 +32,29 @@ new_fair raws moves rows fails ranges named relations =
       changes = record { named = named; relations = relations; changes = tt };
       selects = λ n question asked. cc;
     }
+
+-- ---- what is asked of a source that is made
+
+names_keyed : (raws : List RawTable) → map (λ (table : LogTable). table.raw.name) (map keyed_table raws) ≡ map (λ (raw : RawTable). raw.name) raws
+names_keyed [] = refl
+names_keyed (raw ∷ raws) = ap (λ (names : List TableName). raw.name ∷ names) (names_keyed raws)
+
+schemas_keyed : (raws : List RawTable) → AllByRecursion (λ (raw : RawTable). raw.name.schema ≢ []) raws → AllByRecursion (λ (table : LogTable). table.raw.name.schema ≢ []) (map keyed_table raws)
+schemas_keyed [] all = tt
+schemas_keyed (raw ∷ raws) all = (all.0, schemas_keyed raws all.1)
+
+named_keyed : (raws : List RawTable) → IsTrue (are_distinct same_name (map (λ (raw : RawTable). raw.name) raws)) → AllByRecursion (λ (raw : RawTable). raw.name.schema ≢ []) raws → AreNamed (map keyed_table raws)
+named_keyed raws distinct schemas = record {
+  schemas = schemas_keyed raws schemas;
+  distinct = subst (λ (names : List TableName). IsTrue (are_distinct same_name names)) (sym (names_keyed raws)) distinct;
+}
+
+-- the same of a source whose parts are told by equations
+pub made_fair : (raws : List RawTable) (tables : List LogTable) (log : List Logged) (asked : List Asked) (rows : List (List RawRow)) → tables ≡ map keyed_table raws → log ≡ [] → asked ≡ []
+    → IsTrue (are_distinct same_name (map (λ (raw : RawTable). raw.name) raws)) → AllByRecursion (λ (raw : RawTable). raw.name.schema ≢ []) raws
+    → AllByRecursion IsEntryInRange (catalogue (map keyed_table raws)) → AllByRecursion Fits (all_relations (map keyed_table raws)) → IsFair tables log asked rows
+made_fair raws tables log asked rows keyed no_log none_asked distinct schemas ranges relations =
+    let fair : IsFair (map keyed_table raws) [] [] rows = new_fair raws [] rows [] ranges (named_keyed raws distinct schemas) relations in
+    subst (λ (ts : List LogTable). IsFair ts log asked rows) (sym keyed)
+    (subst (λ (l : List Logged). IsFair (map keyed_table raws) l asked rows) (sym no_log)
+    (subst (λ (qs : List Asked). IsFair (map keyed_table raws) [] qs rows) (sym none_asked) fair))

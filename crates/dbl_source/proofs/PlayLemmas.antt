@@ -12,7 +12,7 @@ use Rattle.dbl_history.specs.History.{RawCommit, History}
 use Rattle.dbl_honest.specs.Standings.{Reading, Standing}
 use Rattle.dbl_honest.specs.Growth.{Grows}
 use Rattle.dbl_honest.specs.Selected.{AreAnswered, Selects}
-use Rattle.dbl_honest.specs.Calls.{Moved, IsMarked, head_behind, head_of, IsHead, IsBegun, IsGone, Took, HasReadAll}
+use Rattle.dbl_honest.specs.Calls.{Moved, IsMarked, head_behind, head_of, IsHead, IsBegun, IsGone, HasReadAll}
 use Rattle.dbl_feed.specs.declared.logged.LogTable.{LogTable}
 use Rattle.dbl_feed.specs.declared.logged.Logged.{Logged}
 use Rattle.dbl_feed.specs.declared.logged.Logged.TheVariants.{Changes, Mark}
@@ -61,17 +61,6 @@ module _ (tables : List LogTable) (log : List Logged) (confirmed : Lsn) where
 
   pub gone_behind : (after : Lsn) (place : Option Place) → after.0 < confirmed.0 → IsGone after confirmed (standing_at tables log confirmed place) (standing_at tables log confirmed None)
   gone_behind after place lt = record { grows = grows_not; confirmed = refl; reading = refl; later = lt; dropped = omega arith }
-
-  pub took : (place next : Place) (message : Message) → next.after ≡ place.after → told_at tables log next ≡ message ∷ told_at tables log place → Took message (standing_at tables log confirmed (Some place)) (standing_at tables log confirmed (Some next))
-  took place next message same told = record {
-    grows = grows_not;
-    confirmed = refl;
-    before = reading_at tables log place;
-    was = refl;
-    is =
-        ap (λ (a : Lsn). let r : Reading = record { after = a; messages = told_at tables log next } in Some r) same
-        ∙ ap (λ (ms : List Message). let r : Reading = record { after = place.after; messages = ms } in Some r) told;
-  }
 
   -- ---- all was read
 

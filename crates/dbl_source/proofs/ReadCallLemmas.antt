@@ -1,5 +1,5 @@
--- A read of a played source, by what it answered and by why it answered nothing.
-use Rattle.std.proofs.Common.{◌≡◌, ◌∙◌, inl, inr, ℕ, Option, Some, None, List, [], ◌∷◌, map, refl, sym, ap, subst}
+-- A read of a played source, by what it answered.
+use Rattle.std.proofs.Common.{◌≡◌, ◌∙◌, ℕ, Option, Some, None, List, [], ◌∷◌, map, refl, sym, ap, subst}
 use Rattle.std.specs.Prelude.{unwrap_or, option_map, IsSomeAnd, MatchOption}
 use Rattle.dbl_pgmsg.specs.declared.messages.Message.{Message}
 use Rattle.dbl_pgmsg.specs.Grammar.{Fits, Spells, spelling}
@@ -8,28 +8,11 @@ use Rattle.dbl_honest.specs.Calls.{Moved, Took, HasReadAll}
 use Rattle.dbl_feed.specs.declared.place.Place.{Place}
 use Rattle.dbl_feed.specs.Sent.{told_at}
 use Rattle.dbl_source.specs.declared.asked.Last.{Last}
-use Rattle.dbl_source.specs.declared.error.SourceError.{SourceError}
-use Rattle.dbl_source.specs.Played.{Played, messages_of, reading_at, with_fault, with_answer}
-use Rattle.dbl_source.specs.Steps.{IsKept, WentOn, StandsFor, MayLeave, WasFair, next_message, IsUnfit, IsAtEnd, IsReadBy, IsUnmoved, FailsToRead}
+use Rattle.dbl_source.specs.Played.{Played, messages_of, reading_at, with_answer}
+use Rattle.dbl_source.specs.Steps.{IsKept, StandsFor, MayLeave, WasFair, next_message, IsUnfit, IsAtEnd}
+use Rattle.dbl_source.specs.Exits.{HasRead}
 use Rattle.dbl_source.proofs.PlayLemmas.{next_sent, none_next}
-use Rattle.dbl_source.proofs.CallLemmas.{went_moved, went_read, stood, read_leads, none_leads}
-
--- ---- it failed
-
--- what other clients committed before it stands all the same
-pub went_failed : (old mid new : Played) (e : SourceError) → WentOn old mid → FailsToRead mid new e → WentOn old new
-went_failed old mid new e w fails = elim fails [
-  | inl memory ↦ subst (WentOn old) (sym memory.1) w
-  | inr failed ↦ (
-      let faulty : WentOn old (with_fault mid) = record { more = w.more; log = w.log; tables = w.tables; rows = w.rows; asked = w.asked; confirmed = w.confirmed; place = w.place; last = w.last } in
-      subst (WentOn old) (sym failed.1) faulty)
-]
-
--- ---- it answered
-
--- what it read, of a source that other clients' commits have led to
-abbrev pub HasRead : Played → Played → Option (List ℕ) → Type 0
-HasRead mid new read = MatchOption read (IsUnmoved mid new) (IsReadBy mid new)
+use Rattle.dbl_source.proofs.CallLemmas.{WentOn, went_moved, went_read, stood, read_leads, none_leads}
 
 no_reading : (reading : Reading) → None ≡ Some reading → ⊥
 no_reading reading is = cc

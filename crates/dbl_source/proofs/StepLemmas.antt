@@ -1,5 +1,5 @@
 -- The step to the next message of a played source, where its parts are those of slices and of a set.
-use Rattle.std.proofs.Common.{◌≡◌, ◌∙◌, ◌⊎◌, inl, inr, ◌+◌, ◌<◌, ℕ, Bool, true, false, cond, Option, Some, None, List, ◌∷◌, length, get_or, refl, sym, ap, subst, rules}
+use Rattle.std.proofs.Common.{◌≡◌, ◌∙◌, inl, inr, ◌+◌, ◌<◌, ℕ, Bool, true, false, cond, Option, Some, None, List, ◌∷◌, length, get_or, refl, sym, ap, subst, rules}
 use Rattle.std.specs.Prelude.{is_some, if◌then◌else◌, ◌==◌, IsSomeAnd, nat_eq, slice_get, Result, Err}
 use Rattle.std.specs.Ordering.{is_eq, nat_cmp}
 use Rattle.std.specs.BTreeSet.{BTreeSet, contains}
@@ -17,11 +17,10 @@ use Rattle.dbl_source.specs.declared.asked.Asked.{Asked}
 use Rattle.dbl_source.specs.declared.error.SourceError.{SourceError}
 use Rattle.dbl_source.specs.declared.error.SourceError.TheVariants.{Failed, Memory}
 use Rattle.dbl_source.specs.declared.reading.Step.{Step}
-use Rattle.dbl_source.specs.Played.{Played}
-use Rattle.dbl_source.specs.Steps.{IsUnfit, Describes, IsPlayed}
+use Rattle.dbl_source.specs.Played.{Played, with_fault}
+use Rattle.dbl_source.specs.Steps.{IsUnfit, Describes, IsPlayed, FailsToRead}
 use Rattle.dbl_source.specs.Readings.{IsNext, HasUnfit, Steps}
 use Rattle.dbl_source.proofs.PlayLemmas.{next_sent}
-use Rattle.dbl_source.proofs.PlannedLemmas.{two_errs}
 
 -- ---- the step
 
@@ -40,17 +39,19 @@ steps_here tables slice log items place known entry index number result same_tab
 
 -- ---- it has no spelling
 
-pub unfit_of : (tables : List LogTable) (log : List Logged) (place : Place) (r : Result Step SourceError) (e : SourceError) → r ≡ Err e → e ≡ Failed → Steps tables log place r → HasUnfit tables log place
-unfit_of tables log place r e is failed steps =
-    let here : (e ≡ Memory) ⊎ ((e ≡ Failed) × HasUnfit tables log place) = subst (λ (x : Result Step SourceError). Steps tables log place x) is steps in
-    elim here [ inl memory ↦ absurd (two_errs r (is ∙ ap Err memory) (is ∙ ap Err failed)) | inr unfit ↦ unfit.1 ]
-
-pub is_unfit : (s : Played) (place : Place) → s.place ≡ Some place → HasUnfit s.tables s.log place → IsUnfit s
+is_unfit : (s : Played) (place : Place) → s.place ≡ Some place → HasUnfit s.tables s.log place → IsUnfit s
 is_unfit s place at unfit = (
   place,
   at,
   subst (λ (o : Option Message). IsSomeAnd o (λ message. ¬ Fits message)) (sym (next_sent s.tables s.log s.confirmed place unfit.next unfit.message unfit.same unfit.told)) unfit.unfit,
 )
+
+-- why it wasn't read, of a source whose reader is at this place
+pub fails_to_read : (old new : Played) (place : Place) (e : SourceError) → old.place ≡ Some place → Steps old.tables old.log place (Err e) → (e ≡ Failed → new ≡ with_fault old) → (e ≡ Memory → new ≡ old) → FailsToRead old new e
+fails_to_read old new place e at steps faulty same = elim steps [
+  | inl memory ↦ inl (memory, same memory)
+  | inr failed ↦ inr (failed.0, faulty failed.0, is_unfit old place at failed.1)
+]
 
 -- ---- it was read
 

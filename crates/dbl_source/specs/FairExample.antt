@@ -55,10 +55,20 @@ selected_example = selected marked_example
 abbrev pub read_example : Played
 read_example = with_answer answers.Nothing (record selected_example { place = Some (record { after = record { 0 = 0 }; commits = 3; begun = false; change = 0; table = 0 }) })
 
+-- the same where the select is answered by other rows: by none, as the table was at the call, and by both, as it was at the return
+abbrev pub answered_by : List RawRow → Played
+answered_by rows = record read_example { rows = rows ∷ [] }
+
+abbrev pub first_example : Played
+first_example = answered_by []
+
+abbrev pub last_example : Played
+last_example = answered_by (row_of (codes "a") ∷ row_of (codes "b") ∷ [])
+
 -- another select, whose rows are those from before b
 abbrev pub stale_example : Played
 stale_example = selected read_example
 
--- So far the source was honest, and by the rows of another position it isn't any more.
+-- So far the source was honest, whichever position of the select its rows are of, and by the rows of an earlier one it isn't any more.
 abbrev pub FairSourcesStand : Type 0
-FairSourcesStand = WasFair read_example × (¬ WasFair stale_example)
+FairSourcesStand = WasFair read_example × WasFair first_example × WasFair last_example × (¬ WasFair stale_example)

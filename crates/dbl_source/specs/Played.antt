@@ -140,11 +140,13 @@ abbrev pub with_fault : Played → Played
 with_fault s = record s { plan = record s.plan { faults = raised s.plan.faults } }
 
 -- A call with so many commits of its own fails exactly where it has to: with nothing committed where there is no room, and else
--- behind the commits before it where it is to fail. Then it has no effect of its own.
-pub record FailsAsPlanned {T : Type 0} (own : ℕ) (old new : Played) (result : Result T SourceError) : Type 0 where
+-- behind the commits before it, where it is to fail and where it has more that it can't do. Then it has no effect of its own.
+pub record FailsAsPlanned {T : Type 0} (own : ℕ) (more : Type 0) (old new : Played) (result : Result T SourceError) : Type 0 where
   pub full : IsFull own old → result ≡ Err Failed
   pub listed : IsListed old → IsErr result
-  pub failed : result ≡ Err Failed → (IsFull own old × (new ≡ with_fault (called old))) ⊎ (IsListed old × (¬ IsFull own old) × (new ≡ with_fault (released old)))
+  pub also : more → IsErr result
+  pub failed : result ≡ Err Failed
+      → (IsFull own old × (new ≡ with_fault (called old))) ⊎ (IsListed old × (¬ IsFull own old) × (new ≡ with_fault (released old))) ⊎ (more × (¬ IsListed old) × (¬ IsFull own old) × (new ≡ with_fault (released old)))
 
 -- it answered
 abbrev pub with_answer : Last → Played → Played

@@ -9,12 +9,12 @@ use Rattle.dbl_feed.specs.Sent.{described_in, onto_relations, told_at, IsPlaceIn
 use Rattle.dbl_source.specs.declared.error.SourceError.{SourceError}
 use Rattle.dbl_source.specs.declared.error.SourceError.TheVariants.{Failed, Memory}
 use Rattle.dbl_source.specs.declared.reading.Step.{Step}
+use Rattle.dbl_source.specs.Played.{Played}
 use Rattle.dbl_source.specs.declared.reading.Missing.{Missing}
 
 -- The next of these tables that a Relation has to describe, of those from a place on. Behind `base` the tables before that place
 -- were looked at.
 pub record IsMissing (tables : List LogTable) (oids : List ℕ) (from : ℕ) (base : List Message) (next : Missing) : Type 0 where
-  pub described : described_in next.relation ≡ Some next.oid
   pub told : onto_relations tables (take next.table oids) base ≡ next.relation ∷ onto_relations tables (take from oids) base
 
 -- one was found, or none is left to be described
@@ -35,6 +35,12 @@ pub record IsNext (tables : List LogTable) (log : List Logged) (place : Place) (
   pub same : step.place.after ≡ place.after
   pub placed : IsPlaceIn log step.place
   pub described : step.described ≡ described_in message
+
+-- the step reads the next message of a source, whose reader is at some place
+pub record ReadsOn (s : Played) (step : Step) : Type 0 where
+  pub place : Place
+  pub was : s.place ≡ Some place
+  pub next : IsNext s.tables s.log place step
 
 -- the next message has no spelling
 pub record HasUnfit (tables : List LogTable) (log : List Logged) (place : Place) : Type 0 where

@@ -1,5 +1,5 @@
 -- A source that is played from a script as a `Source`, and how its `read` answers.
-use Rattle.std.specs.Prelude.{◌≡◌, ◌⊎◌, ℕ, ◌<◌, ◌≤◌, IsTrue, is_some, Option, Some, IsSomeAnd, Result, Err, IsErr, slice_get, List, ◌∷◌, ◌++◌, length, map, take}
+use Rattle.std.specs.Prelude.{◌≡◌, ◌⊎◌, ℕ, ◌<◌, ◌≤◌, IsTrue, is_some, Option, Some, IsSomeAnd, slice_get, List, ◌∷◌, ◌++◌, length, map, take}
 use Rattle.std.specs.Ordering.{nat_cmp}
 use Rattle.std.specs.BTreeSet.{BTreeSet, contains}
 use Rattle.dbl_base.specs.Memory.{Plan}
@@ -17,7 +17,7 @@ use Rattle.dbl_source.specs.declared.error.SourceError.{SourceError}
 use Rattle.dbl_source.specs.declared.error.SourceError.TheVariants.{Failed, Memory}
 use Rattle.dbl_source.specs.Moves.{commit_limit}
 use Rattle.dbl_source.specs.Fairness.{IsFair}
-use Rattle.dbl_source.specs.Played.{Played, standing_of, IsFull, IsFullBy, IsListed, counted, committed, called, released, with_fault}
+use Rattle.dbl_source.specs.Played.{Played, standing_of, IsFullBy, IsListed, counted, committed, with_fault}
 
 -- it can be used, and stands for this
 abbrev pub StandsFor : Played → Standing → Type 0
@@ -35,7 +35,7 @@ WasFair s = IsFair s.tables s.log s.asked s.rows
 abbrev pub next_message : Played → Place → Option Message
 next_message s place = slice_get (sent_after s.tables place.after s.log) (length (told_at s.tables s.log place))
 
--- the next message has no spelling
+-- the next message has no spelling: a read fails there, as every call does that is to fail
 abbrev pub IsUnfit : Played → Type 0
 IsUnfit s = (place : Place) × (s.place ≡ Some place) × IsSomeAnd (next_message s place) (λ message. ¬ Fits message)
 
@@ -50,13 +50,6 @@ pub record AddedFirst (commits : List (List Message)) (old new : Played) : Type 
   pub few : count ≤ length commits
   pub counts : HasCounted old new.plan
   pub is : new ≡ record old { log = old.log ++ map Changes (take count commits); plan = new.plan }
-
--- A read fails as every call does, and where the next message has no spelling.
-pub record ReadsAsPlanned {T : Type 0} (old new : Played) (result : Result T SourceError) : Type 0 where
-  pub full : IsFull 0 old → result ≡ Err Failed
-  pub listed : IsListed old → IsErr result
-  pub unfit : IsUnfit (released old) → IsErr result
-  pub failed : result ≡ Err Failed → (IsFull 0 old × (new ≡ with_fault (called old))) ⊎ (IsListed old × (¬ IsFull 0 old) × (new ≡ with_fault (released old))) ⊎ (IsUnfit (released old) × (new ≡ with_fault (released old)))
 
 -- ---- for private clauses and what is kept
 
@@ -78,17 +71,6 @@ pub record IsBehind (commits : List (List Message)) (old new : List Logged) : Ty
 abbrev pub HasFailed : List (List Message) → ℕ → Played → Played → Type 0
 HasFailed before own old new =
     (IsFullBy (length before) own old × (new ≡ with_fault (counted old))) ⊎ (IsListed old × (¬ IsFullBy (length before) own old) × (new ≡ with_fault (committed before (counted old))))
-
--- other clients committed, and what a reader, a confirm and a select have made of the source is as it was
-pub record WentOn (old new : Played) : Type 0 where
-  pub more : List (List Message)
-  pub log : new.log ≡ old.log ++ map Changes more
-  pub tables : new.tables ≡ old.tables
-  pub rows : new.rows ≡ old.rows
-  pub asked : new.asked ≡ old.asked
-  pub confirmed : new.confirmed ≡ old.confirmed
-  pub place : new.place ≡ old.place
-  pub last : new.last ≡ old.last
 
 -- a reader at this place has no more messages
 abbrev pub IsAtEnd : List Logged → Place → Type 0

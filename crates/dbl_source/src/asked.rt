@@ -47,6 +47,15 @@ pub(crate) fn rows_at(
     Ok(copied)
 }
 
+fn key_of(alloc: Global, above: Option<&Key>) -> Result<Option<Key>, AllocError>
+    ensures { IfOk result (λ key. key ≡ option_copied above.entry) }
+{
+    match above {
+        Some(key) => Ok(Some(key.copy(alloc)?)),
+        None => Ok(None),
+    }
+}
+
 /// A question that a select asked.
 pub(crate) fn question(
     alloc: Global,
@@ -59,13 +68,9 @@ pub(crate) fn question(
     ensures { IfOk result (λ asked.
         asked ≡ question_of table.now (option_copied above.entry) limit from upto) }
 {
-    let above = match above {
-        Some(key) => Some(key.copy(alloc)?),
-        None => None,
-    };
     Ok(Asked {
         table: table.copy(alloc)?,
-        above,
+        above: key_of(alloc, above)?,
         limit,
         from,
         upto,

@@ -1,14 +1,29 @@
 //! The catalogue of a source that is played from a script, by its tables.
 
-ghost use Rattle.std.specs.Prelude.{◌≡◌, ◌<◌, [], length, IfSome};
+ghost use Rattle.std.specs.Prelude.{◌≡◌, [], map, IfOk};
 ghost use Rattle.std.specs.List.{position_from};
 ghost use Rattle.dbl_table.specs.Tables.{same_name};
 ghost use Rattle.dbl_history.specs.History.{entry_of};
 ghost use Rattle.dbl_feed.specs.Histories.{history_of};
-ghost use Rattle.dbl_source.specs.Played.{entry_at};
+ghost use Rattle.dbl_source.specs.Played.{keyed_table, entry_at};
 
 use dbl_feed::LogTable;
-use dbl_table::TableName;
+use dbl_table::{RawTable, TableName};
+use std::alloc::{AllocError, Global};
+
+/// The tables of a log, whose replica identity is their primary key.
+pub(crate) fn keyed_tables(
+    alloc: Global,
+    tables: Vec<RawTable>,
+) -> Result<Vec<LogTable>, AllocError>
+    ensures { IfOk result (λ keyed. keyed.items ≡ map keyed_table tables.items) }
+{
+    let mut keyed = Vec::with_capacity(alloc, tables.len())?;
+    for raw in tables {
+        keyed.push(LogTable { raw, full: false })?;
+    }
+    Ok(keyed)
+}
 
 fn is_same_name(a: &TableName, b: &TableName) -> bool
     ensures { result ≡ same_name a.now b.now }
@@ -26,11 +41,27 @@ fn place_named(tables: &[LogTable], name: &TableName) -> Option<usize>
 
 /// The place of the table of this name. The table of the watermarks is none of the catalogue's.
 pub(crate) fn place_of(tables: &[LogTable], name: &TableName) -> Option<usize>
-    ensures entry { entry_at tables.now result ≡ entry_of (history_of tables.now []) name.now }
-    ensures within { IfSome result (λ place. place < length tables.now) }
+    ensures { entry_at tables.now result ≡ entry_of (history_of tables.now []) name.now }
 {
     if name.is_watermark() {
         return None;
     }
     place_named(tables, name)
+}
+
+/// The catalogue's entry of the table at this place.
+pub(crate) fn entry_at(
+    alloc: Global,
+    tables: &[LogTable],
+    place: Option<usize>,
+) -> Result<Option<RawTable>, AllocError>
+    ensures { IfOk result (λ entry. entry ≡ entry_at tables.now place) }
+{
+    let Some(place) = place else {
+        return Ok(None);
+    };
+    match tables.get(place) {
+        Some(table) => Ok(Some(table.raw.copy(alloc)?)),
+        None => Ok(None),
+    }
 }

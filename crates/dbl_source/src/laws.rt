@@ -3,7 +3,7 @@
 ghost use Rattle.std.specs.Prelude.{◌↔◌};
 ghost use Rattle.dbl_source.specs.Played.{Played};
 ghost use Rattle.dbl_source.specs.Steps.{WasFair};
-ghost use Rattle.dbl_source.specs.Laws.{NewSourcesAreFair, FirstCommitsAreFair};
+ghost use Rattle.dbl_source.specs.Laws.{NewSourcesAreFair, FirstCommitsAreFair, MarksKeepFair};
 ghost use Rattle.dbl_source.specs.FairExample.{FairSourcesStand};
 
 use crate::{ScriptedSource, Source};
@@ -21,6 +21,11 @@ pub fn new_sources_are_fair()
 /// A played source that would be honest with all the commits of a call is so with the first ones, where memory is wanting.
 pub fn first_commits_are_fair()
     ensures { FirstCommitsAreFair }
+{}
+
+/// A mark keeps a played source honest: its history stays fit, and the rows that selects answered stay right.
+pub fn marks_keep_fair()
+    ensures { MarksKeepFair }
 {}
 
 /// There is a played source behind other clients' commits, a mark, a select and all reads that was honest so far, and one that

@@ -6,6 +6,7 @@ mod catalogue;
 mod error;
 mod laws;
 mod moves;
+mod playing;
 mod reading;
 mod scripted;
 mod source;
@@ -13,7 +14,8 @@ mod source;
 pub use dbl_honest::Started;
 pub use error::SourceError;
 pub use laws::{
-    fair_scripts_are_honest, fair_sources_stand, first_commits_are_fair, new_sources_are_fair,
+    fair_scripts_are_honest, fair_sources_stand, first_commits_are_fair, marks_keep_fair,
+    new_sources_are_fair,
 };
 pub use moves::{COMMIT_LIMIT, Move, has_room};
 pub use scripted::ScriptedSource;

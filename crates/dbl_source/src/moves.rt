@@ -1,4 +1,4 @@
-ghost use Rattle.std.specs.Prelude.{◌≡◌, ◌↔◌, ◌++◌, map, IsTrue, OnOk, OnErr};
+ghost use Rattle.std.specs.Prelude.{◌≡◌, ◌↔◌, ◌++◌, [], map, IsTrue, OnOk, OnErr};
 ghost use Rattle.dbl_feed.specs.declared.logged.Logged.TheVariants.{Changes};
 ghost use Rattle.dbl_source.specs.Moves.{HasRoom};
 ghost use Rattle.dbl_source.specs.Steps.{IsBehind};
@@ -6,7 +6,7 @@ ghost use Rattle.dbl_source.specs.Steps.{IsBehind};
 use dbl_base::Seq;
 use dbl_feed::Logged;
 use dbl_pgmsg::Message;
-use std::alloc::AllocError;
+use std::alloc::{AllocError, Global};
 
 /// A history has fewer commits than this: 2^40.
 pub const COMMIT_LIMIT: usize = 1 << 40;
@@ -27,13 +27,24 @@ pub fn has_room(count: usize, before: usize, own: usize) -> bool
     count < COMMIT_LIMIT && before < COMMIT_LIMIT - count && own < COMMIT_LIMIT - count - before
 }
 
+/// What other clients commit behind the last move: nothing.
+pub(crate) fn no_move(alloc: Global) -> Move
+    ensures before { result.before ≡ [] }
+    ensures inside { result.inside ≡ [] }
+{
+    Move {
+        before: Seq::make(Vec::new(alloc)),
+        inside: Seq::make(Vec::new(alloc)),
+    }
+}
+
 /// Each list as one commit behind the log, in order; some first ones of them where memory is wanting.
 pub(crate) fn append(log: &mut Vec<Logged>, commits: Vec<Seq<Message>>) -> Result<(), AllocError>
     ensures ok { OnOk result (log.new.items ≡ log.old.items ++ map Changes commits.items) }
     ensures err { OnErr result (IsBehind commits.items log.old.items log.new.items) }
 {
-    for commit in commits {
-        log.push(Logged::Changes(commit))?;
+    for messages in commits {
+        log.push(Logged::Changes(messages))?;
     }
     Ok(())
 }

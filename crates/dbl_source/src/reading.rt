@@ -1,21 +1,22 @@
 //! The next message of a commit that is being read, and how far its reader is behind it.
 
-ghost use Rattle.std.specs.Prelude.{◌≡◌, ◌⊎◌, ◌+◌, ◌<◌, ◌^◌, ℕ, List, take, false, true, Some, None, IfOk, IfErr, MatchOption, slice_get};
+ghost use Rattle.std.specs.Prelude.{◌≡◌, ◌⊎◌, ◌+◌, ◌<◌, ◌^◌, ℕ, List, ◌∷◌, take, false, true, Some, None, IfOk, IfErr, OnOk, OnErr, MatchOption, slice_get};
 ghost use Rattle.dbl_pgmsg.specs.declared.messages.Message.{Message};
 ghost use Rattle.dbl_pgmsg.specs.Grammar.{Fits, Spells};
 ghost use Rattle.dbl_feed.specs.declared.logged.LogTable.{LogTable};
 ghost use Rattle.dbl_feed.specs.declared.logged.Logged.{Logged};
+ghost use Rattle.dbl_feed.specs.declared.logged.Logged.TheVariants.{Mark};
 ghost use Rattle.dbl_feed.specs.Sent.{described_in, oids_of, messages_in, onto_relations, index_of, told_at, IsPlaceIn};
 ghost use Rattle.dbl_source.specs.Steps.{Describes};
 ghost use Rattle.dbl_source.specs.Readings.{Finds, LeadsTo, Steps};
 
 use crate::SourceError;
-use dbl_base::Bytes;
+use dbl_base::{Bytes, Text};
 use dbl_feed::{
     LogTable, Logged, Place, begin_message, commit_message, mark_message, oid_at, relation_at,
 };
 use dbl_pgmsg::{Message, encode};
-use std::alloc::Global;
+use std::alloc::{AllocError, Global};
 use std::collections::BTreeSet;
 
 /// What is read next: its bytes, where the reader is behind it, and the table that it describes.
@@ -30,7 +31,6 @@ pub(crate) struct Step {
 #[derive(Debug, Drop)]
 struct Missing {
     relation: Message,
-    oid: u32,
     table: usize,
 }
 
@@ -52,14 +52,14 @@ fn step_to(alloc: Global, message: &Message, place: Place) -> Result<Step, Sourc
     if !message.fits() {
         return Err(SourceError::Failed);
     }
-    let Ok(bytes) = encode(alloc, message) else {
-        return Err(SourceError::Memory);
-    };
-    Ok(Step {
-        bytes,
-        place,
-        described: described_by(message),
-    })
+    match encode(alloc, message) {
+        Ok(bytes) => Ok(Step {
+            bytes,
+            place,
+            described: described_by(message),
+        }),
+        Err(_) => Err(SourceError::Memory),
+    }
 }
 
 // The first table from a place on, of those that the change names, that has a Relation and wasn't described.
@@ -82,11 +82,7 @@ fn next_missing(
             continue;
         }
         if let Some(relation) = relation_at(alloc, tables, oid)? {
-            return Ok(Some(Missing {
-                relation,
-                oid,
-                table,
-            }));
+            return Ok(Some(Missing { relation, table }));
         }
     }
     Ok(None)
@@ -104,11 +100,10 @@ fn first_step(alloc: Global, place: Place, number: u64) -> Result<Step, SourceEr
         alloc,
         &begin_message(number),
         Place {
-            after: place.after,
-            commits: place.commits,
             begun: true,
             change: 0,
             table: 0,
+            ..place
         },
     )
 }
@@ -129,32 +124,23 @@ fn change_step(
         → Steps tables.now log place result }
 {
     match next_missing(alloc, tables, described, message, place.table)? {
-        Some(
-            Missing {
-                relation,
-                oid: _,
-                table,
-            },
-        ) => step_to(
+        Some(Missing { relation, table }) => step_to(
             alloc,
             &relation,
             Place {
-                after: place.after,
-                commits: place.commits,
                 begun: true,
-                change: place.change,
                 table,
+                ..place
             },
         ),
         None => step_to(
             alloc,
             message,
             Place {
-                after: place.after,
-                commits: place.commits,
                 begun: true,
                 change: place.change + 1,
                 table: 0,
+                ..place
             },
         ),
     }
@@ -174,13 +160,31 @@ fn last_step(alloc: Global, place: Place, number: u64) -> Result<Step, SourceErr
         alloc,
         &commit_message(number),
         Place {
-            after: place.after,
             commits: place.commits + 1,
             begun: false,
             change: 0,
             table: 0,
+            ..place
         },
     )
+}
+
+// The one change of a mark is read.
+fn mark_step(
+    alloc: Global,
+    tables: &[LogTable],
+    described: &BTreeSet<u32>,
+    place: Place,
+    value: &Text,
+) -> Result<Step, SourceError>
+    requires { place.change ≡ 0 }
+    ensures { (log : List Logged) → place.begun ≡ true
+        → slice_get log (index_of place) ≡ Some (Mark value.now)
+        → IsPlaceIn log place → Describes described.now (told_at tables.now log place)
+        → Steps tables.now log place result }
+{
+    let message = mark_message(alloc, value)?;
+    change_step(alloc, tables, described, place, &message)
 }
 
 // The change at this place, or the end.
@@ -206,10 +210,10 @@ fn inner_step(
         },
         Logged::Mark(value) => {
             if place.change > 0 {
-                return last_step(alloc, place, number);
+                last_step(alloc, place, number)
+            } else {
+                mark_step(alloc, tables, described, place, value)
             }
-            let message = mark_message(alloc, value)?;
-            change_step(alloc, tables, described, place, &message)
         }
     }
 }
@@ -234,5 +238,21 @@ pub(crate) fn next_step(
         inner_step(alloc, tables, entry, described, place, number)
     } else {
         first_step(alloc, place, number)
+    }
+}
+
+/// A message was read: the table that it describes, where it describes one, is described now.
+pub(crate) fn remember(described: &mut BTreeSet<u32>, oid: Option<u32>) -> Result<(), AllocError>
+    ensures ok { OnOk result ((message : Message) (past : List Message)
+        → described_in message ≡ oid
+        → Describes described.old past → Describes described.new (message ∷ past)) }
+    ensures err { OnErr result (described.new ≡ described.old) }
+{
+    match oid {
+        Some(oid) => {
+            described.insert(oid)?;
+            Ok(())
+        }
+        None => Ok(()),
     }
 }

@@ -1,33 +1,28 @@
-ghost use Rattle.std.specs.Prelude.{◌≡◌, ◌≢◌, ◌⊎◌, ◌↔◌, ◌+◌, ◌≤◌, ◌<◌, ◌^◌, ◌++◌, ◌∷◌, [], ℕ, List, length, map, drop, Option, Some, None, Bool, true, false, is_some, option_map, option_copied, nat_lt, Err, IsTrue, IsErr, IfOk, IfErr, IfSome, OnOk, OnErr, MatchOption, slice_get, slice_index_or};
+ghost use Rattle.std.specs.Prelude.{◌≡◌, ◌≢◌, ◌+◌, ◌≤◌, ◌<◌, ◌^◌, ◌++◌, ◌∷◌, [], ℕ, length, map, Option, Some, None, false, is_some, option_copied, Err, IsTrue, IfSome, IfOk, IfErr, OnOk, OnErr, MatchOption};
 ghost use Rattle.std.specs.List.{AllByRecursion};
-ghost use Rattle.dbl_base.specs.Streams.{Rose, raised};
+ghost use Rattle.dbl_base.specs.Streams.{Rose};
 ghost use Rattle.dbl_pgmsg.specs.declared.messages.Message.{Message};
-ghost use Rattle.dbl_pgmsg.specs.Grammar.{Spells};
-ghost use Rattle.dbl_table.specs.declared.table.RawTable.{RawTable};
+ghost use Rattle.dbl_pgmsg.specs.Grammar.{Fits, Spells};
 ghost use Rattle.dbl_table.specs.Tables.{same_name, are_distinct};
-ghost use Rattle.dbl_honest.specs.Standings.{Standing, Left, Stood, Leads};
+ghost use Rattle.dbl_history.specs.Ranges.{IsEntryInRange};
+ghost use Rattle.dbl_honest.specs.Standings.{Standing, Stood, Leads};
 ghost use Rattle.dbl_honest.specs.Answered.{IsDescribed, IsHeaded, IsSelected};
 ghost use Rattle.dbl_honest.specs.Calls.{Moved, IsMarked, Starts, Took, HasReadAll, IsConfirmed};
 ghost use Rattle.dbl_honest.specs.Leaves.{Leaves, LeavesSome, MayFollow, MayFollowMark, MayFollowConfirm};
 ghost use Rattle.dbl_honest.specs.Told.{Described, Head, Began, Read, Selected, Done, IsTakenBy, IsTakenAnew, Tells, is_ready};
-ghost use Rattle.dbl_feed.specs.declared.logged.Logged.TheVariants.{Changes, Mark};
-ghost use Rattle.dbl_feed.specs.Sent.{index_of};
+ghost use Rattle.dbl_feed.specs.Relations.{catalogue, all_relations};
 ghost use Rattle.dbl_source.specs.declared.asked.Last.TheVariants as answers;
 ghost use Rattle.dbl_source.specs.declared.error.SourceError.TheVariants.{Failed, Memory};
-ghost use Rattle.dbl_source.specs.Exits.{Stays};
-ghost use Rattle.dbl_source.specs.Moves.{HasRoom};
-ghost use Rattle.dbl_source.specs.Played.{new_played, entry_at, told_of, before_of, inside_of, IsListed, IsFullBy, past_move, counted, committed, released, with_fault, FailsAsPlanned, with_answer, with_mark, with_confirmed, started_at, with_start, with_head, next_rows, question_of, with_select};
-ghost use Rattle.dbl_source.specs.Steps.{IsKept, WentOn, AddedFirst, HasFailed, StandsFor, MayLeave, WasFair, IsAtEnd, ReadsAsPlanned, IsReadBy, IsUnmoved, FailsToRead};
+ghost use Rattle.dbl_source.specs.Played.{keyed_table, new_played, told_of, before_of, inside_of, IsListed, past_move, released, FailsAsPlanned, with_answer, with_mark, with_confirmed, started_at, with_start, with_head, next_rows, with_select};
+ghost use Rattle.dbl_source.specs.Steps.{AddedFirst, StandsFor, MayLeave, WasFair, IsUnfit, IsAtEnd};
 
-use crate::asked::{Asked, Last, question, rows_at};
-use crate::catalogue::place_of;
-use crate::moves::{Move, append, has_room};
-use crate::reading::next_step;
+use crate::asked::{Asked, Last};
+use crate::catalogue::keyed_tables;
+use crate::moves::Move;
 use crate::{Source, SourceError};
-use dbl_base::{Bytes, FaultPlan, Lsn, Seq, Text};
-use dbl_feed::{LogTable, Logged, Place, commits_upto, lsn_of};
+use dbl_base::{Bytes, FaultPlan, Lsn, Text};
+use dbl_feed::{LogTable, Logged, Place};
 use dbl_honest::Started;
-use dbl_pgmsg::Message;
 use dbl_table::{Key, RawRow, RawTable, TableName};
 use std::alloc::Global;
 use std::collections::BTreeSet;
@@ -41,19 +36,19 @@ use std::vec::IntoIter;
 /// It is honest where the script was fair so far: `fair_scripts_are_honest`.
 #[derive(Drop)]
 pub struct ScriptedSource {
-    alloc: Global,
-    tables: Vec<LogTable>,
-    moves: IntoIter<Move>,
-    rows: Vec<Vec<RawRow>>,
-    asked: Vec<Asked>,
-    log: Vec<Logged>,
-    confirmed: Lsn,
-    place: Option<Place>,
+    pub(crate) alloc: Global,
+    pub(crate) tables: Vec<LogTable>,
+    pub(crate) moves: IntoIter<Move>,
+    pub(crate) rows: Vec<Vec<RawRow>>,
+    pub(crate) asked: Vec<Asked>,
+    pub(crate) log: Vec<Logged>,
+    pub(crate) confirmed: Lsn,
+    pub(crate) place: Option<Place>,
     // The tables that Relations have described since the last start.
-    described: BTreeSet<u32>,
-    plan: FaultPlan,
-    last: Last,
-    live: bool,
+    pub(crate) described: BTreeSet<u32>,
+    pub(crate) plan: FaultPlan,
+    pub(crate) last: Last,
+    pub(crate) live: bool,
 }
 
 impl Model for ScriptedSource {
@@ -78,6 +73,8 @@ impl ScriptedSource {
     /// The messages of a move are sent as they are: they name table number n, from 0, by the OID 16384 + n. Any others are sent
     /// too, but then the source isn't honest. Commit number n, from 1, has the LSN 256 n; a mark is an update of the table of the
     /// watermarks, whose OID is 16383.
+    ///
+    /// It is honest so far where the Relation of each table has a spelling. (Each text of a table is UTF-8, by its type.)
     pub fn make(
         alloc: Global,
         tables: Vec<RawTable>,
@@ -90,15 +87,15 @@ impl ScriptedSource {
         requires schemas { AllByRecursion (λ raw. raw.name.schema ≢ []) tables.items }
         ensures made { IfOk result (λ source. source ≡ new_played
             tables.items moves.items (map (λ rows. rows.items) rows.items) fails.items) }
+        ensures fair { AllByRecursion IsEntryInRange (catalogue (map keyed_table tables.items))
+            → AllByRecursion Fits (all_relations (map keyed_table tables.items))
+            → IfOk result WasFair }
         ensures memory { IfErr result (λ e. e ≡ Memory) }
     {
-        let mut keyed = Vec::with_capacity(alloc, tables.len())?;
-        for raw in tables {
-            keyed.push(LogTable { raw, full: false })?;
-        }
+        let tables = keyed_tables(alloc, tables)?;
         Ok(ScriptedSource {
             alloc,
-            tables: keyed,
+            tables,
             moves: moves.into_iter(),
             rows,
             asked: Vec::new(alloc),
@@ -110,103 +107,6 @@ impl ScriptedSource {
             last: Last::Done,
             live: true,
         })
-    }
-
-    // What other clients commit at the next call.
-    fn next_move(&mut self) -> Move
-        ensures before { result.before ≡ before_of self.old }
-        ensures inside { result.inside ≡ inside_of self.old }
-        ensures past { self.new ≡ past_move self.old }
-        ensures was { IsKept self.old }
-    {
-        self.live = false;
-        match self.moves.next() {
-            Some(next) => next,
-            None => Move {
-                before: Seq::make(Vec::new(self.alloc)),
-                inside: Seq::make(Vec::new(self.alloc)),
-            },
-        }
-    }
-
-    // The call is counted, and the commits before it stand in the log; or it fails, as planned or for want of room.
-    fn begin(&mut self, before: Vec<Seq<Message>>, own: usize) -> Result<(), SourceError>
-        ensures ok { OnOk result (self.new ≡ committed before.items (counted self.old)) }
-        ensures room { OnOk result (HasRoom (length self.old.log) (length before.items) own) }
-        ensures went { WentOn self.old self.new }
-        ensures kept { self.new ≡ record self.old { log = self.new.log; plan = self.new.plan } }
-        ensures full { IsFullBy (length before.items) own self.old → result ≡ Err Failed }
-        ensures listed { IsListed self.old → IsErr result }
-        ensures failed { result ≡ Err Failed → HasFailed before.items own self.old self.new }
-        ensures memory { result ≡ Err Memory → AddedFirst before.items self.old self.new }
-        ensures later { self.old.plan.faults ≤ self.new.plan.faults }
-    {
-        let listed = self.plan.call().is_err();
-        let own = if listed { 0 } else { own };
-        if !has_room(self.log.len(), before.len(), own) {
-            if listed {
-                return Err(SourceError::Failed);
-            }
-            return Err(SourceError::from(self.plan.fault()));
-        }
-        append(&mut self.log, before)?;
-        if listed {
-            Err(SourceError::Failed)
-        } else {
-            Ok(())
-        }
-    }
-
-    // A call begins that adds so many commits of its own to the log.
-    fn release(&mut self, own: usize) -> Result<(), SourceError>
-        ensures ok { OnOk result (self.new ≡ released self.old) }
-        ensures room { OnOk result
-            (HasRoom (length self.old.log) (length (before_of self.old)) own) }
-        ensures was { IsKept self.old }
-        ensures went { WentOn self.old self.new }
-        ensures stays { Stays self.old self.new }
-        ensures dead { self.new.live ≡ false }
-        ensures planned { FailsAsPlanned own self.old self.new result }
-        ensures memory { result ≡ Err Memory
-            → AddedFirst (before_of self.old) (past_move self.old) self.new }
-        ensures later { self.old.plan.faults ≤ self.new.plan.faults }
-    {
-        let Move { before, inside: _ } = self.next_move();
-        self.begin(before.into_items(), own)
-    }
-
-    // What is read next, where there is something. The reader stands behind it then.
-    fn next_bytes(&mut self) -> Result<Option<Bytes>, SourceError>
-        ensures read { IfOk result (λ read.
-            MatchOption read (IsUnmoved self.old self.new) (IsReadBy self.old self.new)) }
-        ensures err { IfErr result (FailsToRead self.old self.new) }
-        ensures later { OnErr result (self.old.plan.faults ≤ self.new.plan.faults) }
-    {
-        let Some(place) = self.place else {
-            return Ok(None);
-        };
-        let index = commits_upto(place.after) + place.commits;
-        let Some(entry) = self.log.get(index) else {
-            return Ok(None);
-        };
-        let next = next_step(
-            self.alloc,
-            &self.tables,
-            entry,
-            &self.described,
-            place,
-            index as u64 + 1,
-        );
-        let next = match next {
-            Ok(next) => next,
-            Err(SourceError::Memory) => return Err(SourceError::Memory),
-            Err(SourceError::Failed) => return Err(SourceError::from(self.plan.fault())),
-        };
-        if let Some(oid) = next.described {
-            self.described.insert(oid)?;
-        }
-        self.place = Some(next.place);
-        Ok(Some(next.bytes))
     }
 }
 
@@ -259,6 +159,7 @@ impl Source for ScriptedSource {
     fn describe(&mut self, name: &TableName) -> Result<Option<RawTable>, SourceError>
         requires { IsTrue self.old.live }
         ensures described { Leads StandsFor self.old self.new result (IsDescribed name.now) }
+        ensures named { IfOk result (λ entry. IfSome entry (λ raw. raw.name ≡ name.now)) }
         ensures left { Leaves StandsFor MayLeave self.old self.new MayFollow }
         ensures some { LeavesSome StandsFor MayLeave self.old self.new }
         ensures told { IfOk result (λ entry. Tells (Some (told_of self.new)) (Described entry)) }
@@ -270,21 +171,13 @@ impl Source for ScriptedSource {
         ensures comes { Unit {0} }
         ensures later { self.old.plan.faults ≤ self.new.plan.faults }
         ensures failed { result ≡ Err Failed → Rose self.old.plan.faults self.new.plan.faults }
-        ensures planned { FailsAsPlanned 0 self.old self.new result }
+        ensures planned { FailsAsPlanned 0 ⊥ self.old self.new result }
         ensures memory { result ≡ Err Memory
             → AddedFirst (before_of self.old) (past_move self.old) self.new }
         ensures played { OnOk result ((place : Option ℕ)
             × (self.new ≡ with_answer (answers.Described place) (released self.old))) }
     {
-        self.release(0)?;
-        let place = place_of(&self.tables, name);
-        let entry = match place {
-            Some(place) => Some(self.tables[place].raw.copy(self.alloc)?),
-            None => None,
-        };
-        self.last = Last::Described(place);
-        self.live = true;
-        Ok(entry)
+        self.play_describe(name)
     }
 
     fn head(&mut self) -> Result<Lsn, SourceError>
@@ -301,16 +194,12 @@ impl Source for ScriptedSource {
         ensures comes { Unit {0} }
         ensures later { self.old.plan.faults ≤ self.new.plan.faults }
         ensures failed { result ≡ Err Failed → Rose self.old.plan.faults self.new.plan.faults }
-        ensures planned { FailsAsPlanned 0 self.old self.new result }
+        ensures planned { FailsAsPlanned 0 ⊥ self.old self.new result }
         ensures memory { result ≡ Err Memory
             → AddedFirst (before_of self.old) (past_move self.old) self.new }
         ensures played { OnOk result (self.new ≡ with_head (released self.old)) }
     {
-        self.release(0)?;
-        let lsn = lsn_of(self.log.len() as u64);
-        self.last = Last::Head(lsn);
-        self.live = true;
-        Ok(lsn)
+        self.play_head()
     }
 
     // The log is gone exactly below the confirmed position.
@@ -332,32 +221,13 @@ impl Source for ScriptedSource {
         ensures comes { Unit {0} }
         ensures later { self.old.plan.faults ≤ self.new.plan.faults }
         ensures failed { result ≡ Err Failed → Rose self.old.plan.faults self.new.plan.faults }
-        ensures planned { FailsAsPlanned 0 self.old self.new result }
+        ensures planned { FailsAsPlanned 0 ⊥ self.old self.new result }
         ensures memory { result ≡ Err Memory
             → AddedFirst (before_of self.old) (past_move self.old) self.new }
         ensures played { IfOk result (λ answer. (answer ≡ started_at after self.old)
             × (self.new ≡ with_start after (released self.old))) }
     {
-        self.release(0)?;
-        let answer = if after.0 < self.confirmed.0 {
-            self.place = None;
-            Started::Gone {
-                first: self.confirmed,
-            }
-        } else {
-            self.described.clear();
-            self.place = Some(Place {
-                after,
-                commits: 0,
-                begun: false,
-                change: 0,
-                table: 0,
-            });
-            Started::Ready
-        };
-        self.last = Last::Began(answer);
-        self.live = true;
-        Ok(answer)
+        self.play_start(after)
     }
 
     // It also fails where the next message has no spelling.
@@ -382,7 +252,7 @@ impl Source for ScriptedSource {
         ensures comes { Unit {0} }
         ensures later { self.old.plan.faults ≤ self.new.plan.faults }
         ensures failed { result ≡ Err Failed → Rose self.old.plan.faults self.new.plan.faults }
-        ensures planned { ReadsAsPlanned self.old self.new result }
+        ensures planned { FailsAsPlanned 0 (IsUnfit (released self.old)) self.old self.new result }
         ensures memory { result ≡ Err Memory
             → AddedFirst (before_of self.old) (past_move self.old) self.new }
         ensures played { OnOk result ((place : Place) × (what : Last)
@@ -390,15 +260,7 @@ impl Source for ScriptedSource {
         ensures ends { IfOk result (λ read. (read ≡ None) → (place : Place)
             → self.new.place ≡ Some place → IsAtEnd self.new.log place) }
     {
-        self.release(0)?;
-        let read = self.next_bytes()?;
-        self.last = if read.is_some() {
-            Last::Message
-        } else {
-            Last::Nothing
-        };
-        self.live = true;
-        Ok(read)
+        self.play_read()
     }
 
     fn select(
@@ -422,26 +284,16 @@ impl Source for ScriptedSource {
         ensures comes { Unit {0} }
         ensures later { self.old.plan.faults ≤ self.new.plan.faults }
         ensures failed { result ≡ Err Failed → Rose self.old.plan.faults self.new.plan.faults }
-        ensures planned { FailsAsPlanned (length (inside_of self.old)) self.old self.new result }
+        ensures planned { FailsAsPlanned (length (inside_of self.old)) ⊥ self.old self.new result }
         ensures memory { result ≡ Err Memory
             → AddedFirst (before_of self.old ++ inside_of self.old) (past_move self.old) self.new }
+        ensures listed { IsListed self.old → result ≡ Err Memory
+            → AddedFirst (before_of self.old) (past_move self.old) self.new }
         ensures played { IfOk result (λ rows. (rows.items ≡ next_rows self.old)
             × (self.new ≡ with_select table.now (option_copied above.entry) limit
             (length self.old.log) (inside_of self.old) (released self.old))) }
     {
-        let from = self.log.len();
-        let number = self.asked.len();
-        let Move { before, inside } = self.next_move();
-        let inside = inside.into_items();
-        self.begin(before.into_items(), inside.len())?;
-        let rows = rows_at(self.alloc, &self.rows, number)?;
-        append(&mut self.log, inside)?;
-        let upto = self.log.len();
-        let asked = question(self.alloc, table, above, limit, from, upto)?;
-        self.asked.push(asked)?;
-        self.last = Last::Rows(number);
-        self.live = true;
-        Ok(rows)
+        self.play_select(table, above, limit)
     }
 
     fn mark(&mut self, value: &Text) -> Result<(), SourceError>
@@ -461,17 +313,12 @@ impl Source for ScriptedSource {
         ensures comes { Unit {0} }
         ensures later { self.old.plan.faults ≤ self.new.plan.faults }
         ensures failed { result ≡ Err Failed → Rose self.old.plan.faults self.new.plan.faults }
-        ensures planned { FailsAsPlanned 1 self.old self.new result }
+        ensures planned { FailsAsPlanned 1 ⊥ self.old self.new result }
         ensures memory { result ≡ Err Memory
             → AddedFirst (before_of self.old) (past_move self.old) self.new }
         ensures played { OnOk result (self.new ≡ with_mark value.now (released self.old)) }
     {
-        self.release(1)?;
-        let copied = value.copy(self.alloc)?;
-        self.log.push(Logged::Mark(copied))?;
-        self.last = Last::Done;
-        self.live = true;
-        Ok(())
+        self.play_mark(value)
     }
 
     fn confirm(&mut self, upto: Lsn) -> Result<(), SourceError>
@@ -490,15 +337,11 @@ impl Source for ScriptedSource {
         ensures comes { Unit {0} }
         ensures later { self.old.plan.faults ≤ self.new.plan.faults }
         ensures failed { result ≡ Err Failed → Rose self.old.plan.faults self.new.plan.faults }
-        ensures planned { FailsAsPlanned 0 self.old self.new result }
+        ensures planned { FailsAsPlanned 0 ⊥ self.old self.new result }
         ensures memory { result ≡ Err Memory
             → AddedFirst (before_of self.old) (past_move self.old) self.new }
         ensures played { OnOk result (self.new ≡ with_confirmed upto (released self.old)) }
     {
-        self.release(0)?;
-        self.confirmed = Lsn(self.confirmed.0.max(upto.0));
-        self.last = Last::Done;
-        self.live = true;
-        Ok(())
+        self.play_confirm(upto)
     }
 }

@@ -1,4 +1,4 @@
-ghost use Rattle.std.specs.Prelude.{◌≡◌, ◌≤◌, ℕ, List, [], ◌∷◌, length, Bool, false, is_some, IsTrue, Option, None, Some, option_copied, IfOk, OnOk, OnErr, MatchOption};
+ghost use Rattle.std.specs.Prelude.{◌≡◌, ◌≤◌, ℕ, List, [], ◌∷◌, length, Bool, false, is_some, IsTrue, Option, None, Some, option_copied, IfSome, IfOk, OnOk, OnErr, MatchOption};
 ghost use Rattle.dbl_base.specs.Streams.{Rose};
 ghost use Rattle.dbl_pgmsg.specs.declared.messages.Message.{Message};
 ghost use Rattle.dbl_pgmsg.specs.Grammar.{Spells};
@@ -52,6 +52,7 @@ pub trait Source {
     fn describe(&mut self, name: &TableName) -> Result<Option<RawTable>, SourceError>
         requires { IsTrue (is_live self.old) }
         ensures described { Leads stands self.old self.new result (IsDescribed name.now) }
+        ensures named { IfOk result (λ entry. IfSome entry (λ raw. raw.name ≡ name.now)) }
         ensures left { Leaves stands may_leave self.old self.new MayFollow }
         ensures some { LeavesSome stands may_leave self.old self.new }
         ensures told { IfOk result (λ entry. Tells (told self.new) (Described entry)) }

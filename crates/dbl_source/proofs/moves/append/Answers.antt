@@ -11,15 +11,15 @@ use Rattle.dbl_source.proofs.moves.append.Goals as goal
 -- the list that was yielded so far is a front of the commits
 pub returns-in_err-push-clause-err : goal.returns-in_err-push-clause-err
 returns-in_err-push-clause-err c =
-    let gives = c.into_iter-commit-iterator.ensures.into_iter_gives in
+    let gives = c.into_iter-messages-iterator.ensures.into_iter_gives in
     let commits = c.args.commits.items in
-    let yielded = c.loop-commit.yielded in
+    let yielded = c.loop-messages.yielded in
     let road = YieldsList-from_vec commits gives.0 (omega (arith, gives.1, c.args.commits.ok.0)) in
-    let turn = YieldsList-turn road yielded c.loop-commit.commit-iterator c.loop-commit.yielded_by c.next.result c.next.new.self c.in-Some.commit c.in-Some.is c.next.ensures.steps in
-    let front : yielded ≡ take (length yielded) commits = sym (map-id yielded) ∙ YieldsList-so_far road yielded c.loop-commit.commit-iterator c.loop-commit.yielded_by in
+    let turn = YieldsList-turn road yielded c.loop-messages.messages-iterator c.loop-messages.yielded_by c.next.result c.next.new.self c.in-Some.messages c.in-Some.is c.next.ensures.steps in
+    let front : yielded ≡ take (length yielded) commits = sym (map-id yielded) ∙ YieldsList-so_far road yielded c.loop-messages.messages-iterator c.loop-messages.yielded_by in
     let behind : IsBehind commits c.args.log.now.items c.push.new.self.items = record {
       count = length yielded;
       few = omega (arith, turn.0);
-      is = c.in_err-push.ensures.items ∙ c.loop-commit.invariant ∙ ap (λ (l : List (List Message)). c.args.log.now.items ++ map Changes l) front;
+      is = c.in_err-push.ensures.items ∙ c.loop-messages.invariant ∙ ap (λ (l : List (List Message)). c.args.log.now.items ++ map Changes l) front;
     } in
     on_err _ behind

@@ -1,7 +1,6 @@
 use Rattle.std.proofs.Common.{◌∙◌, ◌∷◌, ℕ, List, sym, ap, subst, arith}
 use Rattle.dbl_pgmsg.specs.declared.messages.Message.{Message}
 use Rattle.dbl_feed.specs.Sent.{oids_of, onto_relations}
-use Rattle.dbl_feed.proofs.RelationLemmas.{described_at}
 use Rattle.dbl_source.specs.Steps.{Describes}
 use Rattle.dbl_source.proofs.ReadingLemmas.{passed_over, none_to_tell, one_missing, oid_within, all_looked_at}
 use Rattle.dbl_source.proofs.reading.next_missing.Goals as goal
@@ -17,7 +16,6 @@ returns-in-Some-2-clause-next c base all =
     let same = c.loop-oid.invariant base all in
     let told = sym c.in_ok-relation.ensures ∙ c.in-Some-2.is in
     record {
-      described = described_at c.args.tables.now c.in-Some.oid c.in-Some-2.relation told;
       told =
           one_missing c.args.tables.now (oids_of c.args.message.now) c.loop-oid.table c.in-Some.oid base (sym c.in-Some.ensures.oid) c.args.described.now c.in-Some-2.relation
           (subst (Describes c.args.described.now) (sym same) all) (sym c.contains.ensures ∙ c.if-contains.false) told

@@ -3,8 +3,7 @@ use Rattle.std.specs.Prelude.{OnOk}
 use Rattle.dbl_pgmsg.specs.declared.messages.Message.{Message}
 use Rattle.dbl_source.specs.Moves.{HasRoom}
 use Rattle.dbl_source.specs.Played.{Played}
-use Rattle.dbl_source.proofs.PlannedLemmas.{went_after, planned_after}
-use Rattle.dbl_source.proofs.ExitLemmas.{stays_after}
+use Rattle.dbl_source.proofs.PlannedLemmas.{planned_after}
 use Rattle.dbl_source.proofs.MemoryLemmas.{added_after}
 use Rattle.dbl_source.proofs.scripted.ScriptedSource.release.Goals as goal
 
@@ -12,12 +11,6 @@ pub returns-clause-room : goal.returns-clause-room
 returns-clause-room c =
     subst (λ (b : List (List Message)). OnOk c.begin.result (HasRoom (length c.args.self.now.log) (length b) c.args.own)) (c.into_items.ensures ∙ c.next_move-before.ensures.before)
     (subst (λ (m : Played). OnOk c.begin.result (HasRoom (length m.log) (length c.into_items.result.items) c.args.own)) c.next_move-before.ensures.past c.begin.ensures.room)
-
-pub returns-clause-went : goal.returns-clause-went
-returns-clause-went c = went_after _ _ _ c.next_move-before.ensures.past c.begin.ensures.went
-
-pub returns-clause-stays : goal.returns-clause-stays
-returns-clause-stays c = stays_after c.args.self.now c.next_move-before.new.self c.begin.new.self c.next_move-before.ensures.past c.begin.ensures.went c.next_move-before.ensures.was
 
 pub returns-clause-planned : goal.returns-clause-planned
 returns-clause-planned c = planned_after _ _ _ _ _ _ c.next_move-before.ensures.past (c.into_items.ensures ∙ c.next_move-before.ensures.before) c.begin.ensures.full c.begin.ensures.listed c.begin.ensures.failed

@@ -1,0 +1,382 @@
+//! How a source plays its script: what a call begins with, what it does and what it answers. Each function has one state that
+//! it leads to at each of its ends; what a source promises of them is told of the calls of the trait.
+
+ghost use Rattle.std.specs.Prelude.{◌≡◌, ◌+◌, ◌≤◌, ◌<◌, ◌^◌, ◌++◌, ◌∷◌, [], length, max, Option, option_copied, Err, IsErr, IfOk, IfErr, OnOk, OnErr};
+ghost use Rattle.dbl_history.specs.History.{entry_of};
+ghost use Rattle.dbl_feed.specs.declared.logged.Logged.TheVariants.{Mark};
+ghost use Rattle.dbl_feed.specs.Histories.{history_of};
+ghost use Rattle.dbl_feed.specs.Numbers.{lsn_of};
+ghost use Rattle.dbl_source.specs.declared.error.SourceError.TheVariants.{Failed, Memory};
+ghost use Rattle.dbl_source.specs.Exits.{Plays, AnswersEntry, AnswersHead, AnswersStart, HasRead, AnswersRead, AnswersRows};
+ghost use Rattle.dbl_source.specs.Moves.{HasRoom};
+ghost use Rattle.dbl_source.specs.Played.{entry_at, before_of, inside_of, IsListed, IsFullBy, past_move, counted, committed, released, with_fault, FailsAsPlanned, with_answer, with_mark, with_confirmed, started_at, place_of, next_rows, question_of};
+ghost use Rattle.dbl_source.specs.Readings.{ReadsOn};
+ghost use Rattle.dbl_source.specs.Steps.{IsKept, IsBehind, AddedFirst, HasFailed, IsUnfit, IsReadBy, FailsToRead};
+
+use crate::asked::{Last, question, rows_at};
+use crate::catalogue::{entry_at, place_of};
+use crate::moves::{Move, append, has_room, no_move};
+use crate::reading::{Step, next_step, remember};
+use crate::{ScriptedSource, SourceError};
+use dbl_base::{Bytes, Lsn, Seq, Text};
+use dbl_feed::{Logged, Place, commits_upto, lsn_of};
+use dbl_honest::Started;
+use dbl_pgmsg::Message;
+use dbl_table::{Key, RawRow, RawTable, TableName};
+
+impl ScriptedSource {
+    // ---- a call begins and ends
+
+    // What other clients commit at the next call. The source can't be used until it answers.
+    fn next_move(&mut self) -> Move
+        ensures before { result.before ≡ before_of self.old }
+        ensures inside { result.inside ≡ inside_of self.old }
+        ensures past { self.new ≡ past_move self.old }
+        ensures was { IsKept self.old }
+    {
+        self.live = false;
+        match self.moves.next() {
+            Some(next) => next,
+            None => no_move(self.alloc),
+        }
+    }
+
+    // Other clients commit. Beside a mark, this alone makes the log grow.
+    fn commit(&mut self, commits: Vec<Seq<Message>>) -> Result<(), SourceError>
+        requires { length self.old.log + length commits.items < 2 ^ 40 }
+        ensures ok { OnOk result (self.new ≡ committed commits.items self.old) }
+        ensures err { OnErr result (IsBehind commits.items self.old.log self.new.log) }
+        ensures kept { OnErr result (self.new ≡ record self.old { log = self.new.log }) }
+        ensures memory { IfErr result (λ e. e ≡ Memory) }
+    {
+        append(&mut self.log, commits)?;
+        Ok(())
+    }
+
+    // The call is counted, and the commits before it stand in the log; or it fails, as planned or for want of room.
+    fn begin(&mut self, before: Vec<Seq<Message>>, own: usize) -> Result<(), SourceError>
+        ensures ok { OnOk result (self.new ≡ committed before.items (counted self.old)) }
+        ensures room { OnOk result (HasRoom (length self.old.log) (length before.items) own) }
+        ensures full { IsFullBy (length before.items) own self.old → result ≡ Err Failed }
+        ensures listed { IsListed self.old → IsErr result }
+        ensures failed { result ≡ Err Failed → HasFailed before.items own self.old self.new }
+        ensures memory { result ≡ Err Memory → AddedFirst before.items self.old self.new }
+        ensures later { self.old.plan.faults ≤ self.new.plan.faults }
+    {
+        let listed = self.plan.call().is_err();
+        let own = if listed { 0 } else { own };
+        if !has_room(self.log.len(), before.len(), own) {
+            if listed {
+                return Err(SourceError::Failed);
+            }
+            return Err(SourceError::from(self.plan.fault()));
+        }
+        self.commit(before)?;
+        if listed {
+            Err(SourceError::Failed)
+        } else {
+            Ok(())
+        }
+    }
+
+    // A call begins that adds so many commits of its own to the log.
+    fn release(&mut self, own: usize) -> Result<(), SourceError>
+        ensures ok { OnOk result (self.new ≡ released self.old) }
+        ensures room { OnOk result
+            (HasRoom (length self.old.log) (length (before_of self.old)) own) }
+        ensures was { IsKept self.old }
+        ensures planned { FailsAsPlanned own ⊥ self.old self.new result }
+        ensures memory { result ≡ Err Memory
+            → AddedFirst (before_of self.old) (past_move self.old) self.new }
+        ensures later { self.old.plan.faults ≤ self.new.plan.faults }
+    {
+        let Move { before, inside: _ } = self.next_move();
+        self.begin(before.into_items(), own)
+    }
+
+    // A select begins. Its rows are the script's, and its places in the log are counted, so that they are taken as well behind the
+    // commits that come inside of it.
+    fn release_around(&mut self) -> Result<(), SourceError>
+        ensures ok { OnOk result
+            (self.new ≡ committed (inside_of self.old) (released self.old)) }
+        ensures was { IsKept self.old }
+        ensures planned { FailsAsPlanned (length (inside_of self.old)) ⊥
+            self.old self.new result }
+        ensures memory { result ≡ Err Memory
+            → AddedFirst (before_of self.old ++ inside_of self.old) (past_move self.old) self.new }
+        ensures listed { IsListed self.old → result ≡ Err Memory
+            → AddedFirst (before_of self.old) (past_move self.old) self.new }
+        ensures later { self.old.plan.faults ≤ self.new.plan.faults }
+    {
+        let Move { before, inside } = self.next_move();
+        let inside = inside.into_items();
+        self.begin(before.into_items(), inside.len())?;
+        self.commit(inside)
+    }
+
+    // It answered.
+    fn answer(&mut self, last: Last)
+        ensures { self.new ≡ with_answer last self.old }
+    {
+        self.last = last;
+        self.live = true;
+    }
+
+    // ---- what it does
+
+    fn find(&self, name: &TableName) -> Option<usize>
+        ensures { entry_at self.now.tables result
+            ≡ entry_of (history_of self.now.tables []) name.now }
+    {
+        place_of(&self.tables, name)
+    }
+
+    fn entry(&self, place: Option<usize>) -> Result<Option<RawTable>, SourceError>
+        ensures ok { IfOk result (λ entry. entry ≡ entry_at self.now.tables place) }
+        ensures err { IfErr result (λ e. e ≡ Memory) }
+    {
+        Ok(entry_at(self.alloc, &self.tables, place)?)
+    }
+
+    fn last_lsn(&self) -> Lsn
+        ensures { result ≡ lsn_of (length self.now.log) }
+    {
+        lsn_of(self.log.len() as u64)
+    }
+
+    // The log is gone exactly below the confirmed position. Takes no memory.
+    fn begin_reading(&mut self, after: Lsn) -> Started
+        ensures told { result ≡ started_at after self.old }
+        ensures place { self.new ≡ record self.old { place = place_of after result } }
+    {
+        self.described.clear();
+        if after.0 < self.confirmed.0 {
+            self.place = None;
+            return Started::Gone {
+                first: self.confirmed,
+            };
+        }
+        self.place = Some(Place {
+            after,
+            commits: 0,
+            begun: false,
+            change: 0,
+            table: 0,
+        });
+        Started::Ready
+    }
+
+    // The message was read, and the reader stands behind it.
+    fn advance(&mut self, next: Step) -> Result<Bytes, SourceError>
+        requires { ReadsOn self.old next }
+        ensures ok { IfOk result (λ bytes. IsReadBy self.old self.new bytes) }
+        ensures err { IfErr result (λ e. (e ≡ Memory) × (self.new ≡ self.old)) }
+        ensures later { self.old.plan.faults ≤ self.new.plan.faults }
+    {
+        let Step {
+            bytes,
+            place,
+            described,
+        } = next;
+        remember(&mut self.described, described)?;
+        self.place = Some(place);
+        Ok(bytes)
+    }
+
+    // A message that has no spelling counts a fault.
+    fn unread(&mut self, error: SourceError) -> SourceError
+        ensures same { result ≡ error }
+        ensures failed { error ≡ Failed → self.new ≡ with_fault self.old }
+        ensures memory { error ≡ Memory → self.new ≡ self.old }
+        ensures later { self.old.plan.faults ≤ self.new.plan.faults }
+    {
+        match error {
+            SourceError::Failed => SourceError::from(self.plan.fault()),
+            SourceError::Memory => SourceError::Memory,
+        }
+    }
+
+    // What is read next, where there is something.
+    fn next_bytes(&mut self) -> Result<Option<Bytes>, SourceError>
+        ensures read { IfOk result (λ read. HasRead self.old self.new read) }
+        ensures err { IfErr result (FailsToRead self.old self.new) }
+        ensures later { self.old.plan.faults ≤ self.new.plan.faults }
+    {
+        let Some(place) = self.place else {
+            return Ok(None);
+        };
+        let index = commits_upto(place.after) + place.commits;
+        let Some(entry) = self.log.get(index) else {
+            return Ok(None);
+        };
+        let next = next_step(
+            self.alloc,
+            &self.tables,
+            entry,
+            &self.described,
+            place,
+            index as u64 + 1,
+        );
+        match next {
+            Ok(next) => Ok(Some(self.advance(next)?)),
+            Err(error) => Err(self.unread(error)),
+        }
+    }
+
+    // How many commits there are.
+    fn count(&self) -> usize
+        ensures { result ≡ length self.now.log }
+    {
+        self.log.len()
+    }
+
+    // The number of the next select, from 0.
+    fn number(&self) -> usize
+        ensures { result ≡ length self.now.asked }
+    {
+        self.asked.len()
+    }
+
+    // The rows of the script for the next select.
+    fn copy_rows(&self) -> Result<Vec<RawRow>, SourceError>
+        ensures ok { IfOk result (λ rows. rows.items ≡ next_rows self.now) }
+        ensures err { IfErr result (λ e. e ≡ Memory) }
+    {
+        Ok(rows_at(self.alloc, &self.rows, self.asked.len())?)
+    }
+
+    // The question is kept. The select returns now, so that its last place is the log's end.
+    fn ask(
+        &mut self,
+        table: &TableName,
+        above: Option<&Key>,
+        limit: u32,
+        from: usize,
+    ) -> Result<(), SourceError>
+        ensures ok { OnOk result (self.new ≡ record self.old {
+          asked = self.old.asked ++ question_of table.now (option_copied above.entry)
+              limit from (length self.old.log) ∷ [];
+        }) }
+        ensures err { OnErr result (self.new ≡ self.old) }
+        ensures memory { IfErr result (λ e. e ≡ Memory) }
+    {
+        let asked = question(self.alloc, table, above, limit, from, self.log.len())?;
+        self.asked.push(asked)?;
+        Ok(())
+    }
+
+    // A commit of its own.
+    fn write_mark(&mut self, value: &Text) -> Result<(), SourceError>
+        requires { length self.old.log + 1 < 2 ^ 40 }
+        ensures ok { OnOk result
+            (self.new ≡ record self.old { log = self.old.log ++ Mark value.now ∷ [] }) }
+        ensures err { OnErr result (self.new ≡ self.old) }
+        ensures memory { IfErr result (λ e. e ≡ Memory) }
+    {
+        let copied = value.copy(self.alloc)?;
+        self.log.push(Logged::Mark(copied))?;
+        Ok(())
+    }
+
+    // What is confirmed stays so.
+    fn raise(&mut self, upto: Lsn)
+        ensures { self.new ≡ record self.old {
+          confirmed = record { 0 = max self.old.confirmed.0 upto.0 };
+        } }
+    {
+        self.confirmed = Lsn(self.confirmed.0.max(upto.0));
+    }
+
+    // ---- the calls of the trait
+
+    pub(crate) fn play_describe(
+        &mut self,
+        name: &TableName,
+    ) -> Result<Option<RawTable>, SourceError>
+        ensures { Plays 0 ⊥ (before_of self.old) (AnswersEntry name.now self.old)
+            self.old self.new result }
+    {
+        self.release(0)?;
+        let place = self.find(name);
+        let entry = self.entry(place)?;
+        self.answer(Last::Described(place));
+        Ok(entry)
+    }
+
+    pub(crate) fn play_head(&mut self) -> Result<Lsn, SourceError>
+        ensures { Plays 0 ⊥ (before_of self.old) (AnswersHead self.old) self.old self.new result }
+    {
+        self.release(0)?;
+        let lsn = self.last_lsn();
+        self.answer(Last::Head(lsn));
+        Ok(lsn)
+    }
+
+    pub(crate) fn play_start(&mut self, after: Lsn) -> Result<Started, SourceError>
+        ensures { Plays 0 ⊥ (before_of self.old) (AnswersStart after self.old) self.old self.new result }
+    {
+        self.release(0)?;
+        let started = self.begin_reading(after);
+        self.answer(Last::Began(started));
+        Ok(started)
+    }
+
+    pub(crate) fn play_read(&mut self) -> Result<Option<Bytes>, SourceError>
+        ensures { Plays 0 (IsUnfit (released self.old)) (before_of self.old) (AnswersRead self.old)
+            self.old self.new result }
+    {
+        self.release(0)?;
+        match self.next_bytes()? {
+            Some(bytes) => {
+                self.answer(Last::Message);
+                Ok(Some(bytes))
+            }
+            None => {
+                self.answer(Last::Nothing);
+                Ok(None)
+            }
+        }
+    }
+
+    pub(crate) fn play_select(
+        &mut self,
+        table: &TableName,
+        above: Option<&Key>,
+        limit: u32,
+    ) -> Result<Vec<RawRow>, SourceError>
+        ensures plays { Plays (length (inside_of self.old)) ⊥
+            (before_of self.old ++ inside_of self.old)
+            (λ rows. AnswersRows table.now (option_copied above.entry) limit self.old rows.items)
+            self.old self.new result }
+        ensures listed { IsListed self.old → result ≡ Err Memory
+            → AddedFirst (before_of self.old) (past_move self.old) self.new }
+    {
+        let from = self.count();
+        self.release_around()?;
+        let number = self.number();
+        let rows = self.copy_rows()?;
+        self.ask(table, above, limit, from)?;
+        self.answer(Last::Rows(number));
+        Ok(rows)
+    }
+
+    pub(crate) fn play_mark(&mut self, value: &Text) -> Result<(), SourceError>
+        ensures { Plays 1 ⊥ (before_of self.old) (λ done new. new ≡ with_mark value.now
+            (released self.old)) self.old self.new result }
+    {
+        self.release(1)?;
+        self.write_mark(value)?;
+        self.answer(Last::Done);
+        Ok(())
+    }
+
+    pub(crate) fn play_confirm(&mut self, upto: Lsn) -> Result<(), SourceError>
+        ensures { Plays 0 ⊥ (before_of self.old) (λ done new. new ≡ with_confirmed upto
+            (released self.old)) self.old self.new result }
+    {
+        self.release(0)?;
+        self.raise(upto);
+        self.answer(Last::Done);
+        Ok(())
+    }
+}

@@ -15,3 +15,4 @@ pub mod PlayedLemmas
 pub mod ExitLemmas
 pub mod EndLemmas
 pub mod MarkLemmas
+pub mod GrownLemmas

@@ -1,18 +1,23 @@
 -- What it comes to that a script is honest.
-use Rattle.std.specs.Prelude.{◌≡◌, ◌+◌, ◌<◌, ◌≤◌, ℕ, Some, List, length, map, slice_get}
+use Rattle.std.specs.Prelude.{◌≡◌, ◌+◌, ◌<◌, ◌≤◌, ℕ, Option, Some, List, length, map, slice_get}
 use Rattle.std.specs.List.{AllByRecursion}
 use Rattle.std.specs.Str.{IsUtf8}
 use Rattle.dbl_pgmsg.specs.declared.messages.Message.{Message}
 use Rattle.dbl_pgmsg.specs.Grammar.{Fits}
+use Rattle.dbl_table.specs.declared.row.Key.{Key}
+use Rattle.dbl_table.specs.declared.table.TableName.{TableName}
 use Rattle.dbl_table.specs.declared.table.RawTable.{RawTable}
 use Rattle.dbl_table.specs.declared.table.RawRow.{RawRow}
 use Rattle.dbl_history.specs.Ranges.{IsEntryInRange}
+use Rattle.dbl_history.specs.Fit.{IsFitHistory}
 use Rattle.dbl_feed.specs.Relations.{catalogue, all_relations}
-use Rattle.dbl_feed.specs.Fair.{AreNamed}
+use Rattle.dbl_feed.specs.Histories.{history_of}
+use Rattle.dbl_feed.specs.Fair.{AreNamed, IsFairLog}
 use Rattle.dbl_source.specs.declared.asked.Asked.{Asked}
 use Rattle.dbl_source.specs.declared.moves.Move.{Move}
 use Rattle.dbl_source.specs.Moves.{commit_limit}
-use Rattle.dbl_source.specs.Played.{Played, keyed_table, new_played, committed, with_mark}
+use Rattle.dbl_source.specs.Fairness.{IsAnswered}
+use Rattle.dbl_source.specs.Played.{Played, keyed_table, new_played, committed, with_mark, next_rows, question_of, with_select}
 use Rattle.dbl_source.specs.Steps.{WasFair, AddedFirst}
 
 -- A source that has been asked nothing was honest so far, whatever its script will bring, where its tables can be told apart and have
@@ -34,3 +39,13 @@ FirstCommitsAreFair = (commits : List (List Message)) (old new : Played) → Hav
 -- other clients' commits alone.
 abbrev pub MarksKeepFair : Type 0
 MarksKeepFair = (value : List ℕ) (s : Played) → IsUtf8 value → length s.log + 1 < commit_limit → HaveReturned s → WasFair s → WasFair (with_mark value s)
+
+-- What other clients commit keeps a source honest that was so, where its history stays fit and what was committed is such as a server
+-- sends: the rows that its selects answered stay right.
+abbrev pub CommitsKeepFair : Type 0
+CommitsKeepFair = (commits : List (List Message)) (s : Played) → HaveReturned s → IsFitHistory (history_of s.tables (committed commits s).log) → IsFairLog s.tables (committed commits s).log → WasFair s → WasFair (committed commits s)
+
+-- So does a select, where its rows besides are those of one position between its call and its return.
+abbrev pub SelectsKeepFair : Type 0
+SelectsKeepFair = (table : TableName) (above : Option Key) (limit from : ℕ) (inside : List (List Message)) (s : Played) → HaveReturned s → IsFitHistory (history_of s.tables (committed inside s).log) → IsFairLog s.tables (committed inside s).log
+    → IsAnswered s.tables (committed inside s).log (question_of table above limit from (length s.log + length inside)) (next_rows s) → WasFair s → WasFair (with_select table above limit from inside s)

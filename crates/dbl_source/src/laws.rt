@@ -3,7 +3,7 @@
 ghost use Rattle.std.specs.Prelude.{◌↔◌};
 ghost use Rattle.dbl_source.specs.Played.{Played};
 ghost use Rattle.dbl_source.specs.Steps.{WasFair};
-ghost use Rattle.dbl_source.specs.Laws.{NewSourcesAreFair, FirstCommitsAreFair, MarksKeepFair};
+ghost use Rattle.dbl_source.specs.Laws.{NewSourcesAreFair, FirstCommitsAreFair, MarksKeepFair, CommitsKeepFair, SelectsKeepFair};
 ghost use Rattle.dbl_source.specs.FairExample.{FairSourcesStand};
 
 use crate::{ScriptedSource, Source};
@@ -26,6 +26,16 @@ pub fn first_commits_are_fair()
 /// A mark keeps a played source honest: its history stays fit, and the rows that selects answered stay right.
 pub fn marks_keep_fair()
     ensures { MarksKeepFair }
+{}
+
+/// Other clients' commits keep a played source honest, where its history stays fit and they are such as a server sends.
+pub fn commits_keep_fair()
+    ensures { CommitsKeepFair }
+{}
+
+/// So does a select, where its rows are those of one position between its call and its return.
+pub fn selects_keep_fair()
+    ensures { SelectsKeepFair }
 {}
 
 /// There is a played source behind other clients' commits, a mark, a select and all reads that was honest so far, and one that

@@ -52,7 +52,7 @@ pub returns-clause-puts : goal.returns-clause-puts
 returns-clause-puts g c = λ options follows.
     let so_far = c.messages.invariant.0 options follows in
     let none : c.messages.bytes-iterator.rest.items ≡ [] = empty_is c.messages.bytes-iterator.rest.items (omega (arith, c.in-None.ensures.steps.0, c.messages.bytes-iterator.rest.ok)) in
-    logging_ends _ _ _ _ _ _ _ _ _ _ _ c.inside.result so_far none (c.inside.ensures options so_far.ms so_far.follows) refl c.unfinished.ensures
+    logging_ends _ _ _ _ _ _ _ _ _ _ _ c.inside.result so_far none (c.inside.ensures options so_far.ms so_far.follows) refl c.unfinished_fault.ensures
 
 pub overflow_add-number : goal.overflow_add-number
 overflow_add-number g c =

@@ -6,5 +6,5 @@ returns-in-Err g c = record {
   told = λ other. starved _ c.say-in-Err.result _ _ c.say-in-Err.ensures.says;
   memory = λ is. c.say-in-Err.ensures.says;
   output_failed = c.say-in-Err.ensures.output_failed;
-  status = says_memory c.say-in-Err.result _ _ c.say-in-Err.ensures.says;
+  known = says_memory c.say-in-Err.result _ _ c.say-in-Err.ensures.says;
 }

@@ -4,3 +4,5 @@ pub mod Onward
 pub mod Offsets
 pub mod Longer
 pub mod Complete
+pub mod Lists
+pub mod Splits

@@ -1,0 +1,78 @@
+-- How many windows a session has read, beside the rows of its tables. Source: own.
+use Rattle.std.specs.Prelude.{◌≡◌, ℕ, ◌+◌, ◌*◌, ◌≤◌, false, Some, List, length, count_by, slice_get}
+use Rattle.std.specs.List.{AllByRecursion}
+use Rattle.dbl_value.specs.declared.value.Val.{Val}
+use Rattle.dbl_table.specs.declared.row.Key.{Key}
+use Rattle.dbl_table.specs.declared.table.TableInfo.{TableInfo}
+use Rattle.dbl_history.specs.History.{History}
+use Rattle.dbl_history.specs.KeyBounds.{IsUpTo}
+use Rattle.dbl_history.specs.declared.cursor.Cursor.{Cursor}
+use Rattle.dbl_honest.specs.Growth.{marks_in}
+use Rattle.dbl_honest.specs.Selected.{rows_behind}
+use Rattle.dbl_window.specs.Plans.{Chunk}
+use Rattle.dbl_window.specs.Selected.{IsSelected}
+use Rattle.dbl_follow.specs.declared.window.Window.{Window}
+use Rattle.dbl_follow.specs.declared.window.Window.TheVariants.{Absent, Armed, Open}
+
+-- how many windows wait: one or none
+abbrev pub waiting : Window → ℕ
+waiting Absent = 0
+waiting (Armed chunk) = 1
+waiting (Open chunk) = 1
+
+-- how many tables are read to their end
+abbrev pub ended_of : List Cursor → ℕ
+ended_of cursors = count_by (λ cursor. cursor.done) cursors
+
+-- a pair of a captured table and a key that had a row at some place of the history, up to which the table's cursor has come
+pub record WasRead (infos : List TableInfo) (history : History) (cursors : List Cursor) (pair : ℕ × Key) : Type 0 where
+  pub place : ℕ
+  pub row : List Val
+  pub within : place ≤ length history.commits
+  pub was : rows_behind infos history place pair.0 pair.1 ≡ Some row
+  pub cursor : Cursor
+  pub cursor_is : slice_get cursors pair.0 ≡ Some cursor
+  pub read : IsUpTo cursor.last pair.1
+
+-- no two of the list are one
+pub record AreApart (pairs : List (ℕ × Key)) : Type 0 where
+  pub apart : (i j : ℕ) (pair : ℕ × Key) → slice_get pairs i ≡ Some pair → slice_get pairs j ≡ Some pair → i ≡ j
+
+-- The rows of a window were read at one place of the history, behind where its table's cursor stands, and the table isn't read to its
+-- end. Changes may have left fewer of them since.
+pub record IsOnTable (infos : List TableInfo) (limit : ℕ) (history : History) (cursors : List Cursor) (chunk : Chunk) : Type 0 where
+  pub captured : slice_get infos chunk.plan.table ≡ Some chunk.plan.info
+  pub limit_is : chunk.plan.limit ≡ limit
+  pub cursor : Cursor
+  pub cursor_is : slice_get cursors chunk.plan.table ≡ Some cursor
+  pub not_done : cursor.done ≡ false
+  pub above : chunk.plan.above ≡ cursor.last
+  pub selected : Chunk
+  pub plan : selected.plan ≡ chunk.plan
+  pub through : selected.through ≡ chunk.through
+  pub done : selected.done ≡ chunk.done
+  pub from : ℕ
+  pub upto : ℕ
+  pub within : upto ≤ length history.commits
+  pub rows : IsSelected infos history from upto selected
+
+abbrev pub IsWaiting : List TableInfo → ℕ → History → List Cursor → Window → Type 0
+IsWaiting infos limit history cursors Absent = Unit {0}
+IsWaiting infos limit history cursors (Armed chunk) = IsOnTable infos limit history cursors chunk
+IsWaiting infos limit history cursors (Open chunk) = IsOnTable infos limit history cursors chunk
+
+-- Two marks were written for each window that was read. One window may wait; each other one is closed, and ended its table, or was
+-- full: it read as many rows as it may, at keys that no other window of the session read.
+pub record IsCounted (infos : List TableInfo) (chunk number closed : ℕ) (old new : History) (window : Window)
+    (begun cursors : List Cursor) : Type 0 where
+  pub marks : length (marks_in new.commits) ≡ length (marks_in old.commits) + 2 * number
+  pub windows : number ≡ closed + waiting window
+  pub waits : IsWaiting infos chunk new cursors window
+  pub full : ℕ
+  pub ended : ℕ
+  pub each : closed ≡ full + ended
+  pub tables : ended_of begun + ended ≡ ended_of cursors
+  pub read : List (ℕ × Key)
+  pub many : length read ≡ full * chunk
+  pub were : AllByRecursion (WasRead infos new cursors) read
+  pub apart : AreApart read

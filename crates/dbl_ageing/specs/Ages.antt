@@ -1,4 +1,4 @@
--- What a consumer's cell can be: after a stop inside a repeat its cells come from different positions, and its state is no
+-- What a consumer's cell can be: after a crash inside a repeat its cells come from different positions, and its state is no
 -- state of the source. Each cell still is that of the source at some moment of a span. Source: own.
 use Rattle.std.specs.Prelude.{◌≡◌, ℕ, ◌≤◌, Option, Some, None, IsSome, List, map}
 use Rattle.dbl_record.specs.declared.acts.HeldCell.{HeldCell}

@@ -44,7 +44,7 @@ fn end_of(alloc: Global, source: &Source, held: &Held, from: u64, to: &str) -> R
     Ok(span_end(alloc, infos, commits, source.start, &held.records, from)?)
 }
 
-fn asked(alloc: Global, source: &Source, held: &Held, fields: &str) -> Result<Question> {
+fn read_question(alloc: Global, source: &Source, held: &Held, fields: &str) -> Result<Question> {
     let from = words::field(fields, 0).parse::<u64>()?;
     let (table, id) = words::table_of(words::field(fields, 2));
     Ok(Question {
@@ -58,7 +58,7 @@ fn asked(alloc: Global, source: &Source, held: &Held, fields: &str) -> Result<Qu
 }
 
 // Whether the key is known at the span's end.
-fn known(alloc: Global, source: &Source, held: &Held, asked: &Question) -> Result<bool> {
+fn is_known_at(alloc: Global, source: &Source, held: &Held, asked: &Question) -> Result<bool> {
     let log = Log {
         identity: &source.identity,
         infos: &source.infos,
@@ -128,10 +128,10 @@ fn ask(
     fields: &str,
     answers: &mut String,
 ) -> Result<()> {
-    let asked = asked(alloc, source, held, fields)?;
+    let asked = read_question(alloc, source, held, fields)?;
     let topic = topic(alloc, asked.table)?;
     let cell = row_of(held, &topic, &asked.text).and_then(|cells| cells.get(&asked.column));
-    let known = known(alloc, source, held, &asked)?;
+    let known = is_known_at(alloc, source, held, &asked)?;
     let aged = is_aged(alloc, source, &asked, known, cell)?;
     let key = words::field(fields, 2);
     let (column, shown) = (words::field(fields, 3), shown(cell));
@@ -154,7 +154,7 @@ fn moments(alloc: Global, source: &Source, held: &Held, answers: &mut String) ->
     Ok(())
 }
 
-fn named(
+fn is_named_so(
     alloc: Global,
     source: &Source,
     held: &Held,
@@ -187,11 +187,11 @@ fn tell(
     item: &str,
     answers: &mut String,
 ) -> Result<()> {
-    let (kind, rest) = words::parted(item, "/");
+    let (kind, rest) = words::split(item, "/");
     match kind {
         "ask" => ask(alloc, source, held, rest, answers),
         "moments" => moments(alloc, source, held, answers),
-        "named" => named(alloc, source, held, rest, answers),
+        "named" => is_named_so(alloc, source, held, rest, answers),
         "right" => right(alloc, source, shown, rest, answers),
         _ => Ok(()),
     }

@@ -175,7 +175,7 @@ fn tell(alloc: Global, held: &mut Held, fields: &str) -> Result<()> {
 
 /// Takes an item that delivers records. Others are passed over.
 pub fn take(alloc: Global, source: &Source, held: &mut Held, item: &str) -> Result<()> {
-    let (kind, rest) = words::parted(item, "/");
+    let (kind, rest) = words::split(item, "/");
     match kind {
         "say" => say(alloc, source, held, rest),
         "at" => {

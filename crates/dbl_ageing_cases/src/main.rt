@@ -29,7 +29,7 @@ fn main(rt: HostRuntime) -> Result<()> {
         if line.is_empty() || line.starts_with('#') {
             continue;
         }
-        let (name, items) = words::parted(line.as_str(), ": ");
+        let (name, items) = words::split(line.as_str(), ": ");
         match answer(rt.alloc(), items) {
             Ok(text) => println!(rt; "{name}:{text}")?,
             Err(error) => println!(rt; "{name}: no answer: {error}")?,

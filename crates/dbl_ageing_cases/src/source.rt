@@ -102,7 +102,7 @@ fn row(alloc: Global, id: &str, v: Val) -> Result<Row> {
     })
 }
 
-fn sent(alloc: Global, v: &str) -> Result<Cell> {
+fn sent_cell(alloc: Global, v: &str) -> Result<Cell> {
     if v == "?" {
         return Ok(Cell::Unchanged);
     }
@@ -112,7 +112,7 @@ fn sent(alloc: Global, v: &str) -> Result<Cell> {
 fn cells(alloc: Global, id: &str, v: &str) -> Result<Seq<Cell>> {
     let mut cells = Vec::new(alloc);
     cells.push(Cell::Given(Val::Int(id.parse()?)))?;
-    cells.push(sent(alloc, v)?)?;
+    cells.push(sent_cell(alloc, v)?)?;
     Ok(Seq::make(cells))
 }
 
@@ -127,7 +127,7 @@ fn update(alloc: Global, table: u32, words: &str) -> Result<Change> {
     })
 }
 
-fn moved(alloc: Global, table: u32, words: &str) -> Result<Change> {
+fn move_of(alloc: Global, table: u32, words: &str) -> Result<Change> {
     let (from, rest) = words::first(words);
     let (to, v) = words::first(rest);
     Ok(Change::Update {
@@ -148,7 +148,7 @@ fn change(alloc: Global, words: &str) -> Result<Change> {
             row: text_row(alloc, id, v)?,
         }),
         "update" => update(alloc, table, rest),
-        "move" => moved(alloc, table, rest),
+        "move" => move_of(alloc, table, rest),
         "delete" => Ok(Change::Delete {
             table,
             key: key(alloc, id)?,
@@ -180,8 +180,8 @@ fn add(source: &mut Source, lsn: u64, body: Body) -> Result<()> {
 
 // Takes an item that the source is made of. Others are passed over.
 fn take(alloc: Global, source: &mut Source, item: &str) -> Result<()> {
-    let (kind, fields) = words::parted(item, "/");
-    let (number, rest) = words::parted(fields, "/");
+    let (kind, fields) = words::split(item, "/");
+    let (number, rest) = words::split(fields, "/");
     match kind {
         "commit" => add(source, number.parse()?, changes(alloc, rest)?),
         "mark" => add(source, number.parse()?, Body::Mark(Text::of(alloc, rest)?)),

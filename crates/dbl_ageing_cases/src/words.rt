@@ -1,7 +1,7 @@
 //! The words of a case.
 
 /// What stands before the first mark, and what stands behind it.
-pub fn parted<'a>(text: &'a str, mark: &'a str) -> (&'a str, &'a str) {
+pub fn split<'a>(text: &'a str, mark: &'a str) -> (&'a str, &'a str) {
     match text.split_once(mark) {
         Some(parts) => parts,
         None => (text, ""),
@@ -10,7 +10,7 @@ pub fn parted<'a>(text: &'a str, mark: &'a str) -> (&'a str, &'a str) {
 
 /// The first word, and what stands behind it.
 pub fn first(text: &str) -> (&str, &str) {
-    parted(text, " ")
+    split(text, " ")
 }
 
 /// One of the fields of an item, which slashes part.

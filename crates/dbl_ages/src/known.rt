@@ -5,7 +5,7 @@ ghost use Rattle.dbl_table.specs.Rows.{all_changes};
 ghost use Rattle.dbl_ageing.specs.KnownKeys.{IsKnown};
 ghost use Rattle.dbl_ages.specs.Told.{Tests, AreUnlisted};
 
-use crate::told::{Log, is_told};
+use crate::progress::{Log, is_told};
 use dbl_ageing::is_touched;
 use dbl_table::{Commit, Key};
 use std::alloc::{AllocError, Global};

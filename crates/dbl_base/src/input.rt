@@ -25,13 +25,18 @@ pub trait Input {
     /// again.
     fn read(&mut self, buffer: &mut [u8]) -> Result<usize, Failed>
         ensures bound { IfOk result (λ n. n ≤ length buffer.old) }
-        ensures moves { (bytes : List ℕ) → left self.old ≡ Some bytes → IfOk result (λ n. MovesFront n bytes buffer.new (left self.new)) }
-        ensures end { (bytes : List ℕ) → left self.old ≡ Some bytes → 0 < length buffer.old → result ≡ Ok 0 → bytes ≡ [] }
-        ensures kept { (bytes : List ℕ) → left self.old ≡ Some bytes → OnErr result (left self.new ≡ Some bytes) }
+        ensures moves { (bytes : List ℕ) → left self.old ≡ Some bytes →
+            IfOk result (λ n. MovesFront n bytes buffer.new (left self.new)) }
+        ensures end { (bytes : List ℕ) → left self.old ≡ Some bytes → 0 < length buffer.old →
+            result ≡ Ok 0 → bytes ≡ [] }
+        ensures kept { (bytes : List ℕ) → left self.old ≡ Some bytes →
+            OnErr result (left self.new ≡ Some bytes) }
         ensures later { faults self.old ≤ faults self.new }
         ensures cause { OnErr result (Rose (faults self.old) (faults self.new)) }
-        ensures steady { (bytes : List ℕ) → left self.old ≡ Some bytes → OnOk result (faults self.new ≡ faults self.old) }
-        ensures once { (bytes : List ℕ) → left self.old ≡ Some bytes → OnErr result (faults self.new ≡ raised (faults self.old)) };
+        ensures steady { (bytes : List ℕ) → left self.old ≡ Some bytes →
+            OnOk result (faults self.new ≡ faults self.old) }
+        ensures once { (bytes : List ℕ) → left self.old ≡ Some bytes →
+            OnErr result (faults self.new ≡ raised (faults self.old)) };
 }
 
 /// Why an input wasn't read.
@@ -74,15 +79,20 @@ fn read_piece<I: Input>(
     bytes: &mut Vec<u8>,
 ) -> Result<usize, InputError>
     requires { 0 < length buffer.old }
-    ensures left { (rest : List ℕ) → I.left input.old ≡ Some rest → IfOk result (λ n. I.left input.new ≡ Some (drop n rest)) }
-    ensures moved { (rest : List ℕ) → I.left input.old ≡ Some rest → IfOk result (λ n. bytes.new.items ≡ bytes.old.items ++ take n rest) }
+    ensures left { (rest : List ℕ) → I.left input.old ≡ Some rest →
+        IfOk result (λ n. I.left input.new ≡ Some (drop n rest)) }
+    ensures moved { (rest : List ℕ) → I.left input.old ≡ Some rest →
+        IfOk result (λ n. bytes.new.items ≡ bytes.old.items ++ take n rest) }
     ensures end { (rest : List ℕ) → I.left input.old ≡ Some rest → result ≡ Ok 0 → rest ≡ [] }
     ensures longer { IfOk result (λ n. length bytes.new.items ≡ length bytes.old.items + n) }
-    ensures failed { result ≡ Err InputError.Failed → Rose (I.faults input.old) (I.faults input.new) }
+    ensures failed { result ≡ Err InputError.Failed →
+        Rose (I.faults input.old) (I.faults input.new) }
     ensures short { result ≢ Err InputError.TooLong }
     ensures later { I.faults input.old ≤ I.faults input.new }
-    ensures steady { (rest : List ℕ) → I.left input.old ≡ Some rest → result ≢ Err InputError.Failed → I.faults input.new ≡ I.faults input.old }
-    ensures once { (rest : List ℕ) → I.left input.old ≡ Some rest → result ≡ Err InputError.Failed → I.faults input.new ≡ raised (I.faults input.old) }
+    ensures steady { (rest : List ℕ) → I.left input.old ≡ Some rest →
+        result ≢ Err InputError.Failed → I.faults input.new ≡ I.faults input.old }
+    ensures once { (rest : List ℕ) → I.left input.old ≡ Some rest → result ≡ Err InputError.Failed →
+        I.faults input.new ≡ raised (I.faults input.old) }
 {
     let count = input.read(buffer)?;
     bytes.extend_from_slice(&buffer[..count])?;
@@ -91,14 +101,20 @@ fn read_piece<I: Input>(
 
 /// Reads all bytes left. After an error the bytes that were read are gone. The first read that fails is the last one.
 pub fn read_all<I: Input>(alloc: Global, input: &mut I) -> Result<Bytes, InputError>
-    ensures all { (bytes : List ℕ) → I.left input.old ≡ Some bytes → IfOk result (λ read. read ≡ bytes) }
-    ensures end { (bytes : List ℕ) → I.left input.old ≡ Some bytes → OnOk result (I.left input.new ≡ Some []) }
+    ensures all { (bytes : List ℕ) → I.left input.old ≡ Some bytes →
+        IfOk result (λ read. read ≡ bytes) }
+    ensures end { (bytes : List ℕ) → I.left input.old ≡ Some bytes →
+        OnOk result (I.left input.new ≡ Some []) }
     ensures within { IfOk result (λ read. length read ≤ input_limit) }
-    ensures too_long { (bytes : List ℕ) → I.left input.old ≡ Some bytes → result ≡ Err InputError.TooLong → input_limit < length bytes }
-    ensures failed { result ≡ Err InputError.Failed → Rose (I.faults input.old) (I.faults input.new) }
+    ensures too_long { (bytes : List ℕ) → I.left input.old ≡ Some bytes →
+        result ≡ Err InputError.TooLong → input_limit < length bytes }
+    ensures failed { result ≡ Err InputError.Failed →
+        Rose (I.faults input.old) (I.faults input.new) }
     ensures later { I.faults input.old ≤ I.faults input.new }
-    ensures steady { (bytes : List ℕ) → I.left input.old ≡ Some bytes → result ≢ Err InputError.Failed → I.faults input.new ≡ I.faults input.old }
-    ensures once { (bytes : List ℕ) → I.left input.old ≡ Some bytes → result ≡ Err InputError.Failed → I.faults input.new ≡ raised (I.faults input.old) }
+    ensures steady { (bytes : List ℕ) → I.left input.old ≡ Some bytes →
+        result ≢ Err InputError.Failed → I.faults input.new ≡ I.faults input.old }
+    ensures once { (bytes : List ℕ) → I.left input.old ≡ Some bytes →
+        result ≡ Err InputError.Failed → I.faults input.new ≡ raised (I.faults input.old) }
 {
     let mut buffer = [0u8; BUFFER_LENGTH];
     let mut bytes = Vec::new(alloc);

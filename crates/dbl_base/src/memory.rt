@@ -47,16 +47,22 @@ impl Input for MemInput {
 
     fn read(&mut self, buffer: &mut [u8]) -> Result<usize, Failed>
         ensures bound { IfOk result (λ n. n ≤ length buffer.old) }
-        ensures moves { (bytes : List ℕ) → Some self.old.left ≡ Some bytes → IfOk result (λ n. MovesFront n bytes buffer.new (Some self.new.left)) }
-        ensures end { (bytes : List ℕ) → Some self.old.left ≡ Some bytes → 0 < length buffer.old → result ≡ Ok 0 → bytes ≡ [] }
-        ensures kept { (bytes : List ℕ) → Some self.old.left ≡ Some bytes → OnErr result (Some self.new.left ≡ Some bytes) }
+        ensures moves { (bytes : List ℕ) → Some self.old.left ≡ Some bytes →
+            IfOk result (λ n. MovesFront n bytes buffer.new (Some self.new.left)) }
+        ensures end { (bytes : List ℕ) → Some self.old.left ≡ Some bytes → 0 < length buffer.old →
+            result ≡ Ok 0 → bytes ≡ [] }
+        ensures kept { (bytes : List ℕ) → Some self.old.left ≡ Some bytes →
+            OnErr result (Some self.new.left ≡ Some bytes) }
         ensures later { self.old.plan.faults ≤ self.new.plan.faults }
         ensures cause { OnErr result (Rose self.old.plan.faults self.new.plan.faults) }
-        ensures steady { (bytes : List ℕ) → Some self.old.left ≡ Some bytes → OnOk result (self.new.plan.faults ≡ self.old.plan.faults) }
-        ensures once { (bytes : List ℕ) → Some self.old.left ≡ Some bytes → OnErr result (self.new.plan.faults ≡ raised self.old.plan.faults) }
+        ensures steady { (bytes : List ℕ) → Some self.old.left ≡ Some bytes →
+            OnOk result (self.new.plan.faults ≡ self.old.plan.faults) }
+        ensures once { (bytes : List ℕ) → Some self.old.left ≡ Some bytes →
+            OnErr result (self.new.plan.faults ≡ raised self.old.plan.faults) }
 
         // A call fails exactly where it is planned to, and then counts one fault and leaves the buffer as it was.
-        ensures planned { IsErr result ↔ Contains self.old.plan.planned (raised self.old.plan.calls) }
+        ensures planned { IsErr result ↔
+            Contains self.old.plan.planned (raised self.old.plan.calls) }
         ensures calls { self.new.plan.calls ≡ raised self.old.plan.calls }
         ensures plan { self.new.plan.planned ≡ self.old.plan.planned }
         ensures counted { OnErr result (self.new.plan.faults ≡ raised self.old.plan.faults) }
@@ -114,14 +120,17 @@ impl Output for MemOutput {
     ghost faults = { λ o. o.plan.faults };
 
     fn write(&mut self, piece: &[u8]) -> Result<(), Failed>
-        ensures ok { (bytes : List ℕ) → Some self.old.written ≡ Some bytes → OnOk result (Some self.new.written ≡ Some (bytes ++ piece.now)) }
-        ensures front { (bytes : List ℕ) → Some self.old.written ≡ Some bytes → OnErr result ((n : ℕ) × (Some self.new.written ≡ Some (bytes ++ take n piece.now))) }
+        ensures ok { (bytes : List ℕ) → Some self.old.written ≡ Some bytes →
+            OnOk result (Some self.new.written ≡ Some (bytes ++ piece.now)) }
+        ensures front { (bytes : List ℕ) → Some self.old.written ≡ Some bytes →
+            OnErr result ((n : ℕ) × (Some self.new.written ≡ Some (bytes ++ take n piece.now))) }
         ensures later { self.old.plan.faults ≤ self.new.plan.faults }
         ensures cause { OnErr result (Rose self.old.plan.faults self.new.plan.faults) }
 
         // A call that is planned to fail does. Where there is no room another one fails too. One that fails
         // counts one fault.
-        ensures planned { Contains self.old.plan.planned (raised self.old.plan.calls) → IsErr result }
+        ensures planned { Contains self.old.plan.planned (raised self.old.plan.calls) →
+            IsErr result }
         ensures calls { self.new.plan.calls ≡ raised self.old.plan.calls }
         ensures plan { self.new.plan.planned ≡ self.old.plan.planned }
         ensures unchanged { OnErr result (self.new.written ≡ self.old.written) }

@@ -11,10 +11,12 @@ pub trait Output {
     /// How often the output has failed. A count that stands at 2^64 - 1 stays there.
     ghost faults: { Self → ℕ };
 
-    /// Appends the piece. After `Failed` a front of it was appended.
+    /// Appends the piece. After `Failed` a prefix of it was appended.
     fn write(&mut self, piece: &[u8]) -> Result<(), Failed>
-        ensures ok { (bytes : List ℕ) → written self.old ≡ Some bytes → OnOk result (written self.new ≡ Some (bytes ++ piece.now)) }
-        ensures front { (bytes : List ℕ) → written self.old ≡ Some bytes → OnErr result ((n : ℕ) × (written self.new ≡ Some (bytes ++ take n piece.now))) }
+        ensures ok { (bytes : List ℕ) → written self.old ≡ Some bytes →
+            OnOk result (written self.new ≡ Some (bytes ++ piece.now)) }
+        ensures front { (bytes : List ℕ) → written self.old ≡ Some bytes →
+            OnErr result ((n : ℕ) × (written self.new ≡ Some (bytes ++ take n piece.now))) }
         ensures later { faults self.old ≤ faults self.new }
         ensures cause { OnErr result (Rose (faults self.old) (faults self.new)) };
 }

@@ -29,7 +29,7 @@ pub fn field(fields: &str, place: usize) -> &str {
 }
 
 pub fn table_name(alloc: Global, word: &str) -> Result<TableName> {
-    let (schema, name) = words::parted(word, ".");
+    let (schema, name) = words::split(word, ".");
     Ok(TableName {
         schema: Text::of(alloc, schema)?,
         name: Text::of(alloc, name)?,
@@ -38,7 +38,7 @@ pub fn table_name(alloc: Global, word: &str) -> Result<TableName> {
 
 impl Spelled for RawColumn {
     fn read(alloc: Global, word: &str) -> Result<RawColumn> {
-        let (name, oid) = words::parted(word, ":");
+        let (name, oid) = words::split(word, ":");
         let oid = oid.parse()?;
         Ok(RawColumn {
             name: Text::of(alloc, name)?,
@@ -59,13 +59,13 @@ pub fn raw_table(alloc: Global, fields: &str) -> Result<RawTable> {
     })
 }
 
-fn made(alloc: Global, raw: &RawTable) -> Result<TableInfo> {
+fn make_info(alloc: Global, raw: &RawTable) -> Result<TableInfo> {
     Ok(TableInfo::make(alloc, raw)?)
 }
 
 /// The captured table of the fields of a `t/..`.
 pub fn table(alloc: Global, fields: &str) -> Result<TableInfo> {
-    made(alloc, &raw_table(alloc, fields)?)
+    make_info(alloc, &raw_table(alloc, fields)?)
 }
 
 /// The captured tables.
@@ -87,7 +87,7 @@ pub fn assembler(alloc: Global, arguments: &str) -> Result<Assembler> {
 }
 
 /// The commits that messages state, or their fault.
-pub fn taken(
+pub fn take_messages(
     alloc: Global,
     assembler: &mut Assembler,
     messages: Vec<Message>,
@@ -99,7 +99,7 @@ pub fn taken(
 pub fn commits(alloc: Global, arguments: &str) -> Result<Vec<Commit>> {
     let mut assembler = assembler(alloc, arguments)?;
     let messages = messages::all(alloc, arguments)?;
-    Ok(taken(alloc, &mut assembler, messages)?)
+    Ok(take_messages(alloc, &mut assembler, messages)?)
 }
 
 /// The last of them.

@@ -32,9 +32,9 @@ fn tuple(alloc: Global, words: &str) -> Result<Tuple> {
 
 impl Spelled for RelationColumn {
     fn read(alloc: Global, word: &str) -> Result<RelationColumn> {
-        let (name, rest) = words::parted(word, ":");
-        let (oid, rest) = words::parted(rest, ":");
-        let (flags, modifier) = words::parted(rest, ":");
+        let (name, rest) = words::split(word, ":");
+        let (oid, rest) = words::split(rest, ":");
+        let (flags, modifier) = words::split(rest, ":");
         let oid = oid.parse()?;
         let flags = flags.parse()?;
         let modifier = if modifier == "m" { 12 } else { -1 };
@@ -148,7 +148,7 @@ fn logical(alloc: Global) -> Result<Message> {
 
 /// The message of an item.
 pub fn message(alloc: Global, item: &str) -> Result<Message> {
-    let (kind, fields) = words::parted(item, "/");
+    let (kind, fields) = words::split(item, "/");
     match kind {
         "B" => begin(fields),
         "C" => commit(fields),

@@ -16,11 +16,11 @@ fn val(alloc: Global, shown: &mut String, val: &Val) -> Result<()> {
         Val::Null => words::add(shown, "~"),
         Val::Int(number) => words::said(shown, number),
         Val::Text(text) => words::add(shown, text.as_str()),
-        other => encoded(alloc, shown, other),
+        other => show_json(alloc, shown, other),
     }
 }
 
-fn encoded(alloc: Global, shown: &mut String, val: &Val) -> Result<()> {
+fn show_json(alloc: Global, shown: &mut String, val: &Val) -> Result<()> {
     words::add(shown, json(alloc, val)?.as_str())
 }
 
@@ -40,7 +40,7 @@ fn sent_cell(alloc: Global, shown: &mut String, cell: &Cell) -> Result<()> {
     }
 }
 
-fn sent(alloc: Global, shown: &mut String, cells: &Seq<Cell>) -> Result<()> {
+fn show_cells(alloc: Global, shown: &mut String, cells: &Seq<Cell>) -> Result<()> {
     for cell in cells.items() {
         sent_cell(alloc, shown, cell)?;
     }
@@ -58,7 +58,7 @@ fn old_row(alloc: Global, shown: &mut String, key: &Key, old: Option<&Row>) -> R
 
 fn new_row(alloc: Global, shown: &mut String, cells: &Seq<Cell>) -> Result<()> {
     words::add(shown, ", new")?;
-    sent(alloc, shown, cells)
+    show_cells(alloc, shown, cells)
 }
 
 fn kind(change: &Change) -> &'static str {

@@ -8,7 +8,7 @@ use std::alloc::Global;
 use std::fmt::{Debug, Display, Write};
 
 /// What stands before the first mark, and what stands behind it.
-pub fn parted<'a>(text: &'a str, mark: &'a str) -> (&'a str, &'a str) {
+pub fn split<'a>(text: &'a str, mark: &'a str) -> (&'a str, &'a str) {
     match text.split_once(mark) {
         Some(parts) => parts,
         None => (text, ""),
@@ -67,12 +67,12 @@ impl Spelled for Val {
 /// The text of a word, which may be a JSON string.
 pub fn text(alloc: Global, word: &str) -> Result<Text> {
     if word.starts_with('"') {
-        return unquoted(alloc, &Value::from_str(alloc, word)?);
+        return text_in(alloc, &Value::from_str(alloc, word)?);
     }
     Ok(Text::of(alloc, word)?)
 }
 
-fn unquoted(alloc: Global, value: &Value) -> Result<Text> {
+fn text_in(alloc: Global, value: &Value) -> Result<Text> {
     Ok(Text::of(alloc, value.as_str().unwrap_or(""))?)
 }
 
@@ -97,7 +97,7 @@ pub fn said<T: Display>(shown: &mut String, what: &T) -> Result<()> {
 }
 
 /// Adds each field of something.
-pub fn told<T: Debug>(shown: &mut String, what: &T) -> Result<()> {
+pub fn show_debug<T: Debug>(shown: &mut String, what: &T) -> Result<()> {
     write!(shown, "{what:?}")?;
     Ok(())
 }

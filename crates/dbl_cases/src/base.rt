@@ -25,14 +25,14 @@ pub fn answer(alloc: Global, shown: &mut String, call: &str, arguments: &str) ->
 // A text, its copy by Display, and what it was made of.
 fn text(alloc: Global, shown: &mut String, arguments: &str) -> Result<()> {
     let text = Text::of(alloc, arguments)?;
-    copied(shown, &text.copy(alloc)?, &text)?;
+    show_copied(shown, &text.copy(alloc)?, &text)?;
     words::add(shown, text.into_string().as_str())?;
     words::add(shown, "]")
 }
 
-fn copied(shown: &mut String, copy: &Text, text: &Text) -> Result<()> {
+fn show_copied(shown: &mut String, copy: &Text, text: &Text) -> Result<()> {
     let same = copy == text;
-    words::told(shown, &copy.as_str())?;
+    words::show_debug(shown, &copy.as_str())?;
     write!(shown, " [{copy}], equal: {same}, [")?;
     Ok(())
 }
@@ -40,18 +40,18 @@ fn copied(shown: &mut String, copy: &Text, text: &Text) -> Result<()> {
 fn order(alloc: Global, shown: &mut String, arguments: &str) -> Result<()> {
     let (a, b) = words::first(arguments);
     let a = Text::of(alloc, a)?;
-    ordered(shown, &a, &Text::of(alloc, b)?)
+    show_ordered(shown, &a, &Text::of(alloc, b)?)
 }
 
-fn ordered(shown: &mut String, a: &Text, b: &Text) -> Result<()> {
-    words::told(shown, &a.cmp(b))
+fn show_ordered(shown: &mut String, a: &Text, b: &Text) -> Result<()> {
+    words::show_debug(shown, &a.cmp(b))
 }
 
 fn list(alloc: Global, shown: &mut String, arguments: &str) -> Result<()> {
     let list = Seq::make(words::numbers(alloc, arguments)?);
-    words::told(shown, list.items())?;
+    words::show_debug(shown, list.items())?;
     words::add(shown, " ")?;
-    words::told(shown, &list.into_items())
+    words::show_debug(shown, &list.into_items())
 }
 
 fn lsn(shown: &mut String, number: &str) -> Result<()> {
@@ -86,7 +86,7 @@ fn sevens(alloc: Global, count: usize) -> Result<Vec<u8>> {
 
 // So many sevens are read to their end, over an input whose listed calls fail.
 fn input(alloc: Global, shown: &mut String, arguments: &str) -> Result<()> {
-    let (count, fails) = words::parted(arguments, " fails ");
+    let (count, fails) = words::split(arguments, " fails ");
     let count = words::size(count)?;
     let fails = words::numbers(alloc, fails)?;
     let mut input = MemInput::make(sevens(alloc, count)?, fails);
@@ -95,13 +95,13 @@ fn input(alloc: Global, shown: &mut String, arguments: &str) -> Result<()> {
 
 fn read(alloc: Global, shown: &mut String, input: &mut MemInput, count: usize) -> Result<()> {
     match read_all(alloc, input) {
-        Ok(bytes) => compared(alloc, shown, &bytes, count),
+        Ok(bytes) => show_compared(alloc, shown, &bytes, count),
         Err(error) => words::said(shown, &error),
     }
 }
 
 // How many bytes there are, and whether they are so many sevens.
-fn compared(alloc: Global, shown: &mut String, bytes: &Bytes, count: usize) -> Result<()> {
+fn show_compared(alloc: Global, shown: &mut String, bytes: &Bytes, count: usize) -> Result<()> {
     let same = *bytes == Bytes::make(sevens(alloc, count)?);
     let length = bytes.items().len();
     write!(shown, "{length} bytes, as they were: {same}")?;
@@ -110,10 +110,10 @@ fn compared(alloc: Global, shown: &mut String, bytes: &Bytes, count: usize) -> R
 
 // Pieces are written to an output whose listed calls fail.
 fn output(alloc: Global, shown: &mut String, arguments: &str) -> Result<()> {
-    let (pieces, fails) = words::parted(arguments, " fails ");
+    let (pieces, fails) = words::split(arguments, " fails ");
     let mut output = MemOutput::make(alloc, words::numbers(alloc, fails)?);
     written(shown, &mut output, pieces)?;
-    held(shown, output.bytes())
+    show_held(shown, output.bytes())
 }
 
 // What each write answers.
@@ -135,7 +135,7 @@ fn outcome(shown: &mut String, written: Result<(), Failed>) -> Result<()> {
 }
 
 // The bytes that are held then, where there are any.
-fn held(shown: &mut String, bytes: &[u8]) -> Result<()> {
+fn show_held(shown: &mut String, bytes: &[u8]) -> Result<()> {
     if bytes.is_empty() {
         return Ok(());
     }

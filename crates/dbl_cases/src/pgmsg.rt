@@ -19,7 +19,7 @@ pub fn answer(alloc: Global, shown: &mut String, call: &str, arguments: &str) ->
 // What a call answers to the bytes of a message.
 fn of_bytes(alloc: Global, shown: &mut String, call: &str, bytes: &[u8]) -> Result<()> {
     match call {
-        "decode" => decoded(alloc, shown, bytes),
+        "decode" => show_decoded(alloc, shown, bytes),
         "again" => again(alloc, shown, bytes),
         "behind" => behind(alloc, shown, bytes),
         "cut" => cut(alloc, shown, bytes),
@@ -28,9 +28,9 @@ fn of_bytes(alloc: Global, shown: &mut String, call: &str, bytes: &[u8]) -> Resu
 }
 
 // What the bytes are read as, or the fault.
-fn decoded(alloc: Global, shown: &mut String, bytes: &[u8]) -> Result<()> {
+fn show_decoded(alloc: Global, shown: &mut String, bytes: &[u8]) -> Result<()> {
     match decode(alloc, bytes) {
-        Ok(message) => words::told(shown, &message),
+        Ok(message) => words::show_debug(shown, &message),
         Err(error) => words::said(shown, &error),
     }
 }
@@ -40,7 +40,7 @@ fn zeros(alloc: Global, shown: &mut String, arguments: &str) -> Result<()> {
     if count > 20_000_000 {
         bail!("too many");
     }
-    decoded(alloc, shown, &vec![in alloc; 0u8; count]?)
+    show_decoded(alloc, shown, &vec![in alloc; 0u8; count]?)
 }
 
 // The bytes that are written of the message that is read.
@@ -57,10 +57,10 @@ fn written(alloc: Global, shown: &mut String, message: &Message) -> Result<()> {
 
 // How many bytes the message has, and the buffer with two bytes behind which they were put.
 fn behind(alloc: Global, shown: &mut String, bytes: &[u8]) -> Result<()> {
-    appended(alloc, shown, &decode(alloc, bytes)?)
+    show_appended(alloc, shown, &decode(alloc, bytes)?)
 }
 
-fn appended(alloc: Global, shown: &mut String, message: &Message) -> Result<()> {
+fn show_appended(alloc: Global, shown: &mut String, message: &Message) -> Result<()> {
     if !message.fits() {
         return words::add(shown, "doesn't fit");
     }
@@ -90,7 +90,7 @@ fn cut(alloc: Global, shown: &mut String, bytes: &[u8]) -> Result<()> {
 fn longer(alloc: Global, shown: &mut String, bytes: &[u8]) -> Result<()> {
     let mut longer = bytes.to_vec(alloc)?;
     longer.push(0)?;
-    decoded(alloc, shown, &longer)
+    show_decoded(alloc, shown, &longer)
 }
 
 // Whether an Origin of this name has bytes.

@@ -14,8 +14,13 @@ use std::fmt::Write;
 /// Writes what a case of this family answers.
 pub fn answer(alloc: Global, shown: &mut String, call: &str, arguments: &str) -> Result<()> {
     match call {
-        "line" | "append" | "length" => of_record(alloc, shown, call, &parsed(alloc, arguments)?),
-        "read" => told(alloc, shown, arguments),
+        "line" | "append" | "length" => of_record(
+            alloc,
+            shown,
+            call,
+            &parse_record(alloc, arguments)?,
+        ),
+        "read" => show_told(alloc, shown, arguments),
         "group" => of_group(alloc, shown, arguments),
         _ => of_bytes(alloc, shown, call, &words::bytes(alloc, arguments)?),
     }
@@ -33,8 +38,8 @@ fn of_record(alloc: Global, shown: &mut String, call: &str, record: &Record) -> 
 // What a call answers to the bytes of a group.
 fn of_bytes(alloc: Global, shown: &mut String, call: &str, bytes: &[u8]) -> Result<()> {
     match call {
-        "ungroup" => ungrouped(alloc, shown, bytes),
-        "turned" => turned(alloc, shown, bytes),
+        "ungroup" => show_group(alloc, shown, bytes),
+        "turned" => show_turned(alloc, shown, bytes),
         "cut" => cut(alloc, shown, bytes),
         _ => bail!("no such call"),
     }
@@ -85,7 +90,7 @@ fn record_of(alloc: Global, value: &Value) -> Result<Record> {
     }
 }
 
-fn parsed(alloc: Global, arguments: &str) -> Result<Record> {
+fn parse_record(alloc: Global, arguments: &str) -> Result<Record> {
     record_of(alloc, &Value::from_str(alloc, arguments)?)
 }
 
@@ -96,7 +101,7 @@ fn behind(alloc: Global, shown: &mut String, record: &Record) -> Result<()> {
 }
 
 // A line's topic, key and value, read and parsed.
-fn told(alloc: Global, shown: &mut String, arguments: &str) -> Result<()> {
+fn show_told(alloc: Global, shown: &mut String, arguments: &str) -> Result<()> {
     let text = Text::of(alloc, arguments)?;
     match read_line(alloc, &text) {
         Ok(read) => both(alloc, shown, &read, arguments),
@@ -153,17 +158,17 @@ fn again(alloc: Global, shown: &mut String, group: &Vec<Record>, bytes: &[u8]) -
 }
 
 // What the bytes are read as.
-fn ungrouped(alloc: Global, shown: &mut String, bytes: &[u8]) -> Result<()> {
+fn show_group(alloc: Global, shown: &mut String, bytes: &[u8]) -> Result<()> {
     match read_group(alloc, bytes) {
         Ok(group) => {
             let same = write_group(alloc, &group)?.items().as_slice() == bytes;
-            counted(shown, group.len(), same)
+            show_count(shown, group.len(), same)
         }
         Err(error) => words::said(shown, &error),
     }
 }
 
-fn counted(shown: &mut String, count: usize, same: bool) -> Result<()> {
+fn show_count(shown: &mut String, count: usize, same: bool) -> Result<()> {
     write!(shown, "{count} records, written again: {same}")?;
     Ok(())
 }
@@ -186,7 +191,7 @@ fn told_same(shown: &mut String, same: bool) -> Result<()> {
 }
 
 // The readings of the bytes where the highest bit of the byte at a place is turned, place by place.
-fn turned(alloc: Global, shown: &mut String, bytes: &[u8]) -> Result<()> {
+fn show_turned(alloc: Global, shown: &mut String, bytes: &[u8]) -> Result<()> {
     words::add(shown, "places")?;
     for (at, byte) in bytes.iter().enumerate() {
         let mut other = bytes.to_vec(alloc)?;
@@ -213,5 +218,5 @@ fn cut(alloc: Global, shown: &mut String, bytes: &[u8]) -> Result<()> {
 fn longer(alloc: Global, shown: &mut String, bytes: &[u8]) -> Result<()> {
     let mut longer = bytes.to_vec(alloc)?;
     longer.push(0)?;
-    ungrouped(alloc, shown, &longer)
+    show_group(alloc, shown, &longer)
 }

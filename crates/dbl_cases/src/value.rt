@@ -11,16 +11,16 @@ use std::fmt::Write;
 /// Writes what a case of this family answers.
 pub fn answer(alloc: Global, shown: &mut String, call: &str, arguments: &str) -> Result<()> {
     match call {
-        "oid" => named(shown, arguments),
-        "read" => known(alloc, shown, arguments),
-        "json" => encoded(alloc, shown, &value(alloc, arguments)?),
+        "oid" => show_type(shown, arguments),
+        "read" => show_known(alloc, shown, arguments),
+        "json" => show_json(alloc, shown, &value(alloc, arguments)?),
         "order" => order(alloc, shown, arguments),
         _ => bail!("no such call"),
     }
 }
 
 // The type of an OID, and the type's OID.
-fn named(shown: &mut String, number: &str) -> Result<()> {
+fn show_type(shown: &mut String, number: &str) -> Result<()> {
     match of(number.parse::<u32>()?) {
         Ok(ty) => type_of(shown, ty),
         Err(error) => words::said(shown, &error),
@@ -34,7 +34,7 @@ fn type_of(shown: &mut String, ty: PgType) -> Result<()> {
 }
 
 // A text of a type: its value, printed, as JSON, and as a JSON tree.
-fn known(alloc: Global, shown: &mut String, arguments: &str) -> Result<()> {
+fn show_known(alloc: Global, shown: &mut String, arguments: &str) -> Result<()> {
     let (number, text) = words::first(arguments);
     let ty = of(number.parse::<u32>()?)?;
     let text = Text::make(words::json_text(alloc, text)?);
@@ -43,13 +43,13 @@ fn known(alloc: Global, shown: &mut String, arguments: &str) -> Result<()> {
 
 fn read_by_both(alloc: Global, shown: &mut String, ty: PgType, text: &Text) -> Result<()> {
     match read(alloc, ty, text) {
-        Ok(val) => told(alloc, shown, ty, text.as_str(), &val),
-        Err(error) => refused(alloc, shown, ty, text, &error),
+        Ok(val) => show_value(alloc, shown, ty, text.as_str(), &val),
+        Err(error) => show_refused(alloc, shown, ty, text, &error),
     }
 }
 
 // Why a text is no value, by both ways to read it.
-fn refused(
+fn show_refused(
     alloc: Global,
     shown: &mut String,
     ty: PgType,
@@ -69,21 +69,27 @@ fn both(shown: &mut String, error: &ValueError, owned: &Result<Val, ValueError>)
 }
 
 // A value as JSON.
-fn encoded(alloc: Global, shown: &mut String, val: &Val) -> Result<()> {
+fn show_json(alloc: Global, shown: &mut String, val: &Val) -> Result<()> {
     words::add(shown, json(alloc, val)?.as_str())
 }
 
 // The value of a text, printed, as JSON, and as a JSON tree of the value that was read before.
-fn told(alloc: Global, shown: &mut String, ty: PgType, text: &str, before: &Val) -> Result<()> {
+fn show_value(
+    alloc: Global,
+    shown: &mut String,
+    ty: PgType,
+    text: &str,
+    before: &Val,
+) -> Result<()> {
     let val = read_owned(alloc, ty, Text::of(alloc, text)?)?;
     let printed = Val::Text(print(alloc, ty, &val)?);
-    encoded(alloc, shown, &printed)?;
+    show_json(alloc, shown, &printed)?;
     rest(alloc, shown, &val, before)
 }
 
 fn rest(alloc: Global, shown: &mut String, val: &Val, before: &Val) -> Result<()> {
     words::add(shown, " | ")?;
-    encoded(alloc, shown, &val.copy(alloc)?)?;
+    show_json(alloc, shown, &val.copy(alloc)?)?;
     words::add(shown, " | ")?;
     tree(alloc, shown, before)
 }

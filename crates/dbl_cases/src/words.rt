@@ -6,7 +6,7 @@ use std::alloc::Global;
 use std::fmt::{Debug, Display, Write};
 
 /// What stands before the first mark, and what stands behind it.
-pub fn parted<'a>(text: &'a str, mark: &'a str) -> (&'a str, &'a str) {
+pub fn split<'a>(text: &'a str, mark: &'a str) -> (&'a str, &'a str) {
     match text.split_once(mark) {
         Some(parts) => parts,
         None => (text, ""),
@@ -15,7 +15,7 @@ pub fn parted<'a>(text: &'a str, mark: &'a str) -> (&'a str, &'a str) {
 
 /// The first word, and what stands behind it.
 pub fn first(text: &str) -> (&str, &str) {
-    parted(text, " ")
+    split(text, " ")
 }
 
 /// A number of bytes, at most a million.
@@ -49,7 +49,7 @@ pub fn said<T: Display>(shown: &mut String, what: &T) -> Result<()> {
 }
 
 /// Adds each field of something.
-pub fn told<T: Debug>(shown: &mut String, what: &T) -> Result<()> {
+pub fn show_debug<T: Debug>(shown: &mut String, what: &T) -> Result<()> {
     write!(shown, "{what:?}")?;
     Ok(())
 }

@@ -18,7 +18,7 @@ use Rattle.dbl_table.specs.declared.table.TableInfo.{TableInfo}
 use Rattle.dbl_table.specs.declared.row.Row.{Row}
 use Rattle.dbl_table.specs.declared.change.Cell.{Cell}
 use Rattle.dbl_table.specs.declared.change.Cell.TheVariants.{Given, Unchanged}
-use Rattle.dbl_commit.specs.declared.told.Relation.{Relation}
+use Rattle.dbl_commit.specs.declared.message_parts.Relation.{Relation}
 use Rattle.dbl_commit.specs.declared.txn_error.TxnError.{TxnError}
 use Rattle.dbl_commit.specs.declared.txn_error.TxnError.TheVariants as errors
 use Rattle.dbl_table.specs.Tables.{type_at}

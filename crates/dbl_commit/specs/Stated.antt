@@ -15,11 +15,11 @@ use Rattle.dbl_table.specs.declared.change.Change.TheVariants.{Clear}
 use Rattle.dbl_table.specs.declared.change.Body.{Body}
 use Rattle.dbl_table.specs.declared.change.Body.TheVariants.{Changes, Mark}
 use Rattle.dbl_table.specs.declared.change.Commit.{Commit}
-use Rattle.dbl_commit.specs.declared.told.Relation.{Relation}
-use Rattle.dbl_commit.specs.declared.told.RowChange.{RowChange}
-use Rattle.dbl_commit.specs.declared.told.RowChange.TheVariants as row
-use Rattle.dbl_commit.specs.declared.told.Target.{Target}
-use Rattle.dbl_commit.specs.declared.told.Target.TheVariants.{Watermark, Captured, Passed}
+use Rattle.dbl_commit.specs.declared.message_parts.Relation.{Relation}
+use Rattle.dbl_commit.specs.declared.message_parts.RowChange.{RowChange}
+use Rattle.dbl_commit.specs.declared.message_parts.RowChange.TheVariants as row
+use Rattle.dbl_commit.specs.declared.message_parts.Target.{Target}
+use Rattle.dbl_commit.specs.declared.message_parts.Target.TheVariants.{Watermark, Captured, Passed}
 use Rattle.dbl_commit.specs.declared.txn_error.TxnError.{TxnError}
 use Rattle.dbl_commit.specs.declared.txn_error.TxnError.TheVariants as errors
 use Rattle.dbl_table.specs.Tables.{is_watermark}

@@ -40,7 +40,7 @@ take_of n xs ys =
     let split : xs ++ ys ≡ take n xs ++ (drop n xs ++ ys) = ap (λ l. l ++ ys) (sym (take-append-drop n xs)) ∙ append_assoc (take n xs) (drop n xs) ys in
     sym (ap (take (length (take n xs))) split ∙ take-append_seam (take n xs) (drop n xs ++ ys))
 
--- a front of a front
+-- a prefix of a prefix
 pub front_more : (before after : Option (List ℕ)) (first second : List ℕ) → WroteFront before after first → WroteFront before after (first ++ second)
 front_more before after first second front bytes is =
     let part = front bytes is in
@@ -89,7 +89,7 @@ buffer_fails before now next buffer rest all front h =
     subst (WroteFront before next) (ap (λ t. t ++ lines_text rest) (gathered_text before now buffer rest all h) ∙ sym (lines_text-append (h.written ++ h.kept) rest) ∙ ap lines_text h.all_are)
     (front_more before next (lines_text h.written ++ buffer) (lines_text rest) (front_then before now next (lines_text h.written) buffer h.wrote front))
 
--- memory was wanting: the first lines are written
+-- memory ran out: the first lines are written
 pub gathered_wanting : (before now : Option (List ℕ)) (buffer : List ℕ) (rest all : List (List ℕ)) → IsGathered before now buffer rest all → PrintFails all Memory before now
 gathered_wanting before now buffer rest all h =
     let first : take (length h.written) all ≡ h.written = ap (take (length h.written)) (sym (sym (append_assoc h.written h.kept rest) ∙ h.all_are)) ∙ take-append_seam h.written (h.kept ++ rest) in

@@ -56,11 +56,11 @@ row_line row = row.0.0 ++ codes " " ++ row.0.1 ++ codes " " ++ object_text (map 
 abbrev pub Wrote : Option (List ℕ) → Option (List ℕ) → List ℕ → Type 0
 Wrote before after text = (bytes : List ℕ) → before ≡ Some bytes → after ≡ Some (bytes ++ text)
 
--- a front of the text was appended
+-- a prefix of the text was appended
 abbrev pub WroteFront : Option (List ℕ) → Option (List ℕ) → List ℕ → Type 0
 WroteFront before after text = (bytes : List ℕ) → before ≡ Some bytes → (n : ℕ) × (after ≡ Some (bytes ++ take n text))
 
--- where lines aren't written, or not all, a front of their text was, and where memory is wanting some first lines
+-- where lines aren't written, or not all, a prefix of their text was, and where memory runs out some first lines
 abbrev pub PrintFails : List (List ℕ) → PrintError → Option (List ℕ) → Option (List ℕ) → Type 0
 PrintFails lines Failed before after = WroteFront before after (lines_text lines)
 PrintFails lines Memory before after = (n : ℕ) × Wrote before after (lines_text (take n lines))

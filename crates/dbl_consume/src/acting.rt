@@ -16,7 +16,8 @@ use serde_json::{Map, Value};
 use std::alloc::{AllocError, Global};
 
 fn has_two(value: &Value) -> bool
-    ensures { result ≡ unwrap_or (option_map (λ ms. members_len ms == 2) (as_object (view value.now))) false }
+    ensures { result ≡ unwrap_or
+        (option_map (λ ms. members_len ms == 2) (as_object (view value.now))) false }
 {
     match value.as_object() {
         Some(members) => members.len() == 2,
@@ -25,7 +26,8 @@ fn has_two(value: &Value) -> bool
 }
 
 fn object_in(value: Option<&Value>) -> Option<&Value>
-    ensures { option_map (λ v. view v.now) result ≡ option_map object (option_and_then as_object (option_map (λ v. view v.now) value.entry)) }
+    ensures { option_map (λ v. view v.now) result ≡ option_map object
+        (option_and_then as_object (option_map (λ v. view v.now) value.entry)) }
 {
     match value {
         Some(inner) => if inner.is_object() { Some(inner) } else { None },
@@ -34,7 +36,8 @@ fn object_in(value: Option<&Value>) -> Option<&Value>
 }
 
 fn payload(value: &Value) -> Option<&Value>
-    ensures { option_map (λ v. view v.now) result ≡ option_map object (option_and_then spec.payload_of (as_object (view value.now))) }
+    ensures { option_map (λ v. view v.now) result ≡ option_map object
+        (option_and_then spec.payload_of (as_object (view value.now))) }
 {
     if has_two(value) && value.get("schema").is_some() {
         object_in(value.get("payload"))
@@ -83,7 +86,8 @@ fn operation_in(value: &Value) -> Result<Operation, ConsumeError>
 
 fn check_cell(alloc: Global, column: &str, cell: &Value) -> Result<(), ConsumeError>
     ensures ok { OnOk result (spec.cell_error column.now (view cell.now) ≡ None) }
-    ensures err { IfErr result (λ e. e ≢ Memory → spec.cell_error column.now (view cell.now) ≡ Some e) }
+    ensures err { IfErr result
+        (λ e. e ≢ Memory → spec.cell_error column.now (view cell.now) ≡ Some e) }
 {
     match cell {
         Value::Null | Value::Bool(_) | Value::String(_) => Ok(()),
@@ -102,7 +106,8 @@ fn check_cell(alloc: Global, column: &str, cell: &Value) -> Result<(), ConsumeEr
 
 fn check_cells(alloc: Global, cells: &Map<String, Value>) -> Result<(), ConsumeError>
     ensures ok { OnOk result (spec.first_error (members_view cells.now.entries) ≡ None) }
-    ensures err { IfErr result (λ e. e ≢ Memory → spec.first_error (members_view cells.now.entries) ≡ Some e) }
+    ensures err { IfErr result
+        (λ e. e ≢ Memory → spec.first_error (members_view cells.now.entries) ≡ Some e) }
 {
     for (name, cell) in cells.iter() {
         check_cell(alloc, name.as_str(), cell)?;
@@ -129,7 +134,8 @@ fn cells_of(
     cells: &Map<String, Value>,
 ) -> Result<Seq<GivenCell>, ConsumeError>
     requires { spec.first_error (members_view cells.now.entries) ≡ None }
-    ensures { MatchResult result (λ given. given ≡ spec.cells_of placeholder.now (members_view cells.now.entries)) (λ e. e ≡ Memory) }
+    ensures { MatchResult result (λ given. given ≡ spec.cells_of placeholder.now
+        (members_view cells.now.entries)) (λ e. e ≡ Memory) }
 {
     let mut given = Vec::new(alloc);
     for (name, cell) in cells.iter() {
@@ -144,7 +150,8 @@ fn cells_of(
 
 fn key_text(alloc: Global, key: &Value) -> Result<Text, ConsumeError>
     ensures ok { IfOk result (λ text. spec.key_text (view key.now) ≡ Some text) }
-    ensures err { IfErr result (λ e. e ≢ Memory → (spec.key_text (view key.now) ≡ None) × (e ≡ NoKey)) }
+    ensures err { IfErr result
+        (λ e. e ≢ Memory → (spec.key_text (view key.now) ≡ None) × (e ≡ NoKey)) }
 {
     match key.as_object() {
         Some(cells) => match check_cells(alloc, cells) {
@@ -162,7 +169,8 @@ fn set_of(
     key: Text,
     cells: &Map<String, Value>,
 ) -> Result<Act, ConsumeError>
-    ensures { Answers (spec.set_of placeholder.now key (members_view cells.now.entries) (spec.first_error (members_view cells.now.entries))) result }
+    ensures { Answers (spec.set_of placeholder.now key (members_view cells.now.entries)
+        (spec.first_error (members_view cells.now.entries))) result }
 {
     check_cells(alloc, cells)?;
     let cells = cells_of(alloc, placeholder, cells)?;
@@ -185,7 +193,8 @@ fn act_by(
     value: &Value,
     operation: Operation,
 ) -> Result<Act, ConsumeError>
-    ensures { Answers (spec.act_by placeholder.now (view key.now) (view value.now) operation) result }
+    ensures { Answers
+        (spec.act_by placeholder.now (view key.now) (view value.now) operation) result }
 {
     match operation {
         Operation::Put => match key_text(alloc, key) {
@@ -234,7 +243,12 @@ pub(crate) fn act_of_values(
     key: &Value,
     value: &Value,
 ) -> Result<Act, ConsumeError>
-    ensures { Answers (spec.act_of placeholder.now (record { topic = topic.now; key = Some (view key.now); value = Some (view value.now) })) result }
+    ensures { Answers (spec.act_of placeholder.now (record {
+      topic = topic.now;
+      key = Some
+          (view key.now);
+      value = Some (view value.now);
+    })) result }
 {
     if is_progress(topic) {
         return Ok(Act::Nothing);
@@ -265,7 +279,8 @@ fn act_by_key(
     key: &Value,
     value: &Text,
 ) -> Result<Act, ConsumeError>
-    ensures { Answers (or_error BadJson (λ v. spec.act_of_data placeholder.now (spec.unwrapped (view key.now)) (spec.unwrapped v)) (json_in value.now)) result }
+    ensures { Answers (or_error BadJson (λ v. spec.act_of_data placeholder.now
+        (spec.unwrapped (view key.now)) (spec.unwrapped v)) (json_in value.now)) result }
 {
     match value_of(alloc, value) {
         Ok(value) => act_of(alloc, placeholder, unwrapped(key), unwrapped(&value)),
@@ -282,7 +297,8 @@ pub(crate) fn act(
     key: &Text,
     value: &Text,
 ) -> Result<Act, ConsumeError>
-    ensures { Answers (spec.act placeholder.now (record { topic = topic.now; key = key.now; value = value.now })) result }
+    ensures { Answers (spec.act placeholder.now
+        (record { topic = topic.now; key = key.now; value = value.now })) result }
 {
     if is_progress(topic) {
         return Ok(Act::Nothing);

@@ -43,15 +43,19 @@ impl Consumer {
         })
     }
 
-    /// Takes a record: a topic, and the JSON texts of a key and a value. After a want of memory the consumer is to be
+    /// Takes a record: a topic, and the JSON texts of a key and a value. Once memory ran out the consumer is to be
     /// given up.
     pub fn apply(&mut self, topic: &Text, key: &Text, value: &Text) -> Result<(), ConsumeError>
         // An Ok appends the record to those that were taken.
-        ensures took { (taken : List Reading) → Took taken self.old → OnOk result (Took (taken ++ reading_of (record { topic = topic.now; key = key.now; value = value.now }) ∷ []) self.new) }
+        ensures took { (taken : List Reading) → Took taken self.old →
+            OnOk result (Took (taken ++ reading_of
+            (record { topic = topic.now; key = key.now; value = value.now }) ∷ []) self.new) }
 
         // A record is refused exactly where its act is a fault, which is answered, and then nothing changes.
-        ensures accepted { OnOk result (IsOk (spec.act (placeholder_of self.old) (record { topic = topic.now; key = key.now; value = value.now }))) }
-        ensures refused { IfErr result (λ e. e ≢ Memory → spec.act (placeholder_of self.old) (record { topic = topic.now; key = key.now; value = value.now }) ≡ Err e) }
+        ensures accepted { OnOk result (IsOk (spec.act (placeholder_of self.old)
+            (record { topic = topic.now; key = key.now; value = value.now }))) }
+        ensures refused { IfErr result (λ e. e ≢ Memory → spec.act (placeholder_of self.old)
+            (record { topic = topic.now; key = key.now; value = value.now }) ≡ Err e) }
         ensures unchanged { IfErr result (λ e. e ≢ Memory → self.new ≡ self.old) }
         ensures placeholder { placeholder_of self.new ≡ placeholder_of self.old }
     {
@@ -68,9 +72,27 @@ impl Consumer {
         key: &Value,
         value: &Value,
     ) -> Result<(), ConsumeError>
-        ensures took { (taken : List Reading) → Took taken self.old → OnOk result (Took (taken ++ record { topic = topic.now; key = Some (view key.now); value = Some (view value.now) } ∷ []) self.new) }
-        ensures accepted { OnOk result (IsOk (spec.act_of (placeholder_of self.old) (record { topic = topic.now; key = Some (view key.now); value = Some (view value.now) }))) }
-        ensures refused { IfErr result (λ e. e ≢ Memory → spec.act_of (placeholder_of self.old) (record { topic = topic.now; key = Some (view key.now); value = Some (view value.now) }) ≡ Err e) }
+        ensures took { (taken : List Reading) → Took taken self.old →
+            OnOk result (Took (taken ++ record {
+              topic = topic.now;
+              key = Some
+                  (view key.now);
+              value = Some (view value.now);
+            } ∷ []) self.new) }
+        ensures accepted { OnOk result (IsOk (spec.act_of (placeholder_of self.old)
+            (record {
+              topic = topic.now;
+              key = Some (view key.now);
+              value = Some
+                  (view value.now);
+            }))) }
+        ensures refused { IfErr result (λ e. e ≢ Memory →
+            spec.act_of (placeholder_of self.old) (record {
+              topic = topic.now;
+              key = Some
+                  (view key.now);
+              value = Some (view value.now);
+            }) ≡ Err e) }
         ensures unchanged { IfErr result (λ e. e ≢ Memory → self.new ≡ self.old) }
         ensures placeholder { placeholder_of self.new ≡ placeholder_of self.old }
     {
@@ -83,7 +105,8 @@ impl Consumer {
     /// The rows that are held. Takes no memory.
     pub fn tables(&self) -> &Tables
         ensures same { result.now ≡ tables_of self.now }
-        ensures rows { (taken : List Reading) → Took taken self.now → (topic key : List ℕ) → row_at result.now topic key ≡ consumer_of (placeholder_of self.now) taken topic key }
+        ensures rows { (taken : List Reading) → Took taken self.now → (topic key : List ℕ) →
+            row_at result.now topic key ≡ consumer_of (placeholder_of self.now) taken topic key }
     {
         &self.tables
     }
@@ -91,7 +114,9 @@ impl Consumer {
     /// Writes a line for each row that is held: the topic, the key's text and the row as a JSON object, topics and keys
     /// in byte order. A cell whose value isn't known is `{}`.
     pub fn print<O: Output>(&self, output: &mut O) -> Result<(), PrintError>
-        ensures prints { (taken : List Reading) → Took taken self.now → PrintsRows (consumer_of (placeholder_of self.now) taken) result (O.written output.old) (O.written output.new) }
+        ensures prints { (taken : List Reading) → Took taken self.now →
+            PrintsRows (consumer_of (placeholder_of self.now) taken) result
+            (O.written output.old) (O.written output.new) }
         ensures cause { result ≡ Err Failed → Rose (O.faults output.old) (O.faults output.new) }
         ensures later { O.faults output.old ≤ O.faults output.new }
     {

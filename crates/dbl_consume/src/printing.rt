@@ -70,7 +70,8 @@ fn append_cells(out: Vec<u8>, row: &Row) -> Result<Vec<u8>, AllocError>
 
 // The row as a JSON object.
 fn append_row(mut out: Vec<u8>, row: &Row) -> Result<Vec<u8>, AllocError>
-    ensures { IfOk result (λ done. done.items ≡ out.items ++ object_text (map cell_part row.now.entries)) }
+    ensures { IfOk result
+        (λ done. done.items ≡ out.items ++ object_text (map cell_part row.now.entries)) }
 {
     out.extend_from_slice(b"{")?;
     append_cells(out, row)
@@ -78,7 +79,8 @@ fn append_row(mut out: Vec<u8>, row: &Row) -> Result<Vec<u8>, AllocError>
 
 // The row's line with its newline.
 fn append_line(mut out: Vec<u8>, topic: &Text, key: &Text, row: &Row) -> Result<Vec<u8>, AllocError>
-    ensures { IfOk result (λ done. done.items ≡ out.items ++ row_line ((topic.now, key.now), row.now.entries) ++ 10 ∷ []) }
+    ensures { IfOk result (λ done. done.items ≡ out.items ++ row_line
+        ((topic.now, key.now), row.now.entries) ++ 10 ∷ []) }
 {
     out.extend_from_slice(topic.as_str().as_bytes())?;
     out.extend_from_slice(b" ")?;
@@ -91,9 +93,11 @@ fn append_line(mut out: Vec<u8>, topic: &Text, key: &Text, row: &Row) -> Result<
 
 // Writes what the buffer holds, and empties it.
 fn flush<O: Output>(output: &mut O, buffer: &mut Vec<u8>) -> Result<(), PrintError>
-    ensures wrote { OnOk result (Wrote (O.written output.old) (O.written output.new) buffer.old.items) }
+    ensures wrote { OnOk result
+        (Wrote (O.written output.old) (O.written output.new) buffer.old.items) }
     ensures emptied { OnOk result (buffer.new.items ≡ []) }
-    ensures front { IfErr result (λ error. (error ≡ Failed) × WroteFront (O.written output.old) (O.written output.new) buffer.old.items) }
+    ensures front { IfErr result (λ error. (error ≡ Failed) ×
+        WroteFront (O.written output.old) (O.written output.new) buffer.old.items) }
     ensures cause { result ≡ Err Failed → Rose (O.faults output.old) (O.faults output.new) }
     ensures later { O.faults output.old ≤ O.faults output.new }
 {
@@ -108,7 +112,8 @@ fn flush<O: Output>(output: &mut O, buffer: &mut Vec<u8>) -> Result<(), PrintErr
 
 // Writes what the buffer holds where that is much.
 fn flush_much<O: Output>(output: &mut O, mut buffer: Vec<u8>) -> Result<Vec<u8>, PrintError>
-    ensures gathers { Gathers (λ filled. filled.items) [] buffer.items (O.written output.old) result (O.written output.new) }
+    ensures gathers { Gathers (λ filled. filled.items) [] buffer.items (O.written output.old) result
+        (O.written output.new) }
     ensures cause { result ≡ Err Failed → Rose (O.faults output.old) (O.faults output.new) }
     ensures later { O.faults output.old ≤ O.faults output.new }
 {
@@ -129,7 +134,9 @@ fn put_line<O: Output>(
     key: &Text,
     row: &Row,
 ) -> Result<Vec<u8>, PrintError>
-    ensures gathers { Gathers (λ filled. filled.items) (row_line ((topic.now, key.now), row.now.entries) ∷ []) buffer.items (O.written output.old) result (O.written output.new) }
+    ensures gathers { Gathers (λ filled. filled.items)
+        (row_line ((topic.now, key.now), row.now.entries) ∷ []) buffer.items
+        (O.written output.old) result (O.written output.new) }
     ensures cause { result ≡ Err Failed → Rose (O.faults output.old) (O.faults output.new) }
     ensures later { O.faults output.old ≤ O.faults output.new }
 {
@@ -146,7 +153,9 @@ fn put_table<O: Output>(
     topic: &Text,
     table: &Table,
 ) -> Result<Vec<u8>, PrintError>
-    ensures gathers { Gathers (λ filled. filled.items) (map row_line (rows_in topic.now table.now.entries)) buffer.items (O.written output.old) result (O.written output.new) }
+    ensures gathers { Gathers (λ filled. filled.items)
+        (map row_line (rows_in topic.now table.now.entries)) buffer.items
+        (O.written output.old) result (O.written output.new) }
     ensures cause { result ≡ Err Failed → Rose (O.faults output.old) (O.faults output.new) }
     ensures later { O.faults output.old ≤ O.faults output.new }
 {
@@ -166,7 +175,9 @@ fn put_tables<O: Output>(
     buffer: Vec<u8>,
     tables: &Tables,
 ) -> Result<Vec<u8>, PrintError>
-    ensures gathers { Gathers (λ filled. filled.items) (map row_line (all_rows tables.now.entries)) buffer.items (O.written output.old) result (O.written output.new) }
+    ensures gathers { Gathers (λ filled. filled.items)
+        (map row_line (all_rows tables.now.entries)) buffer.items (O.written output.old) result
+        (O.written output.new) }
     ensures cause { result ≡ Err Failed → Rose (O.faults output.old) (O.faults output.new) }
     ensures later { O.faults output.old ≤ O.faults output.new }
 {
@@ -197,7 +208,8 @@ pub(crate) fn print<O: Output>(
     tables: &Tables,
     output: &mut O,
 ) -> Result<(), PrintError>
-    ensures prints { Prints (map row_line (all_rows tables.now.entries)) result (O.written output.old) (O.written output.new) }
+    ensures prints { Prints (map row_line (all_rows tables.now.entries)) result
+        (O.written output.old) (O.written output.new) }
     ensures cause { result ≡ Err Failed → Rose (O.faults output.old) (O.faults output.new) }
     ensures later { O.faults output.old ≤ O.faults output.new }
 {

@@ -44,7 +44,8 @@ fn kept(alloc: Global, row: Option<&Row>, column: &Text) -> Result<HeldCell, All
 
 // The row of these cells in the place of another.
 fn row_of(alloc: Global, row: Option<&Row>, cells: Seq<GivenCell>) -> Result<Row, ConsumeError>
-    ensures { MatchResult result (λ made. made.entries ≡ row_of (cells_in row.entry) cells) (λ e. e ≡ Memory) }
+    ensures { MatchResult result (λ made. made.entries ≡ row_of (cells_in row.entry) cells)
+        (λ e. e ≡ Memory) }
 {
     let mut made = BTreeMap::new(alloc);
     for given in cells.into_items() {
@@ -70,7 +71,8 @@ fn set_row(
     key: Text,
     cells: Seq<GivenCell>,
 ) -> Result<(), ConsumeError>
-    ensures ok { OnOk result ((k : List ℕ) → row_in table.new k ≡ row_after_act (Set key cells) k (row_in table.old k)) }
+    ensures ok { OnOk result
+        ((k : List ℕ) → row_in table.new k ≡ row_after_act (Set key cells) k (row_in table.old k)) }
     ensures err { IfErr result (λ e. e ≡ Memory) }
 {
     let row = row_of(alloc, held_row(table, &key), cells)?;
@@ -79,7 +81,8 @@ fn set_row(
 }
 
 fn remove_row(table: &mut Table, key: &Text)
-    ensures { (k : List ℕ) → row_in table.new k ≡ row_after_act (Remove key.now) k (row_in table.old k) }
+    ensures { (k : List ℕ) →
+        row_in table.new k ≡ row_after_act (Remove key.now) k (row_in table.old k) }
 {
     table.remove(key);
 }
@@ -92,7 +95,9 @@ fn set_first_row(
     cells: Seq<GivenCell>,
 ) -> Result<(), ConsumeError>
     requires { (k : List ℕ) → row_at tables.old topic.now k ≡ None }
-    ensures ok { OnOk result ((t k : List ℕ) → row_at tables.new t k ≡ (if bytes_eq topic.now t then row_after_act (Set key cells) k (row_at tables.old t k) else row_at tables.old t k)) }
+    ensures ok { OnOk result ((t k : List ℕ) →
+        row_at tables.new t k ≡ (if bytes_eq topic.now t then row_after_act (Set key cells) k
+        (row_at tables.old t k) else row_at tables.old t k)) }
     ensures err { IfErr result (λ e. e ≡ Memory) }
 {
     let mut table = BTreeMap::new(alloc);
@@ -108,7 +113,9 @@ fn set(
     key: Text,
     cells: Seq<GivenCell>,
 ) -> Result<(), ConsumeError>
-    ensures ok { OnOk result ((t k : List ℕ) → row_at tables.new t k ≡ (if bytes_eq topic.now t then row_after_act (Set key cells) k (row_at tables.old t k) else row_at tables.old t k)) }
+    ensures ok { OnOk result ((t k : List ℕ) →
+        row_at tables.new t k ≡ (if bytes_eq topic.now t then row_after_act (Set key cells) k
+        (row_at tables.old t k) else row_at tables.old t k)) }
     ensures err { IfErr result (λ e. e ≡ Memory) }
 {
     match tables.get_mut(topic) {
@@ -118,7 +125,8 @@ fn set(
 }
 
 fn remove(tables: &mut Tables, topic: &Text, key: &Text)
-    ensures { (t k : List ℕ) → row_at tables.new t k ≡ (if bytes_eq topic.now t then row_after_act (Remove key.now) k (row_at tables.old t k) else row_at tables.old t k) }
+    ensures { (t k : List ℕ) → row_at tables.new t k ≡ (if bytes_eq topic.now t then row_after_act
+        (Remove key.now) k (row_at tables.old t k) else row_at tables.old t k) }
 {
     match tables.get_mut(topic) {
         Some(table) => remove_row(table, key),
@@ -127,7 +135,8 @@ fn remove(tables: &mut Tables, topic: &Text, key: &Text)
 }
 
 fn wipe(tables: &mut Tables, topic: &Text)
-    ensures { (t k : List ℕ) → row_at tables.new t k ≡ (if bytes_eq topic.now t then None else row_at tables.old t k) }
+    ensures { (t k : List ℕ) →
+        row_at tables.new t k ≡ (if bytes_eq topic.now t then None else row_at tables.old t k) }
 {
     tables.remove(topic);
 }
@@ -139,7 +148,9 @@ pub(crate) fn perform(
     topic: &Text,
     act: Act,
 ) -> Result<(), ConsumeError>
-    ensures ok { OnOk result ((t k : List ℕ) → row_at tables.new t k ≡ (if bytes_eq topic.now t then row_after_act act k (row_at tables.old t k) else row_at tables.old t k)) }
+    ensures ok { OnOk result ((t k : List ℕ) →
+        row_at tables.new t k ≡ (if bytes_eq topic.now t then row_after_act act k
+        (row_at tables.old t k) else row_at tables.old t k)) }
     ensures err { IfErr result (λ e. e ≡ Memory) }
 {
     match act {

@@ -1,4 +1,4 @@
--- Disks, as bytes: what a write does, and what a stop may leave between two syncs. Nothing is assumed of the order in
+-- Disks, as bytes: what a write does, and what a crash may leave between two syncs. Nothing is assumed of the order in
 -- which a device keeps what it was told to write, nor of its parts.
 use Rattle.std.specs.Prelude.{◌≡◌, ◌⊎◌, ℕ, ◌+◌, ◌-◌, ◌<◌, ◌≤◌, max, List, [], ◌∷◌, ◌++◌, length, take, drop, replicate, slice_index, Option, Some}
 use Rattle.std.specs.List.{All}
@@ -18,7 +18,7 @@ abbrev pub farthest : ℕ → List Extent → ℕ
 farthest end [] = end
 farthest end (extent ∷ extents) = farthest (max end (extent.at + extent.length)) extents
 
--- What a stop may leave of these stable bytes, where the extents were written, or tried to be, since they were synced: the
+-- What a crash may leave of these stable bytes, where the extents were written, or tried to be, since they were synced: the
 -- extents and what lies past the old end may hold any bytes, bytes elsewhere stay, and the end lies anywhere from the old
 -- end to the greatest end that was written or tried.
 pub record MayLeave (stable : List ℕ) (extents : List Extent) (image : List ℕ) : Type 0 where

@@ -17,7 +17,7 @@ pub record Platter : Type 0 where
 abbrev pub synced : List ℕ → Platter
 synced bytes = record { stable = bytes; current = bytes; dirty = []; plan = new_plan [] }
 
--- a stop may leave this image
+-- a crash may leave these bytes
 abbrev pub IsImage : Platter → List ℕ → Type 0
 IsImage disk image = (image ≡ disk.current) ⊎ MayLeave disk.stable disk.dirty image
 

@@ -14,7 +14,7 @@ pub trait Disk {
     /// The bytes that a read gives, where they are told.
     ghost seen: { Self → Option (List ℕ) };
 
-    /// A stop now may leave this image.
+    /// A crash now may leave these bytes.
     ghost may_leave: { Self → List ℕ → Type 0 };
 
     /// How often the disk has failed. A count that stands at 2^64 - 1 stays there.
@@ -26,53 +26,66 @@ pub trait Disk {
     /// The number of bytes.
     fn len(&mut self) -> Result<u64, Failed>
         ensures below { IfOk result (λ n. n < 2 ^ 40) }
-        ensures told { (bytes : List ℕ) → seen self.old ≡ Some bytes → IfOk result (λ n. n ≡ length bytes) }
+        ensures told { (bytes : List ℕ) → seen self.old ≡ Some bytes →
+            IfOk result (λ n. n ≡ length bytes) }
         ensures seen { seen self.new ≡ seen self.old }
         ensures images { (image : List ℕ) → may_leave self.new image ↔ may_leave self.old image }
         ensures later { faults self.old ≤ faults self.new }
         ensures cause { OnErr result (Rose (faults self.old) (faults self.new)) }
-        ensures steady { (bytes : List ℕ) → seen self.old ≡ Some bytes → OnOk result (faults self.new ≡ faults self.old) }
+        ensures steady { (bytes : List ℕ) → seen self.old ≡ Some bytes →
+            OnOk result (faults self.new ≡ faults self.old) }
         ensures called { IsCalled (calls self.old) (calls self.new) };
 
     /// Moves the bytes from the place on into the front of the buffer, as many as it takes or as there are, and answers how
     /// many. After `Failed` the buffer may hold any bytes.
     fn read_at(&mut self, at: u64, buffer: &mut [u8]) -> Result<usize, Failed>
         ensures bound { IfOk result (λ n. n ≤ length buffer.old) }
-        ensures told { (bytes : List ℕ) → seen self.old ≡ Some bytes → IfOk result (λ n. n ≡ min (length buffer.old) (length bytes - at)) }
-        ensures moved { (bytes : List ℕ) → seen self.old ≡ Some bytes → IfOk result (λ n. take n buffer.new ≡ take n (drop at bytes)) }
+        ensures told { (bytes : List ℕ) → seen self.old ≡ Some bytes →
+            IfOk result (λ n. n ≡ min (length buffer.old) (length bytes - at)) }
+        ensures moved { (bytes : List ℕ) → seen self.old ≡ Some bytes →
+            IfOk result (λ n. take n buffer.new ≡ take n (drop at bytes)) }
         ensures seen { seen self.new ≡ seen self.old }
         ensures images { (image : List ℕ) → may_leave self.new image ↔ may_leave self.old image }
         ensures later { faults self.old ≤ faults self.new }
         ensures cause { OnErr result (Rose (faults self.old) (faults self.new)) }
-        ensures steady { (bytes : List ℕ) → seen self.old ≡ Some bytes → OnOk result (faults self.new ≡ faults self.old) }
+        ensures steady { (bytes : List ℕ) → seen self.old ≡ Some bytes →
+            OnOk result (faults self.new ≡ faults self.old) }
         ensures called { IsCalled (calls self.old) (calls self.new) };
 
-    /// Puts the bytes at the place. A gap before them reads as zeros. Until a sync a stop may leave any bytes there, and
+    /// Puts the bytes at the place. A gap before them reads as zeros. Until a sync a crash may leave any bytes there, and
     /// past the old end. After `Failed` this part alone may have changed.
     ///
     /// A write whose end would reach `DISK_LIMIT` fails and is as if it had never been tried.
     fn write_at(&mut self, at: u64, bytes: &[u8]) -> Result<(), Failed>
-        requires { (old : List ℕ) → seen self.old ≡ Some old → 2 ^ 40 ≤ at + length bytes.now → 2 ^ 39 ≤ length old }
+        requires { (old : List ℕ) → seen self.old ≡ Some old → 2 ^ 40 ≤ at + length bytes.now →
+            2 ^ 39 ≤ length old }
         ensures room { OnOk result (at + length bytes.now < 2 ^ 40) }
-        ensures written { (old : List ℕ) → seen self.old ≡ Some old → OnOk result (seen self.new ≡ Some (written old at bytes.now)) }
-        ensures torn { (old : List ℕ) → seen self.old ≡ Some old → OnErr result ((new : List ℕ) × (seen self.new ≡ Some new) × Torn at (length bytes.now) old new) }
-        ensures images { Follows (Torn at (length bytes.now)) (may_leave self.old) (may_leave self.new) }
+        ensures written { (old : List ℕ) → seen self.old ≡ Some old →
+            OnOk result (seen self.new ≡ Some (written old at bytes.now)) }
+        ensures torn { (old : List ℕ) → seen self.old ≡ Some old → OnErr result
+            ((new : List ℕ) × (seen self.new ≡ Some new) × Torn at (length bytes.now) old new) }
+        ensures images { Follows (Torn at (length bytes.now)) (may_leave self.old)
+            (may_leave self.new) }
         ensures beyond { 2 ^ 40 ≤ at + length bytes.now → seen self.new ≡ seen self.old }
         ensures silent { seen self.old ≡ None → seen self.new ≡ None }
-        ensures untried { 2 ^ 40 ≤ at + length bytes.now → (image : List ℕ) → may_leave self.new image ↔ may_leave self.old image }
+        ensures untried { 2 ^ 40 ≤ at + length bytes.now → (image : List ℕ) →
+            may_leave self.new image ↔ may_leave self.old image }
         ensures later { faults self.old ≤ faults self.new }
         ensures cause { OnErr result (Rose (faults self.old) (faults self.new)) }
-        ensures steady { (bytes : List ℕ) → seen self.old ≡ Some bytes → OnOk result (faults self.new ≡ faults self.old) }
+        ensures steady { (bytes : List ℕ) → seen self.old ≡ Some bytes →
+            OnOk result (faults self.new ≡ faults self.old) }
         ensures called { IsCalled (calls self.old) (calls self.new) };
 
-    /// Makes the bytes stable: after `Ok` a stop leaves what a read gives, and nothing else.
+    /// Makes the bytes stable: after `Ok` a crash leaves what a read gives, and nothing else.
     fn sync(&mut self) -> Result<(), Failed>
-        ensures stable { (bytes : List ℕ) → seen self.old ≡ Some bytes → OnOk result (IsOnly bytes (may_leave self.new)) }
+        ensures stable { (bytes : List ℕ) → seen self.old ≡ Some bytes →
+            OnOk result (IsOnly bytes (may_leave self.new)) }
         ensures seen { seen self.new ≡ seen self.old }
         ensures images { (image : List ℕ) → may_leave self.new image → may_leave self.old image }
         ensures later { faults self.old ≤ faults self.new }
         ensures cause { OnErr result (Rose (faults self.old) (faults self.new)) }
-        ensures steady { (bytes : List ℕ) → seen self.old ≡ Some bytes → OnOk result (faults self.new ≡ faults self.old) }
+        ensures steady { (bytes : List ℕ) → seen self.old ≡ Some bytes →
+            OnOk result (faults self.new ≡ faults self.old) }
         ensures called { IsCalled (calls self.old) (calls self.new) };
 
     /// What a read gives is one of the images.

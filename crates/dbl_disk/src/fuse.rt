@@ -79,12 +79,16 @@ impl<D: Disk> Disk for FuseDisk<D> {
 
     fn len(&mut self) -> Result<u64, Failed>
         ensures below { IfOk result (λ n. n < 2 ^ 40) }
-        ensures told { (bytes : List ℕ) → D.seen self.old.inner ≡ Some bytes → IfOk result (λ n. n ≡ length bytes) }
+        ensures told { (bytes : List ℕ) → D.seen self.old.inner ≡ Some bytes →
+            IfOk result (λ n. n ≡ length bytes) }
         ensures seen { D.seen self.new.inner ≡ D.seen self.old.inner }
-        ensures images { (image : List ℕ) → D.may_leave self.new.inner image ↔ D.may_leave self.old.inner image }
+        ensures images { (image : List ℕ) → D.may_leave self.new.inner image ↔
+            D.may_leave self.old.inner image }
         ensures later { fuse_faults D.faults self.old ≤ fuse_faults D.faults self.new }
-        ensures cause { OnErr result (Rose (fuse_faults D.faults self.old) (fuse_faults D.faults self.new)) }
-        ensures steady { (bytes : List ℕ) → D.seen self.old.inner ≡ Some bytes → OnOk result (fuse_faults D.faults self.new ≡ fuse_faults D.faults self.old) }
+        ensures cause { OnErr result
+            (Rose (fuse_faults D.faults self.old) (fuse_faults D.faults self.new)) }
+        ensures steady { (bytes : List ℕ) → D.seen self.old.inner ≡ Some bytes →
+            OnOk result (fuse_faults D.faults self.new ≡ fuse_faults D.faults self.old) }
         ensures called { IsCalled (fuse_calls D.calls self.old) (fuse_calls D.calls self.new) }
         ensures fuse { Burns D.faults D.calls self.old self.new result }
     {
@@ -94,13 +98,18 @@ impl<D: Disk> Disk for FuseDisk<D> {
 
     fn read_at(&mut self, at: u64, buffer: &mut [u8]) -> Result<usize, Failed>
         ensures bound { IfOk result (λ n. n ≤ length buffer.old) }
-        ensures told { (bytes : List ℕ) → D.seen self.old.inner ≡ Some bytes → IfOk result (λ n. n ≡ min (length buffer.old) (length bytes - at)) }
-        ensures moved { (bytes : List ℕ) → D.seen self.old.inner ≡ Some bytes → IfOk result (λ n. take n buffer.new ≡ take n (drop at bytes)) }
+        ensures told { (bytes : List ℕ) → D.seen self.old.inner ≡ Some bytes →
+            IfOk result (λ n. n ≡ min (length buffer.old) (length bytes - at)) }
+        ensures moved { (bytes : List ℕ) → D.seen self.old.inner ≡ Some bytes →
+            IfOk result (λ n. take n buffer.new ≡ take n (drop at bytes)) }
         ensures seen { D.seen self.new.inner ≡ D.seen self.old.inner }
-        ensures images { (image : List ℕ) → D.may_leave self.new.inner image ↔ D.may_leave self.old.inner image }
+        ensures images { (image : List ℕ) → D.may_leave self.new.inner image ↔
+            D.may_leave self.old.inner image }
         ensures later { fuse_faults D.faults self.old ≤ fuse_faults D.faults self.new }
-        ensures cause { OnErr result (Rose (fuse_faults D.faults self.old) (fuse_faults D.faults self.new)) }
-        ensures steady { (bytes : List ℕ) → D.seen self.old.inner ≡ Some bytes → OnOk result (fuse_faults D.faults self.new ≡ fuse_faults D.faults self.old) }
+        ensures cause { OnErr result
+            (Rose (fuse_faults D.faults self.old) (fuse_faults D.faults self.new)) }
+        ensures steady { (bytes : List ℕ) → D.seen self.old.inner ≡ Some bytes →
+            OnOk result (fuse_faults D.faults self.new ≡ fuse_faults D.faults self.old) }
         ensures called { IsCalled (fuse_calls D.calls self.old) (fuse_calls D.calls self.new) }
         ensures fuse { Burns D.faults D.calls self.old self.new result }
     {
@@ -109,17 +118,26 @@ impl<D: Disk> Disk for FuseDisk<D> {
     }
 
     fn write_at(&mut self, at: u64, bytes: &[u8]) -> Result<(), Failed>
-        requires { (old : List ℕ) → D.seen self.old.inner ≡ Some old → 2 ^ 40 ≤ at + length bytes.now → 2 ^ 39 ≤ length old }
+        requires { (old : List ℕ) → D.seen self.old.inner ≡ Some old →
+            2 ^ 40 ≤ at + length bytes.now → 2 ^ 39 ≤ length old }
         ensures room { OnOk result (at + length bytes.now < 2 ^ 40) }
-        ensures written { (old : List ℕ) → D.seen self.old.inner ≡ Some old → OnOk result (D.seen self.new.inner ≡ Some (written old at bytes.now)) }
-        ensures torn { (old : List ℕ) → D.seen self.old.inner ≡ Some old → OnErr result ((new : List ℕ) × (D.seen self.new.inner ≡ Some new) × Torn at (length bytes.now) old new) }
-        ensures images { Follows (Torn at (length bytes.now)) (D.may_leave self.old.inner) (D.may_leave self.new.inner) }
-        ensures beyond { 2 ^ 40 ≤ at + length bytes.now → D.seen self.new.inner ≡ D.seen self.old.inner }
+        ensures written { (old : List ℕ) → D.seen self.old.inner ≡ Some old →
+            OnOk result (D.seen self.new.inner ≡ Some (written old at bytes.now)) }
+        ensures torn { (old : List ℕ) → D.seen self.old.inner ≡ Some old →
+            OnErr result ((new : List ℕ) × (D.seen self.new.inner ≡ Some new) ×
+            Torn at (length bytes.now) old new) }
+        ensures images { Follows (Torn at (length bytes.now)) (D.may_leave self.old.inner)
+            (D.may_leave self.new.inner) }
+        ensures beyond { 2 ^ 40 ≤ at + length bytes.now →
+            D.seen self.new.inner ≡ D.seen self.old.inner }
         ensures silent { D.seen self.old.inner ≡ None → D.seen self.new.inner ≡ None }
-        ensures untried { 2 ^ 40 ≤ at + length bytes.now → (image : List ℕ) → D.may_leave self.new.inner image ↔ D.may_leave self.old.inner image }
+        ensures untried { 2 ^ 40 ≤ at + length bytes.now → (image : List ℕ) →
+            D.may_leave self.new.inner image ↔ D.may_leave self.old.inner image }
         ensures later { fuse_faults D.faults self.old ≤ fuse_faults D.faults self.new }
-        ensures cause { OnErr result (Rose (fuse_faults D.faults self.old) (fuse_faults D.faults self.new)) }
-        ensures steady { (bytes : List ℕ) → D.seen self.old.inner ≡ Some bytes → OnOk result (fuse_faults D.faults self.new ≡ fuse_faults D.faults self.old) }
+        ensures cause { OnErr result
+            (Rose (fuse_faults D.faults self.old) (fuse_faults D.faults self.new)) }
+        ensures steady { (bytes : List ℕ) → D.seen self.old.inner ≡ Some bytes →
+            OnOk result (fuse_faults D.faults self.new ≡ fuse_faults D.faults self.old) }
         ensures called { IsCalled (fuse_calls D.calls self.old) (fuse_calls D.calls self.new) }
         ensures fuse { Burns D.faults D.calls self.old self.new result }
     {
@@ -128,12 +146,16 @@ impl<D: Disk> Disk for FuseDisk<D> {
     }
 
     fn sync(&mut self) -> Result<(), Failed>
-        ensures stable { (bytes : List ℕ) → D.seen self.old.inner ≡ Some bytes → OnOk result (IsOnly bytes (D.may_leave self.new.inner)) }
+        ensures stable { (bytes : List ℕ) → D.seen self.old.inner ≡ Some bytes →
+            OnOk result (IsOnly bytes (D.may_leave self.new.inner)) }
         ensures seen { D.seen self.new.inner ≡ D.seen self.old.inner }
-        ensures images { (image : List ℕ) → D.may_leave self.new.inner image → D.may_leave self.old.inner image }
+        ensures images { (image : List ℕ) → D.may_leave self.new.inner image →
+            D.may_leave self.old.inner image }
         ensures later { fuse_faults D.faults self.old ≤ fuse_faults D.faults self.new }
-        ensures cause { OnErr result (Rose (fuse_faults D.faults self.old) (fuse_faults D.faults self.new)) }
-        ensures steady { (bytes : List ℕ) → D.seen self.old.inner ≡ Some bytes → OnOk result (fuse_faults D.faults self.new ≡ fuse_faults D.faults self.old) }
+        ensures cause { OnErr result
+            (Rose (fuse_faults D.faults self.old) (fuse_faults D.faults self.new)) }
+        ensures steady { (bytes : List ℕ) → D.seen self.old.inner ≡ Some bytes →
+            OnOk result (fuse_faults D.faults self.new ≡ fuse_faults D.faults self.old) }
         ensures called { IsCalled (fuse_calls D.calls self.old) (fuse_calls D.calls self.new) }
         ensures fuse { Burns D.faults D.calls self.old self.new result }
     {

@@ -10,14 +10,14 @@ use dbl_base::{Failed, FaultPlan};
 use std::alloc::{AllocError, Global};
 use std::marker::Model;
 
-/// What a stop leaves of a disk in memory.
+/// What a crash leaves of a disk in memory.
 #[derive(Clone, Copy, Debug, PartialEq, Eq)]
 pub enum Choice {
     /// The bytes at the last sync.
     Old,
     /// The bytes that a read gives.
     New,
-    /// The bytes that a read gives, with this byte wherever a stop may leave any byte.
+    /// The bytes that a read gives, with this byte wherever a crash may leave any byte.
     Fill(u8),
 }
 
@@ -44,7 +44,8 @@ impl Model for MemDisk {
 
 // Zeros up to the end, where the bytes don't reach it.
 fn extend_to(current: &mut Vec<u8>, end: usize) -> Result<(), AllocError>
-    ensures ok { OnOk result (current.new.items ≡ current.old.items ++ replicate (end - length current.old.items) 0) }
+    ensures ok { OnOk result
+        (current.new.items ≡ current.old.items ++ replicate (end - length current.old.items) 0) }
     ensures err { OnErr result (current.new.items ≡ current.old.items) }
 {
     if current.len() < end {
@@ -56,7 +57,8 @@ fn extend_to(current: &mut Vec<u8>, end: usize) -> Result<(), AllocError>
 // Writes the bytes over those at the place.
 fn overwrite(current: &mut Vec<u8>, at: usize, bytes: &[u8])
     requires { at + length bytes.now ≤ length current.old.items }
-    ensures { current.new.items ≡ take at current.old.items ++ bytes.now ++ drop (at + length bytes.now) current.old.items }
+    ensures { current.new.items ≡ take at current.old.items ++ bytes.now ++ drop
+        (at + length bytes.now) current.old.items }
 {
     current[at..at + bytes.len()].copy_from_slice(bytes);
 }
@@ -70,7 +72,8 @@ fn put(
 ) -> Result<(), AllocError>
     requires { at + length bytes.now < 2 ^ 40 }
     ensures written { OnOk result (current.new.items ≡ written current.old.items at bytes.now) }
-    ensures dirty { OnOk result (dirty.new.items ≡ dirty.old.items ++ record { at = at; length = length bytes.now } ∷ []) }
+    ensures dirty { OnOk result
+        (dirty.new.items ≡ dirty.old.items ++ record { at = at; length = length bytes.now } ∷ []) }
     ensures current_stays { OnErr result (current.new.items ≡ current.old.items) }
     ensures dirty_stays { OnErr result (dirty.new.items ≡ dirty.old.items) }
 {
@@ -91,8 +94,10 @@ fn put(
 // Sets the bytes of the extent.
 fn fill(image: &mut [u8], extent: Extent, byte: u8)
     requires { extent.at + extent.length ≤ length image.old }
-    ensures inside { (place : ℕ) → extent.at ≤ place → place < extent.at + extent.length → slice_index image.new place ≡ byte }
-    ensures aside { (place : ℕ) → IsAside extent place → slice_index image.new place ≡ slice_index image.old place }
+    ensures inside { (place : ℕ) → extent.at ≤ place → place < extent.at + extent.length →
+        slice_index image.new place ≡ byte }
+    ensures aside { (place : ℕ) → IsAside extent place →
+        slice_index image.new place ≡ slice_index image.old place }
 {
     let at = extent.at as usize;
     image[at..at + extent.length as usize].fill(byte);
@@ -102,8 +107,10 @@ fn fill(image: &mut [u8], extent: Extent, byte: u8)
 fn copy(stable: &mut [u8], current: &[u8], extent: Extent)
     requires same { length stable.old ≡ length current.now }
     requires within { extent.at + extent.length ≤ length current.now }
-    ensures inside { (place : ℕ) → extent.at ≤ place → place < extent.at + extent.length → slice_index stable.new place ≡ slice_index current.now place }
-    ensures aside { (place : ℕ) → IsAside extent place → slice_index stable.new place ≡ slice_index stable.old place }
+    ensures inside { (place : ℕ) → extent.at ≤ place → place < extent.at + extent.length →
+        slice_index stable.new place ≡ slice_index current.now place }
+    ensures aside { (place : ℕ) → IsAside extent place →
+        slice_index stable.new place ≡ slice_index stable.old place }
 {
     let at = extent.at as usize;
     let end = at + extent.length as usize;
@@ -143,7 +150,7 @@ fn fill_extents(image: &mut [u8], dirty: &[Extent], byte: u8)
     }
 }
 
-// The current bytes with this one wherever a stop may leave any byte.
+// The current bytes with this one wherever a crash may leave any byte.
 fn filled(
     alloc: Global,
     stable: &[u8],
@@ -171,8 +178,10 @@ fn chosen(
     requires { IsKept stable.now.items current.now.items dirty.now }
     ensures old { choice ≡ Choice.Old → IfOk result (λ image. image.items ≡ stable.now.items) }
     ensures new { choice ≡ Choice.New → IfOk result (λ image. image.items ≡ current.now.items) }
-    ensures fill { (byte : ℕ) → choice ≡ Choice.Fill byte → IfOk result (λ image. IsFilled byte stable.now.items current.now.items dirty.now image.items) }
-    ensures allowed { IfOk result (λ image. (image.items ≡ current.now.items) ⊎ MayLeave stable.now.items dirty.now image.items) }
+    ensures fill { (byte : ℕ) → choice ≡ Choice.Fill byte → IfOk result
+        (λ image. IsFilled byte stable.now.items current.now.items dirty.now image.items) }
+    ensures allowed { IfOk result (λ image. (image.items ≡ current.now.items) ⊎
+        MayLeave stable.now.items dirty.now image.items) }
     ensures small { IfOk result (λ image. length image.items < 2 ^ 40) }
 {
     match choice {
@@ -203,13 +212,14 @@ impl MemDisk {
         &self.current
     }
 
-    /// The disk as it is found after a stop: with no dirty extent, no fault and no call that is to fail.
+    /// The disk as it is found after a crash: with no dirty extent, no fault and no call that is to fail.
     pub fn crash(&self, choice: Choice) -> Result<MemDisk, AllocError>
         ensures allowed { IfOk result (λ disk. IsImage self.now disk.current) }
         ensures synced { IfOk result (λ disk. disk ≡ synced disk.current) }
         ensures old { choice ≡ Choice.Old → IfOk result (λ disk. disk.current ≡ self.now.stable) }
         ensures new { choice ≡ Choice.New → IfOk result (λ disk. disk.current ≡ self.now.current) }
-        ensures fill { (byte : ℕ) → choice ≡ Choice.Fill byte → IfOk result (λ disk. IsFilled byte self.now.stable self.now.current self.now.dirty disk.current) }
+        ensures fill { (byte : ℕ) → choice ≡ Choice.Fill byte → IfOk result
+            (λ disk. IsFilled byte self.now.stable self.now.current self.now.dirty disk.current) }
     {
         let current = chosen(self.alloc, &self.stable, &self.current, &self.dirty, choice)?;
         Ok(MemDisk {
@@ -238,20 +248,28 @@ impl Disk for MemDisk {
 
     fn len(&mut self) -> Result<u64, Failed>
         ensures below { IfOk result (λ n. n < 2 ^ 40) }
-        ensures told { (bytes : List ℕ) → Some self.old.current ≡ Some bytes → IfOk result (λ n. n ≡ length bytes) }
+        ensures told { (bytes : List ℕ) → Some self.old.current ≡ Some bytes →
+            IfOk result (λ n. n ≡ length bytes) }
         ensures seen { Some self.new.current ≡ Some self.old.current }
         ensures images { (image : List ℕ) → IsImage self.new image ↔ IsImage self.old image }
         ensures later { self.old.plan.faults ≤ self.new.plan.faults }
         ensures cause { OnErr result (Rose self.old.plan.faults self.new.plan.faults) }
-        ensures steady { (bytes : List ℕ) → Some self.old.current ≡ Some bytes → OnOk result (self.new.plan.faults ≡ self.old.plan.faults) }
+        ensures steady { (bytes : List ℕ) → Some self.old.current ≡ Some bytes →
+            OnOk result (self.new.plan.faults ≡ self.old.plan.faults) }
         ensures called { IsCalled (Some self.old.plan.calls) (Some self.new.plan.calls) }
 
         // A call fails exactly where it is planned to, and changes the plan alone.
-        ensures planned { IsErr result ↔ Contains self.old.plan.planned (raised self.old.plan.calls) }
+        ensures planned { IsErr result ↔
+            Contains self.old.plan.planned (raised self.old.plan.calls) }
         ensures calls { self.new.plan.calls ≡ raised self.old.plan.calls }
         ensures counted { OnErr result (self.new.plan.faults ≡ raised self.old.plan.faults) }
         ensures uncounted { OnOk result (self.new.plan.faults ≡ self.old.plan.faults) }
-        ensures same { self.new ≡ record self.old { plan = record self.old.plan { calls = self.new.plan.calls; faults = self.new.plan.faults } } }
+        ensures same { self.new ≡ record self.old {
+          plan = record self.old.plan {
+            calls = self.new.plan.calls;
+            faults = self.new.plan.faults;
+          };
+        } }
     {
         self.plan.call()?;
         Ok(self.current.len() as u64)
@@ -259,21 +277,30 @@ impl Disk for MemDisk {
 
     fn read_at(&mut self, at: u64, buffer: &mut [u8]) -> Result<usize, Failed>
         ensures bound { IfOk result (λ n. n ≤ length buffer.old) }
-        ensures told { (bytes : List ℕ) → Some self.old.current ≡ Some bytes → IfOk result (λ n. n ≡ min (length buffer.old) (length bytes - at)) }
-        ensures moved { (bytes : List ℕ) → Some self.old.current ≡ Some bytes → IfOk result (λ n. take n buffer.new ≡ take n (drop at bytes)) }
+        ensures told { (bytes : List ℕ) → Some self.old.current ≡ Some bytes →
+            IfOk result (λ n. n ≡ min (length buffer.old) (length bytes - at)) }
+        ensures moved { (bytes : List ℕ) → Some self.old.current ≡ Some bytes →
+            IfOk result (λ n. take n buffer.new ≡ take n (drop at bytes)) }
         ensures seen { Some self.new.current ≡ Some self.old.current }
         ensures images { (image : List ℕ) → IsImage self.new image ↔ IsImage self.old image }
         ensures later { self.old.plan.faults ≤ self.new.plan.faults }
         ensures cause { OnErr result (Rose self.old.plan.faults self.new.plan.faults) }
-        ensures steady { (bytes : List ℕ) → Some self.old.current ≡ Some bytes → OnOk result (self.new.plan.faults ≡ self.old.plan.faults) }
+        ensures steady { (bytes : List ℕ) → Some self.old.current ≡ Some bytes →
+            OnOk result (self.new.plan.faults ≡ self.old.plan.faults) }
         ensures called { IsCalled (Some self.old.plan.calls) (Some self.new.plan.calls) }
 
         // A call fails exactly where it is planned to, and changes the plan alone.
-        ensures planned { IsErr result ↔ Contains self.old.plan.planned (raised self.old.plan.calls) }
+        ensures planned { IsErr result ↔
+            Contains self.old.plan.planned (raised self.old.plan.calls) }
         ensures calls { self.new.plan.calls ≡ raised self.old.plan.calls }
         ensures counted { OnErr result (self.new.plan.faults ≡ raised self.old.plan.faults) }
         ensures uncounted { OnOk result (self.new.plan.faults ≡ self.old.plan.faults) }
-        ensures same { self.new ≡ record self.old { plan = record self.old.plan { calls = self.new.plan.calls; faults = self.new.plan.faults } } }
+        ensures same { self.new ≡ record self.old {
+          plan = record self.old.plan {
+            calls = self.new.plan.calls;
+            faults = self.new.plan.faults;
+          };
+        } }
         ensures untouched { OnErr result (buffer.new ≡ buffer.old) }
     {
         self.plan.call()?;
@@ -285,26 +312,36 @@ impl Disk for MemDisk {
     }
 
     fn write_at(&mut self, at: u64, bytes: &[u8]) -> Result<(), Failed>
-        requires { (old : List ℕ) → Some self.old.current ≡ Some old → 2 ^ 40 ≤ at + length bytes.now → 2 ^ 39 ≤ length old }
+        requires { (old : List ℕ) → Some self.old.current ≡ Some old →
+            2 ^ 40 ≤ at + length bytes.now → 2 ^ 39 ≤ length old }
         ensures room { OnOk result (at + length bytes.now < 2 ^ 40) }
-        ensures written { (old : List ℕ) → Some self.old.current ≡ Some old → OnOk result (Some self.new.current ≡ Some (written old at bytes.now)) }
-        ensures torn { (old : List ℕ) → Some self.old.current ≡ Some old → OnErr result ((new : List ℕ) × (Some self.new.current ≡ Some new) × Torn at (length bytes.now) old new) }
-        ensures images { Follows (Torn at (length bytes.now)) (IsImage self.old) (IsImage self.new) }
-        ensures beyond { 2 ^ 40 ≤ at + length bytes.now → Some self.new.current ≡ Some self.old.current }
+        ensures written { (old : List ℕ) → Some self.old.current ≡ Some old →
+            OnOk result (Some self.new.current ≡ Some (written old at bytes.now)) }
+        ensures torn { (old : List ℕ) → Some self.old.current ≡ Some old →
+            OnErr result ((new : List ℕ) × (Some self.new.current ≡ Some new) ×
+            Torn at (length bytes.now) old new) }
+        ensures images { Follows (Torn at (length bytes.now)) (IsImage self.old)
+            (IsImage self.new) }
+        ensures beyond { 2 ^ 40 ≤ at + length bytes.now →
+            Some self.new.current ≡ Some self.old.current }
         ensures silent { Some self.old.current ≡ None → Some self.new.current ≡ None }
-        ensures untried { 2 ^ 40 ≤ at + length bytes.now → (image : List ℕ) → IsImage self.new image ↔ IsImage self.old image }
+        ensures untried { 2 ^ 40 ≤ at + length bytes.now → (image : List ℕ) →
+            IsImage self.new image ↔ IsImage self.old image }
         ensures later { self.old.plan.faults ≤ self.new.plan.faults }
         ensures cause { OnErr result (Rose self.old.plan.faults self.new.plan.faults) }
-        ensures steady { (bytes : List ℕ) → Some self.old.current ≡ Some bytes → OnOk result (self.new.plan.faults ≡ self.old.plan.faults) }
+        ensures steady { (bytes : List ℕ) → Some self.old.current ≡ Some bytes →
+            OnOk result (self.new.plan.faults ≡ self.old.plan.faults) }
         ensures called { IsCalled (Some self.old.plan.calls) (Some self.new.plan.calls) }
 
         // A call that is planned to fail does, and one that fails changes the plan alone.
-        ensures planned { Contains self.old.plan.planned (raised self.old.plan.calls) → IsErr result }
+        ensures planned { Contains self.old.plan.planned (raised self.old.plan.calls) →
+            IsErr result }
         ensures calls { self.new.plan.calls ≡ raised self.old.plan.calls }
         ensures counted { OnErr result (self.new.plan.faults ≡ raised self.old.plan.faults) }
         ensures uncounted { OnOk result (self.new.plan.faults ≡ self.old.plan.faults) }
         ensures plan { self.new.plan.planned ≡ self.old.plan.planned }
-        ensures dirty { OnOk result (self.new.dirty ≡ self.old.dirty ++ record { at = at; length = length bytes.now } ∷ []) }
+        ensures dirty { OnOk result (self.new.dirty ≡ self.old.dirty ++
+            record { at = at; length = length bytes.now } ∷ []) }
         ensures stable { self.new.stable ≡ self.old.stable }
         ensures unchanged { OnErr result (self.new ≡ record self.old { plan = self.new.plan }) }
     {
@@ -319,21 +356,25 @@ impl Disk for MemDisk {
     }
 
     fn sync(&mut self) -> Result<(), Failed>
-        ensures stable { (bytes : List ℕ) → Some self.old.current ≡ Some bytes → OnOk result (IsOnly bytes (IsImage self.new)) }
+        ensures stable { (bytes : List ℕ) → Some self.old.current ≡ Some bytes →
+            OnOk result (IsOnly bytes (IsImage self.new)) }
         ensures seen { Some self.new.current ≡ Some self.old.current }
         ensures images { (image : List ℕ) → IsImage self.new image → IsImage self.old image }
         ensures later { self.old.plan.faults ≤ self.new.plan.faults }
         ensures cause { OnErr result (Rose self.old.plan.faults self.new.plan.faults) }
-        ensures steady { (bytes : List ℕ) → Some self.old.current ≡ Some bytes → OnOk result (self.new.plan.faults ≡ self.old.plan.faults) }
+        ensures steady { (bytes : List ℕ) → Some self.old.current ≡ Some bytes →
+            OnOk result (self.new.plan.faults ≡ self.old.plan.faults) }
         ensures called { IsCalled (Some self.old.plan.calls) (Some self.new.plan.calls) }
 
         // A call that is planned to fail does, and one that fails changes the plan alone.
-        ensures planned { Contains self.old.plan.planned (raised self.old.plan.calls) → IsErr result }
+        ensures planned { Contains self.old.plan.planned (raised self.old.plan.calls) →
+            IsErr result }
         ensures calls { self.new.plan.calls ≡ raised self.old.plan.calls }
         ensures counted { OnErr result (self.new.plan.faults ≡ raised self.old.plan.faults) }
         ensures uncounted { OnOk result (self.new.plan.faults ≡ self.old.plan.faults) }
         ensures plan { self.new.plan.planned ≡ self.old.plan.planned }
-        ensures synced { OnOk result (self.new ≡ record (synced self.old.current) { plan = self.new.plan }) }
+        ensures synced { OnOk result
+            (self.new ≡ record (synced self.old.current) { plan = self.new.plan }) }
         ensures unchanged { OnErr result (self.new ≡ record self.old { plan = self.new.plan }) }
     {
         self.plan.call()?;

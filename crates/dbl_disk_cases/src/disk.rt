@@ -25,7 +25,7 @@ impl Store for Plain {
 // A refusal gives the disk and its error back.
 fn given_back(alloc: Global, place: &mut Device, error: usize) -> Result<String> {
     let disk = steps::take(alloc, place);
-    steps::refused(alloc, place, Refused { disk, error })
+    steps::tell_refused(alloc, place, Refused { disk, error })
 }
 
 /// What a case of this family answers.

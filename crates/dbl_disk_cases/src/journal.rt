@@ -49,7 +49,7 @@ pub fn make(alloc: Global, place: &mut Device, calls: &str) -> Result<String> {
             steps::put(place, journal.into_disk());
             words::said(alloc, &"ok")
         }
-        Err(refused) => steps::refused(alloc, place, refused),
+        Err(refused) => steps::tell_refused(alloc, place, refused),
     }
 }
 
@@ -84,7 +84,7 @@ pub fn append_entry(alloc: Global, place: &mut Device, entry: &[u8]) -> Result<S
             steps::put(place, journal.into_disk());
             words::outcome(alloc, appended)
         }
-        Err(refused) => steps::refused(alloc, place, refused),
+        Err(refused) => steps::tell_refused(alloc, place, refused),
     }
 }
 
@@ -103,7 +103,7 @@ fn built(alloc: Global, place: &mut Device, digits: &str) -> Result<String> {
             steps::put(place, journal.into_disk());
             words::outcome(alloc, appended)
         }
-        Err(refused) => steps::refused(alloc, place, refused),
+        Err(refused) => steps::tell_refused(alloc, place, refused),
     }
 }
 
@@ -115,7 +115,7 @@ fn entries(alloc: Global, place: &mut Device, numbers: &str) -> Result<String> {
             steps::put(place, journal.into_disk());
             answer
         }
-        Err(refused) => steps::refused(alloc, place, refused),
+        Err(refused) => steps::tell_refused(alloc, place, refused),
     }
 }
 
@@ -124,12 +124,12 @@ fn chosen(alloc: Global, journal: &mut Journal<Device>, numbers: &str) -> Result
     requires { IsTrue journal.old.live }
 {
     let count = journal.count();
-    let entries = numbered(alloc, journal, numbers)?;
+    let entries = tell_entries(alloc, journal, numbers)?;
     Ok(format!(in alloc; "of {count}{entries}, live: {}", journal.is_live())?)
 }
 
 // The entries with these numbers.
-fn numbered(alloc: Global, journal: &mut Journal<Device>, numbers: &str) -> Result<String> {
+fn tell_entries(alloc: Global, journal: &mut Journal<Device>, numbers: &str) -> Result<String> {
     let mut answer = String::new(alloc);
     for word in numbers.split_whitespace() {
         let digits = entry(alloc, journal, word.parse::<u64>()?)?;

@@ -36,7 +36,7 @@ fn main(rt: HostRuntime) -> Result<()> {
         if line.is_empty() || line.starts_with('#') {
             continue;
         }
-        let (name, arguments) = words::parted(line.as_str(), ": ");
+        let (name, arguments) = words::split(line.as_str(), ": ");
         match answer(rt.alloc(), name, arguments) {
             Ok(text) => println!(rt; "{name}: {text}")?,
             Err(error) => println!(rt; "{name}: no answer: {error}")?,

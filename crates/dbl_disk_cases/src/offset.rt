@@ -41,7 +41,7 @@ pub fn answer(alloc: Global, call: &str, arguments: &str) -> Result<String> {
         "steps" => steps::answer::<Last>(alloc, arguments),
         "again" => again(alloc, &words::bytes(alloc, arguments)?),
         "cut" => cut(alloc, &words::bytes(alloc, arguments)?),
-        "changed" => changed(alloc, arguments),
+        "changed" => tell_changed(alloc, arguments),
         _ => bail!("no such call"),
     }
 }
@@ -62,7 +62,7 @@ fn make(alloc: Global, place: &mut Device, calls: &str) -> Result<String> {
             steps::put(place, store.into_disk());
             words::said(alloc, &"ok")
         }
-        Err(refused) => steps::refused(alloc, place, refused),
+        Err(refused) => steps::tell_refused(alloc, place, refused),
     }
 }
 
@@ -96,7 +96,7 @@ fn store_of(alloc: Global, place: &mut Device, source: &OffsetStore<Device>) -> 
             steps::put(place, store.into_disk());
             words::outcome(alloc, stored)
         }
-        Err(refused) => steps::refused(alloc, place, refused),
+        Err(refused) => steps::tell_refused(alloc, place, refused),
     }
 }
 
@@ -108,7 +108,7 @@ fn load(alloc: Global, place: &mut Device) -> Result<String> {
             steps::put(place, store.into_disk());
             answer
         }
-        Err(refused) => steps::refused(alloc, place, refused),
+        Err(refused) => steps::tell_refused(alloc, place, refused),
     }
 }
 
@@ -122,22 +122,22 @@ fn whole(alloc: Global, offset: Option<&Offset>) -> Result<String> {
 // Whether an entry's offset is stored as the same bytes, or why it is none.
 fn again(alloc: Global, entry: &[u8]) -> Result<String> {
     let mut disk = steps::empty(alloc);
-    stored(alloc, &mut disk, entry)
+    store_entry(alloc, &mut disk, entry)
 }
 
 // The same, over a disk for the store.
-fn stored(alloc: Global, disk: &mut Device, entry: &[u8]) -> Result<String> {
+fn store_entry(alloc: Global, disk: &mut Device, entry: &[u8]) -> Result<String> {
     make(alloc, disk, "")?;
     let answer = store(alloc, disk, entry)?;
     if answer.as_str() != "ok" {
         return Ok(answer);
     }
     let wanted = disk_of(alloc, entry)?;
-    compared(alloc, steps::take(alloc, disk), wanted)
+    compare_disks(alloc, steps::take(alloc, disk), wanted)
 }
 
 // Whether two disks have the same bytes.
-fn compared(alloc: Global, disk: Device, wanted: Device) -> Result<String> {
+fn compare_disks(alloc: Global, disk: Device, wanted: Device) -> Result<String> {
     let same = disk.into_inner().bytes().as_slice() == wanted.into_inner().bytes().as_slice();
     words::said(
         alloc,
@@ -189,8 +189,8 @@ fn letters(alloc: Global, entry: &[u8], from: usize, length: usize) -> Result<St
 }
 
 // The letters of each field; the fields' lengths stand behind the entry.
-fn changed(alloc: Global, arguments: &str) -> Result<String> {
-    let (digits, lengths) = words::parted(arguments, " fields ");
+fn tell_changed(alloc: Global, arguments: &str) -> Result<String> {
+    let (digits, lengths) = words::split(arguments, " fields ");
     let entry = words::bytes(alloc, digits)?;
     let mut answer = String::new(alloc);
     let mut from = 0usize;

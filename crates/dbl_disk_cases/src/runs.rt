@@ -47,7 +47,7 @@ fn run_twice(
     command: &str,
     arguments: &str,
 ) -> Result<()> {
-    let (steps, fails) = words::parted(arguments, " fails ");
+    let (steps, fails) = words::split(arguments, " fails ");
     prepare(alloc, shown, disks, command, steps)?;
     run(alloc, shown, disks, command, fails)?;
     crash(alloc, disks)?;
@@ -67,7 +67,7 @@ fn prepare(
         "topics" => step::<Groups>(alloc, shown, &mut disks.topics, steps),
         "offsets" => step::<Last>(alloc, shown, &mut disks.offsets, steps),
         _ => {
-            let (topics, offsets) = words::parted(steps, " | ");
+            let (topics, offsets) = words::split(steps, " | ");
             step::<Groups>(alloc, shown, &mut disks.topics, topics)?;
             shown.push_str(" | ")?;
             step::<Last>(alloc, shown, &mut disks.offsets, offsets)
@@ -76,7 +76,7 @@ fn prepare(
 }
 
 fn step<S: Store>(alloc: Global, shown: &mut String, disk: &mut Device, steps: &str) -> Result<()> {
-    let answer = steps::taken::<S>(alloc, disk, steps)?;
+    let answer = steps::take_steps::<S>(alloc, disk, steps)?;
     shown.push_str(answer.as_str())?;
     Ok(())
 }
@@ -103,7 +103,7 @@ fn run(
         _ => bail!("no such call"),
     };
     written(shown, output.bytes())?;
-    ended(shown, end)
+    show_end(shown, end)
 }
 
 fn run_topics(alloc: Global, disks: &mut Disks, output: &mut MemOutput) -> End {
@@ -149,7 +149,7 @@ fn written(shown: &mut String, bytes: &[u8]) -> Result<()> {
     Ok(())
 }
 
-fn ended(shown: &mut String, end: End) -> Result<()> {
+fn show_end(shown: &mut String, end: End) -> Result<()> {
     match end {
         Ok(()) => shown.push_str("ok")?,
         Err(error) => write!(shown, "{error}")?,

@@ -45,7 +45,7 @@ pub fn put(disk: &mut Device, next: Device) {
 }
 
 /// Puts the disk of a refusal in its place: the fault.
-pub fn refused<E: Display + Drop>(
+pub fn tell_refused<E: Display + Drop>(
     alloc: Global,
     disk: &mut Device,
     refused: Refused<Device, E>,
@@ -71,12 +71,12 @@ fn read(alloc: Global, disk: &mut Device, rest: &str) -> Result<String> {
     let at = at.parse::<u64>()?;
     let mut buffer = vec![in alloc; 7u8; words::size(count)?]?;
     match disk.read_at(at, &mut buffer) {
-        Ok(count) => moved(alloc, count, &buffer),
+        Ok(count) => tell_moved(alloc, count, &buffer),
         Err(failed) => words::said(alloc, &failed),
     }
 }
 
-fn moved(alloc: Global, count: usize, buffer: &[u8]) -> Result<String> {
+fn tell_moved(alloc: Global, count: usize, buffer: &[u8]) -> Result<String> {
     let digits = words::digits(alloc, buffer)?;
     Ok(format!(in alloc; "{count} of {digits}")?)
 }
@@ -95,7 +95,7 @@ fn found<S: Store>(alloc: Global, disk: &MemDisk, choice: Choice) -> Result<Stri
 }
 
 // The same for the old bytes, the new ones, and other bytes than 1 and 1 wherever any may be left.
-fn left<S: Store>(alloc: Global, disk: &MemDisk) -> Result<String> {
+fn tell_left<S: Store>(alloc: Global, disk: &MemDisk) -> Result<String> {
     let mut answer = String::new(alloc);
     for word in ["old", "new", "165", "1"] {
         let found = found::<S>(alloc, disk, choice(word)?)?;
@@ -105,7 +105,7 @@ fn left<S: Store>(alloc: Global, disk: &MemDisk) -> Result<String> {
 }
 
 // The disk behind the fuse, as a crash leaves it.
-fn crashed(disk: MemDisk, rest: &str) -> Result<MemDisk> {
+fn crash_disk(disk: MemDisk, rest: &str) -> Result<MemDisk> {
     Ok(disk.crash(choice(rest)?)?)
 }
 
@@ -122,7 +122,7 @@ pub fn prepare(alloc: Global, disk: &mut Device, word: &str, rest: &str) -> Resu
             put(disk, FuseDisk::make(behind, calls));
         }
         _ => {
-            let left = crashed(take(alloc, disk).into_inner(), rest)?;
+            let left = crash_disk(take(alloc, disk).into_inner(), rest)?;
             put(disk, FuseDisk::make(left, u64::MAX));
         }
     }
@@ -134,7 +134,7 @@ fn tell<S: Store>(alloc: Global, disk: &mut Device, word: &str) -> Result<String
     let behind = take(alloc, disk).into_inner();
     let answer = match word {
         "told" => found::<S>(alloc, &behind, Choice::New),
-        _ => left::<S>(alloc, &behind),
+        _ => tell_left::<S>(alloc, &behind),
     };
     put(disk, FuseDisk::make(behind, u64::MAX));
     answer
@@ -151,13 +151,13 @@ fn step<S: Store>(alloc: Global, disk: &mut Device, word: &str, rest: &str) -> R
         "write" => write(alloc, disk, rest),
         "read" => read(alloc, disk, rest),
         "sync" => words::outcome(alloc, disk.sync()),
-        "len" => words::answered(alloc, disk.len()),
+        "len" => words::tell_answer(alloc, disk.len()),
         _ => S::step(alloc, disk, word, rest),
     }
 }
 
 /// What the steps answer over a disk.
-pub fn taken<S: Store>(alloc: Global, disk: &mut Device, steps: &str) -> Result<String> {
+pub fn take_steps<S: Store>(alloc: Global, disk: &mut Device, steps: &str) -> Result<String> {
     let mut answer = String::new(alloc);
     for text in steps.split("; ") {
         let (word, rest) = words::first(text);
@@ -170,5 +170,5 @@ pub fn taken<S: Store>(alloc: Global, disk: &mut Device, steps: &str) -> Result<
 /// What the steps answer, from an empty disk on.
 pub fn answer<S: Store>(alloc: Global, steps: &str) -> Result<String> {
     let mut disk = empty(alloc);
-    taken::<S>(alloc, &mut disk, steps)
+    take_steps::<S>(alloc, &mut disk, steps)
 }

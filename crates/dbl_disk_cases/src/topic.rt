@@ -97,9 +97,9 @@ fn group(alloc: Global, arguments: &str) -> Result<Vec<Record>> {
 }
 
 // The topic and the number of a group's records, where they are tombstones of one topic.
-fn named(alloc: Global, group: &Vec<Record>) -> Result<String> {
+fn tell_group(alloc: Global, group: &Vec<Record>) -> Result<String> {
     match group.first() {
-        Some(first) => counted(alloc, first, group),
+        Some(first) => tell_counted(alloc, first, group),
         None => words::said(alloc, &"no record"),
     }
 }
@@ -110,7 +110,7 @@ fn are_of(alloc: Global, topic: &str, group: &[Record]) -> Result<bool> {
     Ok(group.iter().all(|item| *item == tombstone))
 }
 
-fn counted(alloc: Global, first: &Record, group: &Vec<Record>) -> Result<String> {
+fn tell_counted(alloc: Global, first: &Record, group: &Vec<Record>) -> Result<String> {
     if !are_of(alloc, first.topic.as_str(), group)? {
         return words::said(alloc, &"another group");
     }
@@ -125,7 +125,7 @@ fn last(alloc: Global, log: &mut TopicLog<MemDisk>) -> Result<String>
     if count == 0 {
         return words::said(alloc, &"no group");
     }
-    let last = named(alloc, &log.group(count - 1)?)?;
+    let last = tell_group(alloc, &log.group(count - 1)?)?;
     Ok(format!(in alloc; "{count} groups, last {last}")?)
 }
 
@@ -153,7 +153,7 @@ fn make(alloc: Global, place: &mut Device, calls: &str) -> Result<String> {
             steps::put(place, log.into_disk());
             words::said(alloc, &"ok")
         }
-        Err(refused) => steps::refused(alloc, place, refused),
+        Err(refused) => steps::tell_refused(alloc, place, refused),
     }
 }
 
@@ -165,7 +165,7 @@ fn put(alloc: Global, place: &mut Device, group: &Vec<Record>) -> Result<String>
             steps::put(place, log.into_disk());
             words::outcome(alloc, answered)
         }
-        Err(refused) => steps::refused(alloc, place, refused),
+        Err(refused) => steps::tell_refused(alloc, place, refused),
     }
 }
 
@@ -178,7 +178,7 @@ fn one(alloc: Global, place: &mut Device, number: &str) -> Result<String> {
             steps::put(place, log.into_disk());
             answer
         }
-        Err(refused) => steps::refused(alloc, place, refused),
+        Err(refused) => steps::tell_refused(alloc, place, refused),
     }
 }
 
@@ -190,7 +190,7 @@ fn read(alloc: Global, log: &mut TopicLog<Device>, number: u64) -> Result<String
         bail!("no such group");
     }
     match log.group(number) {
-        Ok(group) => named(alloc, &group),
+        Ok(group) => tell_group(alloc, &group),
         Err(error) => words::said(alloc, &error),
     }
 }
@@ -223,7 +223,7 @@ fn put_next<S: Sink>(
 
 // What three puts into a sink in memory answer whose listed puts fail, and the topic of its records and how many they are.
 fn sink(alloc: Global, arguments: &str) -> Result<String> {
-    let (groups, fails) = words::parted(arguments, " fails ");
+    let (groups, fails) = words::split(arguments, " fails ");
     let mut sink = MemSink::make(alloc, words::numbers(alloc, fails)?);
     put_three(alloc, &mut sink, groups)
 }
@@ -232,12 +232,12 @@ fn sink(alloc: Global, arguments: &str) -> Result<String> {
 fn put_three(alloc: Global, sink: &mut MemSink, groups: &str) -> Result<String>
     requires { IsTrue sink.old.live }
 {
-    let (first, rest) = words::parted(groups, ", ");
-    let (second, third) = words::parted(rest, ", ");
+    let (first, rest) = words::split(groups, ", ");
+    let (second, third) = words::split(rest, ", ");
     let mut answer = String::new(alloc);
     if put_next(alloc, sink, first, &mut answer)? && put_next(alloc, sink, second, &mut answer)? {
         put_next(alloc, sink, third, &mut answer)?;
     }
-    words::add(&mut answer, named(alloc, sink.records())?.as_str())?;
+    words::add(&mut answer, tell_group(alloc, sink.records())?.as_str())?;
     Ok(answer)
 }

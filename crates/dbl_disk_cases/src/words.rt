@@ -5,7 +5,7 @@ use std::alloc::Global;
 use std::fmt::Display;
 
 /// What stands before the first mark, and what stands behind it.
-pub fn parted<'a>(text: &'a str, mark: &'a str) -> (&'a str, &'a str) {
+pub fn split<'a>(text: &'a str, mark: &'a str) -> (&'a str, &'a str) {
     match text.split_once(mark) {
         Some(parts) => parts,
         None => (text, ""),
@@ -14,7 +14,7 @@ pub fn parted<'a>(text: &'a str, mark: &'a str) -> (&'a str, &'a str) {
 
 /// The first word, and what stands behind it.
 pub fn first(text: &str) -> (&str, &str) {
-    parted(text, " ")
+    split(text, " ")
 }
 
 /// A number of bytes, at most a million.
@@ -50,7 +50,7 @@ pub fn said<T: Display>(alloc: Global, what: &T) -> Result<String> {
 }
 
 /// The answer, or the fault.
-pub fn answered<T: Display + Drop, E: Display + Drop>(
+pub fn tell_answer<T: Display + Drop, E: Display + Drop>(
     alloc: Global,
     answered: std::result::Result<T, E>,
 ) -> Result<String> {

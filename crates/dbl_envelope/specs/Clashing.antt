@@ -15,7 +15,7 @@ use Rattle.dbl_envelope.specs.declared.error.EnvelopeError.TheVariants.{Placehol
 abbrev pub clash_error : Clash → EnvelopeError
 clash_error clash = PlaceholderClash clash.table clash.column
 
--- The error is the first clash, or memory was wanting.
+-- The error is the first clash, or memory ran out.
 abbrev pub IsClash : Option Clash → EnvelopeError → Type 0
 IsClash clash e = e ≢ Memory → option_map clash_error clash ≡ Some e
 

@@ -31,7 +31,8 @@ fn has_length(count: usize, length: usize) -> bool
 // Whether bytes are written as this text. Those of another length are not written out.
 #[tactic(auto, using(crate::proofs::WrittenLemmas::other_size))]
 fn are_written_as(alloc: Global, placeholder: &Text, bytes: &Bytes) -> Result<bool, AllocError>
-    ensures { IfOk result (λ clash. clash ≡ is_clash placeholder.now (Given (Val.Bytes bytes.now))) }
+    ensures { IfOk result
+        (λ clash. clash ≡ is_clash placeholder.now (Given (Val.Bytes bytes.now))) }
 {
     let placeholder = placeholder.as_str();
     let bytes = bytes.items().as_slice();
@@ -51,7 +52,8 @@ fn ends_in_z(text: &Text) -> bool
 // Whether an instant is written as this text. Its text would end in Z.
 #[tactic(auto, using(crate::proofs::WrittenLemmas::other_instant))]
 fn is_written_as(alloc: Global, placeholder: &Text, instant: i64) -> Result<bool, AllocError>
-    ensures { IfOk result (λ clash. clash ≡ is_clash placeholder.now (Given (Val.StampTz instant))) }
+    ensures { IfOk result
+        (λ clash. clash ≡ is_clash placeholder.now (Given (Val.StampTz instant))) }
 {
     if !ends_in_z(placeholder) {
         return Ok(false);
@@ -94,7 +96,8 @@ pub(crate) fn row_clash(
     columns: &Seq<Column>,
     cells: &Seq<Val>,
 ) -> Result<Option<Text>, AllocError>
-    ensures { IfOk result (λ name. name ≡ clash_among placeholder.now (column_names columns.now) (map Given cells.now)) }
+    ensures { IfOk result (λ name. name ≡ clash_among placeholder.now (column_names columns.now)
+        (map Given cells.now)) }
 {
     let columns = columns.items();
     let cells = cells.items();
@@ -115,7 +118,8 @@ fn sent_clash(
     columns: &Seq<Column>,
     cells: &Seq<Cell>,
 ) -> Result<Option<Text>, AllocError>
-    ensures { IfOk result (λ name. name ≡ clash_among placeholder.now (column_names columns.now) cells.now) }
+    ensures { IfOk result
+        (λ name. name ≡ clash_among placeholder.now (column_names columns.now) cells.now) }
 {
     let columns = columns.items();
     let cells = cells.items();
@@ -136,7 +140,8 @@ fn old_clash(
     columns: &Seq<Column>,
     old: &Option<Row>,
 ) -> Result<Option<Text>, AllocError>
-    ensures { IfOk result (λ name. name ≡ clash_among placeholder.now (column_names columns.now) (old_cells old.now)) }
+    ensures { IfOk result (λ name. name ≡ clash_among placeholder.now (column_names columns.now)
+        (old_cells old.now)) }
 {
     match old {
         Some(row) => row_clash(alloc, placeholder, columns, &row.cells),
@@ -188,7 +193,8 @@ fn change_clash(
 }
 
 fn clash_error(alloc: Global, info: &TableInfo, column: Text) -> EnvelopeError
-    ensures { result ≢ EnvelopeError.Memory → result ≡ EnvelopeError.PlaceholderClash info.now.name column }
+    ensures { result ≢ EnvelopeError.Memory →
+        result ≡ EnvelopeError.PlaceholderClash info.now.name column }
 {
     match info.name.copy(alloc) {
         Ok(table) => EnvelopeError::PlaceholderClash { table, column },
@@ -214,8 +220,10 @@ pub(crate) fn refuse(
 /// Whether the change's records have no clash; else the first one.
 fn check_change(alloc: Global, writer: &EventWriter, change: &Change) -> Result<(), EnvelopeError>
     requires suits { Suits writer.now.infos change.now }
-    ensures ok { OnOk result (notices_clash writer.now.identity.placeholder writer.now.infos change.now ≡ None) }
-    ensures err { IfErr result (IsClash (notices_clash writer.now.identity.placeholder writer.now.infos change.now)) }
+    ensures ok { OnOk result
+        (notices_clash writer.now.identity.placeholder writer.now.infos change.now ≡ None) }
+    ensures err { IfErr result
+        (IsClash (notices_clash writer.now.identity.placeholder writer.now.infos change.now)) }
 {
     let info = writer.info_of(change);
     let found = change_clash(alloc, &writer.identity().placeholder, info, change)?;
@@ -230,7 +238,8 @@ pub(crate) fn check(
 ) -> Result<(), EnvelopeError>
     requires suits { All (Suits writer.now.infos) (changes_of commit.now) }
     ensures ok { OnOk result (clash_of writer.now.identity writer.now.infos commit.now ≡ None) }
-    ensures err { IfErr result (IsClash (clash_of writer.now.identity writer.now.infos commit.now)) }
+    ensures err { IfErr result
+        (IsClash (clash_of writer.now.identity writer.now.infos commit.now)) }
 {
     for change in changes(commit) {
         match check_change(alloc, writer, change) {

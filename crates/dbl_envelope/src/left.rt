@@ -66,7 +66,8 @@ fn make_tail(
     requires captured { table < length writer.now.infos }
     requires long { length tails.old.items ≡ length writer.now.infos }
     requires tails { AreTails writer.now commit.now now_ms.now tails.old.items }
-    ensures made { OnOk result (slice_get tails.new.items table ≡ Some (Some (tail_at writer.now commit.now now_ms.now table))) }
+    ensures made { OnOk result (slice_get tails.new.items table ≡ Some
+        (Some (tail_at writer.now commit.now now_ms.now table))) }
     ensures long { length tails.new.items ≡ length writer.now.infos }
     ensures tails { AreTails writer.now commit.now now_ms.now tails.new.items }
 {
@@ -129,7 +130,8 @@ fn tell_change(
     requires suits { Suits writer.now.infos change.now }
     requires room { stamp.now.ordinal + 2 < 2 ^ 64 }
     requires tail { tail.now ≡ tail_at writer.now commit.now now_ms.now (table_of change.now) }
-    ensures { OnOk result (out.new.items ≡ out.old.items ++ change_records writer.now commit.now now_ms.now stamp.now change.now) }
+    ensures { OnOk result (out.new.items ≡ out.old.items ++
+        change_records writer.now commit.now now_ms.now stamp.now change.now) }
 {
     let frame = frame_of(writer, commit, now_ms, tail, change);
     tell(out, alloc, &frame, stamp, change)
@@ -150,7 +152,8 @@ fn add_change(
     requires room { stamp.now.ordinal + 2 < 2 ^ 64 }
     requires long { length tails.old.items ≡ length writer.now.infos }
     requires tails { AreTails writer.now commit.now now_ms.now tails.old.items }
-    ensures told { OnOk result (out.new.items ≡ out.old.items ++ change_records writer.now commit.now now_ms.now stamp.now change.now) }
+    ensures told { OnOk result (out.new.items ≡ out.old.items ++
+        change_records writer.now commit.now now_ms.now stamp.now change.now) }
     ensures long { length tails.new.items ≡ length writer.now.infos }
     ensures tails { AreTails writer.now commit.now now_ms.now tails.new.items }
 {
@@ -179,7 +182,8 @@ fn some_records(
     requires ordinal { ordinal ≤ 3 * from }
     requires long { length tails.old.items ≡ length writer.now.infos }
     requires tails { AreTails writer.now commit.now now_ms.now tails.old.items }
-    ensures ok { IfOk result (λ made. made.items ++ records_from writer.now commit.now now_ms.now upto (ordinal + length made.items)
+    ensures ok { IfOk result (λ made. made.items ++
+        records_from writer.now commit.now now_ms.now upto (ordinal + length made.items)
         ≡ records_from writer.now commit.now now_ms.now from ordinal) }
     ensures most { IfOk result (λ made. ordinal + length made.items ≤ 3 * upto) }
     ensures some { IfOk result (λ made. upto ≤ from + length made.items) }
@@ -270,9 +274,12 @@ impl EventWriter {
         now_ms: i64,
     ) -> Result<RecordsLeft<'a>, EnvelopeError>
         requires suits { All (Suits self.now.infos) (changes_of commit.now) }
-        ensures ok { IfOk result (λ left. left ≡ envelopes self.now.identity self.now.infos commit.now now_ms) }
-        ensures no_clash { OnOk result (clash_of self.now.identity self.now.infos commit.now ≡ None) }
-        ensures err { IfErr result (IsClash (clash_of self.now.identity self.now.infos commit.now)) }
+        ensures ok { IfOk result
+            (λ left. left ≡ envelopes self.now.identity self.now.infos commit.now now_ms) }
+        ensures no_clash { OnOk result
+            (clash_of self.now.identity self.now.infos commit.now ≡ None) }
+        ensures err { IfErr result
+            (IsClash (clash_of self.now.identity self.now.infos commit.now)) }
     {
         check(alloc, self, commit)?;
         Ok(RecordsLeft {
@@ -293,9 +300,12 @@ impl EventWriter {
         now_ms: i64,
     ) -> Result<Vec<Record>, EnvelopeError>
         requires suits { All (Suits self.now.infos) (changes_of commit.now) }
-        ensures ok { IfOk result (λ made. made.items ≡ envelopes self.now.identity self.now.infos commit.now now_ms) }
-        ensures no_clash { OnOk result (clash_of self.now.identity self.now.infos commit.now ≡ None) }
-        ensures err { IfErr result (IsClash (clash_of self.now.identity self.now.infos commit.now)) }
+        ensures ok { IfOk result
+            (λ made. made.items ≡ envelopes self.now.identity self.now.infos commit.now now_ms) }
+        ensures no_clash { OnOk result
+            (clash_of self.now.identity self.now.infos commit.now ≡ None) }
+        ensures err { IfErr result
+            (IsClash (clash_of self.now.identity self.now.infos commit.now)) }
     {
         let mut left = self.records_left(alloc, commit, now_ms)?;
         let mut made = Vec::new(alloc);

@@ -28,7 +28,8 @@ fn check_row(
     row: &Row,
 ) -> Result<(), EnvelopeError>
     ensures ok { OnOk result (row_clash placeholder.now info.now row.now ≡ None) }
-    ensures err { IfErr result (IsClash (clash_at info.now (row_clash placeholder.now info.now row.now))) }
+    ensures err { IfErr result
+        (IsClash (clash_at info.now (row_clash placeholder.now info.now row.now))) }
 {
     let found = row_clash(alloc, placeholder, &info.columns, &row.cells)?;
     refuse(alloc, info, found)
@@ -66,7 +67,8 @@ fn read_record(
     requires snapshot { frame.now.snapshot.now ≡ codes "incremental" }
     requires long { length key.now.cells ≡ length frame.now.info.now.key }
     requires wide { length row.now.cells ≡ width frame.now.info.now }
-    ensures { IfOk result (λ made. made ≡ read_record frame.now.identity.now frame.now.info.now frame.now.commit.now frame.now.now_ms.now ordinal
+    ensures { IfOk result (λ made. made ≡ read_record frame.now.identity.now frame.now.info.now
+        frame.now.commit.now frame.now.now_ms.now ordinal
         (key.now, row.now)) }
 {
     let after = Side::Row(&row.cells);
@@ -88,7 +90,8 @@ fn read_records(
     requires snapshot { frame.now.snapshot.now ≡ codes "incremental" }
     requires suits { SuitsRows frame.now.info.now rows.now }
     ensures { IfOk result (λ made. made.items
-        ≡ read_records frame.now.identity.now frame.now.info.now frame.now.commit.now frame.now.now_ms.now 0 rows.now) }
+        ≡ read_records frame.now.identity.now frame.now.info.now frame.now.commit.now
+        frame.now.now_ms.now 0 rows.now) }
 {
     let rows = rows.rows();
     let mut made = Vec::with_capacity(alloc, rows.len() + 1)?;
@@ -111,7 +114,8 @@ fn chunk_records(
     requires suits { SuitsRows frame.now.info.now rows.now }
     requires long { IfSome through.now (λ key. length key.cells ≡ length frame.now.info.now.key) }
     ensures { IfOk result (λ made. made.items
-        ≡ chunk_records frame.now.identity.now frame.now.info.now rows.now through.now done frame.now.commit.now frame.now.now_ms.now) }
+        ≡ chunk_records frame.now.identity.now frame.now.info.now rows.now through.now done
+        frame.now.commit.now frame.now.now_ms.now) }
 {
     let mut made = read_records(alloc, frame, rows)?;
     let ordinal = made.len() as u64;
@@ -130,10 +134,13 @@ impl EventWriter {
         now_ms: i64,
     ) -> Result<Vec<Record>, EnvelopeError>
         requires suits { SuitsSnapshot self.now.infos closed.now }
-        ensures ok { IfOk result (λ made. made.items ≡ snapshot self.now.identity self.now.infos closed.now commit.now now_ms) }
+        ensures ok { IfOk result (λ made.
+            made.items ≡ snapshot self.now.identity self.now.infos closed.now commit.now now_ms) }
         ensures ordered { AreInKeyOrder closed.now.rows }
-        ensures no_clash { OnOk result (snapshot_clash self.now.identity self.now.infos closed.now ≡ None) }
-        ensures err { IfErr result (IsClash (snapshot_clash self.now.identity self.now.infos closed.now)) }
+        ensures no_clash { OnOk result
+            (snapshot_clash self.now.identity self.now.infos closed.now ≡ None) }
+        ensures err { IfErr result
+            (IsClash (snapshot_clash self.now.identity self.now.infos closed.now)) }
     {
         let table = closed.table as usize;
         let info = self.info_at(table);

@@ -62,7 +62,8 @@ fn are_given(cells: &Seq<Cell>) -> bool
 fn stays_or_moves(info: &TableInfo, key: &Key, cells: &Seq<Cell>) -> bool
     requires long { length key.now.cells ≡ length info.now.key }
     requires wide { length cells.now ≡ width info.now }
-    ensures { Decides result ((key.now ≡ new_key_of info.now cells.now) ⊎ IsSome (all_given cells.now)) }
+    ensures { Decides result ((key.now ≡ new_key_of info.now cells.now) ⊎
+        IsSome (all_given cells.now)) }
 {
     if is_key_of(info, key, cells) {
         return true;
@@ -130,7 +131,8 @@ fn suits_through(info: &TableInfo, through: &Option<Key>) -> bool
 }
 
 fn suits_row(info: &TableInfo, key: &Key, row: &Row) -> bool
-    ensures { Decides result ((length key.now.cells ≡ length info.now.key) × (length row.now.cells ≡ width info.now)) }
+    ensures { Decides result ((length key.now.cells ≡ length info.now.key) ×
+        (length row.now.cells ≡ width info.now)) }
 {
     if !is_long(info, key) {
         return false;

@@ -25,7 +25,8 @@ fn tell_insert(
 ) -> Result<(), AllocError>
     requires framed { Framed frame.now }
     requires wide { length row.now.cells ≡ width frame.now.info.now }
-    ensures { OnOk result (Tells frame.now stamp.now (Insert 0 row.now) out.old.items out.new.items) }
+    ensures { OnOk result
+        (Tells frame.now stamp.now (Insert 0 row.now) out.old.items out.new.items) }
 {
     out.push(created(alloc, frame, stamp, row)?)?;
     Ok(())
@@ -45,7 +46,8 @@ fn tell_move(
     requires room { stamp.now.ordinal + 2 < 2 ^ 64 }
     requires suits { SuitsUpdate frame.now.info.now key.now old.now cells.now }
     requires given { IsSome (all_given cells.now) }
-    ensures { OnOk result (TellsMove frame.now stamp.now key.now old.now cells.now out.old.items out.new.items) }
+    ensures { OnOk result
+        (TellsMove frame.now stamp.now key.now old.now cells.now out.old.items out.new.items) }
 {
     let first = Stamp {
         ordinal: stamp.ordinal,
@@ -77,7 +79,8 @@ fn tell_update(
     requires framed { Framed frame.now }
     requires room { stamp.now.ordinal + 2 < 2 ^ 64 }
     requires suits { SuitsUpdate frame.now.info.now key.now old.now cells.now }
-    ensures { OnOk result (Tells frame.now stamp.now (Update 0 key.now old.now cells.now) out.old.items out.new.items) }
+    ensures { OnOk result (Tells frame.now stamp.now
+        (Update 0 key.now old.now cells.now) out.old.items out.new.items) }
 {
     if is_key_of(frame.info, key, cells) {
         out.push(updated(alloc, frame, stamp, key, old, cells)?)?;
@@ -98,7 +101,8 @@ fn tell_delete(
     requires framed { Framed frame.now }
     requires room { stamp.now.ordinal + 2 < 2 ^ 64 }
     requires suits { SuitsDelete frame.now.info.now key.now old.now }
-    ensures { OnOk result (Tells frame.now stamp.now (Delete 0 key.now old.now) out.old.items out.new.items) }
+    ensures { OnOk result
+        (Tells frame.now stamp.now (Delete 0 key.now old.now) out.old.items out.new.items) }
 {
     let first = Stamp {
         ordinal: stamp.ordinal,

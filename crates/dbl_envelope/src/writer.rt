@@ -35,7 +35,8 @@ fn layouts(
     identity: &Identity,
     infos: &Vec<TableInfo>,
 ) -> Result<Vec<Layout>, AllocError>
-    ensures { IfOk result (λ layouts. layouts.items ≡ map (layout_of identity.now) infos.now.items) }
+    ensures { IfOk result
+        (λ layouts. layouts.items ≡ map (layout_of identity.now) infos.now.items) }
 {
     let mut layouts = Vec::with_capacity(alloc, infos.len())?;
     for info in infos {
@@ -96,14 +97,16 @@ impl EventWriter {
     /// The layout of a table's records.
     pub(crate) fn layout_at(&self, table: usize) -> &Layout
         requires captured { table < length self.now.infos }
-        ensures { option_map (layout_of self.now.identity) (slice_get self.now.infos table) ≡ Some result.now }
+        ensures { option_map (layout_of self.now.identity)
+            (slice_get self.now.infos table) ≡ Some result.now }
     {
         &self.layouts[table]
     }
 
     /// One more captured table, behind the others. Takes n log n steps for its n columns.
     pub fn learn(&mut self, alloc: Global, info: TableInfo) -> Result<(), EnvelopeError>
-        ensures learnt { OnOk result (self.new ≡ record self.old { infos = self.old.infos ++ info ∷ [] }) }
+        ensures learnt { OnOk result
+            (self.new ≡ record self.old { infos = self.old.infos ++ info ∷ [] }) }
         ensures kept { OnErr result (self.new ≡ self.old) }
         ensures err { IfErr result (λ e. e ≡ EnvelopeError.Memory) }
     {

@@ -18,7 +18,8 @@ use std::alloc::{AllocError, Global};
 
 /// The object of these cells under these names.
 fn object_of(alloc: Global, names: &Vec<Text>, cells: &Vec<Val>) -> Result<Value, AllocError>
-    ensures value { IfOk result (λ v. view v ≡ object (members_of names.now.items cells.now.items)) }
+    ensures value { IfOk result
+        (λ v. view v ≡ object (members_of names.now.items cells.now.items)) }
     ensures no_float { IfOk result (λ v. has_float (view v) ≡ false) }
 {
     let mut members = Map::new(alloc);
@@ -100,7 +101,8 @@ pub(crate) fn sent_value(
     info: &TableInfo,
     cells: &Seq<Cell>,
 ) -> Result<Value, AllocError>
-    ensures value { IfOk result (λ v. view v ≡ row_data info.now (map (sent placeholder.now) cells.now)) }
+    ensures value { IfOk result
+        (λ v. view v ≡ row_data info.now (map (sent placeholder.now) cells.now)) }
     ensures no_float { IfOk result (λ v. has_float (view v) ≡ false) }
 {
     let given = sent_cells(alloc, placeholder, cells)?;
@@ -157,7 +159,8 @@ pub(crate) fn source_value(
     info: &TableInfo,
     commit: &Commit,
 ) -> Result<Value, AllocError>
-    ensures { IfOk result (λ v. view v ≡ source_data identity.now info.now.name commit.now (codes "false")) }
+    ensures { IfOk result
+        (λ v. view v ≡ source_data identity.now info.now.name commit.now (codes "false")) }
 {
     let mut members = Map::new(alloc);
     put_source(&mut members, alloc, identity, info, commit)?;
@@ -173,7 +176,8 @@ pub(crate) fn event_value(
     op: &str,
     after: Value,
 ) -> Result<Value, AllocError>
-    ensures { IfOk result (λ v. view v ≡ event_data (view source) now_ms.now (view before) op.now (view after)) }
+    ensures { IfOk result
+        (λ v. view v ≡ event_data (view source) now_ms.now (view before) op.now (view after)) }
 {
     json!(in alloc; {
         "after": after,

@@ -50,7 +50,8 @@ fn event_text(
 ) -> Result<Text, AllocError>
     requires before { has_float (view before) ≡ false }
     requires after { has_float (view after) ≡ false }
-    ensures { IfOk result (λ text. text ≡ compact_text (event_of frame.now (view before) op.now (view after))) }
+    ensures { IfOk result
+        (λ text. text ≡ compact_text (event_of frame.now (view before) op.now (view after))) }
 {
     let source = source_value(alloc, frame.identity, frame.info, frame.commit)?;
     let value = event_value(alloc, source, frame.now_ms, before, op, after)?;
@@ -70,7 +71,8 @@ fn updated_text(
     old: &Option<Row>,
     cells: &Seq<Cell>,
 ) -> Result<Text, AllocError>
-    ensures { IfOk result (λ text. content_text frame.now (Content.Updated old.now cells.now) ≡ Some text) }
+    ensures { IfOk result
+        (λ text. content_text frame.now (Content.Updated old.now cells.now) ≡ Some text) }
 {
     let before = old_value(alloc, frame.info, old)?;
     let after = sent_value(alloc, &frame.identity.placeholder, frame.info, cells)?;
@@ -118,7 +120,8 @@ fn tell(
     key: &Key,
     value: Option<Text>,
 ) -> Result<(), AllocError>
-    ensures { OnOk result (out.new.items ≡ out.old.items ++ plain_texts frame.now (Some (key_text frame.now.info.now key.now)) value ∷ []) }
+    ensures { OnOk result (out.new.items ≡ out.old.items ++ plain_texts frame.now
+        (Some (key_text frame.now.info.now key.now)) value ∷ []) }
 {
     let key = key_text(alloc, frame.info, key)?;
     out.push(texts_at(alloc, frame, Some(key), value)?)?;
@@ -146,7 +149,8 @@ fn left_texts(
     to: &Key,
     old: &Option<Row>,
 ) -> Result<Texts, AllocError>
-    ensures { IfOk result (λ t. t ≡ record (event_texts frame.now (Some from.now) (Content.Deleted old.now)) { newkey = Some (key_text frame.now.info.now to.now) }) }
+    ensures { IfOk result (λ t. t ≡ record (event_texts frame.now (Some from.now)
+        (Content.Deleted old.now)) { newkey = Some (key_text frame.now.info.now to.now) }) }
 {
     let before = old_value(alloc, frame.info, old)?;
     let value = event_text(alloc, frame, before, "d", Value::Null)?;
@@ -165,7 +169,8 @@ fn moved_texts(
     to: &Key,
     row: &Row,
 ) -> Result<Texts, AllocError>
-    ensures { IfOk result (λ t. t ≡ record (event_texts frame.now (Some to.now) (Content.Created row.now)) { oldkey = Some (key_text frame.now.info.now from.now) }) }
+    ensures { IfOk result (λ t. t ≡ record (event_texts frame.now (Some to.now)
+        (Content.Created row.now)) { oldkey = Some (key_text frame.now.info.now from.now) }) }
 {
     let value = created_text(alloc, frame, row)?;
     let key = key_text(alloc, frame.info, to)?;
@@ -206,7 +211,8 @@ fn tell_update(
     old: &Option<Row>,
     cells: &Seq<Cell>,
 ) -> Result<(), AllocError>
-    ensures { OnOk result (Tells frame.now (Update 0 from.now old.now cells.now) out.old.items out.new.items) }
+    ensures { OnOk result
+        (Tells frame.now (Update 0 from.now old.now cells.now) out.old.items out.new.items) }
 {
     let given = given_or_nulls(alloc, cells)?;
     let row = Row { cells: given };
@@ -273,7 +279,8 @@ fn tell_if_captured(
     change: &Change,
     now_ms: &i64,
 ) -> Result<(), AllocError>
-    ensures { OnOk result (out.new.items ≡ out.old.items ++ map (notice_texts identity.now commit.now now_ms.now) (notices infos.now.items change.now)) }
+    ensures { OnOk result (out.new.items ≡ out.old.items ++ map
+        (notice_texts identity.now commit.now now_ms.now) (notices infos.now.items change.now)) }
 {
     match infos.get(change.table() as usize) {
         Some(info) => {
@@ -298,7 +305,9 @@ fn told(
     changes: &Seq<Change>,
     now_ms: &i64,
 ) -> Result<Vec<Texts>, AllocError>
-    ensures { IfOk result (λ told. told.items ≡ map (notice_texts identity.now commit.now now_ms.now) (flat_map (notices infos.now.items) changes.now)) }
+    ensures { IfOk result (λ told. told.items ≡ map
+        (notice_texts identity.now commit.now now_ms.now)
+        (flat_map (notices infos.now.items) changes.now)) }
 {
     let mut out = Vec::new(alloc);
     for change in changes.items() {
@@ -336,7 +345,8 @@ fn records_of(
     commit: &Commit,
     now_ms: &i64,
 ) -> Result<Vec<Record>, AllocError>
-    ensures { IfOk result (λ made. made.items ≡ envelopes identity.now infos.now.items commit.now now_ms.now) }
+    ensures { IfOk result
+        (λ made. made.items ≡ envelopes identity.now infos.now.items commit.now now_ms.now) }
 {
     match &commit.body {
         Body::Changes(changes) => {
@@ -356,7 +366,8 @@ pub fn plain_envelopes(
     commit: &Commit,
     now_ms: i64,
 ) -> Result<Vec<Record>, ModelError>
-    ensures ok { IfOk result (λ made. made.items ≡ envelopes identity.now infos.now.items commit.now now_ms) }
+    ensures ok { IfOk result
+        (λ made. made.items ≡ envelopes identity.now infos.now.items commit.now now_ms) }
     ensures err { IfErr result (λ e. e ≡ ModelError.Memory) }
 {
     Ok(records_of(alloc, identity, infos, commit, &now_ms)?)

@@ -1,6 +1,6 @@
 //! What words spell. An empty word is written `''`.
 
-use crate::many::repeated;
+use crate::many::repeat_case;
 use anyhow::{Result, bail};
 use dbl_base::Text;
 use dbl_case_items::words;
@@ -18,12 +18,12 @@ pub fn answer(alloc: Global, shown: &mut String, call: &str, arguments: &str) ->
 }
 
 fn line(alloc: Global, shown: &mut String, line: &str) -> Result<()> {
-    spelled(alloc, shown, &words::all(alloc, line)?)
+    show_command(alloc, shown, &words::all(alloc, line)?)
 }
 
-fn spelled(alloc: Global, shown: &mut String, words: &Vec<Text>) -> Result<()> {
+fn show_command(alloc: Global, shown: &mut String, words: &Vec<Text>) -> Result<()> {
     match command(alloc, words) {
-        Ok(command) => words::told(shown, &command),
+        Ok(command) => words::show_debug(shown, &command),
         Err(error) => words::said(shown, &error),
     }
 }

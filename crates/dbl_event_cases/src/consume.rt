@@ -10,8 +10,8 @@ use std::alloc::Global;
 /// Writes what a case of this family answers.
 pub fn answer(alloc: Global, shown: &mut String, call: &str, arguments: &str) -> Result<()> {
     match call {
-        "texts" => held(alloc, shown, arguments, false),
-        "values" => held(alloc, shown, arguments, true),
+        "texts" => show_held(alloc, shown, arguments, false),
+        "values" => show_held(alloc, shown, arguments, true),
         "cell" => cell(alloc, shown, arguments),
         _ => bail!("no such call"),
     }
@@ -52,8 +52,8 @@ fn by_values(
 }
 
 fn take(alloc: Global, consumer: &mut Consumer, record: &str, read: bool) -> Result<Answered> {
-    let (topic, rest) = words::parted(record, " ");
-    let (key, value) = words::parted(rest, " ");
+    let (topic, rest) = words::split(record, " ");
+    let (key, value) = words::split(rest, " ");
     let topic = Text::of(alloc, topic)?;
     if read {
         by_values(alloc, consumer, &topic, key, value)
@@ -86,7 +86,7 @@ fn take_each(
     Ok(())
 }
 
-fn printed(alloc: Global, shown: &mut String, consumer: &Consumer) -> Result<()> {
+fn show_printed(alloc: Global, shown: &mut String, consumer: &Consumer) -> Result<()> {
     let mut output = MemOutput::make(alloc, Vec::new(alloc));
     consumer.print(&mut output)?;
     rows(shown, output.bytes())
@@ -101,33 +101,33 @@ fn rows(shown: &mut String, bytes: &[u8]) -> Result<()> {
 }
 
 // What is answered to each record, and the rows that are held at the end.
-fn held(alloc: Global, shown: &mut String, records: &str, read: bool) -> Result<()> {
+fn show_held(alloc: Global, shown: &mut String, records: &str, read: bool) -> Result<()> {
     let mut consumer = consumer(alloc)?;
     take_each(alloc, shown, &mut consumer, records, read)?;
-    printed(alloc, shown, &consumer)
+    show_printed(alloc, shown, &consumer)
 }
 
-fn taken(alloc: Global, consumer: &mut Consumer, record: &str) -> Result<()> {
+fn take_record(alloc: Global, consumer: &mut Consumer, record: &str) -> Result<()> {
     Ok(take(alloc, consumer, record, false)??)
 }
 
 fn take_all(alloc: Global, consumer: &mut Consumer, records: &str) -> Result<()> {
     for record in records.split(" | ") {
-        taken(alloc, consumer, record)?;
+        take_record(alloc, consumer, record)?;
     }
     Ok(())
 }
 
 // What is held of the cell `TOPIC KEY COLUMN` after the records behind it, each of which is taken.
 fn cell(alloc: Global, shown: &mut String, arguments: &str) -> Result<()> {
-    let (place, records) = words::parted(arguments, " | ");
+    let (place, records) = words::split(arguments, " | ");
     let mut consumer = consumer(alloc)?;
     take_all(alloc, &mut consumer, records)?;
     in_tables(alloc, shown, consumer.tables(), place)
 }
 
 fn in_tables(alloc: Global, shown: &mut String, tables: &Tables, place: &str) -> Result<()> {
-    let (topic, rest) = words::parted(place, " ");
+    let (topic, rest) = words::split(place, " ");
     match tables.get(&Text::of(alloc, topic)?) {
         Some(table) => in_table(alloc, shown, table, rest),
         None => words::add(shown, "None"),
@@ -135,7 +135,7 @@ fn in_tables(alloc: Global, shown: &mut String, tables: &Tables, place: &str) ->
 }
 
 fn in_table(alloc: Global, shown: &mut String, table: &Table, place: &str) -> Result<()> {
-    let (key, column) = words::parted(place, " ");
+    let (key, column) = words::split(place, " ");
     match table.get(&Text::of(alloc, key)?) {
         Some(row) => in_row(alloc, shown, row, column),
         None => words::add(shown, "None"),
@@ -143,5 +143,5 @@ fn in_table(alloc: Global, shown: &mut String, table: &Table, place: &str) -> Re
 }
 
 fn in_row(alloc: Global, shown: &mut String, row: &Row, column: &str) -> Result<()> {
-    words::told(shown, &row.get(&Text::of(alloc, column)?))
+    words::show_debug(shown, &row.get(&Text::of(alloc, column)?))
 }

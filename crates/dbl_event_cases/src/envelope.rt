@@ -96,7 +96,7 @@ fn plain(
     shown::records(alloc, shown, &records)
 }
 
-fn compared(shown: &mut String, written: &str, plain: &str) -> Result<()> {
+fn show_compared(shown: &mut String, written: &str, plain: &str) -> Result<()> {
     words::line(shown)?;
     words::add(shown, written)?;
     if written != plain {
@@ -120,7 +120,7 @@ fn commit(
     let identity = model::identity_of(alloc, common(arguments))?;
     let mut wanted = String::new(alloc);
     plain(alloc, &mut wanted, &identity, known, commit, now_ms)?;
-    compared(shown, made.as_str(), wanted.as_str())
+    show_compared(shown, made.as_str(), wanted.as_str())
 }
 
 fn commits(
@@ -227,7 +227,7 @@ fn through(alloc: Global, words: &str) -> Result<Option<Key>> {
 }
 
 // The window of a `window/TABLE/THROUGH/DONE` and its rows.
-fn closed(alloc: Global, arguments: &str) -> Result<Closed> {
+fn closed_window(alloc: Global, arguments: &str) -> Result<Closed> {
     let fields = items::first_of(arguments, "window/").context("no window")?;
     let table = items::field(fields, 0).parse()?;
     let done = items::field(fields, 2).parse()?;
@@ -244,7 +244,7 @@ fn closed(alloc: Global, arguments: &str) -> Result<Closed> {
 // The records of a window whose high watermark is the last commit.
 fn snapshot(alloc: Global, shown: &mut String, arguments: &str) -> Result<()> {
     let writer = whole_writer(alloc, arguments)?;
-    let closed = closed(alloc, arguments)?;
+    let closed = closed_window(alloc, arguments)?;
     window(alloc, shown, arguments, &writer, &closed)
 }
 

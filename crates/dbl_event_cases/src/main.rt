@@ -16,8 +16,8 @@ use std::alloc::Global;
 
 // Writes what the case of this name answers.
 fn answer(alloc: Global, shown: &mut String, name: &str, arguments: &str) -> Result<()> {
-    let (family, rest) = words::parted(name, " ");
-    let (call, _) = words::parted(rest, " ");
+    let (family, rest) = words::split(name, " ");
+    let (call, _) = words::split(rest, " ");
     match family {
         "cli" => cli::answer(alloc, shown, call, arguments),
         "consume" => consume::answer(alloc, shown, call, arguments),
@@ -43,7 +43,7 @@ fn main(rt: HostRuntime) -> Result<()> {
         if line.is_empty() || line.starts_with('#') {
             continue;
         }
-        let (name, arguments) = words::parted(line.as_str(), ": ");
+        let (name, arguments) = words::split(line.as_str(), ": ");
         match text(rt.alloc(), name, arguments) {
             Ok(text) => println!(rt; "{name}: {text}")?,
             Err(error) => println!(rt; "{name}: no answer: {error}")?,

@@ -6,9 +6,9 @@ use std::alloc::Global;
 use std::fmt::Write;
 
 /// Of `COUNT | FIRST | EACH`: the first, and so many of the other, in each of which `#` is its number, from 0.
-pub fn repeated(alloc: Global, arguments: &str) -> Result<String> {
-    let (count, rest) = words::parted(arguments, " | ");
-    let (first, each) = words::parted(rest, " | ");
+pub fn repeat_case(alloc: Global, arguments: &str) -> Result<String> {
+    let (count, rest) = words::split(arguments, " | ");
+    let (first, each) = words::split(rest, " | ");
     let count = count.parse()?;
     let mut text = String::new(alloc);
     text.push_str(first)?;
@@ -17,7 +17,7 @@ pub fn repeated(alloc: Global, arguments: &str) -> Result<String> {
 }
 
 fn repeat(text: &mut String, count: u32, each: &str) -> Result<()> {
-    let (before, behind) = words::parted(each, "#");
+    let (before, behind) = words::split(each, "#");
     for number in 0..count {
         write!(text, "{before}{number}{behind}")?;
     }

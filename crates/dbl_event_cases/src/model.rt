@@ -24,10 +24,10 @@ pub fn answer(alloc: Global, shown: &mut String, call: &str, arguments: &str) ->
 
 fn name(alloc: Global, shown: &mut String, word: &str) -> Result<()> {
     let name = items::table_name(alloc, word)?;
-    named(shown, &name.copy(alloc)?)
+    show_name(shown, &name.copy(alloc)?)
 }
 
-fn named(shown: &mut String, name: &TableName) -> Result<()> {
+fn show_name(shown: &mut String, name: &TableName) -> Result<()> {
     let good = name.is_good();
     let watermark = name.is_watermark();
     write!(shown, "{name}, good {good}, watermark {watermark}")?;
@@ -40,21 +40,21 @@ fn table(alloc: Global, shown: &mut String, arguments: &str) -> Result<()> {
 }
 
 fn copied_raw(alloc: Global, shown: &mut String, raw: &RawTable) -> Result<()> {
-    made(alloc, shown, &raw.copy(alloc)?)
+    show_made(alloc, shown, &raw.copy(alloc)?)
 }
 
-fn made(alloc: Global, shown: &mut String, raw: &RawTable) -> Result<()> {
+fn show_made(alloc: Global, shown: &mut String, raw: &RawTable) -> Result<()> {
     match TableInfo::make(alloc, raw) {
-        Ok(info) => copied(alloc, shown, &info),
+        Ok(info) => show_copied(alloc, shown, &info),
         Err(error) => words::said(shown, &error),
     }
 }
 
-fn copied(alloc: Global, shown: &mut String, info: &TableInfo) -> Result<()> {
-    described(shown, &info.copy(alloc)?)
+fn show_copied(alloc: Global, shown: &mut String, info: &TableInfo) -> Result<()> {
+    show_info(shown, &info.copy(alloc)?)
 }
 
-fn described(shown: &mut String, info: &TableInfo) -> Result<()> {
+fn show_info(shown: &mut String, info: &TableInfo) -> Result<()> {
     words::said(shown, &info.name)?;
     words::add(shown, ",")?;
     for column in info.columns.items() {
@@ -63,7 +63,7 @@ fn described(shown: &mut String, info: &TableInfo) -> Result<()> {
         write!(shown, " {name} {ty:?},")?;
     }
     words::add(shown, " key ")?;
-    words::told(shown, info.key.items())
+    words::show_debug(shown, info.key.items())
 }
 
 pub fn key(alloc: Global, words: &str) -> Result<Key> {
@@ -74,24 +74,24 @@ pub fn key(alloc: Global, words: &str) -> Result<Key> {
 
 // How the first of two keys stands to a copy of the other.
 fn keys(alloc: Global, shown: &mut String, arguments: &str) -> Result<()> {
-    let (first, other) = words::parted(arguments, " | ");
+    let (first, other) = words::split(arguments, " | ");
     let other = key(alloc, other)?;
-    compared(alloc, shown, first, &other.copy(alloc)?)
+    show_order(alloc, shown, first, &other.copy(alloc)?)
 }
 
-fn compared(alloc: Global, shown: &mut String, first: &str, other: &Key) -> Result<()> {
+fn show_order(alloc: Global, shown: &mut String, first: &str, other: &Key) -> Result<()> {
     let order = compare(&key(alloc, first)?, other);
-    words::told(shown, &order)
+    words::show_debug(shown, &order)
 }
 
 // A row of texts, copied: null where the word is `~`.
 fn texts(alloc: Global, shown: &mut String, words: &str) -> Result<()> {
     let cells = Seq::make(words::all(alloc, words)?);
     let row = RawRow { cells };
-    listed(shown, &row.copy(alloc)?)
+    show_row(shown, &row.copy(alloc)?)
 }
 
-fn listed(shown: &mut String, row: &RawRow) -> Result<()> {
+fn show_row(shown: &mut String, row: &RawRow) -> Result<()> {
     let mut mark = "";
     for cell in row.cells.items() {
         let text = match cell {
@@ -106,7 +106,7 @@ fn listed(shown: &mut String, row: &RawRow) -> Result<()> {
 
 // Whether a key is one of the table.
 fn fits(alloc: Global, shown: &mut String, arguments: &str) -> Result<()> {
-    let (table, words) = words::parted(arguments, " | ");
+    let (table, words) = words::split(arguments, " | ");
     let info = items::table(alloc, table)?;
     words::said(shown, &key_fits(&info, &key(alloc, words)?))
 }
@@ -125,10 +125,10 @@ pub fn identity_of(alloc: Global, fields: &str) -> Result<Identity> {
 
 fn identity(alloc: Global, shown: &mut String, arguments: &str) -> Result<()> {
     let identity = identity_of(alloc, arguments)?;
-    identified(shown, &identity.copy(alloc)?)
+    show_identity(shown, &identity.copy(alloc)?)
 }
 
-fn identified(shown: &mut String, identity: &Identity) -> Result<()> {
+fn show_identity(shown: &mut String, identity: &Identity) -> Result<()> {
     let prefix = &identity.prefix;
     let db = &identity.db;
     let placeholder = &identity.placeholder;

@@ -1,6 +1,6 @@
 //! What is read of workloads. A line's end is written `\n`.
 
-use crate::many::repeated;
+use crate::many::repeat_case;
 use anyhow::{Result, bail};
 use dbl_case_items::words;
 use dbl_script::{Script, parse};
@@ -33,22 +33,22 @@ fn bytes(alloc: Global, shown: &mut String, digits: &str) -> Result<()> {
 
 fn many(alloc: Global, shown: &mut String, arguments: &str) -> Result<()> {
     let text = lines(alloc, repeated(alloc, arguments)?.as_str())?;
-    counted(alloc, shown, text.as_str())
+    show_counts(alloc, shown, text.as_str())
 }
 
 fn ends(alloc: Global, shown: &mut String, count: &str) -> Result<()> {
     let text = "\n".repeat(alloc, count.parse()?)?;
-    counted(alloc, shown, text.as_str())
+    show_counts(alloc, shown, text.as_str())
 }
 
 fn said(alloc: Global, shown: &mut String, bytes: &[u8]) -> Result<()> {
     match parse(alloc, bytes) {
-        Ok(script) => words::told(shown, &script),
+        Ok(script) => words::show_debug(shown, &script),
         Err(error) => words::said(shown, &error),
     }
 }
 
-fn counted(alloc: Global, shown: &mut String, text: &str) -> Result<()> {
+fn show_counts(alloc: Global, shown: &mut String, text: &str) -> Result<()> {
     match parse(alloc, text.as_bytes()) {
         Ok(script) => counts(shown, &script),
         Err(error) => words::said(shown, &error),

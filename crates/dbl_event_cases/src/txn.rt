@@ -47,7 +47,11 @@ fn commits_by(
     arguments: &str,
 ) -> Result<()> {
     let messages = messages::all(alloc, arguments)?;
-    said(alloc, shown, &items::taken(alloc, assembler, messages))
+    said(
+        alloc,
+        shown,
+        &items::take_messages(alloc, assembler, messages),
+    )
 }
 
 fn learn(alloc: Global, assembler: &mut Assembler, fields: &str) -> Result<()> {
@@ -71,7 +75,7 @@ fn step(alloc: Global, assembler: &mut Assembler, item: &str) -> Result<Option<C
     }
 }
 
-fn told(
+fn show_told(
     alloc: Global,
     shown: &mut String,
     assembler: &Assembler,
@@ -93,7 +97,7 @@ fn step_line(
     item: &str,
 ) -> Result<()> {
     let commit = step(alloc, assembler, item)?;
-    told(alloc, shown, assembler, commit.as_ref())
+    show_told(alloc, shown, assembler, commit.as_ref())
 }
 
 fn each_step(

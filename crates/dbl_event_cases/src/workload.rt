@@ -16,8 +16,8 @@ pub fn answer(alloc: Global, shown: &mut String, call: &str, arguments: &str) ->
 }
 
 fn of_words(alloc: Global, shown: &mut String, arguments: &str) -> Result<()> {
-    let (number, rest) = words::parted(arguments, " ");
-    let (rows, groups) = words::parted(rest, " ");
+    let (number, rest) = words::split(arguments, " ");
+    let (rows, groups) = words::split(rest, " ");
     workload(
         alloc,
         shown,
@@ -31,11 +31,11 @@ fn workload(alloc: Global, shown: &mut String, number: u64, rows: u32, groups: u
     if rows > 400_000 || groups > 90_000 {
         bail!("too many");
     }
-    told(alloc, shown, script(alloc, number, rows, groups)?.as_str())
+    show_workload(alloc, shown, script(alloc, number, rows, groups)?.as_str())
 }
 
 // The workload, and whether it is one.
-fn told(alloc: Global, shown: &mut String, text: &str) -> Result<()> {
+fn show_workload(alloc: Global, shown: &mut String, text: &str) -> Result<()> {
     let read = parse(alloc, text.as_bytes()).is_ok();
     write!(shown, "{text}read {read}")?;
     Ok(())

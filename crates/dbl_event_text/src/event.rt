@@ -51,7 +51,8 @@ pub fn created(
     requires framed { Framed frame.now }
     requires wide { length row.now.cells ≡ width frame.now.info.now }
     ensures { IfOk result (λ made. made ≡ printed frame.now stamp.now
-        (notice 0 frame.now.info.now (Some (key_of frame.now.info.now row.now.cells)) (Content.Created row.now))) }
+        (notice 0 frame.now.info.now (Some (key_of frame.now.info.now row.now.cells))
+        (Content.Created row.now))) }
 {
     let after = Side::Row(&row.cells);
     let value = value_text(alloc, frame, &after, &Side::Nothing, "c")?;
@@ -60,8 +61,10 @@ pub fn created(
 }
 
 fn old_side(old: &Option<Row>) -> Side<'_>
-    ensures row { (identity : _) (info : _) → side_row identity info result ≡ old_data info old.now }
-    ensures wide { (info : _) → IfSome old.now (λ row. length row.cells ≡ width info) → IsWide info result }
+    ensures row { (identity : _) (info : _) →
+        side_row identity info result ≡ old_data info old.now }
+    ensures wide { (info : _) → IfSome old.now (λ row. length row.cells ≡ width info) →
+        IsWide info result }
 {
     match old {
         Some(row) => Side::Row(&row.cells),
@@ -175,7 +178,8 @@ pub fn moved_to(
     requires given { IsSome (all_given cells.now) }
     ensures { IfOk result (λ made. made ≡ printed frame.now stamp.now
         (record (notice 0 frame.now.info.now (Some (new_key_of frame.now.info.now cells.now))
-        (Content.Created (record { cells = map given_or_null cells.now }))) { oldkey = Some key.now })) }
+        (Content.Created
+        (record { cells = map given_or_null cells.now }))) { oldkey = Some key.now })) }
 {
     let after = Side::Sent(cells);
     let value = value_text(alloc, frame, &after, &Side::Nothing, "c")?;

@@ -60,7 +60,8 @@ pub(crate) fn row_key(
 ) -> Result<Text, AllocError>
     requires framed { Framed frame.now }
     requires wide { length cells.now ≡ width frame.now.info.now }
-    ensures { IfOk result (λ text. text ≡ key_text frame.now.info.now (key_of frame.now.info.now cells.now)) }
+    ensures { IfOk result
+        (λ text. text ≡ key_text frame.now.info.now (key_of frame.now.info.now cells.now)) }
 {
     cells_text(alloc, &frame.layout.key, cells)
 }
@@ -74,7 +75,8 @@ pub(crate) fn sent_key(
     requires framed { Framed frame.now }
     requires wide { length cells.now ≡ width frame.now.info.now }
     ensures { IfOk result (λ text. text
-        ≡ key_text frame.now.info.now (key_of frame.now.info.now (map (sent frame.now.identity.now.placeholder) cells.now))) }
+        ≡ key_text frame.now.info.now
+        (key_of frame.now.info.now (map (sent frame.now.identity.now.placeholder) cells.now))) }
 {
     sent_text(alloc, &frame.identity.placeholder, &frame.layout.key, cells)
 }

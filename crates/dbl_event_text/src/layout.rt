@@ -37,7 +37,8 @@ fn places(alloc: Global, order: BTreeMap<Text, usize>) -> Result<Seq<Place>, All
 }
 
 fn columns_in_order(alloc: Global, columns: &Seq<Column>) -> Result<Seq<Place>, AllocError>
-    ensures { IfOk result (λ places. places ≡ places_of (sorted (column_names_from 0 columns.now))) }
+    ensures { IfOk result
+        (λ places. places ≡ places_of (sorted (column_names_from 0 columns.now))) }
 {
     let columns = columns.items();
     let mut order = BTreeMap::new(alloc);
@@ -48,7 +49,8 @@ fn columns_in_order(alloc: Global, columns: &Seq<Column>) -> Result<Seq<Place>, 
 }
 
 fn key_in_order(alloc: Global, info: &TableInfo) -> Result<Seq<Place>, AllocError>
-    ensures { IfOk result (λ places. places ≡ places_of (sorted (column_names_at info.now.columns info.now.key))) }
+    ensures { IfOk result
+        (λ places. places ≡ places_of (sorted (column_names_at info.now.columns info.now.key))) }
 {
     let columns = info.columns.items();
     let key = info.key.items();
@@ -62,7 +64,8 @@ fn key_in_order(alloc: Global, info: &TableInfo) -> Result<Seq<Place>, AllocErro
 
 /// The key columns in byte order of their names, with their places in a key.
 pub(crate) fn key_cells_in_order(alloc: Global, info: &TableInfo) -> Result<Seq<Place>, AllocError>
-    ensures { IfOk result (λ places. places ≡ places_of (sorted (key_names_from info.now.columns 0 info.now.key))) }
+    ensures { IfOk result
+        (λ places. places ≡ places_of (sorted (key_names_from info.now.columns 0 info.now.key))) }
 {
     let columns = info.columns.items();
     let key = info.key.items();

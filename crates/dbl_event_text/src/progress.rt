@@ -31,7 +31,8 @@ fn full_name(alloc: Global, name: &TableName) -> Result<String, AllocError>
 }
 
 fn write_key(writer: &mut Writer, table: &str) -> Result<(), AllocError>
-    ensures ok { OnOk result (writer.new.tokens ≡ writer.old.tokens ++ json_tokens (outline (table_data table.now))) }
+    ensures ok { OnOk result
+        (writer.new.tokens ≡ writer.old.tokens ++ json_tokens (outline (table_data table.now))) }
     ensures before { writer.new.before ≡ writer.old.before }
 {
     writer.begin_object()?;
@@ -54,7 +55,8 @@ fn write_last(
     layout: &Layout,
     through: &Option<Key>,
 ) -> Result<(), AllocError>
-    requires places { IfSome through.now (λ key. All (λ p. p.index < length key.cells) layout.now.key_cells) }
+    requires places { IfSome through.now
+        (λ key. All (λ p. p.index < length key.cells) layout.now.key_cells) }
     ensures ok { OnOk result (writer.new.tokens ≡ writer.old.tokens
         ++ json_tokens (outline (through_data layout.now.key_cells through.now))) }
     ensures before { writer.new.before ≡ writer.old.before }
@@ -73,9 +75,11 @@ fn write_value(
     done: bool,
     table: &str,
 ) -> Result<(), AllocError>
-    requires places { IfSome through.now (λ key. All (λ p. p.index < length key.cells) layout.now.key_cells) }
+    requires places { IfSome through.now
+        (λ key. All (λ p. p.index < length key.cells) layout.now.key_cells) }
     ensures ok { OnOk result (writer.new.tokens ≡ writer.old.tokens
-        ++ progress_tokens (boolean done) (json_tokens (outline (through_data layout.now.key_cells through.now))) table.now) }
+        ++ progress_tokens (boolean done)
+        (json_tokens (outline (through_data layout.now.key_cells through.now))) table.now) }
     ensures before { writer.new.before ≡ writer.old.before }
 {
     writer.begin_object()?;
@@ -97,7 +101,8 @@ fn value_text(
     requires framed { Framed frame.now }
     requires long { IfSome through.now (λ key. length key.cells ≡ length frame.now.info.now.key) }
     requires table { table.now ≡ full_name frame.now.info.now.name }
-    ensures { IfOk result (λ text. text ≡ compact_text (progress_data frame.now.info.now through.now done)) }
+    ensures { IfOk result
+        (λ text. text ≡ compact_text (progress_data frame.now.info.now through.now done)) }
 {
     let mut writer = Writer::new(Vec::with_capacity(alloc, VALUE_CAPACITY)?);
     write_value(alloc, &mut writer, frame.layout, through, done, table)?;
@@ -120,7 +125,8 @@ pub fn progress_record(
 ) -> Result<Record, AllocError>
     requires framed { Framed frame.now }
     requires long { IfSome through.now (λ key. length key.cells ≡ length frame.now.info.now.key) }
-    ensures { IfOk result (λ made. made ≡ progress_record frame.now.identity.now frame.now.info.now frame.now.commit.now ordinal through.now done) }
+    ensures { IfOk result (λ made. made ≡ progress_record frame.now.identity.now frame.now.info.now
+        frame.now.commit.now ordinal through.now done) }
 {
     let table = full_name(alloc, &frame.info.name)?;
     let key = key_text(alloc, table.as_str())?;

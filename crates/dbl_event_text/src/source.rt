@@ -37,7 +37,8 @@ fn write_names(
 
 fn time_member(writer: &mut Writer, time: &i64) -> Result<(), AllocError>
     ensures ok { OnOk result (writer.new.tokens
-        ≡ writer.old.tokens ++ key (codes "ts_ms") ∷ number (signed_decimal (milliseconds_of time.now)) ∷ []) }
+        ≡ writer.old.tokens ++ key (codes "ts_ms") ∷ number
+        (signed_decimal (milliseconds_of time.now)) ∷ []) }
     ensures before { writer.new.before ≡ writer.old.before }
 {
     writer.key("ts_ms")?;
@@ -50,7 +51,8 @@ fn write_place(
     commit: &Commit,
     snapshot: &str,
 ) -> Result<(), AllocError>
-    ensures ok { OnOk result (writer.new.tokens ≡ writer.old.tokens ++ last_tokens table.now commit.now snapshot.now) }
+    ensures ok { OnOk result
+        (writer.new.tokens ≡ writer.old.tokens ++ last_tokens table.now commit.now snapshot.now) }
     ensures before { writer.new.before ≡ writer.old.before }
 {
     text_member(writer, "snapshot", snapshot)?;
@@ -107,7 +109,8 @@ pub fn tail_text(
     snapshot: &str,
     now_ms: &i64,
 ) -> Result<Text, AllocError>
-    ensures { IfOk result (λ text. text ≡ tail_text identity.now table.now commit.now snapshot.now now_ms.now) }
+    ensures { IfOk result
+        (λ text. text ≡ tail_text identity.now table.now commit.now snapshot.now now_ms.now) }
 {
     let mut writer = Writer::new(Vec::with_capacity(alloc, TAIL_CAPACITY)?);
     write_tail(&mut writer, identity, table, commit, snapshot, now_ms)?;

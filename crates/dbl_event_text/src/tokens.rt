@@ -18,7 +18,8 @@ use json::Writer;
 use std::alloc::{AllocError, Global};
 
 pub(crate) fn text_member(writer: &mut Writer, name: &str, text: &str) -> Result<(), AllocError>
-    ensures ok { OnOk result (writer.new.tokens ≡ writer.old.tokens ++ key name.now ∷ string text.now ∷ []) }
+    ensures ok { OnOk result
+        (writer.new.tokens ≡ writer.old.tokens ++ key name.now ∷ string text.now ∷ []) }
     ensures before { writer.new.before ≡ writer.old.before }
 {
     writer.key(name)?;
@@ -26,7 +27,8 @@ pub(crate) fn text_member(writer: &mut Writer, name: &str, text: &str) -> Result
 }
 
 pub(crate) fn u64_member(writer: &mut Writer, name: &str, value: u64) -> Result<(), AllocError>
-    ensures ok { OnOk result (writer.new.tokens ≡ writer.old.tokens ++ key name.now ∷ number (decimal value) ∷ []) }
+    ensures ok { OnOk result
+        (writer.new.tokens ≡ writer.old.tokens ++ key name.now ∷ number (decimal value) ∷ []) }
     ensures before { writer.new.before ≡ writer.old.before }
 {
     writer.key(name)?;
@@ -98,7 +100,8 @@ pub(crate) fn write_sent(
 ) -> Result<(), AllocError>
     requires places { All (λ p. p.index < length cells.now) order.now }
     ensures ok { OnOk result (writer.new.tokens
-        ≡ writer.old.tokens ++ json_tokens (outline (object (members_at (map (sent placeholder.now) cells.now) order.now)))) }
+        ≡ writer.old.tokens ++ json_tokens
+        (outline (object (members_at (map (sent placeholder.now) cells.now) order.now)))) }
     ensures before { writer.new.before ≡ writer.old.before }
 {
     let cells = cells.items();

@@ -26,7 +26,8 @@ fn write_side(
 ) -> Result<(), AllocError>
     requires places { FitsPlaces columns.now side.now }
     ensures ok { OnOk result (writer.new.tokens
-        ≡ writer.old.tokens ++ json_tokens (outline (side_data placeholder.now columns.now side.now))) }
+        ≡ writer.old.tokens ++ json_tokens
+        (outline (side_data placeholder.now columns.now side.now))) }
     ensures before { writer.new.before ≡ writer.old.before }
 {
     match side {

@@ -80,7 +80,7 @@ take_long zero (x ∷ xs) e = absurd (omega (arith, e))
 take_long (suc n) [] e = omega arith
 take_long (suc n) (x ∷ xs) e = let rest : length xs ≤ n = take_long n xs (omega (arith, e)) in omega (arith, rest)
 
--- a front of a longer list is one of the list, where that is as long
+-- a prefix of a longer list is one of the list, where that is as long
 pub take_within : {X : Type 0} (n : ℕ) (xs ys : List X) → n ≤ length xs → take n (xs ++ ys) ≡ take n xs
 take_within zero xs ys le = refl
 take_within (suc n) [] ys le = absurd (omega (arith, le))

@@ -210,7 +210,7 @@ module _ (identity : Identity) (infos : List TableInfo) (commits before : List C
   facts : AreFitCommits infos (before ++ commit ∷ later)
   facts = subst (AreFitCommits infos) next.spelled next.fit
 
-  -- a front of the records leaves the log aged before the commit
+  -- a prefix of the records leaves the log aged before the commit
   front_aged : (n : ℕ) (more : List Record) → AllZip (IsClearPrint identity) (take n (told_of infos commit)) more → IsAged identity infos commits start (records ++ more) (moment_after before)
   front_aged n [] zipped = subst (λ (l : List Record). IsAged identity infos commits start l (moment_after before)) (sym (append-nil records)) caught.aged
   front_aged n (item ∷ more) zipped =

@@ -35,7 +35,7 @@ use Rattle.dbl_table.proofs.Making.{names_made, placed}
 use Rattle.dbl_history.specs.History.{RawCell}
 use Rattle.dbl_history.specs.History.RawCell.{Given, Unchanged}
 use Rattle.dbl_history.specs.Typed.{typed_cell, typed_cells, typed_update}
-use Rattle.dbl_commit.specs.declared.told.Relation.{Relation}
+use Rattle.dbl_commit.specs.declared.message_parts.Relation.{Relation}
 use Rattle.dbl_commit.specs.declared.txn_error.TxnError.{TxnError}
 use Rattle.dbl_commit.specs.declared.txn_error.TxnError.TheVariants as errors
 use Rattle.dbl_commit.specs.Tuples.{◌>>=◌, some_or, spelled_value, is_key_place, has_flag, is_fixed, given_cell, filled_cell, new_cell, each_from, is_read, row_cell, row_of, filling, next_cell, new_cells}

@@ -22,11 +22,11 @@ use Rattle.dbl_table.specs.Rows.{changes_of}
 use Rattle.dbl_history.specs.History.{RawCommit}
 use Rattle.dbl_history.specs.Typed.{typed_change}
 use Rattle.dbl_history.specs.Fit.{AreInfosOf}
-use Rattle.dbl_commit.specs.declared.told.Relation.{Relation}
-use Rattle.dbl_commit.specs.declared.told.RowChange.{RowChange}
-use Rattle.dbl_commit.specs.declared.told.RowChange.TheVariants as row
-use Rattle.dbl_commit.specs.declared.told.Target.{Target}
-use Rattle.dbl_commit.specs.declared.told.Target.TheVariants.{Watermark, Captured, Passed}
+use Rattle.dbl_commit.specs.declared.message_parts.Relation.{Relation}
+use Rattle.dbl_commit.specs.declared.message_parts.RowChange.{RowChange}
+use Rattle.dbl_commit.specs.declared.message_parts.RowChange.TheVariants as row
+use Rattle.dbl_commit.specs.declared.message_parts.Target.{Target}
+use Rattle.dbl_commit.specs.declared.message_parts.Target.TheVariants.{Watermark, Captured, Passed}
 use Rattle.dbl_commit.specs.declared.txn_error.TxnError.{TxnError}
 use Rattle.dbl_commit.specs.declared.txn_error.TxnError.TheVariants as errors
 use Rattle.dbl_commit.specs.Past.{relation_of, Begun, begin_of, last_lsn, mark_of, mark_by, described, named}

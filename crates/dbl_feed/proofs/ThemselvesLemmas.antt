@@ -31,11 +31,11 @@ use Rattle.dbl_history.specs.History as raw
 use Rattle.dbl_history.specs.History.RawCell.{Given, Unchanged}
 use Rattle.dbl_history.specs.Typed.{types_of, typed_cell, typed_cells, typed_update, typed_row, typed_key, typed_change}
 use Rattle.dbl_history.specs.Fit.{AreInfosOf}
-use Rattle.dbl_commit.specs.declared.told.Relation.{Relation}
-use Rattle.dbl_commit.specs.declared.told.RowChange.{RowChange}
-use Rattle.dbl_commit.specs.declared.told.RowChange.TheVariants as row
-use Rattle.dbl_commit.specs.declared.told.Target.{Target}
-use Rattle.dbl_commit.specs.declared.told.Target.TheVariants.{Watermark}
+use Rattle.dbl_commit.specs.declared.message_parts.Relation.{Relation}
+use Rattle.dbl_commit.specs.declared.message_parts.RowChange.{RowChange}
+use Rattle.dbl_commit.specs.declared.message_parts.RowChange.TheVariants as row
+use Rattle.dbl_commit.specs.declared.message_parts.Target.{Target}
+use Rattle.dbl_commit.specs.declared.message_parts.Target.TheVariants.{Watermark}
 use Rattle.dbl_commit.specs.declared.txn_error.TxnError.{TxnError}
 use Rattle.dbl_commit.specs.declared.txn_error.TxnError.TheVariants as errors
 use Rattle.dbl_commit.specs.Past.{relation_of}

@@ -11,6 +11,6 @@ abbrev pub follow_fault : EnvelopeError → FollowError
 follow_fault (writer.PlaceholderClash table column) = follow.Envelope (writer.PlaceholderClash table column)
 follow_fault writer.Memory = follow.Memory
 
--- the error is this clash, or memory was wanting
+-- the error is this clash, or memory ran out
 abbrev pub IsClashOf : Option Clash → FollowError → Type 0
 IsClashOf clash e = e ≢ follow.Memory → option_map (λ c. follow.Envelope (clash_error c)) clash ≡ Some e

@@ -70,7 +70,8 @@ pub fn image_text(
     key: &Key,
     column: &Text,
 ) -> Result<Option<Text>, ModelError>
-    ensures ok { IfOk result (λ text. text ≡ image_at infos.now.items (rows infos.now.items commits.now.items moment) table key.now column.now) }
+    ensures ok { IfOk result (λ text. text ≡ image_at infos.now.items
+        (rows infos.now.items commits.now.items moment) table key.now column.now) }
     ensures err { IfErr result (λ e. e ≡ ModelError.Memory) }
 {
     match row_at(alloc, infos, commits, moment, table, key)? {

@@ -121,7 +121,8 @@ fn row_updated(
     cells: &Seq<Cell>,
     row: Option<Row>,
 ) -> Result<Option<Row>, AllocError>
-    ensures { IfOk result (λ new. cells_of new ≡ row_after (updated (all_given cells.now) cells.now) (cells_of row)) }
+    ensures { IfOk result
+        (λ new. cells_of new ≡ row_after (updated (all_given cells.now) cells.now) (cells_of row)) }
 {
     if are_sent(cells) {
         return Ok(Some(Row {
@@ -145,7 +146,8 @@ fn row_changed(
     key: &Key,
     row: Option<Row>,
 ) -> Result<Option<Row>, AllocError>
-    ensures { IfOk result (λ new. cells_of new ≡ row_after (effect_of infos.now.items change.now table key.now) (cells_of row)) }
+    ensures { IfOk result (λ new. cells_of new ≡ row_after
+        (effect_of infos.now.items change.now table key.now) (cells_of row)) }
 {
     match change {
         Change::Insert { table: t, row: new } => {
@@ -199,7 +201,8 @@ fn row_after_changes(
     key: &Key,
     row: Option<Row>,
 ) -> Result<Option<Row>, AllocError>
-    ensures { IfOk result (λ new. cells_of new ≡ row_from infos.now.items table key.now (cells_of row) (take count changes.now)) }
+    ensures { IfOk result (λ new. cells_of new ≡ row_from infos.now.items table key.now
+        (cells_of row) (take count changes.now)) }
 {
     let mut row = row;
     for (i, change) in changes.items().iter().enumerate() {
@@ -221,7 +224,8 @@ fn row_after_commit(
     key: &Key,
     row: Option<Row>,
 ) -> Result<Option<Row>, AllocError>
-    ensures { IfOk result (λ new. cells_of new ≡ row_from infos.now.items table key.now (cells_of row) (take count (changes_of commit.now))) }
+    ensures { IfOk result (λ new. cells_of new ≡ row_from infos.now.items table key.now
+        (cells_of row) (take count (changes_of commit.now))) }
 {
     match &commit.body {
         Body::Changes(changes) => row_after_changes(alloc, infos, changes, count, table, key, row),
@@ -248,7 +252,8 @@ pub fn row_at(
     table: u32,
     key: &Key,
 ) -> Result<Option<Row>, AllocError>
-    ensures { IfOk result (λ row. cells_of row ≡ rows infos.now.items commits.now.items moment table key.now) }
+    ensures { IfOk result
+        (λ row. cells_of row ≡ rows infos.now.items commits.now.items moment table key.now) }
 {
     let mut row = None;
     let mut left = moment;

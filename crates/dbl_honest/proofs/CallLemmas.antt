@@ -1,4 +1,4 @@
--- What a stop may leave behind a call that led to a standing.
+-- What a crash may leave behind a call that led to a standing.
 use Rattle.std.proofs.Common.{◌≡◌, ◌∙◌, ℕ, inl, inr, List, [], ◌∷◌, length, sym, ap, subst, arith, length-append}
 use Rattle.dbl_base.specs.declared.lsn.Lsn.{Lsn}
 use Rattle.dbl_pgmsg.specs.declared.messages.Message.{Message}

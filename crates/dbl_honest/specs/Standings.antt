@@ -1,4 +1,4 @@
--- What a source stands for at a moment, and what a stop leaves of it. Source: the premises of Andreakis and Papapanagiotou,
+-- What a source stands for at a moment, and what a crash leaves of it. Source: the premises of Andreakis and Papapanagiotou,
 -- "DBLog: A Watermark Based Change-Data-Capture Framework" (2020), made exact.
 use Rattle.std.specs.Prelude.{Option, Result, IfOk, List}
 use Rattle.dbl_base.specs.declared.lsn.Lsn.{Lsn}
@@ -18,7 +18,7 @@ pub record Standing : Type 0 where
   pub confirmed : Lsn
   pub reading : Option Reading
 
--- what a stop leaves: a reader has to start anew
+-- what a crash leaves: a reader has to start anew
 pub record Left : Type 0 where
   pub history : History
   pub confirmed : Lsn

@@ -26,8 +26,8 @@ use Rattle.dbl_table.specs.Keys.{key_of}
 use Rattle.dbl_table.specs.Made.{raw_names, place_of}
 use Rattle.dbl_table.proofs.InfoLemmas.{typed_columns, places_within, not_true}
 use Rattle.dbl_table.proofs.Lists.{and_left, and_right, and_both, or_right, any_here, bool_case, text_itself}
-use Rattle.dbl_commit.specs.declared.told.Relation.{Relation}
-use Rattle.dbl_commit.specs.declared.told.RowChange.TheVariants as says
+use Rattle.dbl_commit.specs.declared.message_parts.Relation.{Relation}
+use Rattle.dbl_commit.specs.declared.message_parts.RowChange.TheVariants as says
 use Rattle.dbl_commit.specs.declared.txn_error.TxnError.{TxnError}
 use Rattle.dbl_commit.specs.declared.txn_error.TxnError.TheVariants as errors
 use Rattle.dbl_commit.specs.Stated.{err_of}

@@ -11,7 +11,7 @@ use Rattle.dbl_table.specs.Tables.{are_distinct}
 use Rattle.dbl_table.proofs.Lists.{and_left, same_text, text_itself}
 use Rattle.dbl_history.specs.History.{RawChange, name_of}
 use Rattle.dbl_history.specs.History.RawChange.{Insert, Update, Delete, Clear}
-use Rattle.dbl_commit.specs.declared.told.RowChange.TheVariants as says
+use Rattle.dbl_commit.specs.declared.message_parts.RowChange.TheVariants as says
 use Rattle.dbl_feed.specs.declared.logged.LogTable.{LogTable}
 use Rattle.dbl_feed.specs.Fair.{AreNamed}
 use Rattle.dbl_feed.specs.RawChanges.{raw_changes, changes_from}

@@ -18,7 +18,7 @@ use Rattle.dbl_table.specs.declared.table.TableInfo.{TableInfo}
 use Rattle.dbl_table.specs.declared.table.TableName.{TableName}
 use Rattle.dbl_table.specs.Infos.{width, name_at}
 use Rattle.dbl_table.specs.Keys.{new_key_of, same_key}
-use Rattle.dbl_commit.specs.declared.told.Relation.{Relation}
+use Rattle.dbl_commit.specs.declared.message_parts.Relation.{Relation}
 use Rattle.dbl_commit.specs.declared.txn_error.TxnError.{TxnError}
 use Rattle.dbl_commit.specs.declared.txn_error.TxnError.TheVariants as errors
 use Rattle.dbl_commit.specs.Stated.{err_of}

@@ -11,10 +11,10 @@ use Rattle.dbl_table.specs.Tables.{is_name, is_watermark}
 use Rattle.dbl_table.proofs.InfoLemmas.{good_name, not_true}
 use Rattle.dbl_table.proofs.Lists.{and_left, and_right}
 use Rattle.dbl_history.specs.Fit.{AreInfosOf}
-use Rattle.dbl_commit.specs.declared.told.Relation.{Relation}
-use Rattle.dbl_commit.specs.declared.told.RowChange.{RowChange}
-use Rattle.dbl_commit.specs.declared.told.Target.{Target}
-use Rattle.dbl_commit.specs.declared.told.Target.TheVariants.{Watermark}
+use Rattle.dbl_commit.specs.declared.message_parts.Relation.{Relation}
+use Rattle.dbl_commit.specs.declared.message_parts.RowChange.{RowChange}
+use Rattle.dbl_commit.specs.declared.message_parts.Target.{Target}
+use Rattle.dbl_commit.specs.declared.message_parts.Target.TheVariants.{Watermark}
 use Rattle.dbl_commit.specs.declared.txn_error.TxnError.{TxnError}
 use Rattle.dbl_commit.specs.declared.txn_error.TxnError.TheVariants as faults
 use Rattle.dbl_commit.specs.Past.{relation_of}

@@ -27,7 +27,7 @@ pub record IsStaged (bytes : List ℕ) (entries : List (List ℕ)) (entry : List
   pub closed : gate ≢ 1
   pub each : All IsEntry entries
 
--- the disk tells bytes on which the entry is staged, and a stop leaves nothing else
+-- the disk tells bytes on which the entry is staged, and a crash leaves nothing else
 pub record Stages {D : Type 0} (seen : D → Option (List ℕ)) (may_leave : D → List ℕ → Type 0) (disk : D) (entries : List (List ℕ)) (entry : List ℕ) : Type 0 where
   pub bytes : List ℕ
   pub told : seen disk ≡ Some bytes

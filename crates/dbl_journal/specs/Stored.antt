@@ -24,7 +24,7 @@ abbrev pub places_from : ℕ → List (List ℕ) → List Extent
 places_from gate [] = []
 places_from gate (entry ∷ entries) = record { at = gate + 5; length = length entry } ∷ places_from (gate + 5 + length entry) entries
 
--- The journal lists these entries: it can be used, its disk tells its bytes, which are a journal of the entries, and a stop
+-- The journal lists these entries: it can be used, its disk tells its bytes, which are a journal of the entries, and a crash
 -- leaves nothing else.
 pub record Lists {D : Type 0} (seen : D → Option (List ℕ)) (may_leave : D → List ℕ → Type 0) (journal : OnDisk D) (entries : List (List ℕ)) : Type 0 where
   pub live : IsTrue journal.live
@@ -39,11 +39,11 @@ pub record Lists {D : Type 0} (seen : D → Option (List ℕ)) (may_leave : D �
 abbrev pub IsSteady : {D : Type 0} → (D → Option (List ℕ)) → (D → ℕ) → D → D → Type 0
 IsSteady seen faults old new = (bytes : List ℕ) → seen old ≡ Some bytes → faults new ≡ faults old
 
--- a stop may leave a journal of these entries
+-- a crash may leave a journal of these entries
 abbrev pub MayLeaveEntries : {D : Type 0} → (D → List ℕ → Type 0) → D → List (List ℕ) → Type 0
 MayLeaveEntries may_leave disk entries = (image : List ℕ) × may_leave disk image × IsJournal image entries
 
--- whatever a stop leaves is a journal, of entries of which this holds
+-- whatever a crash leaves is a journal, of entries of which this holds
 abbrev pub LeavesEntries : {D : Type 0} → (D → List ℕ → Type 0) → D → (List (List ℕ) → Type 0) → Type 0
 LeavesEntries may_leave disk P = (image : List ℕ) → may_leave disk image → (entries : List (List ℕ)) × IsJournal image entries × P entries
 

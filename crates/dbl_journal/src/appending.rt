@@ -44,40 +44,58 @@ pub(crate) fn spell(bytes: &mut Vec<u8>) -> Result<(), AllocError>
     Ok(())
 }
 
-// Writes the entry behind the closed gate, and makes it stable. Until then, and after a fault, a stop leaves the same list.
+// Writes the entry behind the closed gate, and makes it stable. Until then, and after a fault, a crash leaves the same list.
 pub(crate) fn stage<D: Disk>(disk: &mut D, gate: u64, bytes: &[u8]) -> Result<(), Failed>
     requires small { gate < 2 ^ 40 }
     requires short { length bytes.now ≤ 2 ^ 28 + 5 }
     requires there { (old : List ℕ) → D.seen disk.old ≡ Some old → gate < length old }
     ensures room { OnOk result (gate + 1 + length bytes.now < 2 ^ 40) }
-    ensures kept { (old : List ℕ) (entries : List (List ℕ)) → IsOnly old (D.may_leave disk.old) → IsJournal old entries → gate ≡ length (front entries) → LeavesEntries D.may_leave disk.new (λ left. left ≡ entries) }
-    ensures staged { (old : List ℕ) (entries : List (List ℕ)) (entry : List ℕ) → D.seen disk.old ≡ Some old → IsOnly old (D.may_leave disk.old) → IsJournal old entries → gate ≡ length (front entries) → bytes.now ≡ body entry ++ 0 ∷ [] →
+    ensures kept { (old : List ℕ) (entries : List (List ℕ)) → IsOnly old (D.may_leave disk.old) →
+        IsJournal old entries → gate ≡ length (front entries) →
+        LeavesEntries D.may_leave disk.new (λ left. left ≡ entries) }
+    ensures staged { (old : List ℕ) (entries : List (List ℕ)) (entry : List ℕ) →
+        D.seen disk.old ≡ Some old → IsOnly old (D.may_leave disk.old) → IsJournal old entries →
+        gate ≡ length (front entries) → bytes.now ≡ body entry ++ 0 ∷ [] →
         OnOk result (Stages D.seen D.may_leave disk.new entries entry) }
-    ensures reaches { (new : List ℕ) → D.seen disk.new ≡ Some new → OnOk result (gate + 1 + length bytes.now ≤ length new) }
-    ensures told { (old : List ℕ) → D.seen disk.old ≡ Some old → (new : List ℕ) × (D.seen disk.new ≡ Some new) }
-    ensures longest { (old new : List ℕ) → D.seen disk.old ≡ Some old → D.seen disk.new ≡ Some new → length new ≤ max (length old) (gate + 1 + length bytes.now) }
+    ensures reaches { (new : List ℕ) → D.seen disk.new ≡ Some new →
+        OnOk result (gate + 1 + length bytes.now ≤ length new) }
+    ensures told { (old : List ℕ) → D.seen disk.old ≡ Some old → (new : List ℕ) ×
+        (D.seen disk.new ≡ Some new) }
+    ensures longest { (old new : List ℕ) → D.seen disk.old ≡ Some old → D.seen disk.new ≡ Some new →
+        length new ≤ max (length old) (gate + 1 + length bytes.now) }
     ensures later { D.faults disk.old ≤ D.faults disk.new }
     ensures cause { OnErr result (Rose (D.faults disk.old) (D.faults disk.new)) }
-    ensures steady { (old : List ℕ) → D.seen disk.old ≡ Some old → OnOk result (D.faults disk.new ≡ D.faults disk.old) }
+    ensures steady { (old : List ℕ) → D.seen disk.old ≡ Some old →
+        OnOk result (D.faults disk.new ≡ D.faults disk.old) }
 {
     disk.write_at(gate + 1, bytes)?;
     disk.sync()
 }
 
-// Opens the gate before a staged entry. Until this is stable, and after a fault, a stop leaves the list or the one with the
+// Opens the gate before a staged entry. Until this is stable, and after a fault, a crash leaves the list or the one with the
 // entry.
 pub(crate) fn open_gate<D: Disk>(disk: &mut D, gate: u64) -> Result<(), Failed>
     requires { gate + 1 < 2 ^ 40 }
-    ensures one_of { (entries : List (List ℕ)) (entry : List ℕ) → Stages D.seen D.may_leave disk.old entries entry → gate ≡ length (front entries) → IsEntry entry →
-        LeavesEntries D.may_leave disk.new (λ left. (left ≡ entries) ⊎ (left ≡ entries ++ entry ∷ [])) }
-    ensures opened { (entries : List (List ℕ)) (entry : List ℕ) → Stages D.seen D.may_leave disk.old entries entry → gate ≡ length (front entries) → IsEntry entry →
-        OnOk result ((new : List ℕ) × (D.seen disk.new ≡ Some new) × IsOnly new (D.may_leave disk.new) × IsJournal new (entries ++ entry ∷ [])) }
-    ensures told { (old : List ℕ) → D.seen disk.old ≡ Some old → (new : List ℕ) × (D.seen disk.new ≡ Some new) }
-    ensures longest { (old new : List ℕ) → D.seen disk.old ≡ Some old → D.seen disk.new ≡ Some new → length new ≤ max (length old) (gate + 1) }
-    ensures reaches { (new : List ℕ) → D.seen disk.new ≡ Some new → OnOk result ((old : List ℕ) × (D.seen disk.old ≡ Some old) × (length old ≤ length new)) }
+    ensures one_of { (entries : List (List ℕ)) (entry : List ℕ) →
+        Stages D.seen D.may_leave disk.old entries entry → gate ≡ length (front entries) →
+        IsEntry entry →
+        LeavesEntries D.may_leave disk.new (λ left. (left ≡ entries) ⊎
+        (left ≡ entries ++ entry ∷ [])) }
+    ensures opened { (entries : List (List ℕ)) (entry : List ℕ) →
+        Stages D.seen D.may_leave disk.old entries entry → gate ≡ length (front entries) →
+        IsEntry entry →
+        OnOk result ((new : List ℕ) × (D.seen disk.new ≡ Some new) ×
+        IsOnly new (D.may_leave disk.new) × IsJournal new (entries ++ entry ∷ [])) }
+    ensures told { (old : List ℕ) → D.seen disk.old ≡ Some old → (new : List ℕ) ×
+        (D.seen disk.new ≡ Some new) }
+    ensures longest { (old new : List ℕ) → D.seen disk.old ≡ Some old → D.seen disk.new ≡ Some new →
+        length new ≤ max (length old) (gate + 1) }
+    ensures reaches { (new : List ℕ) → D.seen disk.new ≡ Some new →
+        OnOk result ((old : List ℕ) × (D.seen disk.old ≡ Some old) × (length old ≤ length new)) }
     ensures later { D.faults disk.old ≤ D.faults disk.new }
     ensures cause { OnErr result (Rose (D.faults disk.old) (D.faults disk.new)) }
-    ensures steady { (old : List ℕ) → D.seen disk.old ≡ Some old → OnOk result (D.faults disk.new ≡ D.faults disk.old) }
+    ensures steady { (old : List ℕ) → D.seen disk.old ≡ Some old →
+        OnOk result (D.faults disk.new ≡ D.faults disk.old) }
 {
     disk.write_at(gate, &[1])?;
     disk.sync()
@@ -86,13 +104,16 @@ pub(crate) fn open_gate<D: Disk>(disk: &mut D, gate: u64) -> Result<(), Failed>
 // Writes the magic and a closed gate on an empty disk.
 pub(crate) fn start<D: Disk>(disk: &mut D, bytes: &[u8]) -> Result<(), Failed>
     requires { bytes.now ≡ front [] ++ 0 ∷ [] }
-    ensures stored { D.seen disk.old ≡ Some [] → OnOk result ((new : List ℕ) × (D.seen disk.new ≡ Some new) × IsOnly new (D.may_leave disk.new) × IsJournal new []) }
+    ensures stored { D.seen disk.old ≡ Some [] → OnOk result ((new : List ℕ) ×
+        (D.seen disk.new ≡ Some new) × IsOnly new (D.may_leave disk.new) × IsJournal new []) }
     ensures images { Follows (Torn 0 9) (D.may_leave disk.old) (D.may_leave disk.new) }
     ensures reaches { (new : List ℕ) → D.seen disk.new ≡ Some new → OnOk result (9 ≤ length new) }
-    ensures longest { (new : List ℕ) → D.seen disk.old ≡ Some [] → D.seen disk.new ≡ Some new → length new ≤ 9 }
+    ensures longest { (new : List ℕ) → D.seen disk.old ≡ Some [] → D.seen disk.new ≡ Some new →
+        length new ≤ 9 }
     ensures later { D.faults disk.old ≤ D.faults disk.new }
     ensures cause { OnErr result (Rose (D.faults disk.old) (D.faults disk.new)) }
-    ensures steady { (old : List ℕ) → D.seen disk.old ≡ Some old → OnOk result (D.faults disk.new ≡ D.faults disk.old) }
+    ensures steady { (old : List ℕ) → D.seen disk.old ≡ Some old →
+        OnOk result (D.faults disk.new ≡ D.faults disk.old) }
 {
     disk.write_at(0, bytes)?;
     disk.sync()

@@ -21,7 +21,7 @@ pub const ENTRY_ROOM: usize = 4;
 
 pub(crate) const MAGIC: [u8; 8] = *b"DBLJRNL1";
 
-/// A list of entries on a disk. A stop while an entry is appended leaves the list as it was, or the list with the entry.
+/// A list of entries on a disk. A crash while an entry is appended leaves the list as it was, or the list with the entry.
 ///
 /// On the disk stand the bytes `DBLJRNL1`, then each entry: a gate of one byte, 1, its length in four bytes, the highest
 /// first, and what it holds. Behind the last entry stands a gate that is closed, which is any byte but 1.
@@ -48,14 +48,20 @@ impl<D: Disk> Journal<D> {
     /// taken now.
     pub fn make(alloc: Global, mut disk: D) -> Result<Journal<D>, Refused<D, JournalError>>
         requires { (bytes : List ℕ) → D.seen disk ≡ Some bytes → bytes ≡ [] }
-        ensures made { D.seen disk ≡ Some [] → IfOk result (λ journal. Lists D.seen D.may_leave journal []) }
+        ensures made { D.seen disk ≡ Some [] →
+            IfOk result (λ journal. Lists D.seen D.may_leave journal []) }
         ensures live { IfOk result (λ journal. IsTrue journal.live) }
         ensures count { IfOk result (λ journal. count_of journal ≡ 0) }
-        ensures small { (bytes : List ℕ) → D.seen disk ≡ Some [] → MatchResult result (λ journal. D.seen journal.disk ≡ Some bytes → length bytes ≤ size []) (λ refused. D.seen refused.disk ≡ Some bytes → length bytes ≤ size []) }
+        ensures small { (bytes : List ℕ) → D.seen disk ≡ Some [] →
+            MatchResult result (λ journal. D.seen journal.disk ≡ Some bytes →
+            length bytes ≤ size []) (λ refused. D.seen refused.disk ≡ Some bytes →
+            length bytes ≤ size []) }
         ensures refused { IfErr result (λ refused. refused.error ≡ JournalError.Failed) }
         ensures failed { IfErr result (λ refused. Rose (D.faults disk) (D.faults refused.disk)) }
-        ensures left { IfErr result (λ refused. Follows (Torn 0 9) (D.may_leave disk) (D.may_leave refused.disk)) }
-        ensures later { MatchResult result (λ journal. D.faults disk ≤ D.faults journal.disk) (λ refused. D.faults disk ≤ D.faults refused.disk) }
+        ensures left { IfErr result
+            (λ refused. Follows (Torn 0 9) (D.may_leave disk) (D.may_leave refused.disk)) }
+        ensures later { MatchResult result (λ journal. D.faults disk ≤ D.faults journal.disk)
+            (λ refused. D.faults disk ≤ D.faults refused.disk) }
         ensures steady { IfOk result (λ journal. IsSteady D.seen D.faults disk journal.disk) }
     {
         match start(&mut disk, b"DBLJRNL1\0") {
@@ -72,21 +78,38 @@ impl<D: Disk> Journal<D> {
         }
     }
 
-    /// The journal on the disk, as a stop may have left it: a sync, and then a few bytes are read of each entry. Whatever it
-    /// answers but `Failed`, a stop leaves what was read and nothing else; and so it does after `Failed`, where more than one
+    /// The journal on the disk, as a crash may have left it: a sync, and then a few bytes are read of each entry. Whatever it
+    /// answers but `Failed`, a crash leaves what was read and nothing else; and so it does after `Failed`, where more than one
     /// call was made. The first call that fails is the last one.
     pub fn open(alloc: Global, mut disk: D) -> Result<Journal<D>, Refused<D, JournalError>>
-        ensures opened { (bytes : List ℕ) → D.seen disk ≡ Some bytes → IfOk result (λ journal. (entries : List (List ℕ)) × IsJournal bytes entries × Lists D.seen D.may_leave journal entries) }
-        ensures refused { (bytes : List ℕ) → D.seen disk ≡ Some bytes → IfErr result (λ refused. (at : ℕ) → refused.error ≡ JournalError.NotAJournal at → IsFaultAt bytes at) }
-        ensures stable { (bytes : List ℕ) → D.seen disk ≡ Some bytes → IfErr result (λ refused. refused.error ≢ JournalError.Failed → IsOnly bytes (D.may_leave refused.disk)) }
-        ensures first { (bytes : List ℕ) (calls : ℕ) → D.seen disk ≡ Some bytes → D.calls disk ≡ Some calls → IfErr result (λ refused. D.calls refused.disk ≢ Some (raised calls) → IsOnly bytes (D.may_leave refused.disk)) }
+        ensures opened { (bytes : List ℕ) → D.seen disk ≡ Some bytes →
+            IfOk result (λ journal. (entries : List (List ℕ)) × IsJournal bytes entries ×
+            Lists D.seen D.may_leave journal entries) }
+        ensures refused { (bytes : List ℕ) → D.seen disk ≡ Some bytes →
+            IfErr result (λ refused. (at : ℕ) → refused.error ≡ JournalError.NotAJournal at →
+            IsFaultAt bytes at) }
+        ensures stable { (bytes : List ℕ) → D.seen disk ≡ Some bytes →
+            IfErr result (λ refused. refused.error ≢ JournalError.Failed →
+            IsOnly bytes (D.may_leave refused.disk)) }
+        ensures first { (bytes : List ℕ) (calls : ℕ) → D.seen disk ≡ Some bytes →
+            D.calls disk ≡ Some calls →
+            IfErr result (λ refused. D.calls refused.disk ≢ Some (raised calls) →
+            IsOnly bytes (D.may_leave refused.disk)) }
         ensures live { IfOk result (λ journal. IsTrue journal.live) }
-        ensures short { IfErr result (λ refused. (len : ℕ) → refused.error ≢ JournalError.EntryTooLong len) }
-        ensures failed { IfErr result (λ refused. refused.error ≡ JournalError.Failed → Rose (D.faults disk) (D.faults refused.disk)) }
-        ensures seen { MatchResult result (λ journal. D.seen journal.disk ≡ D.seen disk) (λ refused. D.seen refused.disk ≡ D.seen disk) }
-        ensures images { (image : List ℕ) → MatchResult result (λ journal. D.may_leave journal.disk image → D.may_leave disk image) (λ refused. D.may_leave refused.disk image → D.may_leave disk image) }
-        ensures later { MatchResult result (λ journal. D.faults disk ≤ D.faults journal.disk) (λ refused. D.faults disk ≤ D.faults refused.disk) }
-        ensures steady { (bytes : List ℕ) → D.seen disk ≡ Some bytes → MatchResult result (λ journal. D.faults journal.disk ≡ D.faults disk) (λ refused. refused.error ≢ JournalError.Failed → D.faults refused.disk ≡ D.faults disk) }
+        ensures short { IfErr result
+            (λ refused. (len : ℕ) → refused.error ≢ JournalError.EntryTooLong len) }
+        ensures failed { IfErr result (λ refused. refused.error ≡ JournalError.Failed →
+            Rose (D.faults disk) (D.faults refused.disk)) }
+        ensures seen { MatchResult result (λ journal. D.seen journal.disk ≡ D.seen disk)
+            (λ refused. D.seen refused.disk ≡ D.seen disk) }
+        ensures images { (image : List ℕ) → MatchResult result
+            (λ journal. D.may_leave journal.disk image → D.may_leave disk image)
+            (λ refused. D.may_leave refused.disk image → D.may_leave disk image) }
+        ensures later { MatchResult result (λ journal. D.faults disk ≤ D.faults journal.disk)
+            (λ refused. D.faults disk ≤ D.faults refused.disk) }
+        ensures steady { (bytes : List ℕ) → D.seen disk ≡ Some bytes →
+            MatchResult result (λ journal. D.faults journal.disk ≡ D.faults disk) (λ refused.
+            refused.error ≢ JournalError.Failed → D.faults refused.disk ≡ D.faults disk) }
     {
         match scan(alloc, &mut disk) {
             Ok(found) => Ok(Journal {
@@ -104,20 +127,30 @@ impl<D: Disk> Journal<D> {
     /// after each answer.
     pub fn append(&mut self, alloc: Global, entry: &[u8]) -> Result<(), JournalError>
         requires { IsTrue self.old.live }
-        ensures added { (entries : List (List ℕ)) → Lists D.seen D.may_leave self.old entries → OnOk result (Lists D.seen D.may_leave self.new (entries ++ entry.now ∷ [])) }
-        ensures left { (entries : List (List ℕ)) → Lists D.seen D.may_leave self.old entries → LeavesEntries D.may_leave self.new.disk (λ left. (left ≡ entries) ⊎ (left ≡ entries ++ entry.now ∷ [])) }
-        ensures grows { (entries : List (List ℕ)) (old new : List ℕ) → Lists D.seen D.may_leave self.old entries → D.seen self.old.disk ≡ Some old → D.seen self.new.disk ≡ Some new → length new ≤ max (length old) (size (entries ++ entry.now ∷ [])) }
+        ensures added { (entries : List (List ℕ)) → Lists D.seen D.may_leave self.old entries →
+            OnOk result (Lists D.seen D.may_leave self.new (entries ++ entry.now ∷ [])) }
+        ensures left { (entries : List (List ℕ)) → Lists D.seen D.may_leave self.old entries →
+            LeavesEntries D.may_leave self.new.disk (λ left. (left ≡ entries) ⊎
+            (left ≡ entries ++ entry.now ∷ [])) }
+        ensures grows { (entries : List (List ℕ)) (old new : List ℕ) →
+            Lists D.seen D.may_leave self.old entries → D.seen self.old.disk ≡ Some old →
+            D.seen self.new.disk ≡ Some new →
+            length new ≤ max (length old) (size (entries ++ entry.now ∷ [])) }
         ensures comes { ComesOf D.seen D.may_leave self.old self.new }
-        ensures told { (old : List ℕ) → D.seen self.old.disk ≡ Some old → (new : List ℕ) × (D.seen self.new.disk ≡ Some new) }
+        ensures told { (old : List ℕ) → D.seen self.old.disk ≡ Some old → (new : List ℕ) ×
+            (D.seen self.new.disk ≡ Some new) }
         ensures live { OnOk result (IsTrue self.new.live) }
         ensures count { OnOk result (count_of self.new ≡ count_of self.old + 1) }
-        ensures too_long { (len : ℕ) → (result ≡ Err (JournalError.EntryTooLong len)) ↔ ((2 ^ 28 < length entry.now) × (len ≡ length entry.now)) }
-        ensures failed { result ≡ Err JournalError.Failed → Rose (D.faults self.old.disk) (D.faults self.new.disk) }
+        ensures too_long { (len : ℕ) → (result ≡ Err (JournalError.EntryTooLong len)) ↔
+            ((2 ^ 28 < length entry.now) × (len ≡ length entry.now)) }
+        ensures failed { result ≡ Err JournalError.Failed →
+            Rose (D.faults self.old.disk) (D.faults self.new.disk) }
         ensures dead { result ≡ Err JournalError.Failed → self.new.live ≡ false }
         ensures journal { (at : ℕ) → result ≢ Err (JournalError.NotAJournal at) }
         ensures unchanged { OnErr result (result ≢ Err JournalError.Failed → self.new ≡ self.old) }
         ensures later { D.faults self.old.disk ≤ D.faults self.new.disk }
-        ensures steady { result ≢ Err JournalError.Failed → IsSteady D.seen D.faults self.old.disk self.new.disk }
+        ensures steady { result ≢ Err JournalError.Failed →
+            IsSteady D.seen D.faults self.old.disk self.new.disk }
     {
         if entry.len() > ENTRY_LIMIT {
             return Err(JournalError::EntryTooLong {
@@ -133,20 +166,30 @@ impl<D: Disk> Journal<D> {
     pub fn append_built(&mut self, mut bytes: Vec<u8>) -> Result<(), JournalError>
         requires live { IsTrue self.old.live }
         requires room { 4 ≤ length bytes.items }
-        ensures added { (entries : List (List ℕ)) → Lists D.seen D.may_leave self.old entries → OnOk result (Lists D.seen D.may_leave self.new (entries ++ drop 4 bytes.items ∷ [])) }
-        ensures left { (entries : List (List ℕ)) → Lists D.seen D.may_leave self.old entries → LeavesEntries D.may_leave self.new.disk (λ left. (left ≡ entries) ⊎ (left ≡ entries ++ drop 4 bytes.items ∷ [])) }
-        ensures grows { (entries : List (List ℕ)) (old new : List ℕ) → Lists D.seen D.may_leave self.old entries → D.seen self.old.disk ≡ Some old → D.seen self.new.disk ≡ Some new → length new ≤ max (length old) (size (entries ++ drop 4 bytes.items ∷ [])) }
+        ensures added { (entries : List (List ℕ)) → Lists D.seen D.may_leave self.old entries →
+            OnOk result (Lists D.seen D.may_leave self.new (entries ++ drop 4 bytes.items ∷ [])) }
+        ensures left { (entries : List (List ℕ)) → Lists D.seen D.may_leave self.old entries →
+            LeavesEntries D.may_leave self.new.disk (λ left. (left ≡ entries) ⊎
+            (left ≡ entries ++ drop 4 bytes.items ∷ [])) }
+        ensures grows { (entries : List (List ℕ)) (old new : List ℕ) →
+            Lists D.seen D.may_leave self.old entries → D.seen self.old.disk ≡ Some old →
+            D.seen self.new.disk ≡ Some new →
+            length new ≤ max (length old) (size (entries ++ drop 4 bytes.items ∷ [])) }
         ensures comes { ComesOf D.seen D.may_leave self.old self.new }
-        ensures told { (old : List ℕ) → D.seen self.old.disk ≡ Some old → (new : List ℕ) × (D.seen self.new.disk ≡ Some new) }
+        ensures told { (old : List ℕ) → D.seen self.old.disk ≡ Some old → (new : List ℕ) ×
+            (D.seen self.new.disk ≡ Some new) }
         ensures live { OnOk result (IsTrue self.new.live) }
         ensures count { OnOk result (count_of self.new ≡ count_of self.old + 1) }
-        ensures too_long { (len : ℕ) → (result ≡ Err (JournalError.EntryTooLong len)) ↔ ((2 ^ 28 < length (drop 4 bytes.items)) × (len ≡ length (drop 4 bytes.items))) }
-        ensures failed { result ≡ Err JournalError.Failed → Rose (D.faults self.old.disk) (D.faults self.new.disk) }
+        ensures too_long { (len : ℕ) → (result ≡ Err (JournalError.EntryTooLong len)) ↔
+            ((2 ^ 28 < length (drop 4 bytes.items)) × (len ≡ length (drop 4 bytes.items))) }
+        ensures failed { result ≡ Err JournalError.Failed →
+            Rose (D.faults self.old.disk) (D.faults self.new.disk) }
         ensures dead { result ≡ Err JournalError.Failed → self.new.live ≡ false }
         ensures journal { (at : ℕ) → result ≢ Err (JournalError.NotAJournal at) }
         ensures unchanged { OnErr result (result ≢ Err JournalError.Failed → self.new ≡ self.old) }
         ensures later { D.faults self.old.disk ≤ D.faults self.new.disk }
-        ensures steady { result ≢ Err JournalError.Failed → IsSteady D.seen D.faults self.old.disk self.new.disk }
+        ensures steady { result ≢ Err JournalError.Failed →
+            IsSteady D.seen D.faults self.old.disk self.new.disk }
     {
         let len = (bytes.len() - ENTRY_ROOM) as u64;
         if len > ENTRY_LIMIT as u64 {
@@ -169,16 +212,21 @@ impl<D: Disk> Journal<D> {
     pub fn entry(&mut self, alloc: Global, number: u64) -> Result<Bytes, JournalError>
         requires live { IsTrue self.old.live }
         requires within { number < count_of self.old }
-        ensures found { (entries : List (List ℕ)) → Lists D.seen D.may_leave self.old entries → IfOk result (λ bytes. slice_get entries number ≡ Some bytes) }
-        ensures lists { (entries : List (List ℕ)) → Lists D.seen D.may_leave self.old entries → Lists D.seen D.may_leave self.new entries }
+        ensures found { (entries : List (List ℕ)) → Lists D.seen D.may_leave self.old entries →
+            IfOk result (λ bytes. slice_get entries number ≡ Some bytes) }
+        ensures lists { (entries : List (List ℕ)) → Lists D.seen D.may_leave self.old entries →
+            Lists D.seen D.may_leave self.new entries }
         ensures same { self.new ≡ record self.old { disk = self.new.disk } }
         ensures seen { D.seen self.new.disk ≡ D.seen self.old.disk }
-        ensures images { (image : List ℕ) → D.may_leave self.new.disk image ↔ D.may_leave self.old.disk image }
-        ensures failed { result ≡ Err JournalError.Failed → Rose (D.faults self.old.disk) (D.faults self.new.disk) }
+        ensures images { (image : List ℕ) → D.may_leave self.new.disk image ↔
+            D.may_leave self.old.disk image }
+        ensures failed { result ≡ Err JournalError.Failed →
+            Rose (D.faults self.old.disk) (D.faults self.new.disk) }
         ensures journal { (at : ℕ) → result ≢ Err (JournalError.NotAJournal at) }
         ensures short { (len : ℕ) → result ≢ Err (JournalError.EntryTooLong len) }
         ensures later { D.faults self.old.disk ≤ D.faults self.new.disk }
-        ensures steady { result ≢ Err JournalError.Failed → IsSteady D.seen D.faults self.old.disk self.new.disk }
+        ensures steady { result ≢ Err JournalError.Failed →
+            IsSteady D.seen D.faults self.old.disk self.new.disk }
     {
         let place = self.places[number as usize];
         let mut bytes = vec![in alloc; 0u8; place.length as usize]?;

@@ -8,21 +8,33 @@ use dbl_disk::Disk;
 
 /// Bytes are a journal of one list of entries at most.
 pub fn journals_are_read_once()
-    ensures { (bytes : List ℕ) (first second : List (List ℕ)) → IsJournal bytes first → IsJournal bytes second → first ≡ second }
+    ensures { (bytes : List ℕ) (first second : List (List ℕ)) → IsJournal bytes first →
+        IsJournal bytes second → first ≡ second }
 {}
 
 /// Bytes never are a journal and have a fault, and they have one fault at most.
 pub fn journals_or_faults()
-    ensures not_both { (bytes : List ℕ) (entries : List (List ℕ)) (at : ℕ) → IsJournal bytes entries → ¬ IsFaultAt bytes at }
-    ensures one_fault { (bytes : List ℕ) (first second : ℕ) → IsFaultAt bytes first → IsFaultAt bytes second → first ≡ second }
+    ensures not_both { (bytes : List ℕ) (entries : List (List ℕ)) (at : ℕ) →
+        IsJournal bytes entries → ¬ IsFaultAt bytes at }
+    ensures one_fault { (bytes : List ℕ) (first second : ℕ) → IsFaultAt bytes first →
+        IsFaultAt bytes second → first ≡ second }
 {}
 
-/// A journal lists one list of entries at most, of which it has the count, and which is what a stop may leave of it, and nothing else. What may be left while
+/// A journal lists one list of entries at most, of which it has the count, and which is what a crash may leave of it, and nothing else. What may be left while
 /// an entry is appended is the list or the one with the entry.
 pub fn lists_are_one<D: Disk>()
-    ensures one { (journal : OnDisk D) (first second : List (List ℕ)) → Lists D.seen D.may_leave journal first → Lists D.seen D.may_leave journal second → first ≡ second }
-    ensures counted { (journal : OnDisk D) (entries : List (List ℕ)) → Lists D.seen D.may_leave journal entries → count_of journal ≡ length entries }
-    ensures left { (journal : OnDisk D) (entries left : List (List ℕ)) → Lists D.seen D.may_leave journal entries → MayLeaveEntries D.may_leave journal.disk left → left ≡ entries }
-    ensures listed { (journal : OnDisk D) (entries : List (List ℕ)) → Lists D.seen D.may_leave journal entries → MayLeaveEntries D.may_leave journal.disk entries }
-    ensures one_of { (disk : D) (entries left : List (List ℕ)) (entry : List ℕ) → LeavesEntries D.may_leave disk (λ l. (l ≡ entries) ⊎ (l ≡ entries ++ entry ∷ [])) → MayLeaveEntries D.may_leave disk left → (left ≡ entries) ⊎ (left ≡ entries ++ entry ∷ []) }
+    ensures one { (journal : OnDisk D) (first second : List (List ℕ)) →
+        Lists D.seen D.may_leave journal first → Lists D.seen D.may_leave journal second →
+        first ≡ second }
+    ensures counted { (journal : OnDisk D) (entries : List (List ℕ)) →
+        Lists D.seen D.may_leave journal entries → count_of journal ≡ length entries }
+    ensures left { (journal : OnDisk D) (entries left : List (List ℕ)) →
+        Lists D.seen D.may_leave journal entries → MayLeaveEntries D.may_leave journal.disk left →
+        left ≡ entries }
+    ensures listed { (journal : OnDisk D) (entries : List (List ℕ)) →
+        Lists D.seen D.may_leave journal entries →
+        MayLeaveEntries D.may_leave journal.disk entries }
+    ensures one_of { (disk : D) (entries left : List (List ℕ)) (entry : List ℕ) →
+        LeavesEntries D.may_leave disk (λ l. (l ≡ entries) ⊎ (l ≡ entries ++ entry ∷ [])) →
+        MayLeaveEntries D.may_leave disk left → (left ≡ entries) ⊎ (left ≡ entries ++ entry ∷ []) }
 {}

@@ -49,15 +49,21 @@ fn open_length(head: &[u8]) -> Option<u32>
 fn next_place<D: Disk>(disk: &mut D, gate: u64, total: u64) -> Result<Option<Extent>, JournalError>
     requires small { total < 2 ^ 40 }
     requires within { gate ≤ total }
-    ensures step { (bytes : List ℕ) → D.seen disk.old ≡ Some bytes → total ≡ length bytes → IfOk result (λ place. IsStep bytes gate place) }
-    ensures broken { (bytes : List ℕ) (at : ℕ) → D.seen disk.old ≡ Some bytes → total ≡ length bytes → result ≡ Err (JournalError.NotAJournal at) → (at ≡ gate) × IsBroken (drop gate bytes) }
-    ensures forward { IfOk result (λ place. IfSome place (λ p. (p.at ≡ gate + 5) × (p.at + p.length ≤ total))) }
+    ensures step { (bytes : List ℕ) → D.seen disk.old ≡ Some bytes → total ≡ length bytes →
+        IfOk result (λ place. IsStep bytes gate place) }
+    ensures broken { (bytes : List ℕ) (at : ℕ) → D.seen disk.old ≡ Some bytes →
+        total ≡ length bytes → result ≡ Err (JournalError.NotAJournal at) → (at ≡ gate) ×
+        IsBroken (drop gate bytes) }
+    ensures forward { IfOk result
+        (λ place. IfSome place (λ p. (p.at ≡ gate + 5) × (p.at + p.length ≤ total))) }
     ensures seen { D.seen disk.new ≡ D.seen disk.old }
     ensures images { (image : List ℕ) → D.may_leave disk.new image ↔ D.may_leave disk.old image }
-    ensures failed { result ≡ Err JournalError.Failed → Rose (D.faults disk.old) (D.faults disk.new) }
+    ensures failed { result ≡ Err JournalError.Failed →
+        Rose (D.faults disk.old) (D.faults disk.new) }
     ensures short { (len : ℕ) → result ≢ Err (JournalError.EntryTooLong len) }
     ensures later { D.faults disk.old ≤ D.faults disk.new }
-    ensures steady { (bytes : List ℕ) → D.seen disk.old ≡ Some bytes → result ≢ Err JournalError.Failed → D.faults disk.new ≡ D.faults disk.old }
+    ensures steady { (bytes : List ℕ) → D.seen disk.old ≡ Some bytes →
+        result ≢ Err JournalError.Failed → D.faults disk.new ≡ D.faults disk.old }
 {
     let mut head = [0u8; 5];
     let got = disk.read_at(gate, &mut head)?;
@@ -79,14 +85,18 @@ fn next_place<D: Disk>(disk: &mut D, gate: u64, total: u64) -> Result<Option<Ext
 
 // Looks for the magic.
 fn read_magic<D: Disk>(disk: &mut D) -> Result<(), JournalError>
-    ensures right { (bytes : List ℕ) → D.seen disk.old ≡ Some bytes → OnOk result (bytes ≡ magic ++ drop 8 bytes) }
-    ensures wrong { (bytes : List ℕ) (at : ℕ) → D.seen disk.old ≡ Some bytes → result ≡ Err (JournalError.NotAJournal at) → IsFaultAt bytes at }
+    ensures right { (bytes : List ℕ) → D.seen disk.old ≡ Some bytes →
+        OnOk result (bytes ≡ magic ++ drop 8 bytes) }
+    ensures wrong { (bytes : List ℕ) (at : ℕ) → D.seen disk.old ≡ Some bytes →
+        result ≡ Err (JournalError.NotAJournal at) → IsFaultAt bytes at }
     ensures seen { D.seen disk.new ≡ D.seen disk.old }
     ensures images { (image : List ℕ) → D.may_leave disk.new image ↔ D.may_leave disk.old image }
-    ensures failed { result ≡ Err JournalError.Failed → Rose (D.faults disk.old) (D.faults disk.new) }
+    ensures failed { result ≡ Err JournalError.Failed →
+        Rose (D.faults disk.old) (D.faults disk.new) }
     ensures short { (len : ℕ) → result ≢ Err (JournalError.EntryTooLong len) }
     ensures later { D.faults disk.old ≤ D.faults disk.new }
-    ensures steady { (bytes : List ℕ) → D.seen disk.old ≡ Some bytes → result ≢ Err JournalError.Failed → D.faults disk.new ≡ D.faults disk.old }
+    ensures steady { (bytes : List ℕ) → D.seen disk.old ≡ Some bytes →
+        result ≢ Err JournalError.Failed → D.faults disk.new ≡ D.faults disk.old }
 {
     let mut head = [0u8; 8];
     let got = disk.read_at(0, &mut head)?;
@@ -100,16 +110,23 @@ fn read_magic<D: Disk>(disk: &mut D) -> Result<(), JournalError>
 // Goes over the entries behind the magic.
 fn read_places<D: Disk>(alloc: Global, disk: &mut D, total: u64) -> Result<Found, JournalError>
     requires { total < 2 ^ 40 }
-    ensures read { (bytes : List ℕ) → D.seen disk.old ≡ Some bytes → total ≡ length bytes → bytes ≡ magic ++ drop 8 bytes → IfOk result (λ found. (entries : List (List ℕ)) × IsJournal bytes entries × (found.gate ≡ length (front entries)) × (found.places.items ≡ places_from 8 entries)) }
-    ensures broken { (bytes : List ℕ) (at : ℕ) → D.seen disk.old ≡ Some bytes → total ≡ length bytes → bytes ≡ magic ++ drop 8 bytes → result ≡ Err (JournalError.NotAJournal at) → IsFaultAt bytes at }
+    ensures read { (bytes : List ℕ) → D.seen disk.old ≡ Some bytes → total ≡ length bytes →
+        bytes ≡ magic ++ drop 8 bytes → IfOk result
+        (λ found. (entries : List (List ℕ)) × IsJournal bytes entries ×
+        (found.gate ≡ length (front entries)) × (found.places.items ≡ places_from 8 entries)) }
+    ensures broken { (bytes : List ℕ) (at : ℕ) → D.seen disk.old ≡ Some bytes →
+        total ≡ length bytes → bytes ≡ magic ++ drop 8 bytes →
+        result ≡ Err (JournalError.NotAJournal at) → IsFaultAt bytes at }
     ensures inside { IfOk result (λ found. found.gate ≤ total) }
     ensures few { IfOk result (λ found. length found.places.items ≤ found.gate) }
     ensures seen { D.seen disk.new ≡ D.seen disk.old }
     ensures images { (image : List ℕ) → D.may_leave disk.new image ↔ D.may_leave disk.old image }
-    ensures failed { result ≡ Err JournalError.Failed → Rose (D.faults disk.old) (D.faults disk.new) }
+    ensures failed { result ≡ Err JournalError.Failed →
+        Rose (D.faults disk.old) (D.faults disk.new) }
     ensures short { (len : ℕ) → result ≢ Err (JournalError.EntryTooLong len) }
     ensures later { D.faults disk.old ≤ D.faults disk.new }
-    ensures steady { (bytes : List ℕ) → D.seen disk.old ≡ Some bytes → result ≢ Err JournalError.Failed → D.faults disk.new ≡ D.faults disk.old }
+    ensures steady { (bytes : List ℕ) → D.seen disk.old ≡ Some bytes →
+        result ≢ Err JournalError.Failed → D.faults disk.new ≡ D.faults disk.old }
 {
     if total < 8 {
         return Err(JournalError::NotAJournal { at: total });
@@ -123,21 +140,29 @@ fn read_places<D: Disk>(alloc: Global, disk: &mut D, total: u64) -> Result<Found
     Ok(Found { gate, places })
 }
 
-// Finds the entries of what a stop may have left. It begins with a sync, so whatever it finds is what a stop leaves from
+// Finds the entries of what a crash may have left. It begins with a sync, so whatever it finds is what a crash leaves from
 // then on.
 pub(crate) fn scan<D: Disk>(alloc: Global, disk: &mut D) -> Result<Found, JournalError>
-    ensures read { (bytes : List ℕ) → D.seen disk.old ≡ Some bytes → IfOk result (λ found. (entries : List (List ℕ)) × IsJournal bytes entries × (found.gate ≡ length (front entries)) × (found.places.items ≡ places_from 8 entries)) }
-    ensures only { (bytes : List ℕ) → D.seen disk.old ≡ Some bytes → result ≢ Err JournalError.Failed → IsOnly bytes (D.may_leave disk.new) }
-    ensures first { (bytes : List ℕ) (calls : ℕ) → D.seen disk.old ≡ Some bytes → D.calls disk.old ≡ Some calls → D.calls disk.new ≢ Some (raised calls) → IsOnly bytes (D.may_leave disk.new) }
-    ensures broken { (bytes : List ℕ) (at : ℕ) → D.seen disk.old ≡ Some bytes → result ≡ Err (JournalError.NotAJournal at) → IsFaultAt bytes at }
+    ensures read { (bytes : List ℕ) → D.seen disk.old ≡ Some bytes →
+        IfOk result (λ found. (entries : List (List ℕ)) × IsJournal bytes entries ×
+        (found.gate ≡ length (front entries)) × (found.places.items ≡ places_from 8 entries)) }
+    ensures only { (bytes : List ℕ) → D.seen disk.old ≡ Some bytes →
+        result ≢ Err JournalError.Failed → IsOnly bytes (D.may_leave disk.new) }
+    ensures first { (bytes : List ℕ) (calls : ℕ) → D.seen disk.old ≡ Some bytes →
+        D.calls disk.old ≡ Some calls → D.calls disk.new ≢ Some (raised calls) →
+        IsOnly bytes (D.may_leave disk.new) }
+    ensures broken { (bytes : List ℕ) (at : ℕ) → D.seen disk.old ≡ Some bytes →
+        result ≡ Err (JournalError.NotAJournal at) → IsFaultAt bytes at }
     ensures small { IfOk result (λ found. found.gate < 2 ^ 40) }
     ensures few { IfOk result (λ found. length found.places.items ≤ found.gate) }
     ensures seen { D.seen disk.new ≡ D.seen disk.old }
     ensures images { (image : List ℕ) → D.may_leave disk.new image → D.may_leave disk.old image }
-    ensures failed { result ≡ Err JournalError.Failed → Rose (D.faults disk.old) (D.faults disk.new) }
+    ensures failed { result ≡ Err JournalError.Failed →
+        Rose (D.faults disk.old) (D.faults disk.new) }
     ensures short { (len : ℕ) → result ≢ Err (JournalError.EntryTooLong len) }
     ensures later { D.faults disk.old ≤ D.faults disk.new }
-    ensures steady { (bytes : List ℕ) → D.seen disk.old ≡ Some bytes → result ≢ Err JournalError.Failed → D.faults disk.new ≡ D.faults disk.old }
+    ensures steady { (bytes : List ℕ) → D.seen disk.old ≡ Some bytes →
+        result ≢ Err JournalError.Failed → D.faults disk.new ≡ D.faults disk.old }
 {
     disk.sync()?;
     let total = disk.len()?;

@@ -1,4 +1,4 @@
--- Stores: what their bytes are read as, and what a stop leaves of them.
+-- Stores: what their bytes are read as, and what a crash leaves of them.
 use Rattle.std.proofs.Common.{◌≡◌, ◌⊎◌, ◌∙◌, ℕ, ◌+◌, ◌^◌, ◌<◌, ◌≤◌, Option, Some, None, Result, Err, List, [], ◌∷◌, ◌++◌, length, take, refl, sym, ap, subst, arith, inl, inr}
 use Rattle.std.specs.Prelude.{max, slice_get}
 use Rattle.std.specs.List.{All}

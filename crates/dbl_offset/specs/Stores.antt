@@ -1,4 +1,4 @@
--- Offset stores: on bytes, on disks, and what a stop leaves of them.
+-- Offset stores: on bytes, on disks, and what a crash leaves of them.
 use Rattle.std.specs.Prelude.{◌≡◌, ℕ, ◌+◌, IsTrue, Option, Some, None, List, [], ◌∷◌, ◌++◌, length, slice_get, take}
 use Rattle.std.specs.List.{All}
 use Rattle.dbl_disk.specs.Disks.{Torn}
@@ -82,7 +82,7 @@ BeginsTorn old new = Torn 0 9 old new
 abbrev pub ComesOf : {D : Type 0} → (D → Option (List ℕ)) → (D → List ℕ → Type 0) → StoreOn D → StoreOn D → Type 0
 ComesOf seen may_leave old new = growth.ComesOf seen may_leave old.journal new.journal
 
--- The store holds this offset: it can be used, its disk tells its bytes, which are a store of the offset, and a stop leaves
+-- The store holds this offset: it can be used, its disk tells its bytes, which are a store of the offset, and a crash leaves
 -- nothing else.
 pub record Holds {D : Type 0} (seen : D → Option (List ℕ)) (may_leave : D → List ℕ → Type 0) (store : StoreOn D) (offset : Option Offset) : Type 0 where
   pub entries : List (List ℕ)
@@ -91,11 +91,11 @@ pub record Holds {D : Type 0} (seen : D → Option (List ℕ)) (may_leave : D �
   pub last : IsLastOf entries offset
   pub offset_is : store.offset ≡ offset
 
--- a stop may leave a store of this offset
+-- a crash may leave a store of this offset
 abbrev pub MayLeaveOffset : {D : Type 0} → (D → List ℕ → Type 0) → D → Option Offset → Type 0
 MayLeaveOffset may_leave disk offset = (image : List ℕ) × may_leave disk image × IsStore image offset
 
--- whatever a stop leaves is a store, of an offset of which this holds
+-- whatever a crash leaves is a store, of an offset of which this holds
 abbrev pub LeavesOffset : {D : Type 0} → (D → List ℕ → Type 0) → D → (Option Offset → Type 0) → Type 0
 LeavesOffset may_leave disk P = (image : List ℕ) → may_leave disk image → (offset : Option Offset) × IsStore image offset × P offset
 

@@ -81,7 +81,8 @@ fn read_cells<'a>(
     key: &[u32],
     bytes: &'a [u8],
 ) -> Result<(Vec<Val>, &'a [u8]), RecordError>
-    ensures { Gives (λ x. (x.0.items, x.1.now)) result (cells_at (map (type_at columns.now) key.now) bytes.now) }
+    ensures { Gives (λ x. (x.0.items, x.1.now)) result
+        (cells_at (map (type_at columns.now) key.now) bytes.now) }
 {
     let mut cells = Vec::with_capacity(alloc, key.len())?;
     let mut rest = bytes;

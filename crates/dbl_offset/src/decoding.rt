@@ -64,7 +64,8 @@ struct Numbers {
 
 #[tactic(auto, unfolding(crate::specs::Reading::numbers_at))]
 fn read_numbers(bytes: &[u8]) -> Result<(Numbers, &[u8]), RecordError>
-    ensures { Gives (λ x. ((x.0.incarnation, x.0.start, x.0.lsn, x.0.end_lsn), x.1.now)) result (numbers_at bytes.now) }
+    ensures { Gives (λ x. ((x.0.incarnation, x.0.start, x.0.lsn, x.0.end_lsn), x.1.now)) result
+        (numbers_at bytes.now) }
 {
     let (incarnation, rest) = read_number64(0, bytes)?;
     let (start, rest) = read_number64(0, rest)?;
@@ -94,7 +95,8 @@ fn read_each_table(
     count: usize,
     bytes: &[u8],
 ) -> Result<(Tables, &[u8]), RecordError>
-    ensures read { Gives (λ x. (zip x.0.infos.items x.0.cursors.items, x.1.now)) result (many_at entry_at count bytes.now) }
+    ensures read { Gives (λ x. (zip x.0.infos.items x.0.cursors.items, x.1.now)) result
+        (many_at entry_at count bytes.now) }
     ensures long { IfOk result (λ x. length x.0.cursors.items ≡ length x.0.infos.items) }
 {
     let mut infos = Vec::new(alloc);
@@ -129,7 +131,8 @@ fn have_distinct_names(infos: &[TableInfo]) -> bool
 
 #[tactic(auto, unfolding(crate::specs::Reading::tables_at))]
 fn read_tables(alloc: Global, bytes: &[u8]) -> Result<(Tables, &[u8]), RecordError>
-    ensures read { Gives (λ x. (zip x.0.infos.items x.0.cursors.items, x.1.now)) result (tables_at bytes.now) }
+    ensures read { Gives (λ x. (zip x.0.infos.items x.0.cursors.items, x.1.now)) result
+        (tables_at bytes.now) }
     ensures long { IfOk result (λ x. length x.0.cursors.items ≡ length x.0.infos.items) }
 {
     let (count, rest) = read_number32(0, bytes)?;

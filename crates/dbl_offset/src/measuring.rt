@@ -38,7 +38,8 @@ fn add_column(before: u64, item: &Column) -> u64
 }
 
 fn add_columns(before: u64, columns: &[Column]) -> u64
-    ensures { Measures before (length (flat_map column columns.now)) (AllByRecursion FitsColumn columns.now) result }
+    ensures { Measures before (length (flat_map column columns.now))
+        (AllByRecursion FitsColumn columns.now) result }
 {
     let mut total = before;
     for item in columns {
@@ -48,7 +49,8 @@ fn add_columns(before: u64, columns: &[Column]) -> u64
 }
 
 fn add_places(before: u64, key: &[u32]) -> u64
-    ensures { Measures before (length (counted number32 key.now)) ((length key.now < 2 ^ 32) × AllByRecursion (λ place. place < 2 ^ 32) key.now) result }
+    ensures { Measures before (length (counted number32 key.now)) ((length key.now < 2 ^ 32) ×
+        AllByRecursion (λ place. place < 2 ^ 32) key.now) result }
 {
     let bytes = (key.len() as u64).saturating_mul(4);
     before.saturating_add(4).saturating_add(bytes)
@@ -81,7 +83,8 @@ fn add_cell(before: u64, value: &Val) -> u64
 }
 
 fn add_cells(before: u64, cells: &[Val]) -> u64
-    ensures { Measures before (length (flat_map cell cells.now)) (AllByRecursion FitsCell cells.now) result }
+    ensures { Measures before (length (flat_map cell cells.now))
+        (AllByRecursion FitsCell cells.now) result }
 {
     let mut total = before;
     for value in cells {
@@ -101,7 +104,8 @@ fn add_cursor(before: u64, progress: &Cursor) -> u64
 }
 
 fn add_entry(before: u64, info: &TableInfo, progress: &Cursor) -> u64
-    ensures { Measures before (length (entry (info.now, progress.now))) (FitsEntry (info.now, progress.now)) result }
+    ensures { Measures before (length (entry (info.now, progress.now)))
+        (FitsEntry (info.now, progress.now)) result }
 {
     let total = add_table(before, info);
     add_cursor(total, progress)
@@ -109,7 +113,8 @@ fn add_entry(before: u64, info: &TableInfo, progress: &Cursor) -> u64
 
 fn add_entries(before: u64, infos: &[TableInfo], cursors: &[Cursor]) -> u64
     requires { length cursors.now ≡ length infos.now }
-    ensures { Measures before (length (flat_map entry (zip infos.now cursors.now))) (AllByRecursion FitsEntry (zip infos.now cursors.now)) result }
+    ensures { Measures before (length (flat_map entry (zip infos.now cursors.now)))
+        (AllByRecursion FitsEntry (zip infos.now cursors.now)) result }
 {
     let mut total = before;
     for i in 0..infos.len() {

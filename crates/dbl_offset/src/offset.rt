@@ -5,7 +5,7 @@ use dbl_history::Cursor;
 use dbl_table::{Identity, TableInfo};
 use std::alloc::{AllocError, Global};
 
-/// How far a connector has come: what it captures, and from where it goes on after a stop (Debezium PostgreSQL connector,
+/// How far a connector has come: what it captures, and from where it goes on after a crash (Debezium PostgreSQL connector,
 /// "How the connector works").
 #[derive(Debug, Drop)]
 pub struct Offset {

@@ -19,7 +19,7 @@ use dbl_record::RecordError;
 use std::alloc::Global;
 use std::marker::Model;
 
-/// The offset of a connector, on a disk. A stop while an offset is stored leaves the old one or the new one.
+/// The offset of a connector, on a disk. A crash while an offset is stored leaves the old one or the new one.
 ///
 /// On the disk stands a journal with an entry for each offset that was stored. The last one counts.
 #[derive(Drop)]
@@ -43,7 +43,8 @@ impl<D: Disk> Model for OffsetStore<D> {
 // The offset that an entry spells.
 fn read_entry(alloc: Global, index: u64, bytes: &[u8]) -> Result<Offset, OffsetError>
     ensures read { IfOk result (λ offset. Spells bytes.now offset) }
-    ensures refused { IfErr result (λ error. (error ≡ OffsetError.Memory) ⊎ ((error ≡ OffsetError.BadOffset index) × ¬ IsEntry bytes.now)) }
+    ensures refused { IfErr result (λ error. (error ≡ OffsetError.Memory) ⊎
+        ((error ≡ OffsetError.BadOffset index) × ¬ IsEntry bytes.now)) }
 {
     match decode(alloc, bytes) {
         Ok(offset) => Ok(offset),
@@ -58,20 +59,28 @@ fn read_last<D: Disk>(
     journal: &mut Journal<D>,
 ) -> Result<Option<Offset>, OffsetError>
     requires { IsTrue journal.old.live }
-    ensures each { (entries : List (List ℕ)) → Lists D.seen D.may_leave journal.old entries → OnOk result (All IsEntry entries) }
-    ensures last { (entries : List (List ℕ)) → Lists D.seen D.may_leave journal.old entries → IfOk result (IsLastOf entries) }
-    ensures lists { (entries : List (List ℕ)) → Lists D.seen D.may_leave journal.old entries → Lists D.seen D.may_leave journal.new entries }
-    ensures bad { (entries : List (List ℕ)) (index : ℕ) → Lists D.seen D.may_leave journal.old entries → result ≡ Err (OffsetError.BadOffset index) →
-        All IsEntry (take index entries) × ((entry : List ℕ) × (slice_get entries index ≡ Some entry) × ¬ IsEntry entry) }
+    ensures each { (entries : List (List ℕ)) → Lists D.seen D.may_leave journal.old entries →
+        OnOk result (All IsEntry entries) }
+    ensures last { (entries : List (List ℕ)) → Lists D.seen D.may_leave journal.old entries →
+        IfOk result (IsLastOf entries) }
+    ensures lists { (entries : List (List ℕ)) → Lists D.seen D.may_leave journal.old entries →
+        Lists D.seen D.may_leave journal.new entries }
+    ensures bad { (entries : List (List ℕ)) (index : ℕ) →
+        Lists D.seen D.may_leave journal.old entries → result ≡ Err (OffsetError.BadOffset index) →
+        All IsEntry (take index entries) ×
+        ((entry : List ℕ) × (slice_get entries index ≡ Some entry) × ¬ IsEntry entry) }
     ensures asked { IfOk result (λ last. IfSome last IsOffset) }
     ensures same { journal.new ≡ record journal.old { disk = journal.new.disk } }
     ensures seen { D.seen journal.new.disk ≡ D.seen journal.old.disk }
-    ensures images { (image : List ℕ) → D.may_leave journal.new.disk image ↔ D.may_leave journal.old.disk image }
-    ensures failed { result ≡ Err OffsetError.Failed → Rose (D.faults journal.old.disk) (D.faults journal.new.disk) }
+    ensures images { (image : List ℕ) → D.may_leave journal.new.disk image ↔
+        D.may_leave journal.old.disk image }
+    ensures failed { result ≡ Err OffsetError.Failed →
+        Rose (D.faults journal.old.disk) (D.faults journal.new.disk) }
     ensures store { (at : ℕ) → result ≢ Err (OffsetError.NotAStore at) }
     ensures short { (len : ℕ) → result ≢ Err (OffsetError.TooLong len) }
     ensures later { D.faults journal.old.disk ≤ D.faults journal.new.disk }
-    ensures steady { result ≢ Err OffsetError.Failed → IsSteady D.seen D.faults journal.old.disk journal.new.disk }
+    ensures steady { result ≢ Err OffsetError.Failed →
+        IsSteady D.seen D.faults journal.old.disk journal.new.disk }
 {
     let mut last = None;
     for index in 0..journal.count() {
@@ -85,14 +94,20 @@ impl<D: Disk> OffsetStore<D> {
     /// A store without an offset, on an empty disk: a write and a sync. No memory is taken.
     pub fn make(alloc: Global, disk: D) -> Result<OffsetStore<D>, Refused<D, OffsetError>>
         requires { (bytes : List ℕ) → D.seen disk ≡ Some bytes → bytes ≡ [] }
-        ensures made { D.seen disk ≡ Some [] → IfOk result (λ store. Holds D.seen D.may_leave store None) }
+        ensures made { D.seen disk ≡ Some [] →
+            IfOk result (λ store. Holds D.seen D.may_leave store None) }
         ensures live { IfOk result IsLive }
         ensures empty { IfOk result (λ store. store.offset ≡ None) }
-        ensures small { (bytes : List ℕ) → D.seen disk ≡ Some [] → MatchResult result (λ store. D.seen (disk_of store) ≡ Some bytes → length bytes ≤ least_room) (λ refused. D.seen refused.disk ≡ Some bytes → length bytes ≤ least_room) }
+        ensures small { (bytes : List ℕ) → D.seen disk ≡ Some [] →
+            MatchResult result (λ store. D.seen (disk_of store) ≡ Some bytes →
+            length bytes ≤ least_room) (λ refused. D.seen refused.disk ≡ Some bytes →
+            length bytes ≤ least_room) }
         ensures refused { IfErr result (λ refused. refused.error ≡ OffsetError.Failed) }
         ensures failed { IfErr result (λ refused. Rose (D.faults disk) (D.faults refused.disk)) }
-        ensures left { IfErr result (λ refused. Follows BeginsTorn (D.may_leave disk) (D.may_leave refused.disk)) }
-        ensures later { MatchResult result (λ store. D.faults disk ≤ D.faults (disk_of store)) (λ refused. D.faults disk ≤ D.faults refused.disk) }
+        ensures left { IfErr result
+            (λ refused. Follows BeginsTorn (D.may_leave disk) (D.may_leave refused.disk)) }
+        ensures later { MatchResult result (λ store. D.faults disk ≤ D.faults (disk_of store))
+            (λ refused. D.faults disk ≤ D.faults refused.disk) }
         ensures steady { IfOk result (λ store. IsSteady D.seen D.faults disk (disk_of store)) }
     {
         let journal = match Journal::make(alloc, disk) {
@@ -108,22 +123,36 @@ impl<D: Disk> OffsetStore<D> {
         Ok(OffsetStore { journal, offset })
     }
 
-    /// The store on the disk, as a stop may have left it. It begins with a sync, and reads each entry once. Whatever it answers
-    /// but `Failed`, a stop leaves what was read and nothing else.
+    /// The store on the disk, as a crash may have left it. It begins with a sync, and reads each entry once. Whatever it answers
+    /// but `Failed`, a crash leaves what was read and nothing else.
     pub fn open(alloc: Global, disk: D) -> Result<OffsetStore<D>, Refused<D, OffsetError>>
-        ensures opened { (bytes : List ℕ) → D.seen disk ≡ Some bytes → IfOk result (λ store. IsStore bytes store.offset) }
-        ensures holds { (bytes : List ℕ) → D.seen disk ≡ Some bytes → IfOk result (λ store. Holds D.seen D.may_leave store store.offset) }
-        ensures not_a_store { (bytes : List ℕ) (at : ℕ) → D.seen disk ≡ Some bytes → IfErr result (λ refused. refused.error ≡ OffsetError.NotAStore at → IsNoStoreAt bytes at) }
-        ensures bad_offset { (bytes : List ℕ) (index : ℕ) → D.seen disk ≡ Some bytes → IfErr result (λ refused. refused.error ≡ OffsetError.BadOffset index → HasBadOffset bytes index) }
-        ensures short { IfErr result (λ refused. (len : ℕ) → refused.error ≢ OffsetError.TooLong len) }
+        ensures opened { (bytes : List ℕ) → D.seen disk ≡ Some bytes →
+            IfOk result (λ store. IsStore bytes store.offset) }
+        ensures holds { (bytes : List ℕ) → D.seen disk ≡ Some bytes →
+            IfOk result (λ store. Holds D.seen D.may_leave store store.offset) }
+        ensures not_a_store { (bytes : List ℕ) (at : ℕ) → D.seen disk ≡ Some bytes → IfErr result
+            (λ refused. refused.error ≡ OffsetError.NotAStore at → IsNoStoreAt bytes at) }
+        ensures bad_offset { (bytes : List ℕ) (index : ℕ) → D.seen disk ≡ Some bytes → IfErr result
+            (λ refused. refused.error ≡ OffsetError.BadOffset index → HasBadOffset bytes index) }
+        ensures short { IfErr result
+            (λ refused. (len : ℕ) → refused.error ≢ OffsetError.TooLong len) }
         ensures live { IfOk result IsLive }
-        ensures failed { IfErr result (λ refused. refused.error ≡ OffsetError.Failed → Rose (D.faults disk) (D.faults refused.disk)) }
-        ensures seen { MatchResult result (λ store. D.seen (disk_of store) ≡ D.seen disk) (λ refused. D.seen refused.disk ≡ D.seen disk) }
-        ensures images { (image : List ℕ) → MatchResult result (λ store. D.may_leave (disk_of store) image → D.may_leave disk image) (λ refused. D.may_leave refused.disk image → D.may_leave disk image) }
-        ensures stable { (bytes : List ℕ) → D.seen disk ≡ Some bytes → MatchResult result (λ store. IsOnly bytes (D.may_leave (disk_of store)))
-            (λ refused. refused.error ≢ OffsetError.Failed → IsOnly bytes (D.may_leave refused.disk)) }
-        ensures later { MatchResult result (λ store. D.faults disk ≤ D.faults (disk_of store)) (λ refused. D.faults disk ≤ D.faults refused.disk) }
-        ensures steady { MatchResult result (λ store. IsSteady D.seen D.faults disk (disk_of store)) (λ refused. refused.error ≢ OffsetError.Failed → IsSteady D.seen D.faults disk refused.disk) }
+        ensures failed { IfErr result (λ refused. refused.error ≡ OffsetError.Failed →
+            Rose (D.faults disk) (D.faults refused.disk)) }
+        ensures seen { MatchResult result (λ store. D.seen (disk_of store) ≡ D.seen disk)
+            (λ refused. D.seen refused.disk ≡ D.seen disk) }
+        ensures images { (image : List ℕ) → MatchResult result
+            (λ store. D.may_leave (disk_of store) image → D.may_leave disk image)
+            (λ refused. D.may_leave refused.disk image → D.may_leave disk image) }
+        ensures stable { (bytes : List ℕ) → D.seen disk ≡ Some bytes →
+            MatchResult result (λ store. IsOnly bytes (D.may_leave (disk_of store)))
+            (λ refused. refused.error ≢ OffsetError.Failed →
+            IsOnly bytes (D.may_leave refused.disk)) }
+        ensures later { MatchResult result (λ store. D.faults disk ≤ D.faults (disk_of store))
+            (λ refused. D.faults disk ≤ D.faults refused.disk) }
+        ensures steady { MatchResult result (λ store. IsSteady D.seen D.faults disk (disk_of store))
+            (λ refused. refused.error ≢ OffsetError.Failed →
+            IsSteady D.seen D.faults disk refused.disk) }
     {
         let mut journal = match Journal::open(alloc, disk) {
             Ok(journal) => journal,
@@ -158,22 +187,32 @@ impl<D: Disk> OffsetStore<D> {
     pub fn store(&mut self, alloc: Global, offset: Offset) -> Result<(), OffsetError>
         requires live { IsLive self.old }
         requires offset { IsOffset offset }
-        ensures stored { (old : Option Offset) → Holds D.seen D.may_leave self.old old → OnOk result (Holds D.seen D.may_leave self.new (Some offset)) }
-        ensures left { (old : Option Offset) → Holds D.seen D.may_leave self.old old → LeavesOffset D.may_leave (disk_of self.new) (λ left. (left ≡ old) ⊎ (left ≡ Some offset)) }
-        ensures grows { (old : Option Offset) (before after : List ℕ) → Holds D.seen D.may_leave self.old old → D.seen (disk_of self.old) ≡ Some before → D.seen (disk_of self.new) ≡ Some after → length after ≤ max (length before) (room_of self.old offset) }
+        ensures stored { (old : Option Offset) → Holds D.seen D.may_leave self.old old →
+            OnOk result (Holds D.seen D.may_leave self.new (Some offset)) }
+        ensures left { (old : Option Offset) → Holds D.seen D.may_leave self.old old →
+            LeavesOffset D.may_leave (disk_of self.new) (λ left. (left ≡ old) ⊎
+            (left ≡ Some offset)) }
+        ensures grows { (old : Option Offset) (before after : List ℕ) →
+            Holds D.seen D.may_leave self.old old → D.seen (disk_of self.old) ≡ Some before →
+            D.seen (disk_of self.new) ≡ Some after →
+            length after ≤ max (length before) (room_of self.old offset) }
         ensures comes { ComesOf D.seen D.may_leave self.old self.new }
-        ensures told { (before : List ℕ) → D.seen (disk_of self.old) ≡ Some before → (after : List ℕ) × (D.seen (disk_of self.new) ≡ Some after) }
+        ensures told { (before : List ℕ) → D.seen (disk_of self.old) ≡ Some before →
+            (after : List ℕ) × (D.seen (disk_of self.new) ≡ Some after) }
         ensures loads { OnOk result (self.new.offset ≡ Some offset) }
         ensures keeps { OnErr result (self.new.offset ≡ self.old.offset) }
         ensures live { OnOk result (IsLive self.new) }
-        ensures too_long { (len : ℕ) → (result ≡ Err (OffsetError.TooLong len)) ↔ ((2 ^ 28 < length (spelling offset)) × (len ≡ capped (length (spelling offset)))) }
-        ensures failed { result ≡ Err OffsetError.Failed → Rose (D.faults (disk_of self.old)) (D.faults (disk_of self.new)) }
+        ensures too_long { (len : ℕ) → (result ≡ Err (OffsetError.TooLong len)) ↔
+            ((2 ^ 28 < length (spelling offset)) × (len ≡ capped (length (spelling offset)))) }
+        ensures failed { result ≡ Err OffsetError.Failed →
+            Rose (D.faults (disk_of self.old)) (D.faults (disk_of self.new)) }
         ensures dead { result ≡ Err OffsetError.Failed → ¬ IsLive self.new }
         ensures unchanged { OnErr result (result ≢ Err OffsetError.Failed → self.new ≡ self.old) }
         ensures a_store { (at : ℕ) → result ≢ Err (OffsetError.NotAStore at) }
         ensures no_bad_offset { (index : ℕ) → result ≢ Err (OffsetError.BadOffset index) }
         ensures later { D.faults (disk_of self.old) ≤ D.faults (disk_of self.new) }
-        ensures steady { result ≢ Err OffsetError.Failed → IsSteady D.seen D.faults (disk_of self.old) (disk_of self.new) }
+        ensures steady { result ≢ Err OffsetError.Failed →
+            IsSteady D.seen D.faults (disk_of self.old) (disk_of self.new) }
     {
         let count = measure(&offset);
         if count > ENTRY_LIMIT as u64 {

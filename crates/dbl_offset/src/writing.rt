@@ -140,7 +140,8 @@ fn write_entries(
 ) -> Result<(), AllocError>
     requires long { length cursors.now ≡ length infos.now }
     requires fit { AllByRecursion FitsEntry (zip infos.now cursors.now) }
-    ensures { OnOk result (Extends out.old.items (flat_map entry (zip infos.now cursors.now)) out.new.items) }
+    ensures { OnOk result
+        (Extends out.old.items (flat_map entry (zip infos.now cursors.now)) out.new.items) }
 {
     for i in 0..infos.len() {
         write_entry(out, &infos[i], &cursors[i])?;

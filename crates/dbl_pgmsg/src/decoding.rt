@@ -59,11 +59,13 @@ pub fn decode(alloc: Global, bytes: &[u8]) -> Result<Message, MsgError>
     // What is read is spelled so, each byte of it.
     ensures read { IfOk result (λ message. Spells bytes.now message) }
     // What is spelled so is read, unless memory runs out.
-    ensures spelled { (message : Message) → Spells bytes.now message → (result ≡ Ok message) ⊎ (result ≡ Err MsgError.Memory) }
+    ensures spelled { (message : Message) → Spells bytes.now message → (result ≡ Ok message) ⊎
+        (result ≡ Err MsgError.Memory) }
     // Every other error is the fault of the bytes.
     ensures refused { IfErr result (λ error. (error ≡ MsgError.Memory) ⊎ IsFault bytes.now error) }
     // The fault of the bytes is told, unless memory runs out before it.
-    ensures faulty { (error : MsgError) → IsFault bytes.now error → (result ≡ Err error) ⊎ (result ≡ Err MsgError.Memory) }
+    ensures faulty { (error : MsgError) → IsFault bytes.now error → (result ≡ Err error) ⊎
+        (result ≡ Err MsgError.Memory) }
 {
     read_whole(alloc, bytes)
 }

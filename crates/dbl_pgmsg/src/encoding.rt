@@ -15,7 +15,8 @@ use std::alloc::{AllocError, Global};
 #[tactic(auto, using(crate::proofs::Fronts::begins_same, crate::proofs::Fronts::begins_behind), unfolding(crate::specs::Grammar::spelling))]
 fn write_begin(out: &mut Vec<u8>, lsn: &Lsn, time: &i64, xid: &u32) -> Result<(), AllocError>
     requires { FitsFields (Message.Begin lsn.now time.now xid.now) }
-    ensures written { OnOk result (Appends out.old.items (spelling (Message.Begin lsn.now time.now xid.now)) out.new.items) }
+    ensures written { OnOk result
+        (Appends out.old.items (spelling (Message.Begin lsn.now time.now xid.now)) out.new.items) }
     ensures kept { OnErr result (Begins out.old.items out.new.items) }
 {
     out.extend_from_slice(b"B")?;
@@ -33,7 +34,8 @@ fn write_commit(
     time: &i64,
 ) -> Result<(), AllocError>
     requires { FitsFields (Message.Commit flags.now lsn.now end_lsn.now time.now) }
-    ensures written { OnOk result (Appends out.old.items (spelling (Message.Commit flags.now lsn.now end_lsn.now time.now)) out.new.items) }
+    ensures written { OnOk result (Appends out.old.items
+        (spelling (Message.Commit flags.now lsn.now end_lsn.now time.now)) out.new.items) }
     ensures kept { OnErr result (Begins out.old.items out.new.items) }
 {
     out.extend_from_slice(&[b'C', *flags])?;
@@ -45,7 +47,8 @@ fn write_commit(
 #[tactic(auto, using(crate::proofs::Fronts::begins_same, crate::proofs::Fronts::begins_behind), unfolding(crate::specs::Grammar::spelling))]
 fn write_origin(out: &mut Vec<u8>, lsn: &Lsn, name: &Text) -> Result<(), AllocError>
     requires { FitsFields (Message.Origin lsn.now name.now) }
-    ensures written { OnOk result (Appends out.old.items (spelling (Message.Origin lsn.now name.now)) out.new.items) }
+    ensures written { OnOk result
+        (Appends out.old.items (spelling (Message.Origin lsn.now name.now)) out.new.items) }
     ensures kept { OnErr result (Begins out.old.items out.new.items) }
 {
     out.extend_from_slice(b"O")?;
@@ -68,7 +71,8 @@ fn write_name(out: &mut Vec<u8>, oid: &u32, namespace: &Text, name: &Text) -> Re
 #[tactic(auto, using(crate::proofs::Fronts::begins_same, crate::proofs::Fronts::begins_behind), unfolding(crate::specs::Grammar::spelling))]
 fn write_type(out: &mut Vec<u8>, oid: &u32, namespace: &Text, name: &Text) -> Result<(), AllocError>
     requires { FitsFields (Message.TypeName oid.now namespace.now name.now) }
-    ensures written { OnOk result (Appends out.old.items (spelling (Message.TypeName oid.now namespace.now name.now)) out.new.items) }
+    ensures written { OnOk result (Appends out.old.items
+        (spelling (Message.TypeName oid.now namespace.now name.now)) out.new.items) }
     ensures kept { OnErr result (Begins out.old.items out.new.items) }
 {
     out.extend_from_slice(b"Y")?;
@@ -84,8 +88,11 @@ fn write_relation(
     identity: &u8,
     columns: &Vec<RelationColumn>,
 ) -> Result<(), AllocError>
-    requires { FitsFields (Message.Relation oid.now namespace.now name.now identity.now columns.now.items) }
-    ensures written { OnOk result (Appends out.old.items (spelling (Message.Relation oid.now namespace.now name.now identity.now columns.now.items)) out.new.items) }
+    requires { FitsFields
+        (Message.Relation oid.now namespace.now name.now identity.now columns.now.items) }
+    ensures written { OnOk result (Appends out.old.items
+        (spelling (Message.Relation oid.now namespace.now name.now identity.now columns.now.items))
+        out.new.items) }
     ensures kept { OnErr result (Begins out.old.items out.new.items) }
 {
     out.extend_from_slice(b"R")?;
@@ -98,7 +105,8 @@ fn write_relation(
 #[tactic(auto, using(crate::proofs::Fronts::begins_same, crate::proofs::Fronts::begins_behind), unfolding(crate::specs::Grammar::spelling))]
 fn write_insert(out: &mut Vec<u8>, oid: &u32, row: &Tuple) -> Result<(), AllocError>
     requires { FitsFields (Message.Insert oid.now row.now) }
-    ensures written { OnOk result (Appends out.old.items (spelling (Message.Insert oid.now row.now)) out.new.items) }
+    ensures written { OnOk result
+        (Appends out.old.items (spelling (Message.Insert oid.now row.now)) out.new.items) }
     ensures kept { OnErr result (Begins out.old.items out.new.items) }
 {
     out.extend_from_slice(b"I")?;
@@ -115,7 +123,8 @@ fn write_update(
     row: &Tuple,
 ) -> Result<(), AllocError>
     requires { FitsFields (Message.Update oid.now before.now row.now) }
-    ensures written { OnOk result (Appends out.old.items (spelling (Message.Update oid.now before.now row.now)) out.new.items) }
+    ensures written { OnOk result (Appends out.old.items
+        (spelling (Message.Update oid.now before.now row.now)) out.new.items) }
     ensures kept { OnErr result (Begins out.old.items out.new.items) }
 {
     out.extend_from_slice(b"U")?;
@@ -128,7 +137,8 @@ fn write_update(
 #[tactic(auto, using(crate::proofs::Fronts::begins_same, crate::proofs::Fronts::begins_behind), unfolding(crate::specs::Grammar::spelling))]
 fn write_delete(out: &mut Vec<u8>, oid: &u32, before: &OldTuple) -> Result<(), AllocError>
     requires { FitsFields (Message.Delete oid.now before.now) }
-    ensures written { OnOk result (Appends out.old.items (spelling (Message.Delete oid.now before.now)) out.new.items) }
+    ensures written { OnOk result
+        (Appends out.old.items (spelling (Message.Delete oid.now before.now)) out.new.items) }
     ensures kept { OnErr result (Begins out.old.items out.new.items) }
 {
     out.extend_from_slice(b"D")?;
@@ -139,7 +149,8 @@ fn write_delete(out: &mut Vec<u8>, oid: &u32, before: &OldTuple) -> Result<(), A
 #[tactic(auto, using(crate::proofs::Fronts::begins_same, crate::proofs::Fronts::begins_behind), unfolding(crate::specs::Grammar::spelling))]
 fn write_truncate(out: &mut Vec<u8>, options: &u8, oids: &Vec<u32>) -> Result<(), AllocError>
     requires { FitsFields (Message.Truncate options.now oids.now.items) }
-    ensures written { OnOk result (Appends out.old.items (spelling (Message.Truncate options.now oids.now.items)) out.new.items) }
+    ensures written { OnOk result (Appends out.old.items
+        (spelling (Message.Truncate options.now oids.now.items)) out.new.items) }
     ensures kept { OnErr result (Begins out.old.items out.new.items) }
 {
     out.extend_from_slice(b"T")?;
@@ -157,7 +168,8 @@ fn write_logical(
     content: &Vec<u8>,
 ) -> Result<(), AllocError>
     requires { FitsFields (Message.Logical flags.now lsn.now prefix.now content.now.items) }
-    ensures written { OnOk result (Appends out.old.items (spelling (Message.Logical flags.now lsn.now prefix.now content.now.items)) out.new.items) }
+    ensures written { OnOk result (Appends out.old.items
+        (spelling (Message.Logical flags.now lsn.now prefix.now content.now.items)) out.new.items) }
     ensures kept { OnErr result (Begins out.old.items out.new.items) }
 {
     out.extend_from_slice(&[b'M', *flags])?;
@@ -214,7 +226,7 @@ pub fn append_message(out: &mut Vec<u8>, message: &Message) -> Result<(), MsgErr
     requires { Fits message.now }
     ensures spelled { OnOk result (Appends out.old.items (spelling message.now) out.new.items) }
     ensures kept { OnErr result (out.new.items ≡ out.old.items) }
-    // Nothing but want of memory keeps it from being written.
+    // Nothing but a lack of memory keeps it from being written.
     ensures memory { IfErr result (λ error. error ≡ MsgError.Memory) }
 {
     let before = out.len();
@@ -230,7 +242,7 @@ pub fn append_message(out: &mut Vec<u8>, message: &Message) -> Result<(), MsgErr
 pub fn encode(alloc: Global, message: &Message) -> Result<Bytes, MsgError>
     requires { Fits message.now }
     ensures spelled { IfOk result (λ bytes. Spells bytes message.now) }
-    // Nothing but want of memory keeps it from being written.
+    // Nothing but a lack of memory keeps it from being written.
     ensures memory { IfErr result (λ error. error ≡ MsgError.Memory) }
 {
     let mut out = Vec::with_capacity(alloc, message.length().unwrap_or(0))?;

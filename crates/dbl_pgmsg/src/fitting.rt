@@ -47,7 +47,8 @@ fn cell_room(room: usize, item: &TupleCell) -> Option<usize>
 }
 
 fn cells_room(room: usize, cells: &[TupleCell]) -> Option<usize>
-    ensures { Leaves room (length (flat_map cell cells.now)) (AllByRecursion FitsCell cells.now) result }
+    ensures { Leaves room (length (flat_map cell cells.now))
+        (AllByRecursion FitsCell cells.now) result }
 {
     let mut left = room;
     for item in cells {
@@ -115,7 +116,8 @@ fn column_room(room: usize, item: &RelationColumn) -> Option<usize>
 }
 
 fn columns_room(room: usize, columns: &[RelationColumn]) -> Option<usize>
-    ensures { Leaves room (length (flat_map column columns.now)) (AllByRecursion FitsColumn columns.now) result }
+    ensures { Leaves room (length (flat_map column columns.now))
+        (AllByRecursion FitsColumn columns.now) result }
 {
     let mut left = room;
     for item in columns {
@@ -129,7 +131,9 @@ fn columns_room(room: usize, columns: &[RelationColumn]) -> Option<usize>
 
 /// The replica identity, and the columns of a Relation.
 fn relation_room(room: usize, identity: u8, columns: &[RelationColumn]) -> Option<usize>
-    ensures { Leaves room (3 + length (flat_map column columns.now)) (IsTrue (is_identity identity) × (length columns.now ≤ 1600) × AllByRecursion FitsColumn columns.now) result }
+    ensures { Leaves room (3 + length (flat_map column columns.now))
+        (IsTrue (is_identity identity) × (length columns.now ≤ 1600) ×
+        AllByRecursion FitsColumn columns.now) result }
 {
     if !matches!(identity, b'd' | b'n' | b'f' | b'i') || columns.len() > COLUMNS as usize {
         return None;
@@ -141,7 +145,8 @@ fn relation_room(room: usize, identity: u8, columns: &[RelationColumn]) -> Optio
 }
 
 fn names_room(room: usize, namespace: &Text, name: &Text) -> Option<usize>
-    ensures { Leaves room (length (string namespace.now) + length (string name.now)) (IsString namespace.now × IsString name.now) result }
+    ensures { Leaves room (length (string namespace.now) + length (string name.now))
+        (IsString namespace.now × IsString name.now) result }
 {
     match string_room(room, namespace) {
         Some(left) => string_room(left, name),
@@ -159,7 +164,8 @@ fn begin_room(room: usize, lsn: &Lsn, time: &i64, xid: &u32) -> Option<usize>
 }
 
 fn commit_room(room: usize, flags: &u8, lsn: &Lsn, end_lsn: &Lsn, time: &i64) -> Option<usize>
-    ensures { Leaves room 26 (FitsFields (Message.Commit flags.now lsn.now end_lsn.now time.now)) result }
+    ensures { Leaves room 26
+        (FitsFields (Message.Commit flags.now lsn.now end_lsn.now time.now)) result }
 {
     let _flags = *flags;
     let _lsn = lsn.0;
@@ -169,7 +175,8 @@ fn commit_room(room: usize, flags: &u8, lsn: &Lsn, end_lsn: &Lsn, time: &i64) ->
 }
 
 fn origin_room(room: usize, lsn: &Lsn, name: &Text) -> Option<usize>
-    ensures { Leaves room (9 + length (string name.now)) (FitsFields (Message.Origin lsn.now name.now)) result }
+    ensures { Leaves room (9 + length (string name.now))
+        (FitsFields (Message.Origin lsn.now name.now)) result }
 {
     let _lsn = lsn.0;
     match room.checked_sub(9) {
@@ -179,7 +186,8 @@ fn origin_room(room: usize, lsn: &Lsn, name: &Text) -> Option<usize>
 }
 
 fn type_room(room: usize, oid: &u32, namespace: &Text, name: &Text) -> Option<usize>
-    ensures { Leaves room (5 + (length (string namespace.now) + length (string name.now))) (FitsFields (Message.TypeName oid.now namespace.now name.now)) result }
+    ensures { Leaves room (5 + (length (string namespace.now) + length (string name.now)))
+        (FitsFields (Message.TypeName oid.now namespace.now name.now)) result }
 {
     let _oid = *oid;
     match room.checked_sub(5) {
@@ -189,7 +197,8 @@ fn type_room(room: usize, oid: &u32, namespace: &Text, name: &Text) -> Option<us
 }
 
 fn insert_room(room: usize, oid: &u32, row: &Tuple) -> Option<usize>
-    ensures { Leaves room (6 + length (tuple row.now)) (FitsFields (Message.Insert oid.now row.now)) result }
+    ensures { Leaves room (6 + length (tuple row.now))
+        (FitsFields (Message.Insert oid.now row.now)) result }
 {
     let _oid = *oid;
     match room.checked_sub(6) {
@@ -199,7 +208,8 @@ fn insert_room(room: usize, oid: &u32, row: &Tuple) -> Option<usize>
 }
 
 fn update_room(room: usize, oid: &u32, before: &Option<OldTuple>, row: &Tuple) -> Option<usize>
-    ensures { Leaves room (length (optional_tuple before.now) + (6 + length (tuple row.now))) (FitsFields (Message.Update oid.now before.now row.now)) result }
+    ensures { Leaves room (length (optional_tuple before.now) + (6 + length (tuple row.now)))
+        (FitsFields (Message.Update oid.now before.now row.now)) result }
 {
     match optional_room(room, before) {
         Some(left) => insert_room(left, oid, row),
@@ -208,7 +218,8 @@ fn update_room(room: usize, oid: &u32, before: &Option<OldTuple>, row: &Tuple) -
 }
 
 fn delete_room(room: usize, oid: &u32, before: &OldTuple) -> Option<usize>
-    ensures { Leaves room (5 + length (old_tuple before.now)) (FitsFields (Message.Delete oid.now before.now)) result }
+    ensures { Leaves room (5 + length (old_tuple before.now))
+        (FitsFields (Message.Delete oid.now before.now)) result }
 {
     let _oid = *oid;
     match room.checked_sub(5) {
@@ -218,7 +229,8 @@ fn delete_room(room: usize, oid: &u32, before: &OldTuple) -> Option<usize>
 }
 
 fn truncate_room(room: usize, options: &u8, oids: &Vec<u32>) -> Option<usize>
-    ensures { Leaves room (6 + 4 * length oids.now.items) (FitsFields (Message.Truncate options.now oids.now.items)) result }
+    ensures { Leaves room (6 + 4 * length oids.now.items)
+        (FitsFields (Message.Truncate options.now oids.now.items)) result }
 {
     let _options = *options;
     if oids.len() >= ITEMS {
@@ -228,7 +240,8 @@ fn truncate_room(room: usize, options: &u8, oids: &Vec<u32>) -> Option<usize>
 }
 
 fn content_room(room: usize, content: &Vec<u8>) -> Option<usize>
-    ensures { Leaves room (4 + length content.now.items) ((length content.now.items < 2 ^ 31) × AllByRecursion (λ b. b < 2 ^ 8) content.now.items) result }
+    ensures { Leaves room (4 + length content.now.items) ((length content.now.items < 2 ^ 31) ×
+        AllByRecursion (λ b. b < 2 ^ 8) content.now.items) result }
 {
     if content.len() >= ITEMS {
         return None;
@@ -243,7 +256,8 @@ fn logical_room(
     prefix: &Text,
     content: &Vec<u8>,
 ) -> Option<usize>
-    ensures { Leaves room (10 + (length (string prefix.now) + (4 + length content.now.items))) (FitsFields (Message.Logical flags.now lsn.now prefix.now content.now.items)) result }
+    ensures { Leaves room (10 + (length (string prefix.now) + (4 + length content.now.items)))
+        (FitsFields (Message.Logical flags.now lsn.now prefix.now content.now.items)) result }
 {
     let _flags = *flags;
     let _lsn = lsn.0;
@@ -264,7 +278,9 @@ fn table_room(
     identity: &u8,
     columns: &Vec<RelationColumn>,
 ) -> Option<usize>
-    ensures { Leaves room (5 + (length (string namespace.now) + length (string name.now)) + (3 + length (flat_map column columns.now.items))) (FitsFields (Message.Relation oid.now namespace.now name.now identity.now columns.now.items)) result }
+    ensures { Leaves room (5 + (length (string namespace.now) + length (string name.now)) +
+        (3 + length (flat_map column columns.now.items))) (FitsFields
+        (Message.Relation oid.now namespace.now name.now identity.now columns.now.items)) result }
 {
     match type_room(room, oid, namespace, name) {
         Some(left) => relation_room(left, *identity, columns),

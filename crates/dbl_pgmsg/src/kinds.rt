@@ -154,7 +154,8 @@ fn read_oids(
     count: usize,
     bytes: &[u8],
 ) -> Result<(Vec<u32>, &[u8]), MsgError>
-    ensures { Gives (λ x. (x.0.items, x.1.now)) result (many_at (number_at w32 total) count bytes.now) }
+    ensures { Gives (λ x. (x.0.items, x.1.now)) result
+        (many_at (number_at w32 total) count bytes.now) }
 {
     let mut oids = Vec::with_capacity(alloc, count.min(bytes.len() / 4))?;
     let mut rest = bytes;

@@ -122,7 +122,8 @@ pub fn write_old(out: &mut Vec<u8>, old: &OldTuple) -> Result<(), AllocError>
 #[tactic(auto, using(crate::proofs::Fronts::begins_same, crate::proofs::Fronts::begins_behind))]
 pub fn write_before(out: &mut Vec<u8>, before: &Option<OldTuple>) -> Result<(), AllocError>
     requires { FitsOptional before.now }
-    ensures written { OnOk result (Appends out.old.items (optional_tuple before.now) out.new.items) }
+    ensures written { OnOk result
+        (Appends out.old.items (optional_tuple before.now) out.new.items) }
     ensures kept { OnErr result (Begins out.old.items out.new.items) }
 {
     match before {
@@ -144,7 +145,8 @@ fn write_column(out: &mut Vec<u8>, item: &RelationColumn) -> Result<(), AllocErr
 
 #[tactic(auto, using(crate::proofs::Fronts::begins_same, crate::proofs::Fronts::begins_behind))]
 pub fn write_columns(out: &mut Vec<u8>, columns: &[RelationColumn]) -> Result<(), AllocError>
-    ensures written { OnOk result (Appends out.old.items (flat_map column columns.now) out.new.items) }
+    ensures written { OnOk result
+        (Appends out.old.items (flat_map column columns.now) out.new.items) }
     ensures kept { OnErr result (Begins out.old.items out.new.items) }
 {
     for item in columns {

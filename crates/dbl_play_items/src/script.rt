@@ -38,33 +38,33 @@ pub fn is_call(item: &str) -> bool {
 }
 
 fn without_rows(item: &str) -> &str {
-    let (rest, _) = words::parted(item, " rows ");
+    let (rest, _) = words::split(item, " rows ");
     rest
 }
 
 fn without_inside(item: &str) -> &str {
-    let (rest, _) = words::parted(without_rows(item), " inside ");
+    let (rest, _) = words::split(without_rows(item), " inside ");
     rest
 }
 
 /// The call of an item.
 pub fn call_of(item: &str) -> &str {
-    let (call, _) = words::parted(without_inside(item), " before ");
+    let (call, _) = words::split(without_inside(item), " before ");
     call
 }
 
 fn before(item: &str) -> &str {
-    let (_, before) = words::parted(without_inside(item), " before ");
+    let (_, before) = words::split(without_inside(item), " before ");
     before
 }
 
 fn inside(item: &str) -> &str {
-    let (_, inside) = words::parted(without_rows(item), " inside ");
+    let (_, inside) = words::split(without_rows(item), " inside ");
     inside
 }
 
 fn rows(item: &str) -> &str {
-    let (_, rows) = words::parted(item, " rows ");
+    let (_, rows) = words::split(item, " rows ");
     rows
 }
 
@@ -124,7 +124,7 @@ fn moves(alloc: Global, case: &str) -> Result<Vec<Move>> {
 }
 
 // The rows of each select.
-fn taken(alloc: Global, case: &str) -> Result<Vec<Vec<RawRow>>> {
+fn taken_rows(alloc: Global, case: &str) -> Result<Vec<Vec<RawRow>>> {
     let mut list = Vec::new(alloc);
     for item in case.split(" | ") {
         if item == END {
@@ -217,7 +217,7 @@ pub fn source(alloc: Global, case: &str) -> Result<ScriptedSource>
 {
     let tables = tables(alloc, case)?;
     let moves = moves(alloc, case)?;
-    let rows = taken(alloc, case)?;
+    let rows = taken_rows(alloc, case)?;
     let fails = fails(alloc, case)?;
     Ok(ScriptedSource::make(alloc, tables, moves, rows, fails)?)
 }

@@ -76,7 +76,8 @@ fn append_record(out: &mut Vec<u8>, item: &Record) -> Result<(), AllocError>
 
 fn append_records(out: &mut Vec<u8>, group: &[Record]) -> Result<(), AllocError>
     requires { AllByRecursion IsNarrow group.now }
-    ensures appended { OnOk result (Extends out.old.items (flat_map record_form group.now) out.new.items) }
+    ensures appended { OnOk result
+        (Extends out.old.items (flat_map record_form group.now) out.new.items) }
     ensures fits { OnOk result (AllByRecursion FitsRecord group.now) }
 {
     'records: for item in group {
@@ -192,11 +193,14 @@ pub fn read_group(alloc: Global, bytes: &[u8]) -> Result<Vec<Record>, RecordErro
     // What is read is a group of this form, and each byte belongs to it.
     ensures read { IfOk result (λ group. IsGroup bytes.now group.items) }
     // A group of this form is read, unless memory runs out.
-    ensures written { (group : List Record) → IsGroup bytes.now group → MatchResult result (λ read. read.items ≡ group) (λ error. error ≡ RecordError.Memory) }
+    ensures written { (group : List Record) → IsGroup bytes.now group →
+        MatchResult result (λ read. read.items ≡ group) (λ error. error ≡ RecordError.Memory) }
     // Every other error is the first place at which the bytes differ.
-    ensures refused { IfErr result (λ error. (error ≡ RecordError.Memory) ⊎ ((at : ℕ) × (error ≡ RecordError.BadRecord at) × IsBadAt bytes.now at)) }
+    ensures refused { IfErr result (λ error. (error ≡ RecordError.Memory) ⊎
+        ((at : ℕ) × (error ≡ RecordError.BadRecord at) × IsBadAt bytes.now at)) }
     // Where the bytes differ it is told, unless memory runs out before it.
-    ensures bad { (at : ℕ) → IsBadAt bytes.now at → (result ≡ Err (RecordError.BadRecord at)) ⊎ (result ≡ Err RecordError.Memory) }
+    ensures bad { (at : ℕ) → IsBadAt bytes.now at → (result ≡ Err (RecordError.BadRecord at)) ⊎
+        (result ≡ Err RecordError.Memory) }
 {
     read_whole(alloc, bytes)
 }

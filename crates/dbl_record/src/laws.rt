@@ -51,16 +51,21 @@ pub fn tops_stand()
 
 /// Bytes are the form of one group at most, and a group has one form at most.
 pub fn groups_are_read_once()
-    ensures one_group { (bytes : List ℕ) (first second : List Record) → IsGroup bytes first → IsGroup bytes second → first ≡ second }
-    ensures one_form { (first second : List ℕ) (group : List Record) → IsGroup first group → IsGroup second group → first ≡ second }
+    ensures one_group { (bytes : List ℕ) (first second : List Record) → IsGroup bytes first →
+        IsGroup bytes second → first ≡ second }
+    ensures one_form { (first second : List ℕ) (group : List Record) → IsGroup first group →
+        IsGroup second group → first ≡ second }
 {}
 
 /// Bytes are the form of a group or differ from every such form, never both, and they have one first place at which they
 /// differ.
 pub fn groups_or_faults()
-    ensures one_of { (bytes : List ℕ) → AllByRecursion (λ b. b < 2 ^ 8) bytes → ((group : List Record) × IsGroup bytes group) ⊎ ((at : ℕ) × IsBadAt bytes at) }
-    ensures not_both { (bytes : List ℕ) (group : List Record) (at : ℕ) → IsGroup bytes group → ¬ IsBadAt bytes at }
-    ensures one_place { (bytes : List ℕ) (first second : ℕ) → IsBadAt bytes first → IsBadAt bytes second → first ≡ second }
+    ensures one_of { (bytes : List ℕ) → AllByRecursion (λ b. b < 2 ^ 8) bytes →
+        ((group : List Record) × IsGroup bytes group) ⊎ ((at : ℕ) × IsBadAt bytes at) }
+    ensures not_both { (bytes : List ℕ) (group : List Record) (at : ℕ) → IsGroup bytes group →
+        ¬ IsBadAt bytes at }
+    ensures one_place { (bytes : List ℕ) (first second : ℕ) → IsBadAt bytes first →
+        IsBadAt bytes second → first ≡ second }
 {}
 
 /// A group has a bytes form where that has fewer than 2^32 bytes.

@@ -27,7 +27,8 @@ const BAD_RECORD: RecordError = RecordError::BadRecord { at: 0 };
 fn value_of(alloc: Global, text: &str) -> Result<Value, RecordError>
     ensures ok { IfOk result (λ value. json_in text.now ≡ Some (view value)) }
     ensures nests { IfOk result (λ value. depth (view value) ≤ 127) }
-    ensures bad { IfErr result (λ error. (error ≡ Memory) ⊎ ((error ≡ BadRecord 0) × (json_in text.now ≡ None))) }
+    ensures bad { IfErr result
+        (λ error. (error ≡ Memory) ⊎ ((error ≡ BadRecord 0) × (json_in text.now ≡ None))) }
 {
     match Value::from_str(alloc, text) {
         Ok(value) => Ok(value),
@@ -71,7 +72,8 @@ fn line_with(alloc: Global, topic: Text, whole: &Value) -> Result<Line, AllocErr
     requires { depth (view whole.now) ≤ 127 }
     ensures topic { IfOk result (λ line. line.topic ≡ topic) }
     ensures key { IfOk result (λ line. Retells (part_in (codes "key") (view whole.now)) line.key) }
-    ensures value { IfOk result (λ line. Retells (part_in (codes "value") (view whole.now)) line.value) }
+    ensures value { IfOk result
+        (λ line. Retells (part_in (codes "value") (view whole.now)) line.value) }
 {
     let absent = Value::Null;
     let key = text_of(alloc, part_of(whole, "key", &absent))?;
@@ -104,7 +106,8 @@ impl ParsedLine {
 /// Parses a record's line. Members other than `topic`, `key` and `value` are passed over.
 pub fn parse_line(alloc: Global, text: &str) -> Result<ParsedLine, RecordError>
     ensures ok { IfOk result (λ parsed. reading_in text.now ≡ Some (parsed_as parsed)) }
-    ensures bad { IfErr result (λ error. error ≢ Memory → (error ≡ BadRecord 0) × (reading_in text.now ≡ None)) }
+    ensures bad { IfErr result
+        (λ error. error ≢ Memory → (error ≡ BadRecord 0) × (reading_in text.now ≡ None)) }
 {
     let whole = match value_of(alloc, text) {
         Ok(whole) => whole,
@@ -124,7 +127,8 @@ pub fn parse_line(alloc: Global, text: &str) -> Result<ParsedLine, RecordError>
 /// number in them is an integer of 64 bits.
 pub fn read_line(alloc: Global, text: &Text) -> Result<Line, RecordError>
     ensures ok { IfOk result (IsReadFrom text.now) }
-    ensures bad { IfErr result (λ error. error ≢ Memory → (error ≡ BadRecord 0) × (reading_in text.now ≡ None)) }
+    ensures bad { IfErr result
+        (λ error. error ≢ Memory → (error ≡ BadRecord 0) × (reading_in text.now ≡ None)) }
 {
     let whole = match value_of(alloc, text.as_str()) {
         Ok(whole) => whole,

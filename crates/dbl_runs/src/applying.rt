@@ -144,8 +144,8 @@ fn print_groups<D: Disk, O: Output>(
 // Prints the rows that are held.
 fn print_rows<O: Output>(held: &Consumer, output: &mut O) -> Result<(), RunError>
     ensures told { (taken : List Reading) → Took taken held.now →
-        PrintedRows (consumer_of (placeholder_of held.now) taken) result (O.written output.old)
-        (O.written output.new) }
+        PrintedRows (consumer_of (placeholder_of held.now) taken) result
+        (O.written output.old) (O.written output.new) }
     ensures kinds { IfErr result
         (λ error. (error ≡ RunError.OutputFailed) ⊎ (error ≡ RunError.Memory)) }
     ensures a_store { IfErr result IsBehindOpening }

@@ -84,8 +84,8 @@ fn print_loaded<O: Output>(
 // Writes the text of an offset.
 fn print_text<O: Output>(alloc: Global, offset: &Offset, output: &mut O) -> Result<(), RunError>
     requires { IsOffset offset.now }
-    ensures told { Ends (Ok (offset_lines offset.now)) result (O.written output.old)
-        (O.written output.new) }
+    ensures told { Ends (Ok (offset_lines offset.now)) result
+        (O.written output.old) (O.written output.new) }
     ensures kinds { IfErr result
         (λ error. (error ≡ RunError.OutputFailed) ⊎ (error ≡ RunError.Memory)) }
     ensures output_failed { result ≡ Err RunError.OutputFailed →

@@ -89,8 +89,8 @@ fn gather_groups<D: Disk, O: Output>(
         MatchResult result
         (λ filled. IsGathered (O.written output.old) (O.written output.new) filled.items []
         (topic_lines groups))
-        (λ error. CutsLines (topic_lines groups) error (O.written output.old)
-        (O.written output.new)) }
+        (λ error. CutsLines (topic_lines groups) error
+        (O.written output.old) (O.written output.new)) }
     ensures keeps { Keeps D.seen D.may_leave D.faults
         (result ≡ Err (RunError.Failed Store.Topics)) log.old.disk log.new.disk }
     ensures kinds { IfErr result

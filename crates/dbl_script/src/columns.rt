@@ -73,7 +73,8 @@ fn push_key(alloc: Global, word: &ColumnWord, key: &mut Vec<Text>) -> Result<(),
 }
 
 fn all_columns(alloc: Global, words: &mut Parts<'_>) -> Result<(Vec<RawColumn>, Vec<Text>), Fault>
-    ensures { Gives (λ x. (x.0.items, x.1.items)) result (option_map split_columns (all_of column_of words.old)) }
+    ensures { Gives (λ x. (x.0.items, x.1.items)) result
+        (option_map split_columns (all_of column_of words.old)) }
 {
     let mut columns = Vec::new(alloc);
     let mut key = Vec::new(alloc);

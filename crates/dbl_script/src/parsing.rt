@@ -132,7 +132,8 @@ fn build(alloc: Global, bytes: &[u8]) -> Result<Script, ScriptError>
     requires { length (lines_of bytes.now) ≤ 1_000_000 }
     ensures ok { IfOk result (λ script. script ≡ script_of (lines_of bytes.now)) }
     ensures good { OnOk result (first_bad (lines_of bytes.now) ≡ None) }
-    ensures bad { (n : ℕ) → result ≡ Err (ScriptError.BadLine n) → first_bad (lines_of bytes.now) ≡ Some n }
+    ensures bad { (n : ℕ) → result ≡ Err (ScriptError.BadLine n) →
+        first_bad (lines_of bytes.now) ≡ Some n }
     ensures few { result ≢ Err ScriptError.TooManyLines }
 {
     let mut building = Building::new(alloc);
@@ -158,8 +159,10 @@ fn build(alloc: Global, bytes: &[u8]) -> Result<Script, ScriptError>
 pub fn parse(alloc: Global, bytes: &[u8]) -> Result<Script, ScriptError>
     ensures script { IfOk result (λ script. script ≡ script_of (lines_of bytes.now)) }
     ensures good { OnOk result (first_bad (lines_of bytes.now) ≡ None) }
-    ensures bad { (n : ℕ) → result ≡ Err (ScriptError.BadLine n) → first_bad (lines_of bytes.now) ≡ Some n }
-    ensures too_many { (result ≡ Err ScriptError.TooManyLines) ↔ (1_000_000 < length (lines_of bytes.now)) }
+    ensures bad { (n : ℕ) → result ≡ Err (ScriptError.BadLine n) →
+        first_bad (lines_of bytes.now) ≡ Some n }
+    ensures too_many { (result ≡ Err ScriptError.TooManyLines) ↔
+        (1_000_000 < length (lines_of bytes.now)) }
 {
     if count_lines(bytes) > LINES {
         return Err(ScriptError::TooManyLines);

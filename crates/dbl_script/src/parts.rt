@@ -42,7 +42,8 @@ impl<'a> Parts<'a> {
 
     /// Takes the next part.
     pub fn next_part(&mut self) -> Option<&'a [u8]>
-        ensures { MatchOption result ((self.old ≡ []) × (self.new ≡ [])) (λ part. self.old ≡ part.now ∷ self.new) }
+        ensures { MatchOption result ((self.old ≡ []) × (self.new ≡ []))
+            (λ part. self.old ≡ part.now ∷ self.new) }
     {
         let bytes = self.rest?;
         match cut(self.separator, bytes) {

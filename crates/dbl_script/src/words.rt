@@ -198,7 +198,8 @@ fn escape(part: &[u8]) -> Option<(u8, &[u8])>
 
 /// Puts the bytes of the parts, each behind a `%`, behind those of the first part.
 fn read_escapes(parts: &mut Parts<'_>, plain: Vec<u8>) -> Result<Vec<u8>, Fault>
-    ensures { Gives (λ v. v.items) result (option_map (λ others. plain.items ++ others) (escapes_of parts.old)) }
+    ensures { Gives (λ v. v.items) result
+        (option_map (λ others. plain.items ++ others) (escapes_of parts.old)) }
 {
     let mut bytes = plain;
     'parts: while let Some(part) = parts.next_part() {

@@ -207,7 +207,7 @@ fn has_text(cell: Option<&NamedCell>) -> bool
     }
 }
 
-// What a fault says of a text: that it spells nothing, unless memory was wanting.
+// What a fault says of a text: that it spells nothing, unless memory ran out.
 fn faulted(error: ValueError) -> Result<bool, AllocError>
     ensures { IfOk result (λ spelled. (spelled ≡ false) × (error ≢ ValueError.Memory)) }
 {

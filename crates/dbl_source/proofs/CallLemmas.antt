@@ -59,7 +59,7 @@ went_moved old new s w kept stands =
     subst (λ (u : Standing). Moved u (standing_of new)) (sym stands.1)
     (subst (Moved (standing_of old)) (sym (standing_went old new w)) (moved old.tables old.log old.confirmed w.more old.place kept.placed))
 
--- whatever it answered, a stop leaves what other clients committed
+-- whatever it answered, a crash leaves what other clients committed
 pub went_follows : (old new : Played) (s : Standing) (l : Left) → WentOn old new → IsKept old → StandsFor old s → MayLeave new l → MayFollow s l
 went_follows old new s l w kept stands may = moved_follows s (standing_of new) l may (went_moved old new s w kept stands)
 

@@ -1,4 +1,4 @@
--- Where memory was wanting, some first ones of a call's commits were added to a played source, and nothing else.
+-- Where memory ran out, some first ones of a call's commits were added to a played source, and nothing else.
 use Rattle.std.proofs.Common.{◌≡◌, ◌∙◌, ◌+◌, ◌≤◌, inl, inr, ℕ, List, ◌++◌, length, map, take, drop, refl, sym, ap, subst, arith, append_assoc, length-append}
 use Rattle.std.specs.Prelude.{◌↔◌, Result, Ok, Err, IsErr, OnOk, OnErr}
 use Rattle.std.proofs.lemmas.List.{map-append, take_all, take-append-drop, take-append-le}

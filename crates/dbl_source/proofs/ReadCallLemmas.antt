@@ -40,7 +40,7 @@ module _ (old mid : Played) (s : Standing) (w : WentOn old mid) (kept : IsKept o
     subst (λ (p : Played). Stood StandsFor (with_answer what p) (Took read.message s)) (sym read.is) (read_leads old mid s w kept stands what read.place read.next read.message read.was read.same read.told),
   )
 
--- a stop leaves what it would have left before the message was read
+-- a crash leaves what it would have left before the message was read
 pub read_left : (mid new : Played) (l : Left) (read : Option (List ℕ)) → HasRead mid new read → MayLeave new l → MayLeave mid l
 read_left mid new l None read may = subst (λ (p : Played). MayLeave p l) read.is may
 read_left mid new l (Some bytes) read may = subst (λ (p : Played). MayLeave p l) read.is may

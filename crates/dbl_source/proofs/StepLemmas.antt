@@ -7,7 +7,7 @@ use Rattle.std.proofs.lemmas.Option.{slice_get-get_or}
 use Rattle.dbl_pgmsg.specs.declared.messages.Message.{Message}
 use Rattle.dbl_pgmsg.specs.declared.messages.Message.TheVariants as says
 use Rattle.dbl_pgmsg.specs.Grammar.{Fits}
-use Rattle.dbl_commit.specs.declared.told.Relation.{Relation}
+use Rattle.dbl_commit.specs.declared.message_parts.Relation.{Relation}
 use Rattle.dbl_commit.specs.Past.{described, relation_of}
 use Rattle.dbl_feed.specs.declared.logged.LogTable.{LogTable}
 use Rattle.dbl_feed.specs.declared.logged.Logged.{Logged}

@@ -50,6 +50,6 @@ pub record HasUnfit (tables : List LogTable) (log : List Logged) (place : Place)
   pub told : told_at tables log next ≡ message ∷ told_at tables log place
   pub unfit : ¬ Fits message
 
--- one more message was read, or it has no spelling, or memory was wanting
+-- one more message was read, or it has no spelling, or memory ran out
 abbrev pub Steps : List LogTable → List Logged → Place → Result Step SourceError → Type 0
 Steps tables log place result = MatchResult result (IsNext tables log place) (λ e. (e ≡ Memory) ⊎ ((e ≡ Failed) × HasUnfit tables log place))

@@ -23,7 +23,7 @@ use Rattle.dbl_source.specs.Played.{Played, standing_of, IsFullBy, IsListed, cou
 abbrev pub StandsFor : Played → Standing → Type 0
 StandsFor s t = IsTrue s.live × (t ≡ standing_of s)
 
--- a stop leaves what it stands for, also where it can't be used
+-- a crash leaves what it stands for, also where it can't be used
 abbrev pub MayLeave : Played → Left → Type 0
 MayLeave s l = l ≡ left_of (standing_of s)
 
@@ -43,7 +43,7 @@ IsUnfit s = (place : Place) × (s.place ≡ Some place) × IsSomeAnd (next_messa
 abbrev pub HasCounted : Played → Plan → Type 0
 HasCounted old plan = (plan ≡ (counted old).plan) ⊎ (IsListed old × (plan ≡ (with_fault (counted old)).plan))
 
--- Memory was wanting in a call that was to add these commits: some first ones of them stand, and nothing else changed but the counts
+-- Memory ran out in a call that was to add these commits: some first ones of them stand, and nothing else changed but the counts
 -- of the plan.
 pub record AddedFirst (commits : List (List Message)) (old new : Played) : Type 0 where
   pub count : ℕ

@@ -18,7 +18,7 @@ pub fn new_sources_are_fair()
     ensures { NewSourcesAreFair }
 {}
 
-/// A played source that would be honest with all the commits of a call is so with the first ones, where memory is wanting.
+/// A played source that would be honest with all the commits of a call is so with the first ones, where memory runs out.
 pub fn first_commits_are_fair()
     ensures { FirstCommitsAreFair }
 {}

@@ -153,7 +153,7 @@ impl Source for ScriptedSource {
     ghost comes_on = { λ first second third before after. tt };
 
     // Of each call: what it promises as a call of any source, and what it makes of the script. It fails exactly as planned, but that
-    // memory may be wanting: then first ones of the commits that it was to add stand, and nothing else was made of it. Where it
+    // memory may run out: then first ones of the commits that it was to add stand, and nothing else was made of it. Where it
     // answers, all of the source is told.
 
     fn describe(&mut self, name: &TableName) -> Result<Option<RawTable>, SourceError>

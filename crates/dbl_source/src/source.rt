@@ -29,7 +29,7 @@ pub trait Source {
     /// select were those of one position. What was honest behind a call was so before it.
     ghost honest: { Self → Type 0 };
 
-    /// A stop now may leave this.
+    /// A crash now may leave this.
     ghost may_leave: { Self → Left → Type 0 };
 
     /// The second source comes of the first one: what else no call undoes, whatever it answers. Of a source over a disk, what its

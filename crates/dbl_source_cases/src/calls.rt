@@ -36,7 +36,7 @@ fn select(alloc: Global, fields: &str) -> Result<Call> {
 
 // The call that is spelled so.
 fn call(alloc: Global, text: &str) -> Result<Call> {
-    let (word, rest) = words::parted(text, "/");
+    let (word, rest) = words::split(text, "/");
     match word {
         "describe" => Ok(Call::Describe(items::table_name(alloc, rest)?)),
         "head" => Ok(Call::Head),

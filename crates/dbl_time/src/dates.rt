@@ -39,7 +39,8 @@ fn push_parts(text: &mut String, year: u32, month: u32, day: u32) -> Result<(), 
     requires year { year < 10000 }
     requires month { month < 100 }
     requires day { day < 100 }
-    ensures { OnOk result (string_bytes text.new ≡ string_bytes text.old ++ date_parts_text year month day) }
+    ensures { OnOk result
+        (string_bytes text.new ≡ string_bytes text.old ++ date_parts_text year month day) }
 {
     push_four(text, year)?;
     text.push('-')?;

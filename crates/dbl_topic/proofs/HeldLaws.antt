@@ -1,4 +1,4 @@
--- What a topic log on a disk holds, and what a stop leaves of it.
+-- What a topic log on a disk holds, and what a crash leaves of it.
 use Rattle.std.proofs.Common.{◌≡◌, ◌⊎◌, ℕ, ◌+◌, ◌^◌, ◌≤◌, Some, List, [], ◌∷◌, ◌++◌, length, Option, refl, sym, ap, subst, ◌∙◌, arith, inl, inr}
 use Rattle.std.proofs.lemmas.List.{take_all}
 use Rattle.dbl_record.specs.declared.record.Record.{Record}

@@ -6,7 +6,7 @@ use Rattle.dbl_topic.specs.declared.error.SinkError.TheVariants as sink
 use Rattle.dbl_topic.specs.declared.error.TopicError.{TopicError}
 use Rattle.dbl_topic.specs.declared.error.TopicError.TheVariants.{Journal, Memory}
 
--- a fault of the journal, as one of the log: want of memory stays what it is
+-- a fault of the journal, as one of the log: `Memory` stays what it is
 abbrev pub topic_fault : JournalError → TopicError
 topic_fault journal.Memory = Memory
 topic_fault journal.Failed = Journal journal.Failed

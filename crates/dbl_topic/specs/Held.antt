@@ -11,10 +11,10 @@ pub record HoldsGroups {D : Type 0} (seen : D → Option (List ℕ)) (may_leave 
   pub lists : Lists seen may_leave log entries
   pub are : AreLogEntries entries groups
 
--- a stop may leave a topic log of these groups
+-- a crash may leave a topic log of these groups
 abbrev pub MayLeaveGroups : {D : Type 0} → (D → List ℕ → Type 0) → D → List (List Record) → Type 0
 MayLeaveGroups may_leave disk groups = (image : List ℕ) × may_leave disk image × IsLog image groups
 
--- whatever a stop leaves is a topic log, of groups of which this holds
+-- whatever a crash leaves is a topic log, of groups of which this holds
 abbrev pub LeavesGroups : {D : Type 0} → (D → List ℕ → Type 0) → D → (List (List Record) → Type 0) → Type 0
 LeavesGroups may_leave disk P = (image : List ℕ) → may_leave disk image → (groups : List (List Record)) × IsLog image groups × P groups

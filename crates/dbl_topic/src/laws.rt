@@ -13,35 +13,57 @@ use dbl_disk::Disk;
 
 /// Bytes are a topic log of one list of groups at most, and hold one list of records at most.
 pub fn logs_are_read_once()
-    ensures groups { (bytes : List ℕ) (first second : List (List Record)) → IsLog bytes first → IsLog bytes second → first ≡ second }
-    ensures records { (bytes : List ℕ) (first second : List Record) → HoldRecords bytes first → HoldRecords bytes second → first ≡ second }
+    ensures groups { (bytes : List ℕ) (first second : List (List Record)) → IsLog bytes first →
+        IsLog bytes second → first ≡ second }
+    ensures records { (bytes : List ℕ) (first second : List Record) → HoldRecords bytes first →
+        HoldRecords bytes second → first ≡ second }
 {}
 
 /// Bytes never are a topic log and have a bad entry, or are no journal. They have one first bad entry at most.
 pub fn logs_or_faults()
-    ensures not_bad { (bytes : List ℕ) (groups : List (List Record)) (index : ℕ) → IsLog bytes groups → ¬ HasBadEntry bytes index }
-    ensures not_faulty { (bytes : List ℕ) (groups : List (List Record)) (at : ℕ) → IsLog bytes groups → ¬ IsFaultAt bytes at }
-    ensures one_cause { (bytes : List ℕ) (index at : ℕ) → HasBadEntry bytes index → ¬ IsFaultAt bytes at }
-    ensures one_entry { (bytes : List ℕ) (first second : ℕ) → HasBadEntry bytes first → HasBadEntry bytes second → first ≡ second }
+    ensures not_bad { (bytes : List ℕ) (groups : List (List Record)) (index : ℕ) →
+        IsLog bytes groups → ¬ HasBadEntry bytes index }
+    ensures not_faulty { (bytes : List ℕ) (groups : List (List Record)) (at : ℕ) →
+        IsLog bytes groups → ¬ IsFaultAt bytes at }
+    ensures one_cause { (bytes : List ℕ) (index at : ℕ) → HasBadEntry bytes index →
+        ¬ IsFaultAt bytes at }
+    ensures one_entry { (bytes : List ℕ) (first second : ℕ) → HasBadEntry bytes first →
+        HasBadEntry bytes second → first ≡ second }
 {}
 
 /// A topic log holds one list of groups at most, of which it has the count, which is what its bytes are a log of, and what a
 /// stop may leave of it, and nothing else. What may be left while a group is put is the list or the one with the group.
 pub fn held_groups_are_one<D: Disk>()
-    ensures one { (log : OnDisk D) (first second : List (List Record)) → HoldsGroups D.seen D.may_leave log first → HoldsGroups D.seen D.may_leave log second → first ≡ second }
-    ensures counted { (log : OnDisk D) (groups : List (List Record)) → HoldsGroups D.seen D.may_leave log groups → count_of log ≡ length groups }
-    ensures bytes { (log : OnDisk D) (groups : List (List Record)) → HoldsGroups D.seen D.may_leave log groups → (bytes : List ℕ) × (D.seen log.disk ≡ Some bytes) × IsLog bytes groups }
-    ensures left { (log : OnDisk D) (groups left : List (List Record)) → HoldsGroups D.seen D.may_leave log groups → MayLeaveGroups D.may_leave log.disk left → left ≡ groups }
-    ensures held { (log : OnDisk D) (groups : List (List Record)) → HoldsGroups D.seen D.may_leave log groups → MayLeaveGroups D.may_leave log.disk groups }
-    ensures whole { (log : OnDisk D) (groups : List (List Record)) → HoldsGroups D.seen D.may_leave log groups → LeavesGroups D.may_leave log.disk (λ left. left ≡ groups) }
-    ensures one_of { (disk : D) (groups left : List (List Record)) (group : List Record) → LeavesGroups D.may_leave disk (IsLeftByWhole groups group) → MayLeaveGroups D.may_leave disk left → IsLeftByWhole groups group left }
+    ensures one { (log : OnDisk D) (first second : List (List Record)) →
+        HoldsGroups D.seen D.may_leave log first → HoldsGroups D.seen D.may_leave log second →
+        first ≡ second }
+    ensures counted { (log : OnDisk D) (groups : List (List Record)) →
+        HoldsGroups D.seen D.may_leave log groups → count_of log ≡ length groups }
+    ensures bytes { (log : OnDisk D) (groups : List (List Record)) →
+        HoldsGroups D.seen D.may_leave log groups → (bytes : List ℕ) ×
+        (D.seen log.disk ≡ Some bytes) × IsLog bytes groups }
+    ensures left { (log : OnDisk D) (groups left : List (List Record)) →
+        HoldsGroups D.seen D.may_leave log groups → MayLeaveGroups D.may_leave log.disk left →
+        left ≡ groups }
+    ensures held { (log : OnDisk D) (groups : List (List Record)) →
+        HoldsGroups D.seen D.may_leave log groups → MayLeaveGroups D.may_leave log.disk groups }
+    ensures whole { (log : OnDisk D) (groups : List (List Record)) →
+        HoldsGroups D.seen D.may_leave log groups →
+        LeavesGroups D.may_leave log.disk (λ left. left ≡ groups) }
+    ensures one_of { (disk : D) (groups left : List (List Record)) (group : List Record) →
+        LeavesGroups D.may_leave disk (IsLeftByWhole groups group) →
+        MayLeaveGroups D.may_leave disk left → IsLeftByWhole groups group left }
 {}
 
 /// Of a log that comes of one with groups, the disk tells its bytes. They are a journal, whose closed gate stands no earlier
 /// than behind these groups, and they are no more than they were, or than 2^30 past that gate.
 pub fn logs_come_of_logs<D: Disk>()
-    ensures told { (old new : OnDisk D) (groups : List (List Record)) → ComesOf D.seen D.may_leave old new → HoldsGroups D.seen D.may_leave old groups → (after : List ℕ) × (D.seen new.disk ≡ Some after) }
-    ensures grown { (old new : OnDisk D) (groups : List (List Record)) (before after : List ℕ) → ComesOf D.seen D.may_leave old new → HoldsGroups D.seen D.may_leave old groups →
+    ensures told { (old new : OnDisk D) (groups : List (List Record)) →
+        ComesOf D.seen D.may_leave old new → HoldsGroups D.seen D.may_leave old groups →
+        (after : List ℕ) × (D.seen new.disk ≡ Some after) }
+    ensures grown { (old new : OnDisk D) (groups : List (List Record)) (before after : List ℕ) →
+        ComesOf D.seen D.may_leave old new → HoldsGroups D.seen D.may_leave old groups →
         D.seen old.disk ≡ Some before → D.seen new.disk ≡ Some after →
-        (entries : List (List ℕ)) × IsJournal after entries × (log_size groups ≤ size entries) × (length after ≤ max (length before) (length (front entries) + 2 ^ 30)) }
+        (entries : List (List ℕ)) × IsJournal after entries × (log_size groups ≤ size entries) ×
+        (length after ≤ max (length before) (length (front entries) + 2 ^ 30)) }
 {}

@@ -23,7 +23,7 @@ use std::marker::Model;
 /// A topic log has at most so many records in an entry.
 const MOST_RECORDS: usize = 1000;
 
-/// A log of records on a disk: a journal with an entry for each group. A stop while a group is put leaves all of the group or
+/// A log of records on a disk: a journal with an entry for each group. A crash while a group is put leaves all of the group or
 /// nothing of it.
 #[derive(Drop)]
 pub struct TopicLog<D: Disk> {
@@ -42,8 +42,10 @@ impl<D: Disk> Model for TopicLog<D> {
 // The group of an entry with this number.
 fn group_of(alloc: Global, entry: &[u8], number: u64) -> Result<Vec<Record>, TopicError>
     ensures read { IfOk result (λ group. IsLogEntry entry.now group.items) }
-    ensures errors { IfErr result (λ error. (error ≡ TopicError.Memory) ⊎ (error ≡ TopicError.BadEntry number)) }
-    ensures bad { (index : ℕ) → result ≡ Err (TopicError.BadEntry index) → (group : List Record) → ¬ IsLogEntry entry.now group }
+    ensures errors { IfErr result
+        (λ error. (error ≡ TopicError.Memory) ⊎ (error ≡ TopicError.BadEntry number)) }
+    ensures bad { (index : ℕ) → result ≡ Err (TopicError.BadEntry index) → (group : List Record) →
+        ¬ IsLogEntry entry.now group }
 {
     match read_group(alloc, entry) {
         Ok(group) => if !group.is_empty() && group.len() <= MOST_RECORDS {
@@ -81,18 +83,27 @@ fn read_entry<D: Disk>(
 ) -> Result<Vec<Record>, TopicError>
     requires live { IsTrue journal.old.live }
     requires within { number < count_of journal.old }
-    ensures read { (entries : List (List ℕ)) → Lists D.seen D.may_leave journal.old entries → IfOk result (λ group. (entry : List ℕ) × (slice_get entries number ≡ Some entry) × IsLogEntry entry group.items) }
-    ensures bad { (entries : List (List ℕ)) (index : ℕ) → Lists D.seen D.may_leave journal.old entries → result ≡ Err (TopicError.BadEntry index) →
-        (index ≡ number) × (entry : List ℕ) × (slice_get entries number ≡ Some entry) × ((group : List Record) → ¬ IsLogEntry entry group) }
+    ensures read { (entries : List (List ℕ)) → Lists D.seen D.may_leave journal.old entries →
+        IfOk result (λ group. (entry : List ℕ) × (slice_get entries number ≡ Some entry) ×
+        IsLogEntry entry group.items) }
+    ensures bad { (entries : List (List ℕ)) (index : ℕ) →
+        Lists D.seen D.may_leave journal.old entries → result ≡ Err (TopicError.BadEntry index) →
+        (index ≡ number) × (entry : List ℕ) × (slice_get entries number ≡ Some entry) ×
+        ((group : List Record) → ¬ IsLogEntry entry group) }
     ensures few { IfOk result (λ group. (1 ≤ length group.items) × (length group.items ≤ 1000)) }
-    ensures errors { IfErr result (λ error. (error ≡ TopicError.Memory) ⊎ ((error ≡ TopicError.BadEntry number) ⊎ (error ≡ TopicError.Journal JournalError.Failed))) }
-    ensures lists { (entries : List (List ℕ)) → Lists D.seen D.may_leave journal.old entries → Lists D.seen D.may_leave journal.new entries }
+    ensures errors { IfErr result (λ error. (error ≡ TopicError.Memory) ⊎
+        ((error ≡ TopicError.BadEntry number) ⊎ (error ≡ TopicError.Journal JournalError.Failed))) }
+    ensures lists { (entries : List (List ℕ)) → Lists D.seen D.may_leave journal.old entries →
+        Lists D.seen D.may_leave journal.new entries }
     ensures same { journal.new ≡ record journal.old { disk = journal.new.disk } }
     ensures seen { D.seen journal.new.disk ≡ D.seen journal.old.disk }
-    ensures images { (image : List ℕ) → D.may_leave journal.new.disk image ↔ D.may_leave journal.old.disk image }
-    ensures failed { result ≡ Err (TopicError.Journal JournalError.Failed) → Rose (D.faults journal.old.disk) (D.faults journal.new.disk) }
+    ensures images { (image : List ℕ) → D.may_leave journal.new.disk image ↔
+        D.may_leave journal.old.disk image }
+    ensures failed { result ≡ Err (TopicError.Journal JournalError.Failed) →
+        Rose (D.faults journal.old.disk) (D.faults journal.new.disk) }
     ensures later { D.faults journal.old.disk ≤ D.faults journal.new.disk }
-    ensures steady { result ≢ Err (TopicError.Journal JournalError.Failed) → IsSteady D.seen D.faults journal.old.disk journal.new.disk }
+    ensures steady { result ≢ Err (TopicError.Journal JournalError.Failed) →
+        IsSteady D.seen D.faults journal.old.disk journal.new.disk }
 {
     let entry = journal.entry(alloc, number)?;
     group_of(alloc, entry.items(), number)
@@ -101,17 +112,26 @@ fn read_entry<D: Disk>(
 // Reads each entry once.
 fn check_entries<D: Disk>(alloc: Global, journal: &mut Journal<D>) -> Result<(), TopicError>
     requires { IsTrue journal.old.live }
-    ensures good { (entries : List (List ℕ)) → Lists D.seen D.may_leave journal.old entries → OnOk result ((groups : List (List Record)) × AreLogEntries entries groups) }
-    ensures bad { (entries : List (List ℕ)) (index : ℕ) → Lists D.seen D.may_leave journal.old entries → result ≡ Err (TopicError.BadEntry index) →
-        (before : List (List Record)) × (entry : List ℕ) × AreLogEntries (take index entries) before × (slice_get entries index ≡ Some entry) × ((group : List Record) → ¬ IsLogEntry entry group) }
-    ensures journal { (fault : JournalError) → result ≡ Err (TopicError.Journal fault) → fault ≡ JournalError.Failed }
-    ensures lists { (entries : List (List ℕ)) → Lists D.seen D.may_leave journal.old entries → Lists D.seen D.may_leave journal.new entries }
+    ensures good { (entries : List (List ℕ)) → Lists D.seen D.may_leave journal.old entries →
+        OnOk result ((groups : List (List Record)) × AreLogEntries entries groups) }
+    ensures bad { (entries : List (List ℕ)) (index : ℕ) →
+        Lists D.seen D.may_leave journal.old entries → result ≡ Err (TopicError.BadEntry index) →
+        (before : List (List Record)) × (entry : List ℕ) ×
+        AreLogEntries (take index entries) before × (slice_get entries index ≡ Some entry) ×
+        ((group : List Record) → ¬ IsLogEntry entry group) }
+    ensures journal { (fault : JournalError) → result ≡ Err (TopicError.Journal fault) →
+        fault ≡ JournalError.Failed }
+    ensures lists { (entries : List (List ℕ)) → Lists D.seen D.may_leave journal.old entries →
+        Lists D.seen D.may_leave journal.new entries }
     ensures live { journal.new.live ≡ journal.old.live }
     ensures seen { D.seen journal.new.disk ≡ D.seen journal.old.disk }
-    ensures images { (image : List ℕ) → D.may_leave journal.new.disk image → D.may_leave journal.old.disk image }
-    ensures failed { result ≡ Err (TopicError.Journal JournalError.Failed) → Rose (D.faults journal.old.disk) (D.faults journal.new.disk) }
+    ensures images { (image : List ℕ) → D.may_leave journal.new.disk image →
+        D.may_leave journal.old.disk image }
+    ensures failed { result ≡ Err (TopicError.Journal JournalError.Failed) →
+        Rose (D.faults journal.old.disk) (D.faults journal.new.disk) }
     ensures later { D.faults journal.old.disk ≤ D.faults journal.new.disk }
-    ensures steady { result ≢ Err (TopicError.Journal JournalError.Failed) → IsSteady D.seen D.faults journal.old.disk journal.new.disk }
+    ensures steady { result ≢ Err (TopicError.Journal JournalError.Failed) →
+        IsSteady D.seen D.faults journal.old.disk journal.new.disk }
 {
     'entries: for number in 0..journal.count() {
         let _group = read_entry(alloc, journal, number)?;
@@ -123,14 +143,20 @@ impl<D: Disk> TopicLog<D> {
     /// An empty topic log on an empty disk: a write and a sync. The allocator is for later calls, and no memory is taken now.
     pub fn make(alloc: Global, disk: D) -> Result<TopicLog<D>, Refused<D, TopicError>>
         requires { (bytes : List ℕ) → D.seen disk ≡ Some bytes → bytes ≡ [] }
-        ensures made { D.seen disk ≡ Some [] → IfOk result (λ log. HoldsGroups D.seen D.may_leave log []) }
+        ensures made { D.seen disk ≡ Some [] →
+            IfOk result (λ log. HoldsGroups D.seen D.may_leave log []) }
         ensures live { IfOk result (λ log. IsTrue log.live) }
         ensures count { IfOk result (λ log. count_of log ≡ 0) }
-        ensures small { (bytes : List ℕ) → D.seen disk ≡ Some [] → MatchResult result (λ log. D.seen log.disk ≡ Some bytes → length bytes ≤ log_size []) (λ refused. D.seen refused.disk ≡ Some bytes → length bytes ≤ log_size []) }
-        ensures refused { IfErr result (λ refused. refused.error ≡ TopicError.Journal JournalError.Failed) }
+        ensures small { (bytes : List ℕ) → D.seen disk ≡ Some [] →
+            MatchResult result (λ log. D.seen log.disk ≡ Some bytes → length bytes ≤ log_size [])
+            (λ refused. D.seen refused.disk ≡ Some bytes → length bytes ≤ log_size []) }
+        ensures refused { IfErr result
+            (λ refused. refused.error ≡ TopicError.Journal JournalError.Failed) }
         ensures failed { IfErr result (λ refused. Rose (D.faults disk) (D.faults refused.disk)) }
-        ensures left { IfErr result (λ refused. Follows (Torn 0 9) (D.may_leave disk) (D.may_leave refused.disk)) }
-        ensures later { MatchResult result (λ log. D.faults disk ≤ D.faults log.disk) (λ refused. D.faults disk ≤ D.faults refused.disk) }
+        ensures left { IfErr result
+            (λ refused. Follows (Torn 0 9) (D.may_leave disk) (D.may_leave refused.disk)) }
+        ensures later { MatchResult result (λ log. D.faults disk ≤ D.faults log.disk)
+            (λ refused. D.faults disk ≤ D.faults refused.disk) }
         ensures steady { IfOk result (λ log. IsSteady D.seen D.faults disk log.disk) }
     {
         match Journal::make(alloc, disk) {
@@ -142,21 +168,39 @@ impl<D: Disk> TopicLog<D> {
         }
     }
 
-    /// The topic log on the disk, as a stop may have left it: the journal is opened, which begins with a sync, and each entry
-    /// is read once. Whatever it answers but `Failed`, a stop leaves what was read and nothing else.
+    /// The topic log on the disk, as a crash may have left it: the journal is opened, which begins with a sync, and each entry
+    /// is read once. Whatever it answers but `Failed`, a crash leaves what was read and nothing else.
     pub fn open(alloc: Global, disk: D) -> Result<TopicLog<D>, Refused<D, TopicError>>
-        ensures opened { (bytes : List ℕ) → D.seen disk ≡ Some bytes → IfOk result (λ log. (groups : List (List Record)) × IsLog bytes groups × HoldsGroups D.seen D.may_leave log groups) }
-        ensures bad { (bytes : List ℕ) → D.seen disk ≡ Some bytes → IfErr result (λ refused. (index : ℕ) → refused.error ≡ TopicError.BadEntry index → HasBadEntry bytes index) }
-        ensures refused { (bytes : List ℕ) → D.seen disk ≡ Some bytes → IfErr result (λ refused. (at : ℕ) → refused.error ≡ TopicError.Journal (JournalError.NotAJournal at) → IsFaultAt bytes at) }
+        ensures opened { (bytes : List ℕ) → D.seen disk ≡ Some bytes →
+            IfOk result (λ log. (groups : List (List Record)) × IsLog bytes groups ×
+            HoldsGroups D.seen D.may_leave log groups) }
+        ensures bad { (bytes : List ℕ) → D.seen disk ≡ Some bytes →
+            IfErr result (λ refused. (index : ℕ) → refused.error ≡ TopicError.BadEntry index →
+            HasBadEntry bytes index) }
+        ensures refused { (bytes : List ℕ) → D.seen disk ≡ Some bytes →
+            IfErr result (λ refused. (at : ℕ) →
+            refused.error ≡ TopicError.Journal (JournalError.NotAJournal at) → IsFaultAt bytes at) }
         ensures live { IfOk result (λ log. IsTrue log.live) }
-        ensures journal { IfErr result (λ refused. (fault : JournalError) → refused.error ≡ TopicError.Journal fault → (fault ≡ JournalError.Failed) ⊎ ((at : ℕ) × (fault ≡ JournalError.NotAJournal at))) }
-        ensures failed { IfErr result (λ refused. refused.error ≡ TopicError.Journal JournalError.Failed → Rose (D.faults disk) (D.faults refused.disk)) }
-        ensures seen { MatchResult result (λ log. D.seen log.disk ≡ D.seen disk) (λ refused. D.seen refused.disk ≡ D.seen disk) }
-        ensures images { (image : List ℕ) → MatchResult result (λ log. D.may_leave log.disk image → D.may_leave disk image) (λ refused. D.may_leave refused.disk image → D.may_leave disk image) }
-        ensures stable { (bytes : List ℕ) → D.seen disk ≡ Some bytes → MatchResult result (λ log. IsOnly bytes (D.may_leave log.disk))
-            (λ refused. refused.error ≢ TopicError.Journal JournalError.Failed → IsOnly bytes (D.may_leave refused.disk)) }
-        ensures later { MatchResult result (λ log. D.faults disk ≤ D.faults log.disk) (λ refused. D.faults disk ≤ D.faults refused.disk) }
-        ensures steady { MatchResult result (λ log. IsSteady D.seen D.faults disk log.disk) (λ refused. refused.error ≢ TopicError.Journal JournalError.Failed → IsSteady D.seen D.faults disk refused.disk) }
+        ensures journal { IfErr result (λ refused. (fault : JournalError) →
+            refused.error ≡ TopicError.Journal fault → (fault ≡ JournalError.Failed) ⊎
+            ((at : ℕ) × (fault ≡ JournalError.NotAJournal at))) }
+        ensures failed { IfErr result (λ refused.
+            refused.error ≡ TopicError.Journal JournalError.Failed →
+            Rose (D.faults disk) (D.faults refused.disk)) }
+        ensures seen { MatchResult result (λ log. D.seen log.disk ≡ D.seen disk)
+            (λ refused. D.seen refused.disk ≡ D.seen disk) }
+        ensures images { (image : List ℕ) → MatchResult result (λ log. D.may_leave log.disk image →
+            D.may_leave disk image) (λ refused. D.may_leave refused.disk image →
+            D.may_leave disk image) }
+        ensures stable { (bytes : List ℕ) → D.seen disk ≡ Some bytes →
+            MatchResult result (λ log. IsOnly bytes (D.may_leave log.disk))
+            (λ refused. refused.error ≢ TopicError.Journal JournalError.Failed →
+            IsOnly bytes (D.may_leave refused.disk)) }
+        ensures later { MatchResult result (λ log. D.faults disk ≤ D.faults log.disk)
+            (λ refused. D.faults disk ≤ D.faults refused.disk) }
+        ensures steady { MatchResult result (λ log. IsSteady D.seen D.faults disk log.disk)
+            (λ refused. refused.error ≢ TopicError.Journal JournalError.Failed →
+            IsSteady D.seen D.faults disk refused.disk) }
     {
         match Journal::open(alloc, disk) {
             Ok(journal) => checked(alloc, journal),
@@ -171,17 +215,29 @@ impl<D: Disk> TopicLog<D> {
     pub fn group(&mut self, number: u64) -> Result<Vec<Record>, TopicError>
         requires live { IsTrue self.old.live }
         requires within { number < count_of self.old }
-        ensures found { (groups : List (List Record)) → HoldsGroups D.seen D.may_leave self.old groups → IfOk result (λ group. slice_get groups number ≡ Some group.items) }
-        ensures few { IfOk result (λ group. (1 ≤ length group.items) × (length group.items ≤ 1000)) }
-        ensures good { (groups : List (List Record)) (index : ℕ) → HoldsGroups D.seen D.may_leave self.old groups → result ≢ Err (TopicError.BadEntry index) }
-        ensures errors { IfErr result (λ error. (error ≡ TopicError.Memory) ⊎ ((error ≡ TopicError.BadEntry number) ⊎ (error ≡ TopicError.Journal JournalError.Failed))) }
-        ensures holds { (groups : List (List Record)) → HoldsGroups D.seen D.may_leave self.old groups → HoldsGroups D.seen D.may_leave self.new groups }
+        ensures found { (groups : List (List Record)) →
+            HoldsGroups D.seen D.may_leave self.old groups →
+            IfOk result (λ group. slice_get groups number ≡ Some group.items) }
+        ensures few { IfOk result
+            (λ group. (1 ≤ length group.items) × (length group.items ≤ 1000)) }
+        ensures good { (groups : List (List Record)) (index : ℕ) →
+            HoldsGroups D.seen D.may_leave self.old groups →
+            result ≢ Err (TopicError.BadEntry index) }
+        ensures errors { IfErr result (λ error. (error ≡ TopicError.Memory) ⊎
+            ((error ≡ TopicError.BadEntry number) ⊎
+            (error ≡ TopicError.Journal JournalError.Failed))) }
+        ensures holds { (groups : List (List Record)) →
+            HoldsGroups D.seen D.may_leave self.old groups →
+            HoldsGroups D.seen D.may_leave self.new groups }
         ensures same { self.new ≡ record self.old { disk = self.new.disk } }
         ensures seen { D.seen self.new.disk ≡ D.seen self.old.disk }
-        ensures images { (image : List ℕ) → D.may_leave self.new.disk image ↔ D.may_leave self.old.disk image }
-        ensures failed { result ≡ Err (TopicError.Journal JournalError.Failed) → Rose (D.faults self.old.disk) (D.faults self.new.disk) }
+        ensures images { (image : List ℕ) → D.may_leave self.new.disk image ↔
+            D.may_leave self.old.disk image }
+        ensures failed { result ≡ Err (TopicError.Journal JournalError.Failed) →
+            Rose (D.faults self.old.disk) (D.faults self.new.disk) }
         ensures later { D.faults self.old.disk ≤ D.faults self.new.disk }
-        ensures steady { result ≢ Err (TopicError.Journal JournalError.Failed) → IsSteady D.seen D.faults self.old.disk self.new.disk }
+        ensures steady { result ≢ Err (TopicError.Journal JournalError.Failed) →
+            IsSteady D.seen D.faults self.old.disk self.new.disk }
     {
         read_entry(self.alloc, &mut self.journal, number)
     }
@@ -209,17 +265,33 @@ fn checked<D: Disk>(
     mut journal: Journal<D>,
 ) -> Result<TopicLog<D>, Refused<D, TopicError>>
     requires { IsTrue journal.live }
-    ensures good { (entries : List (List ℕ)) → Lists D.seen D.may_leave journal entries → IfOk result (λ log. (groups : List (List Record)) × AreLogEntries entries groups × HoldsGroups D.seen D.may_leave log groups) }
-    ensures bad { (entries : List (List ℕ)) → Lists D.seen D.may_leave journal entries → IfErr result (λ refused. (index : ℕ) → refused.error ≡ TopicError.BadEntry index →
-        (before : List (List Record)) × (entry : List ℕ) × AreLogEntries (take index entries) before × (slice_get entries index ≡ Some entry) × ((group : List Record) → ¬ IsLogEntry entry group)) }
-    ensures journal { IfErr result (λ refused. (fault : JournalError) → refused.error ≡ TopicError.Journal fault → fault ≡ JournalError.Failed) }
+    ensures good { (entries : List (List ℕ)) → Lists D.seen D.may_leave journal entries →
+        IfOk result (λ log. (groups : List (List Record)) × AreLogEntries entries groups ×
+        HoldsGroups D.seen D.may_leave log groups) }
+    ensures bad { (entries : List (List ℕ)) → Lists D.seen D.may_leave journal entries →
+        IfErr result (λ refused. (index : ℕ) → refused.error ≡ TopicError.BadEntry index →
+        (before : List (List Record)) × (entry : List ℕ) ×
+        AreLogEntries (take index entries) before × (slice_get entries index ≡ Some entry) ×
+        ((group : List Record) → ¬ IsLogEntry entry group)) }
+    ensures journal { IfErr result (λ refused. (fault : JournalError) →
+        refused.error ≡ TopicError.Journal fault → fault ≡ JournalError.Failed) }
     ensures live { IfOk result (λ log. IsTrue log.live) }
-    ensures seen { MatchResult result (λ log. D.seen log.disk ≡ D.seen journal.disk) (λ refused. D.seen refused.disk ≡ D.seen journal.disk) }
-    ensures images { (image : List ℕ) → MatchResult result (λ log. D.may_leave log.disk image → D.may_leave journal.disk image) (λ refused. D.may_leave refused.disk image → D.may_leave journal.disk image) }
-    ensures stable { (bytes : List ℕ) → IsOnly bytes (D.may_leave journal.disk) → MatchResult result (λ log. IsOnly bytes (D.may_leave log.disk)) (λ refused. IsOnly bytes (D.may_leave refused.disk)) }
-    ensures failed { IfErr result (λ refused. refused.error ≡ TopicError.Journal JournalError.Failed → Rose (D.faults journal.disk) (D.faults refused.disk)) }
-    ensures later { MatchResult result (λ log. D.faults journal.disk ≤ D.faults log.disk) (λ refused. D.faults journal.disk ≤ D.faults refused.disk) }
-    ensures steady { MatchResult result (λ log. IsSteady D.seen D.faults journal.disk log.disk) (λ refused. refused.error ≢ TopicError.Journal JournalError.Failed → IsSteady D.seen D.faults journal.disk refused.disk) }
+    ensures seen { MatchResult result (λ log. D.seen log.disk ≡ D.seen journal.disk)
+        (λ refused. D.seen refused.disk ≡ D.seen journal.disk) }
+    ensures images { (image : List ℕ) → MatchResult result (λ log. D.may_leave log.disk image →
+        D.may_leave journal.disk image) (λ refused. D.may_leave refused.disk image →
+        D.may_leave journal.disk image) }
+    ensures stable { (bytes : List ℕ) → IsOnly bytes (D.may_leave journal.disk) →
+        MatchResult result (λ log. IsOnly bytes (D.may_leave log.disk))
+        (λ refused. IsOnly bytes (D.may_leave refused.disk)) }
+    ensures failed { IfErr result (λ refused. refused.error ≡
+        TopicError.Journal JournalError.Failed →
+        Rose (D.faults journal.disk) (D.faults refused.disk)) }
+    ensures later { MatchResult result (λ log. D.faults journal.disk ≤ D.faults log.disk)
+        (λ refused. D.faults journal.disk ≤ D.faults refused.disk) }
+    ensures steady { MatchResult result (λ log. IsSteady D.seen D.faults journal.disk log.disk)
+        (λ refused. refused.error ≢ TopicError.Journal JournalError.Failed →
+        IsSteady D.seen D.faults journal.disk refused.disk) }
 {
     match check_entries(alloc, &mut journal) {
         Ok(()) => Ok(TopicLog { alloc, journal }),
@@ -260,28 +332,49 @@ impl<D: Disk> Sink for TopicLog<D> {
     fn put(&mut self, group: &Vec<Record>) -> Result<(), SinkError>
         requires live { IsTrue self.old.live }
         requires handful { IsHandful group.now.items }
-        ensures added { (groups : List (List Record)) → HoldsGroups D.seen D.may_leave self.old groups → OnOk result (HoldsGroups D.seen D.may_leave self.new (groups ++ group.now.items ∷ [])) }
-        ensures kept { (groups : List (List Record)) → HoldsGroups D.seen D.may_leave self.old groups → OnErr result (result ≢ Err SinkError.Failed → HoldsGroups D.seen D.may_leave self.new groups) }
-        ensures left { (groups left : List (List Record)) → HoldsGroups D.seen D.may_leave self.old groups → MayLeaveGroups D.may_leave self.new.disk left → IsLeftByPut groups group.now.items left }
-        ensures whole { (groups : List (List Record)) → HoldsGroups D.seen D.may_leave self.old groups → LeavesGroups D.may_leave self.new.disk (λ left. Unit {0}) }
-        ensures some { (groups : List (List Record)) → HoldsGroups D.seen D.may_leave self.old groups → (left : List (List Record)) × MayLeaveGroups D.may_leave self.new.disk left }
+        ensures added { (groups : List (List Record)) →
+            HoldsGroups D.seen D.may_leave self.old groups →
+            OnOk result (HoldsGroups D.seen D.may_leave self.new (groups ++ group.now.items ∷ [])) }
+        ensures kept { (groups : List (List Record)) →
+            HoldsGroups D.seen D.may_leave self.old groups → OnErr result
+            (result ≢ Err SinkError.Failed → HoldsGroups D.seen D.may_leave self.new groups) }
+        ensures left { (groups left : List (List Record)) →
+            HoldsGroups D.seen D.may_leave self.old groups →
+            MayLeaveGroups D.may_leave self.new.disk left →
+            IsLeftByPut groups group.now.items left }
+        ensures whole { (groups : List (List Record)) →
+            HoldsGroups D.seen D.may_leave self.old groups →
+            LeavesGroups D.may_leave self.new.disk (λ left. Unit {0}) }
+        ensures some { (groups : List (List Record)) →
+            HoldsGroups D.seen D.may_leave self.old groups → (left : List (List Record)) ×
+            MayLeaveGroups D.may_leave self.new.disk left }
         ensures comes { ComesOf D.seen D.may_leave self.old self.new }
         ensures live { result ≢ Err SinkError.Failed → IsTrue self.new.live }
         ensures dead { result ≡ Err SinkError.Failed → self.new.live ≡ false }
-        ensures too_long { (len : ℕ) → result ≡ Err (SinkError.TooLong len) → (2 ^ 28 < length (group_form group.now.items)) × (len ≡ told_length group.now.items) }
+        ensures too_long { (len : ℕ) → result ≡ Err (SinkError.TooLong len) →
+            (2 ^ 28 < length (group_form group.now.items)) × (len ≡ told_length group.now.items) }
         ensures long { 2 ^ 28 < length (group_form group.now.items) → IsErr result }
-        ensures failed { result ≡ Err SinkError.Failed → Rose (D.faults self.old.disk) (D.faults self.new.disk) }
+        ensures failed { result ≡ Err SinkError.Failed →
+            Rose (D.faults self.old.disk) (D.faults self.new.disk) }
         ensures later { D.faults self.old.disk ≤ D.faults self.new.disk }
 
         // A put is all or nothing, and a group is too long exactly by its length. The disk's bytes become no more than a log
         // with the group takes, unless they were more before. A disk that tells its bytes tells them after each answer.
-        ensures one_of { (groups : List (List Record)) → HoldsGroups D.seen D.may_leave self.old groups → LeavesGroups D.may_leave self.new.disk (IsLeftByWhole groups group.now.items) }
-        ensures grows { (groups : List (List Record)) (old new : List ℕ) → HoldsGroups D.seen D.may_leave self.old groups → D.seen self.old.disk ≡ Some old → D.seen self.new.disk ≡ Some new → length new ≤ max (length old) (log_size (groups ++ group.now.items ∷ [])) }
-        ensures told { (old : List ℕ) → D.seen self.old.disk ≡ Some old → (new : List ℕ) × (D.seen self.new.disk ≡ Some new) }
-        ensures exactly { (len : ℕ) → (result ≡ Err (SinkError.TooLong len)) ↔ ((2 ^ 28 < length (group_form group.now.items)) × (len ≡ told_length group.now.items)) }
+        ensures one_of { (groups : List (List Record)) →
+            HoldsGroups D.seen D.may_leave self.old groups →
+            LeavesGroups D.may_leave self.new.disk (IsLeftByWhole groups group.now.items) }
+        ensures grows { (groups : List (List Record)) (old new : List ℕ) →
+            HoldsGroups D.seen D.may_leave self.old groups → D.seen self.old.disk ≡ Some old →
+            D.seen self.new.disk ≡ Some new →
+            length new ≤ max (length old) (log_size (groups ++ group.now.items ∷ [])) }
+        ensures told { (old : List ℕ) → D.seen self.old.disk ≡ Some old → (new : List ℕ) ×
+            (D.seen self.new.disk ≡ Some new) }
+        ensures exactly { (len : ℕ) → (result ≡ Err (SinkError.TooLong len)) ↔
+            ((2 ^ 28 < length (group_form group.now.items)) × (len ≡ told_length group.now.items)) }
         ensures count { OnOk result (count_of self.new ≡ count_of self.old + 1) }
         ensures unchanged { OnErr result (result ≢ Err SinkError.Failed → self.new ≡ self.old) }
-        ensures steady { result ≢ Err SinkError.Failed → IsSteady D.seen D.faults self.old.disk self.new.disk }
+        ensures steady { result ≢ Err SinkError.Failed →
+            IsSteady D.seen D.faults self.old.disk self.new.disk }
     {
         let len = group_length(group);
         if len > GROUP_LIMIT {

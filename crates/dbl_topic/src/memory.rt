@@ -114,26 +114,41 @@ impl Sink for MemSink {
     fn put(&mut self, group: &Vec<Record>) -> Result<(), SinkError>
         requires live { IsTrue self.old.live }
         requires handful { IsHandful group.now.items }
-        ensures added { (groups : List (List Record)) → IsTrue self.old.live × (self.old.groups ≡ groups) → OnOk result (IsTrue self.new.live × (self.new.groups ≡ groups ++ group.now.items ∷ [])) }
-        ensures kept { (groups : List (List Record)) → IsTrue self.old.live × (self.old.groups ≡ groups) → OnErr result (result ≢ Err SinkError.Failed → IsTrue self.new.live × (self.new.groups ≡ groups)) }
-        ensures left { (groups left : List (List Record)) → IsTrue self.old.live × (self.old.groups ≡ groups) → self.new.groups ≡ left → IsLeftByPut groups group.now.items left }
-        ensures whole { (groups : List (List Record)) → IsTrue self.old.live × (self.old.groups ≡ groups) → Unit {0} }
-        ensures some { (groups : List (List Record)) → IsTrue self.old.live × (self.old.groups ≡ groups) → (left : List (List Record)) × (self.new.groups ≡ left) }
+        ensures added { (groups : List (List Record)) → IsTrue self.old.live ×
+            (self.old.groups ≡ groups) → OnOk result
+            (IsTrue self.new.live × (self.new.groups ≡ groups ++ group.now.items ∷ [])) }
+        ensures kept { (groups : List (List Record)) → IsTrue self.old.live ×
+            (self.old.groups ≡ groups) → OnErr result
+            (result ≢ Err SinkError.Failed → IsTrue self.new.live × (self.new.groups ≡ groups)) }
+        ensures left { (groups left : List (List Record)) → IsTrue self.old.live ×
+            (self.old.groups ≡ groups) → self.new.groups ≡ left →
+            IsLeftByPut groups group.now.items left }
+        ensures whole { (groups : List (List Record)) → IsTrue self.old.live ×
+            (self.old.groups ≡ groups) → Unit {0} }
+        ensures some { (groups : List (List Record)) → IsTrue self.old.live ×
+            (self.old.groups ≡ groups) → (left : List (List Record)) × (self.new.groups ≡ left) }
         ensures comes { Unit {0} }
         ensures live { result ≢ Err SinkError.Failed → IsTrue self.new.live }
         ensures dead { result ≡ Err SinkError.Failed → self.new.live ≡ false }
-        ensures too_long { (len : ℕ) → result ≡ Err (SinkError.TooLong len) → (2 ^ 28 < length (group_form group.now.items)) × (len ≡ told_length group.now.items) }
+        ensures too_long { (len : ℕ) → result ≡ Err (SinkError.TooLong len) →
+            (2 ^ 28 < length (group_form group.now.items)) × (len ≡ told_length group.now.items) }
         ensures long { 2 ^ 28 < length (group_form group.now.items) → IsErr result }
-        ensures failed { result ≡ Err SinkError.Failed → Rose self.old.plan.faults self.new.plan.faults }
+        ensures failed { result ≡ Err SinkError.Failed →
+            Rose self.old.plan.faults self.new.plan.faults }
         ensures later { self.old.plan.faults ≤ self.new.plan.faults }
 
         // A put fails exactly where it is planned to, whatever its length, and then changes no records. Of the others those
         // fail whose group is too long.
-        ensures planned { (result ≡ Err SinkError.Failed) ↔ Contains self.old.plan.planned (raised self.old.plan.calls) }
-        ensures exactly { (len : ℕ) → (result ≡ Err (SinkError.TooLong len)) ↔ (¬ Contains self.old.plan.planned (raised self.old.plan.calls) × (2 ^ 28 < length (group_form group.now.items)) × (len ≡ told_length group.now.items)) }
+        ensures planned { (result ≡ Err SinkError.Failed) ↔
+            Contains self.old.plan.planned (raised self.old.plan.calls) }
+        ensures exactly { (len : ℕ) → (result ≡ Err (SinkError.TooLong len)) ↔
+            (¬ Contains self.old.plan.planned (raised self.old.plan.calls) ×
+            (2 ^ 28 < length (group_form group.now.items)) × (len ≡ told_length group.now.items)) }
         ensures calls { self.new.plan.calls ≡ raised self.old.plan.calls }
-        ensures counted { result ≡ Err SinkError.Failed → self.new.plan.faults ≡ raised self.old.plan.faults }
-        ensures uncounted { result ≢ Err SinkError.Failed → self.new.plan.faults ≡ self.old.plan.faults }
+        ensures counted { result ≡ Err SinkError.Failed →
+            self.new.plan.faults ≡ raised self.old.plan.faults }
+        ensures uncounted { result ≢ Err SinkError.Failed →
+            self.new.plan.faults ≡ self.old.plan.faults }
         ensures plan { self.new.plan.planned ≡ self.old.plan.planned }
         ensures unchanged { OnErr result (self.new.groups ≡ self.old.groups) }
     {

@@ -16,10 +16,10 @@ pub trait Sink {
     /// The sink can be used, tells its groups, and they are these; joined they are its records.
     ghost holds: { Self → List (List Record) → Type 0 };
 
-    /// A stop now may leave these groups.
+    /// A crash now may leave these groups.
     ghost may_leave: { Self → List (List Record) → Type 0 };
 
-    /// What the sink says of all that a stop may leave now: of a topic log, that it is one of some groups.
+    /// What the sink says of all that a crash may leave now: of a topic log, that it is one of some groups.
     ghost leaves_groups: { Self → Type 0 };
 
     /// The second sink comes of the first one: what no put undoes, whatever it answers. Of a topic log, how far it has come:
@@ -34,19 +34,25 @@ pub trait Sink {
 
     /// Appends the group. After `Failed` some first records of it may have been appended, as a group of their own, and the
     /// sink isn't live. After the other errors nothing was appended, and the sink stays live. A group that is too long may be
-    /// answered with another error, where that comes first. Whatever it answers, a stop leaves some groups.
+    /// answered with another error, where that comes first. Whatever it answers, a crash leaves some groups.
     fn put(&mut self, group: &Vec<Record>) -> Result<(), SinkError>
         requires live { IsTrue (is_live self.old) }
         requires handful { IsHandful group.now.items }
-        ensures added { (groups : List (List Record)) → holds self.old groups → OnOk result (holds self.new (groups ++ group.now.items ∷ [])) }
-        ensures kept { (groups : List (List Record)) → holds self.old groups → OnErr result (result ≢ Err SinkError.Failed → holds self.new groups) }
-        ensures left { (groups left : List (List Record)) → holds self.old groups → may_leave self.new left → IsLeftByPut groups group.now.items left }
-        ensures whole { (groups : List (List Record)) → holds self.old groups → leaves_groups self.new }
-        ensures some { (groups : List (List Record)) → holds self.old groups → (left : List (List Record)) × may_leave self.new left }
+        ensures added { (groups : List (List Record)) → holds self.old groups →
+            OnOk result (holds self.new (groups ++ group.now.items ∷ [])) }
+        ensures kept { (groups : List (List Record)) → holds self.old groups →
+            OnErr result (result ≢ Err SinkError.Failed → holds self.new groups) }
+        ensures left { (groups left : List (List Record)) → holds self.old groups →
+            may_leave self.new left → IsLeftByPut groups group.now.items left }
+        ensures whole { (groups : List (List Record)) → holds self.old groups →
+            leaves_groups self.new }
+        ensures some { (groups : List (List Record)) → holds self.old groups →
+            (left : List (List Record)) × may_leave self.new left }
         ensures comes { comes_of self.old self.new }
         ensures live { result ≢ Err SinkError.Failed → IsTrue (is_live self.new) }
         ensures dead { result ≡ Err SinkError.Failed → is_live self.new ≡ false }
-        ensures too_long { (len : ℕ) → result ≡ Err (SinkError.TooLong len) → (2 ^ 28 < length (group_form group.now.items)) × (len ≡ told_length group.now.items) }
+        ensures too_long { (len : ℕ) → result ≡ Err (SinkError.TooLong len) →
+            (2 ^ 28 < length (group_form group.now.items)) × (len ≡ told_length group.now.items) }
         ensures long { 2 ^ 28 < length (group_form group.now.items) → IsErr result }
         ensures failed { result ≡ Err SinkError.Failed → Rose (faults self.old) (faults self.new) }
         ensures later { faults self.old ≤ faults self.new };

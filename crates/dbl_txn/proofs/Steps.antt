@@ -9,9 +9,9 @@ use Rattle.dbl_pgmsg.specs.declared.messages.Message.TheVariants as says
 use Rattle.dbl_table.specs.declared.change.Change.{Change}
 use Rattle.dbl_table.specs.declared.change.Commit.{Commit}
 use Rattle.dbl_table.specs.declared.table.TableInfo.{TableInfo}
-use Rattle.dbl_commit.specs.declared.told.Relation.{Relation}
-use Rattle.dbl_commit.specs.declared.told.RowChange.{RowChange}
-use Rattle.dbl_commit.specs.declared.told.RowChange.TheVariants as row
+use Rattle.dbl_commit.specs.declared.message_parts.Relation.{Relation}
+use Rattle.dbl_commit.specs.declared.message_parts.RowChange.{RowChange}
+use Rattle.dbl_commit.specs.declared.message_parts.RowChange.TheVariants as row
 use Rattle.dbl_commit.specs.declared.txn_error.TxnError.{TxnError}
 use Rattle.dbl_commit.specs.declared.txn_error.TxnError.TheVariants as errors
 use Rattle.dbl_commit.specs.Past.{relation_of, Begun, begin_of, mark_of, HasNoRelation}

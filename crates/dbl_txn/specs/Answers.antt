@@ -1,4 +1,4 @@
--- What a function answers, beside the definitions of what is read and of faults. Memory may always be wanting.
+-- What a function answers, beside the definitions of what is read and of faults. Memory may always run out.
 use Rattle.std.specs.Prelude.{◌≡◌, ◌⊎◌, Option, Some, None, Result, Ok, Err}
 use Rattle.dbl_commit.specs.declared.txn_error.TxnError.{TxnError}
 use Rattle.dbl_commit.specs.declared.txn_error.TxnError.TheVariants as errors

@@ -7,9 +7,9 @@ use Rattle.dbl_pgmsg.specs.declared.messages.Message.TheVariants as says
 use Rattle.dbl_table.specs.declared.change.Change.{Change}
 use Rattle.dbl_table.specs.declared.change.Commit.{Commit}
 use Rattle.dbl_table.specs.declared.table.TableInfo.{TableInfo}
-use Rattle.dbl_commit.specs.declared.told.Relation.{Relation}
-use Rattle.dbl_commit.specs.declared.told.RowChange.{RowChange}
-use Rattle.dbl_commit.specs.declared.told.RowChange.TheVariants as row
+use Rattle.dbl_commit.specs.declared.message_parts.Relation.{Relation}
+use Rattle.dbl_commit.specs.declared.message_parts.RowChange.{RowChange}
+use Rattle.dbl_commit.specs.declared.message_parts.RowChange.TheVariants as row
 use Rattle.dbl_commit.specs.declared.txn_error.TxnError.{TxnError}
 use Rattle.dbl_commit.specs.declared.txn_error.TxnError.TheVariants as errors
 use Rattle.dbl_commit.specs.Past.{relation_of, Begun, begin_of, last_lsn, mark_of}
@@ -92,7 +92,7 @@ pub record Taken (infos : List TableInfo) (after : Lsn) (m : Message) (ms : List
   pub commit : o ≡ ended infos m ms
   pub stands : StandsWhole infos after (m ∷ ms) a
 
--- what taking one more message answers and leaves: a refusal is the message's fault, but that memory may be wanting
+-- what taking one more message answers and leaves: a refusal is the message's fault, but that memory may run out
 abbrev pub Takes : List TableInfo → Lsn → Message → List Message → Assembler → Result (Option Commit) TxnError → Type 0
 Takes infos after m ms a (Ok o) = Taken infos after m ms a o
 Takes infos after m ms a (Err e) = (e ≡ errors.Memory) ⊎ (transaction_fault infos after m ms ≡ Some e)

@@ -90,8 +90,9 @@ fn stated_in(
 }
 
 // The one Update of the watermark.
-fn marked(mark: &mut Option<Text>, changed: bool, change: RowChange) -> Result<(), TxnError>
-    ensures gives { Gives result (refuse_if (not (is_some (mark_in change) && not (is_some mark.old) && not changed)) TxnError.BadMark) }
+fn take_mark(mark: &mut Option<Text>, changed: bool, change: RowChange) -> Result<(), TxnError>
+    ensures gives { Gives result (refuse_if (not
+        (is_some (mark_in change) && not (is_some mark.old) && not changed)) TxnError.BadMark) }
     ensures mark { OnOk result (mark.new ≡ mark_in change) }
 {
     let Some(value) = mark_of_change(change) else {
@@ -114,13 +115,15 @@ fn row_in(
     changed: bool,
     change: RowChange,
 ) -> Result<Seq<Change>, TxnError>
-    ensures gives { Gives result (row_stated infos.now.items mark.old changed known.now.relation change known.now.target) }
-    ensures mark { OnOk result (mark.new ≡ (if is_the_watermark known.now.target then mark_in change else mark.old)) }
+    ensures gives { Gives result
+        (row_stated infos.now.items mark.old changed known.now.relation change known.now.target) }
+    ensures mark { OnOk result
+        (mark.new ≡ (if is_the_watermark known.now.target then mark_in change else mark.old)) }
 {
     match known.target {
         Target::Passed => Ok(Seq::make(Vec::new(alloc))),
         Target::Watermark => {
-            marked(mark, changed, change)?;
+            take_mark(mark, changed, change)?;
             Ok(Seq::make(Vec::new(alloc)))
         }
         Target::Captured(table) => {
@@ -138,7 +141,8 @@ fn targets_in(
     relations: &IndexMap<u32, Known>,
     oids: &Vec<u32>,
 ) -> Result<Seq<Target>, TxnError>
-    ensures { (infos : List TableInfo) (ms : List Message) → Recalls infos ms (get nat_eq relations.now) →
+    ensures { (infos : List TableInfo) (ms : List Message) →
+        Recalls infos ms (get nat_eq relations.now) →
         Gives result (targets_at infos oids.now.items ms) }
 {
     let mut targets = Vec::with_capacity(alloc, oids.len())?;
@@ -173,7 +177,11 @@ fn any_watermark(targets: &Vec<Target>) -> bool
 
 // The Clears of a Truncate in the open transaction.
 #[tactic(auto, unfolding(dbl_commit::specs::Stated::truncate_stated))]
-fn cleared(alloc: Global, marked: bool, targets: &Vec<Target>) -> Result<Seq<Change>, TxnError>
+fn truncate_stated(
+    alloc: Global,
+    marked: bool,
+    targets: &Vec<Target>,
+) -> Result<Seq<Change>, TxnError>
     ensures { Gives result (truncate_stated marked targets.now.items) }
 {
     let changes = clears_in(alloc, targets)?;
@@ -183,17 +191,18 @@ fn cleared(alloc: Global, marked: bool, targets: &Vec<Target>) -> Result<Seq<Cha
     Ok(Seq::make(changes))
 }
 
-fn all_cleared(
+fn truncated(
     alloc: Global,
     relations: &IndexMap<u32, Known>,
     marked: bool,
     oids: &Vec<u32>,
 ) -> Result<Seq<Change>, TxnError>
-    ensures { (infos : List TableInfo) (ms : List Message) → Recalls infos ms (get nat_eq relations.now) →
+    ensures { (infos : List TableInfo) (ms : List Message) →
+        Recalls infos ms (get nat_eq relations.now) →
         Gives result (truncated infos oids.now.items ms marked) }
 {
     let targets = targets_in(alloc, relations, oids)?;
-    cleared(alloc, marked, targets.items())
+    truncate_stated(alloc, marked, targets.items())
 }
 
 fn note(block: &mut Block, stated: &Seq<Change>)
@@ -211,8 +220,14 @@ fn row_at(
     block: &mut Block,
     change: RowChange,
 ) -> Result<Seq<Change>, TxnError>
-    ensures gives { Gives result (row_stated infos.now.items block.old.mark block.old.changed known.now.relation change known.now.target) }
-    ensures block { IfOk result (λ cs. block.new ≡ record block.old { mark = if is_the_watermark known.now.target then mark_in change else block.old.mark; changed = block.old.changed || has_some cs }) }
+    ensures gives { Gives result (row_stated infos.now.items block.old.mark block.old.changed
+        known.now.relation change known.now.target) }
+    ensures block { IfOk result (λ cs. block.new ≡
+        record block.old {
+          mark = if is_the_watermark known.now.target then mark_in change else
+              block.old.mark;
+          changed = block.old.changed || has_some cs;
+        }) }
 {
     let changed = block.changed;
     let stated = row_in(alloc, infos, known, &mut block.mark, changed, change)?;
@@ -226,17 +241,20 @@ fn truncate_at(
     block: &mut Block,
     oids: &Vec<u32>,
 ) -> Result<Seq<Change>, TxnError>
-    ensures gives { (infos : List TableInfo) (ms : List Message) → Recalls infos ms (get nat_eq relations.now) →
+    ensures gives { (infos : List TableInfo) (ms : List Message) →
+        Recalls infos ms (get nat_eq relations.now) →
         Gives result (truncated infos oids.now.items ms (is_some block.old.mark)) }
-    ensures block { IfOk result (λ cs. block.new ≡ record block.old { changed = block.old.changed || has_some cs }) }
+    ensures block { IfOk result
+        (λ cs. block.new ≡ record block.old { changed = block.old.changed || has_some cs }) }
 {
-    let stated = all_cleared(alloc, relations, block.mark.is_some(), oids)?;
+    let stated = truncated(alloc, relations, block.mark.is_some(), oids)?;
     note(block, &stated);
     Ok(stated)
 }
 
 fn hold_in(block: &mut Block, stated: Seq<Change>) -> Result<(), AllocError>
-    ensures { (mark : Option (List ℕ)) (changed : Bool) (held : List Change) (begun : Begun) → IsBlock mark changed held begun block.old →
+    ensures { (mark : Option (List ℕ)) (changed : Bool) (held : List Change) (begun : Begun) →
+        IsBlock mark changed held begun block.old →
         OnOk result (IsBlock mark changed (held ++ stated) begun block.new) }
 {
     let mut stated = stated.into_items();
@@ -258,27 +276,37 @@ impl Assembler {
 
     /// The captured tables. Takes no memory.
     pub fn infos(&self) -> &Vec<TableInfo>
-        ensures { (infos : List TableInfo) (after : Lsn) (ms : List Message) (held : List Change) → Stands infos after ms held self.now → result.now.items ≡ infos }
+        ensures { (infos : List TableInfo) (after : Lsn) (ms : List Message) (held : List Change) →
+            Stands infos after ms held self.now → result.now.items ≡ infos }
     {
         &self.infos
     }
 
     /// Whether a transaction is open. Takes no memory.
     pub fn inside(&self) -> bool
-        ensures begun { (infos : List TableInfo) (after : Lsn) (ms : List Message) (held : List Change) → Stands infos after ms held self.now → result ≡ is_some (begin_of ms) }
-        ensures rest { (infos : List TableInfo) (after : Lsn) (ms : List Message) (held : List Change) (commits : List Commit) (rest : List Message) →
-            Stands infos after (onto [] ms) held self.now → States infos ms commits rest → result ≡ not (is_empty rest) }
+        ensures begun { (infos : List TableInfo) (after : Lsn) (ms : List Message)
+            (held : List Change) → Stands infos after ms held self.now →
+            result ≡ is_some (begin_of ms) }
+        ensures rest { (infos : List TableInfo) (after : Lsn) (ms : List Message)
+            (held : List Change) (commits : List Commit) (rest : List Message) →
+            Stands infos after (onto [] ms) held self.now → States infos ms commits rest →
+            result ≡ not (is_empty rest) }
     {
         self.block.is_some()
     }
 
-    /// One more captured table, of which no Relation was taken so far. After want of memory the assembler is as it was.
+    /// One more captured table, of which no Relation was taken so far. Once memory ran out the assembler is as it was.
     pub fn learn(&mut self, info: TableInfo) -> Result<(), TxnError>
-        ensures learnt { (infos : List TableInfo) (after : Lsn) (ms : List Message) (held : List Change) → Stands infos after ms held self.old → HasNoRelation info.name ms →
+        ensures learnt { (infos : List TableInfo) (after : Lsn) (ms : List Message)
+            (held : List Change) → Stands infos after ms held self.old →
+            HasNoRelation info.name ms →
             OnOk result (Stands (infos ++ info ∷ []) after ms held self.new) }
-        ensures whole { (infos : List TableInfo) (after : Lsn) (ms : List Message) → StandsWhole infos after ms self.old → HasNoRelation info.name ms →
+        ensures whole { (infos : List TableInfo) (after : Lsn) (ms : List Message) →
+            StandsWhole infos after ms self.old → HasNoRelation info.name ms →
             OnOk result (StandsWhole (infos ++ info ∷ []) after ms self.new) }
-        ensures kept { (infos : List TableInfo) (after : Lsn) (ms : List Message) (held : List Change) → Stands infos after ms held self.old → OnErr result (Stands infos after ms held self.new) }
+        ensures kept { (infos : List TableInfo) (after : Lsn) (ms : List Message)
+            (held : List Change) → Stands infos after ms held self.old →
+            OnErr result (Stands infos after ms held self.new) }
         ensures err { IfErr result (λ e. e ≡ TxnError.Memory) }
     {
         self.infos.push(info)?;
@@ -292,7 +320,9 @@ impl Assembler {
         time: &i64,
         xid: u32,
     ) -> Result<Option<Commit>, TxnError>
-        ensures { (infos : List TableInfo) (after : Lsn) (ms : List Message) (held : List Change) → Stands infos after ms held self.old → Moves infos after (says.Begin lsn time.now xid) ms held self.new result }
+        ensures { (infos : List TableInfo) (after : Lsn) (ms : List Message) (held : List Change) →
+            Stands infos after ms held self.old →
+            Moves infos after (says.Begin lsn time.now xid) ms held self.new result }
     {
         if self.block.is_some() {
             return Err(TxnError::NestedBegin);
@@ -315,7 +345,9 @@ impl Assembler {
     }
 
     fn commit(&mut self, lsn: Lsn, end_lsn: Lsn) -> Result<Option<Commit>, TxnError>
-        ensures { (infos : List TableInfo) (after : Lsn) (ms : List Message) (held : List Change) (flags : ℕ) (time : ℤ) → Stands infos after ms held self.old → Moves infos after (says.Commit flags lsn end_lsn time) ms held self.new result }
+        ensures { (infos : List TableInfo) (after : Lsn) (ms : List Message) (held : List Change)
+            (flags : ℕ) (time : ℤ) → Stands infos after ms held self.old →
+            Moves infos after (says.Commit flags lsn end_lsn time) ms held self.new result }
     {
         let Some(block) = self.block.take() else {
             return Err(TxnError::OutsideTransaction);
@@ -331,7 +363,9 @@ impl Assembler {
     }
 
     fn origin(&self) -> Result<Option<Commit>, TxnError>
-        ensures { (infos : List TableInfo) (after : Lsn) (ms : List Message) (held : List Change) (lsn : Lsn) (name : List ℕ) → Stands infos after ms held self.now → Moves infos after (says.Origin lsn name) ms held self.now result }
+        ensures { (infos : List TableInfo) (after : Lsn) (ms : List Message) (held : List Change)
+            (lsn : Lsn) (name : List ℕ) → Stands infos after ms held self.now →
+            Moves infos after (says.Origin lsn name) ms held self.now result }
     {
         if self.block.is_some() {
             Ok(None)
@@ -349,7 +383,9 @@ impl Assembler {
         identity: u8,
         columns: Seq<RelationColumn>,
     ) -> Result<Option<Commit>, TxnError>
-        ensures { (infos : List TableInfo) (after : Lsn) (ms : List Message) (held : List Change) → Stands infos after ms held self.old → Moves infos after (says.Relation oid namespace name identity columns) ms held self.new result }
+        ensures { (infos : List TableInfo) (after : Lsn) (ms : List Message) (held : List Change) →
+            Stands infos after ms held self.old → Moves infos after
+            (says.Relation oid namespace name identity columns) ms held self.new result }
     {
         let relation = Relation {
             name: named(alloc, namespace, name)?,
@@ -364,7 +400,9 @@ impl Assembler {
 
     // What a change of a row states.
     fn row(&mut self, alloc: Global, oid: u32, change: RowChange) -> Result<Seq<Change>, TxnError>
-        ensures { (infos : List TableInfo) (after : Lsn) (ms : List Message) (held : List Change) → Stands infos after ms held self.old → Says infos after (message_of oid change) ms held self.new result }
+        ensures { (infos : List TableInfo) (after : Lsn) (ms : List Message) (held : List Change) →
+            Stands infos after ms held self.old →
+            Says infos after (message_of oid change) ms held self.new result }
     {
         let Some(block) = &mut self.block else {
             return Err(TxnError::OutsideTransaction);
@@ -378,7 +416,9 @@ impl Assembler {
 
     // What a Truncate states.
     fn truncate(&mut self, alloc: Global, oids: &Vec<u32>) -> Result<Seq<Change>, TxnError>
-        ensures { (infos : List TableInfo) (after : Lsn) (ms : List Message) (held : List Change) (options : ℕ) → Stands infos after ms held self.old → Says infos after (says.Truncate options oids.now.items) ms held self.new result }
+        ensures { (infos : List TableInfo) (after : Lsn) (ms : List Message) (held : List Change)
+            (options : ℕ) → Stands infos after ms held self.old →
+            Says infos after (says.Truncate options oids.now.items) ms held self.new result }
     {
         let Some(block) = &mut self.block else {
             return Err(TxnError::OutsideTransaction);
@@ -389,7 +429,9 @@ impl Assembler {
 
     // More changes are held.
     fn hold(&mut self, stated: Seq<Change>) -> Result<(), TxnError>
-        ensures held { (infos : List TableInfo) (after : Lsn) (ms : List Message) (held : List Change) → Stands infos after ms held self.old → OnOk result (Stands infos after ms (held ++ stated) self.new) }
+        ensures held { (infos : List TableInfo) (after : Lsn) (ms : List Message)
+            (held : List Change) → Stands infos after ms held self.old →
+            OnOk result (Stands infos after ms (held ++ stated) self.new) }
         ensures memory { IfErr result (λ e. e ≡ TxnError.Memory) }
     {
         match &mut self.block {
@@ -407,7 +449,9 @@ impl Assembler {
         oid: u32,
         change: RowChange,
     ) -> Result<Option<Commit>, TxnError>
-        ensures { (infos : List TableInfo) (after : Lsn) (ms : List Message) → StandsWhole infos after ms self.old → Takes infos after (message_of oid change) ms self.new result }
+        ensures { (infos : List TableInfo) (after : Lsn) (ms : List Message) →
+            StandsWhole infos after ms self.old →
+            Takes infos after (message_of oid change) ms self.new result }
     {
         let stated = self.row(alloc, oid, change)?;
         self.hold(stated)?;
@@ -415,7 +459,9 @@ impl Assembler {
     }
 
     fn take_truncate(&mut self, alloc: Global, oids: &Vec<u32>) -> Result<Option<Commit>, TxnError>
-        ensures { (infos : List TableInfo) (after : Lsn) (ms : List Message) (options : ℕ) → StandsWhole infos after ms self.old → Takes infos after (says.Truncate options oids.now.items) ms self.new result }
+        ensures { (infos : List TableInfo) (after : Lsn) (ms : List Message) (options : ℕ) →
+            StandsWhole infos after ms self.old →
+            Takes infos after (says.Truncate options oids.now.items) ms self.new result }
     {
         let stated = self.truncate(alloc, oids)?;
         self.hold(stated)?;
@@ -425,7 +471,8 @@ impl Assembler {
     /// Takes the next message, and answers the commit that it ends. The transaction is held until then. After a refusal the
     /// assembler is given up.
     pub fn take(&mut self, alloc: Global, message: Message) -> Result<Option<Commit>, TxnError>
-        ensures { (infos : List TableInfo) (after : Lsn) (ms : List Message) → StandsWhole infos after ms self.old → Takes infos after message ms self.new result }
+        ensures { (infos : List TableInfo) (after : Lsn) (ms : List Message) →
+            StandsWhole infos after ms self.old → Takes infos after message ms self.new result }
     {
         match message {
             Message::Begin { lsn, time, xid } => self.begin(alloc, lsn, &time, xid),
@@ -456,7 +503,8 @@ impl Assembler {
 }
 
 fn commit_from(lsn: Lsn, end_lsn: Lsn, block: Block) -> Commit
-    ensures { (b : Begun) → block.time ≡ b.time → block.xid ≡ b.xid → result ≡ commit_of lsn end_lsn block.mark block.changes.items b }
+    ensures { (b : Begun) → block.time ≡ b.time → block.xid ≡ b.xid →
+        result ≡ commit_of lsn end_lsn block.mark block.changes.items b }
 {
     let Block {
         lsn: _,

@@ -13,13 +13,14 @@ use dbl_value::{PgType, Val, ValueError, oid, read_owned};
 use std::alloc::Global;
 
 // What is answered of a text that spells no value of its column's type.
-fn refused(
+fn refuse_text(
     alloc: Global,
     table: &TableName,
     column: &Column,
     error: ValueError,
 ) -> Result<Val, TxnError>
-    ensures { (result ≡ Err TxnError.Memory) ⊎ ((error ≢ ValueError.Memory) × (result ≡ Err (TxnError.Value table.now column.now.name error))) }
+    ensures { (result ≡ Err TxnError.Memory) ⊎ ((error ≢ ValueError.Memory) ×
+        (result ≡ Err (TxnError.Value table.now column.now.name error))) }
 {
     match error {
         ValueError::Memory => Err(TxnError::Memory),
@@ -32,16 +33,21 @@ fn refused(
 }
 
 #[tactic(auto, unfolding(dbl_commit::specs::Tuples::spelled_value))]
-fn spelled(alloc: Global, table: &TableName, column: &Column, text: Text) -> Result<Val, TxnError>
+fn spelled_value(
+    alloc: Global,
+    table: &TableName,
+    column: &Column,
+    text: Text,
+) -> Result<Val, TxnError>
     ensures { Gives result (spelled_value table.now column.now text) }
 {
     match read_owned(alloc, column.ty, text) {
         Ok(value) => Ok(value),
-        Err(error) => refused(alloc, table, column, error),
+        Err(error) => refuse_text(alloc, table, column, error),
     }
 }
 
-fn null(alloc: Global, table: &TableName, in_key: bool) -> Result<Val, TxnError>
+fn null_cell(alloc: Global, table: &TableName, in_key: bool) -> Result<Val, TxnError>
     ensures { Gives result (null_cell table.now in_key) }
 {
     if in_key {
@@ -55,7 +61,7 @@ fn null(alloc: Global, table: &TableName, in_key: bool) -> Result<Val, TxnError>
 
 /// A cell of an Insert or of an old row.
 #[tactic(auto, unfolding(dbl_commit::specs::Tuples::given_cell))]
-pub fn given(
+pub fn given_cell(
     alloc: Global,
     table: &TableName,
     in_key: bool,
@@ -65,12 +71,12 @@ pub fn given(
     ensures { Gives result (given_cell table.now in_key column.now cell) }
 {
     match cell {
-        TupleCell::Null => null(alloc, table, in_key),
+        TupleCell::Null => null_cell(alloc, table, in_key),
         TupleCell::Unchanged => Err(TxnError::UnchangedCell {
             table: table.copy(alloc)?,
             column: column.name.copy(alloc)?,
         }),
-        TupleCell::Text(text) => spelled(alloc, table, column, text),
+        TupleCell::Text(text) => spelled_value(alloc, table, column, text),
     }
 }
 
@@ -83,7 +89,7 @@ fn is_fixed(ty: PgType) -> bool
     FIXED.iter().any(|fixed| oid == *fixed)
 }
 
-fn filled(
+fn filled_cell(
     alloc: Global,
     table: &TableName,
     in_key: bool,
@@ -109,7 +115,7 @@ fn filled(
 
 /// A cell of an Update's new row, where the old row fills in `old`.
 #[tactic(auto, unfolding(dbl_commit::specs::Tuples::new_cell))]
-pub fn renewed(
+pub fn new_cell(
     alloc: Global,
     table: &TableName,
     in_key: bool,
@@ -120,8 +126,8 @@ pub fn renewed(
     ensures { Gives result (new_cell table.now in_key (option_copied old.entry) column.now cell) }
 {
     match cell {
-        TupleCell::Null => Ok(Cell::Given(null(alloc, table, in_key)?)),
-        TupleCell::Text(text) => Ok(Cell::Given(spelled(alloc, table, column, text)?)),
+        TupleCell::Null => Ok(Cell::Given(null_cell(alloc, table, in_key)?)),
+        TupleCell::Text(text) => Ok(Cell::Given(spelled_value(alloc, table, column, text)?)),
         TupleCell::Unchanged => {
             if is_fixed(column.ty) {
                 Err(TxnError::UnchangedCell {
@@ -129,7 +135,7 @@ pub fn renewed(
                     column: column.name.copy(alloc)?,
                 })
             } else {
-                filled(alloc, table, in_key, old, column)
+                filled_cell(alloc, table, in_key, old, column)
             }
         }
     }

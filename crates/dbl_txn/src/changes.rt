@@ -4,7 +4,7 @@ ghost use Rattle.std.specs.Prelude.{◌≡◌, ◌&&◌, not, IfOk};
 ghost use Rattle.std.specs.List.{position_from};
 ghost use Rattle.dbl_table.specs.Infos.{name_at};
 ghost use Rattle.dbl_commit.specs.Tuples.{refuse_if, is_unsent, none_unsent, all_sent_if_moved, key_in_identity, is_full, change_of};
-ghost use Rattle.dbl_commit.specs.declared.told.RowChange.TheVariants as row;
+ghost use Rattle.dbl_commit.specs.declared.message_parts.RowChange.TheVariants as row;
 ghost use Rattle.dbl_txn.specs.Answers.{Gives};
 
 use crate::keys::{identifies_key, is_same, key_before, key_of, new_key_of};
@@ -74,7 +74,8 @@ fn check_moved(
 }
 
 fn check_identity(alloc: Global, info: &TableInfo, relation: &Relation) -> Result<(), TxnError>
-    ensures { Gives result (refuse_if (not (key_in_identity info.now relation.now)) (TxnError.KeyNotInIdentity info.now.name)) }
+    ensures { Gives result (refuse_if (not (key_in_identity info.now relation.now))
+        (TxnError.KeyNotInIdentity info.now.name)) }
 {
     if identifies_key(info, relation) {
         Ok(())
@@ -91,7 +92,8 @@ fn check_old(
     relation: &Relation,
     whole: bool,
 ) -> Result<(), TxnError>
-    ensures { Gives result (refuse_if (is_full relation.now && not whole) (TxnError.MissingOld info.now.name)) }
+    ensures { Gives result
+        (refuse_if (is_full relation.now && not whole) (TxnError.MissingOld info.now.name)) }
 {
     if relation.identity == b'f' && !whole {
         Err(TxnError::MissingOld {
@@ -103,7 +105,7 @@ fn check_old(
 }
 
 #[tactic(auto, unfolding(dbl_commit::specs::Tuples::change_of))]
-fn inserted(
+fn insert_of(
     alloc: Global,
     table: u32,
     info: &TableInfo,
@@ -117,7 +119,7 @@ fn inserted(
 }
 
 #[tactic(auto, unfolding(dbl_commit::specs::Tuples::change_of))]
-fn updated(
+fn update_of(
     alloc: Global,
     table: u32,
     info: &TableInfo,
@@ -143,7 +145,7 @@ fn updated(
 }
 
 #[tactic(auto, unfolding(dbl_commit::specs::Tuples::change_of))]
-fn deleted(
+fn delete_of(
     alloc: Global,
     table: u32,
     info: &TableInfo,
@@ -169,8 +171,8 @@ pub fn change_of(
     ensures { Gives result (change_of table info.now relation.now change) }
 {
     match change {
-        RowChange::Insert(tuple) => inserted(alloc, table, info, relation, tuple),
-        RowChange::Update(before, tuple) => updated(alloc, table, info, relation, before, tuple),
-        RowChange::Delete(before) => deleted(alloc, table, info, relation, before),
+        RowChange::Insert(tuple) => insert_of(alloc, table, info, relation, tuple),
+        RowChange::Update(before, tuple) => update_of(alloc, table, info, relation, before, tuple),
+        RowChange::Delete(before) => delete_of(alloc, table, info, relation, before),
     }
 }

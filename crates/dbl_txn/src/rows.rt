@@ -6,7 +6,7 @@ ghost use Rattle.dbl_table.specs.Infos.{width};
 ghost use Rattle.dbl_commit.specs.Tuples.{each_from, row_cell, row_of, old_row, old_row_if_sent, is_whole, filling, next_cell, new_cells};
 ghost use Rattle.dbl_txn.specs.Answers.{Gives};
 
-use crate::cells::{given, renewed};
+use crate::cells::{given_cell, new_cell};
 use crate::keys::{has_flag, has_key_place};
 use dbl_base::Seq;
 use dbl_commit::{Relation, TxnError};
@@ -15,7 +15,7 @@ use dbl_table::{Cell, Column, Row, TableInfo};
 use dbl_value::Val;
 use std::alloc::Global;
 
-// More than 2^32 columns or cells count as want of memory.
+// More than 2^32 columns or cells count as out of memory.
 fn count_error(want: usize, got: usize) -> TxnError
     ensures { (result ≡ TxnError.Memory) ⊎ (result ≡ TxnError.ColumnCount want got) }
 {
@@ -40,7 +40,7 @@ fn read_cell(
     ensures { Gives result (row_cell info.now relation.now whole place column.now cell) }
 {
     if whole || has_flag(relation, place) {
-        given(alloc, &info.name, has_key_place(info, place), column, cell)
+        given_cell(alloc, &info.name, has_key_place(info, place), column, cell)
     } else {
         Ok(Val::Null)
     }
@@ -54,7 +54,8 @@ fn read_cells(
     cells: Vec<TupleCell>,
 ) -> Result<Seq<Val>, TxnError>
     requires { length cells.items ≡ width info.now }
-    ensures { Gives result (each_from (row_cell info.now relation.now whole) 0 info.now.columns cells.items) }
+    ensures { Gives result
+        (each_from (row_cell info.now relation.now whole) 0 info.now.columns cells.items) }
 {
     let columns = info.columns.items();
     let mut values = Vec::with_capacity(alloc, columns.len())?;
@@ -162,7 +163,7 @@ fn next_cell(
 ) -> Result<Cell, TxnError>
     ensures { Gives result (next_cell info.now relation.now whole old.now place column.now cell) }
 {
-    renewed(
+    new_cell(
         alloc,
         &info.name,
         has_key_place(info, place),
@@ -181,7 +182,8 @@ fn next_cells(
     cells: Vec<TupleCell>,
 ) -> Result<Seq<Cell>, TxnError>
     requires { length cells.items ≡ width info.now }
-    ensures { Gives result (each_from (next_cell info.now relation.now whole old.now) 0 info.now.columns cells.items) }
+    ensures { Gives result
+        (each_from (next_cell info.now relation.now whole old.now) 0 info.now.columns cells.items) }
 {
     let columns = info.columns.items();
     let mut renewed = Vec::with_capacity(alloc, columns.len())?;

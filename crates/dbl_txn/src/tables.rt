@@ -41,7 +41,7 @@ fn place_of(infos: &Vec<TableInfo>, table: &TableName) -> Option<usize>
         .position(|info| is_same_name(&info.name, table))
 }
 
-/// What the table of a name is. A place above 2^32 counts as want of memory.
+/// What the table of a name is. A place above 2^32 counts as out of memory.
 pub fn target_of(infos: &Vec<TableInfo>, table: &TableName) -> Result<Target, TxnError>
     ensures { Gives result (Ok (target infos.now.items table.now)) }
 {

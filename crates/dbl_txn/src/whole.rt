@@ -27,16 +27,24 @@ pub fn take_all(
     assembler: &mut Assembler,
     messages: Vec<Message>,
 ) -> Result<Vec<Commit>, TxnError>
-    ensures stands { (infos : List TableInfo) (after : Lsn) (ms : List Message) → StandsWhole infos after ms assembler.old →
+    ensures stands { (infos : List TableInfo) (after : Lsn) (ms : List Message) →
+        StandsWhole infos after ms assembler.old →
         IfOk result (λ _. StandsWhole infos after (onto ms messages.items) assembler.new) }
-    ensures commits { (infos : List TableInfo) (after : Lsn) (ms : List Message) → StandsWhole infos after ms assembler.old →
-        IfOk result (λ commits. commits_of infos (onto ms messages.items) ≡ commits_of infos ms ++ commits.items) }
-    ensures clean { (infos : List TableInfo) (after : Lsn) (ms : List Message) → StandsWhole infos after ms assembler.old →
+    ensures commits { (infos : List TableInfo) (after : Lsn) (ms : List Message) →
+        StandsWhole infos after ms assembler.old →
+        IfOk result (λ commits. commits_of infos
+        (onto ms messages.items) ≡ commits_of infos ms ++ commits.items) }
+    ensures clean { (infos : List TableInfo) (after : Lsn) (ms : List Message) →
+        StandsWhole infos after ms assembler.old →
         IfOk result (λ _. first_fault infos after ms messages.items ≡ None) }
-    ensures blocks { (infos : List TableInfo) (after : Lsn) → StandsWhole infos after [] assembler.old →
-        IfOk result (λ commits. (rest : List Message) × States infos messages.items commits.items rest) }
-    ensures refused { (infos : List TableInfo) (after : Lsn) (ms : List Message) → StandsWhole infos after ms assembler.old →
-        IfErr result (λ e. (e ≡ TxnError.Memory) ⊎ (first_fault infos after ms messages.items ≡ Some e)) }
+    ensures blocks { (infos : List TableInfo) (after : Lsn) →
+        StandsWhole infos after [] assembler.old →
+        IfOk result
+        (λ commits. (rest : List Message) × States infos messages.items commits.items rest) }
+    ensures refused { (infos : List TableInfo) (after : Lsn) (ms : List Message) →
+        StandsWhole infos after ms assembler.old →
+        IfErr result
+        (λ e. (e ≡ TxnError.Memory) ⊎ (first_fault infos after ms messages.items ≡ Some e)) }
 {
     let mut commits = Vec::new(alloc);
     for message in messages {

@@ -176,7 +176,8 @@ fn spelled(alloc: Global, ty: PgType, text: &Text) -> Result<Option<Val>, AllocE
 /// The value that a text spells. Texts, uuids and byte strings take memory for what the value keeps; other values take none.
 pub fn read(alloc: Global, ty: PgType, text: &Text) -> Result<Val, ValueError>
     ensures value { IfOk result (SpellsValue ty text.now) }
-    ensures fault { IfErr result (λ e. (e ≡ ValueError.Memory) ⊎ (value_fault ty text.now ≡ Some e)) }
+    ensures fault { IfErr result
+        (λ e. (e ≡ ValueError.Memory) ⊎ (value_fault ty text.now ≡ Some e)) }
     ensures fixed { is_fixed ty ≡ true → result ≢ Err ValueError.Memory }
 {
     match spelled(alloc, ty, text) {

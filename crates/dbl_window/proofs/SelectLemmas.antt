@@ -29,7 +29,7 @@ pub none_taken : (told : Option Told) → IsTakenBy [] told told
 none_taken None = tt
 none_taken (Some t) = refl
 
--- a source's want of memory, and its failure, as a window's
+-- a source that ran out of memory, or failed, as a window
 pub memory_was : (e : SourceError) → window_fault e ≡ window.Memory → e ≡ source.Memory
 memory_was source.Failed is = cc
 memory_was source.Memory is = refl
@@ -69,7 +69,7 @@ selects_so plan rows chunk s t moved starts selects plan_is read through done in
     plan_is (selected_chunk infos t.history (length s.history.commits) (length t.history.commits) rows chunk))
     (moved_captured infos plan s t moved captured) starts selects read through done
 
--- an error of the reading that isn't want of memory is the rows' fault
+-- an error of the reading but out of memory is the rows' fault
 fault_of_rows : (plan : Plan) (rows : List RawRow) (result : Result Chunk WindowError) (e : WindowError) → IsReadAs plan rows result → result ≡ Err e → (e ≡ window.Failed → ⊥) → (e ≡ window.Memory → ⊥)
     → rows_read plan 0 plan.above rows ≡ Err e
 fault_of_rows plan rows result e read is not_failed not_memory =

@@ -1,4 +1,4 @@
--- What a step of a window may leave of its source, whatever it answers. A step that wants memory first has asked the source for
+-- What a step of a window may leave of its source, whatever it answers. A step that runs out of memory first has asked the source for
 -- nothing.
 use Rattle.std.specs.Prelude.{◌≡◌, ◌⊎◌, ℕ, List}
 use Rattle.dbl_honest.specs.Standings.{Standing, Left, left_of}

@@ -10,7 +10,7 @@ use Rattle.dbl_window.specs.declared.error.WindowError.{WindowError}
 use Rattle.dbl_window.specs.declared.error.WindowError.TheVariants.{Memory}
 use Rattle.dbl_window.specs.Reading.{is_of_key}
 
--- what was answered is what was read, or its fault; memory may always be wanting
+-- what was answered is what was read, or its fault; memory may always run out
 abbrev pub Reads : {A : Type 0} → Result A WindowError → Result A WindowError → Type 0
 Reads (Ok x) read = read ≡ Ok x
 Reads (Err e) read = (e ≡ Memory) ⊎ (read ≡ Err e)

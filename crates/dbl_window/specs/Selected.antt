@@ -58,7 +58,7 @@ pub record HasUnreadable (infos : List TableInfo) (history : History) (plan : Pl
   pub fault : value_fault column.ty text ≡ Some error
 
 -- For private clauses: what rows that were answered have to do with what is answered of them. The chunk has them as they are read,
--- and a fault is their first. The source may fail instead, and memory may be wanting.
+-- and a fault is their first. The source may fail instead, and memory may run out.
 abbrev pub IsReadAs : Plan → List RawRow → Result Chunk WindowError → Type 0
 IsReadAs plan rows result =
     MatchResult result (λ chunk. chunk_read plan rows ≡ Ok chunk.rows)
@@ -72,7 +72,7 @@ pub record IsReadOf (plan : Plan) (told : Option Told) (read : Result (List (Key
   pub read_is : chunk_read plan rows ≡ read
 
 -- Where the source tells what it answered: the chunk has these rows, as they are read, and a fault is their first. The source may
--- fail instead, and memory may be wanting.
+-- fail instead, and memory may run out.
 abbrev pub IsReadFrom : Plan → Option Told → Result Chunk WindowError → Type 0
 IsReadFrom plan told result =
     MatchResult result (λ chunk. IsReadOf plan told (Ok chunk.rows))

@@ -192,7 +192,7 @@ fn update_rows(
     Ok(())
 }
 
-/// What a change of the table leaves of its rows. After want of memory some may be missing.
+/// What a change of the table leaves of its rows. Once memory ran out some may be missing.
 pub(crate) fn change_rows(
     alloc: Global,
     info: &TableInfo,

@@ -52,7 +52,7 @@ impl Model for Idle {
 #[derive(Debug, Drop)]
 pub struct Marked {
     frame: Frame,
-    // the texts of both marks, so that later steps want no memory for them
+    // the texts of both marks, so that later steps take no memory for them
     low: Text,
     high: Text,
 }
@@ -423,7 +423,7 @@ impl Open {
     }
 
     /// A change came in the log. Of a row that the change gives whole or ends nothing is left; a change that leaves cells unsent is laid
-    /// over the row. A change of another table leaves all rows. After want of memory the window is to be given up.
+    /// over the row. A change of another table leaves all rows. Once memory ran out the window is to be given up.
     pub fn change(&mut self, change: &Change) -> Result<(), AllocError>
         requires { table_of change.now ≡ self.old.plan.table →
             FitsTable self.old.plan.info change.now }

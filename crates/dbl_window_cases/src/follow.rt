@@ -218,7 +218,7 @@ fn steps(
     ensures info { IfOk result (λ armed. IfSome armed (λ a. a.plan.info ≡ first.now)) }
     ensures live { IfOk result (λ armed. IfSome armed (λ a. IsTrue source.new.live)) }
 {
-    let (before, behind) = words::parted(case, " | low");
+    let (before, behind) = words::split(case, " | low");
     if !windows::other_marks(alloc, source, before, answers)? {
         return Ok(None);
     }

@@ -40,7 +40,7 @@ fn main(rt: HostRuntime) -> Result<()> {
         if line.is_empty() || line.starts_with('#') {
             continue;
         }
-        let (name, case) = words::parted(line.as_str(), ": ");
+        let (name, case) = words::split(line.as_str(), ": ");
         match answer(rt.alloc(), case) {
             Ok(text) => println!(rt; "{name}:{text}")?,
             Err(error) => println!(rt; "{name}: no answer: {error}")?,

@@ -13,9 +13,9 @@ use std::fmt::{Display, Write};
 
 // Of an event the operation and the row behind it.
 fn event<'a>(answers: &mut String, value: &'a str) -> Result<()> {
-    let (front, rest) = words::parted(value, ",\"before\":");
-    let (_, op) = words::parted(rest, "\"op\":\"");
-    let (op, _) = words::parted(op, "\"");
+    let (front, rest) = words::split(value, ",\"before\":");
+    let (_, op) = words::split(rest, "\"op\":\"");
+    let (op, _) = words::split(op, "\"");
     let after = front.strip_prefix("{\"after\":").unwrap_or(front);
     write!(answers, " {op} {after}")?;
     Ok(())

@@ -54,7 +54,7 @@ pub fn read_step(line: &str) -> Option<Step<'_>> {
         "case" => Some(Step::Case),
         "$" => Some(Step::Words { words: rest }),
         "|" => Some(Step::Piped { words: rest }),
-        "wal" | "topics" | "offsets" => held(mark, rest),
+        "wal" | "topics" | "offsets" => disk_step(mark, rest),
         "crash" => crash(rest),
         _ => {
             let part = read_part(mark, rest)?;
@@ -71,7 +71,7 @@ fn read_part<'a>(mark: &str, rest: &'a str) -> Option<Part<'a>> {
             count: 1,
             text: rest,
         }),
-        "*" => repeated(rest),
+        "*" => repeated_part(rest),
         "x" => Some(Part::Bytes { digits: rest }),
         "!" => failure(rest),
         "tail" => tail(rest),
@@ -90,7 +90,7 @@ fn disk_named(name: &str) -> Option<Place> {
     }
 }
 
-fn held<'a>(name: &str, digits: &'a str) -> Option<Step<'a>> {
+fn disk_step<'a>(name: &str, digits: &'a str) -> Option<Step<'a>> {
     let place = disk_named(name)?;
     Some(Step::Disk { place, digits })
 }
@@ -143,7 +143,7 @@ fn moment(rest: &str) -> Option<Part<'_>> {
 }
 
 // So many, and the line.
-fn repeated(rest: &str) -> Option<Part<'_>> {
+fn repeated_part(rest: &str) -> Option<Part<'_>> {
     let (count, text) = rest.split_once(' ')?;
     let count = count.parse::<u32>().ok()?;
     Some(Part::Lines { count, text })

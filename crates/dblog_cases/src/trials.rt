@@ -14,7 +14,7 @@ fn cut(bytes: &Vec<u8>, length: u64) -> Result<Vec<u8>, AllocError> {
     Ok(kept)
 }
 
-fn turned(bytes: &Vec<u8>, number: u64) -> Result<Vec<u8>, AllocError> {
+fn turn_bit(bytes: &Vec<u8>, number: u64) -> Result<Vec<u8>, AllocError> {
     let mut all = bytes.clone()?;
     for (index, byte) in all.iter_mut().enumerate() {
         if index as u64 == number {
@@ -48,7 +48,7 @@ fn change(
             found.put(alloc, place, bytes.as_slice())
         }
         Sweep::Byte { place } | Sweep::Bit { place } => {
-            let bytes = turned(disks.bytes(place), number)?;
+            let bytes = turn_bit(disks.bytes(place), number)?;
             found.put(alloc, place, bytes.as_slice())
         }
         Sweep::Fuse { .. } => Ok(()),
@@ -133,7 +133,7 @@ fn tell_answers<W: Write>(
 ) -> io::Result<()> {
     let mut last = Vec::new(alloc);
     for number in 0..count(sweep, disks) {
-        let told = told(alloc, run, disks, sweep, number)?;
+        let told = tell_run(alloc, run, disks, sweep, number)?;
         if told != last {
             writer.write_all(told.as_slice())?;
             last = told;
@@ -142,7 +142,13 @@ fn tell_answers<W: Write>(
     Ok(())
 }
 
-fn told(alloc: Global, run: &Run, disks: &Disks, sweep: Sweep, number: u64) -> io::Result<Vec<u8>> {
+fn tell_run(
+    alloc: Global,
+    run: &Run,
+    disks: &Disks,
+    sweep: Sweep,
+    number: u64,
+) -> io::Result<Vec<u8>> {
     let mut told = Vec::new(alloc);
     tell(alloc, run, disks, sweep, number, &mut told)?;
     Ok(told)

@@ -8,7 +8,7 @@ use Rattle.dbl_source.specs.Steps.{IsBehind}
 use Rattle.dbl_source.proofs.CallLemmas.{on_err}
 use Rattle.dbl_source.proofs.moves.append.Goals as goal
 
--- the list that was yielded so far is a front of the commits
+-- the list that was yielded so far is a prefix of the commits
 pub returns-in_err-push-clause-err : goal.returns-in_err-push-clause-err
 returns-in_err-push-clause-err c =
     let gives = c.into_iter-messages-iterator.ensures.into_iter_gives in

@@ -11,7 +11,7 @@ use Rattle.dbl_window.specs.Plans.{low_text}
 use Rattle.dbl_window.proofs.SelectLemmas.{none_taken, memory_was}
 use Rattle.dbl_window.proofs.states.Idle.low.Goals as goal
 
--- where memory is wanting the source was asked for nothing
+-- where memory runs out the source was asked for nothing
 pub returns-in_err-marked-clause-left : goal.returns-in_err-marked-clause-left
 returns-in_err-marked-clause-left g c s l stands may = inl (g.met.S.Source.only c.args.src.now s l stands may)
 

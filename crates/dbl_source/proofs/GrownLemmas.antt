@@ -3,7 +3,7 @@
 use Rattle.std.proofs.Common.{◌≡◌, ◌∙◌, ◌+◌, ◌<◌, ◌≤◌, inl, inr, ℕ, List, [], ◌∷◌, ◌++◌, length, map, sym, ap, subst, arith, length-append, get_or}
 use Rattle.std.specs.Prelude.{Option, Some, slice_index_or}
 use Rattle.std.proofs.lemmas.Bool.{cases_eq}
-use Rattle.std.proofs.lemmas.List.{get_or_at, get_or_append_left}
+use Rattle.std.proofs.lemmas.List.{length-map, get_or_at, get_or_append_left}
 use Rattle.std.proofs.lemmas.Option.{IfSome_then, slice_get_within, slice_get-get_or, get_or_from_slice_get}
 use Rattle.dbl_table.specs.declared.row.Key.{Key}
 use Rattle.dbl_table.specs.declared.table.TableName.{TableName}
@@ -17,7 +17,7 @@ use Rattle.dbl_honest.specs.Selected.{AreFirstOf, AreRowsAt, AreAnswered}
 use Rattle.dbl_honest.proofs.FitLemmas.{rows_front}
 use Rattle.dbl_feed.specs.declared.logged.LogTable.{LogTable}
 use Rattle.dbl_feed.specs.declared.logged.Logged.{Logged}
-use Rattle.dbl_feed.specs.declared.logged.Logged.TheVariants.{Changes}
+use Rattle.dbl_feed.specs.declared.logged.Logged.TheVariants.{Changes, Mark}
 use Rattle.dbl_feed.specs.Relations.{catalogue}
 use Rattle.dbl_feed.specs.TextRows.{no_text_rows}
 use Rattle.dbl_feed.specs.Histories.{commits_from, text_rows_through, history_of}
@@ -26,8 +26,8 @@ use Rattle.dbl_feed.proofs.LogLemmas.{history_grown, length-history}
 use Rattle.dbl_source.specs.declared.asked.Asked.{Asked}
 use Rattle.dbl_source.specs.Fairness.{IsAnswered, IsFair}
 use Rattle.dbl_source.specs.Played.{question_of}
-use Rattle.dbl_source.specs.Laws.{CommitsKeepFair, SelectsKeepFair}
-use Rattle.dbl_source.proofs.PlayLemmas.{WereAsked}
+use Rattle.dbl_source.specs.Laws.{CommitsKeepFair, SelectsKeepFair, SelectsHaveReturned}
+use Rattle.dbl_source.proofs.PlayLemmas.{WereAsked, asked_more}
 
 module _ (tables : List LogTable) (log more : List Logged) where
   abbrev commits : List RawCommit
@@ -92,3 +92,14 @@ asked_fair tables log asked question rows right fair = record {
 pub selects_fair : SelectsKeepFair
 selects_fair table above limit from inside s returned fit changes right fair =
     asked_fair s.tables (s.log ++ map Changes inside) s.asked (question_of table above limit from (length s.log + length inside)) s.rows right (grown_fair s.tables s.log (map Changes inside) s.asked s.rows returned fit changes fair)
+
+-- each select has returned
+pub have_returned : SelectsHaveReturned
+have_returned = record {
+  first = λ raws moves rows fails n question found. cc;
+  commits = λ commits s returned n question found. omega (arith, returned n question found, length-append s.log (map Changes commits));
+  mark = λ value s returned n question found. omega (arith, returned n question found, length-append s.log (Mark value ∷ []));
+  select = λ table above limit from inside s returned. (
+      let long : length (s.log ++ map Changes inside) ≡ length s.log + length inside = omega (arith, length-append s.log (map Changes inside), length-map inside Changes) in
+      asked_more s.asked (question_of table above limit from (length s.log + length inside)) s.log (s.log ++ map Changes inside) (sym long) (omega (arith, long)) returned);
+}

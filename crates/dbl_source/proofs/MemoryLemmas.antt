@@ -1,5 +1,5 @@
 -- Where memory ran out, some first ones of a call's commits were added to a played source, and nothing else.
-use Rattle.std.proofs.Common.{◌≡◌, ◌∙◌, ◌+◌, ◌≤◌, inl, inr, ℕ, List, ◌++◌, length, map, take, drop, refl, sym, ap, subst, arith, append_assoc, length-append}
+use Rattle.std.proofs.Common.{◌≡◌, ◌∙◌, ◌+◌, ◌≤◌, inl, inr, ℕ, false, true, List, ◌++◌, length, map, take, drop, refl, sym, ap, subst, arith, append_assoc, length-append}
 use Rattle.std.specs.Prelude.{◌↔◌, Result, Ok, Err, IsErr, OnOk, OnErr}
 use Rattle.std.proofs.lemmas.List.{map-append, take_all, take-append-drop, take-append-le}
 use Rattle.dbl_base.specs.Memory.{Plan}
@@ -26,7 +26,7 @@ added_so old new commits front count few first counts is = record {
 
 -- the plan behind a call that was counted
 pub counted_so : {T E : Type 0} (old : Played) (plan : Plan) (r : Result T E) → (IsErr r ↔ IsListed old) → OnOk r (plan ≡ (counted old).plan) → OnErr r (plan ≡ (with_fault (counted old)).plan) → HasCounted old plan
-counted_so old plan (Ok x) listed ok err = inl ok
+counted_so old plan (Ok x) listed ok err = inl (λ it. (let never : false ≡ true = listed.1 it in cc), ok)
 counted_so old plan (Err e) listed ok err = inr (listed.0 refl, err)
 
 -- a call was counted, and then some of other clients' commits were added
@@ -52,9 +52,9 @@ pub added_front : (old new : Played) (before inside : List (List Message)) → A
 added_front old new before inside added =
     added_so old new (before ++ inside) (take added.count before) added.count (omega (arith, added.few, length-append before inside)) (take-append-le added.count before inside added.few) added.counts added.is
 
--- the commits before the call stand, and some of those inside of it
-pub added_inside : (old mid new : Played) (inside : List (List Message)) → mid ≡ released old → new ≡ record mid { log = new.log } → IsBehind inside mid.log new.log → AddedFirst (before_of old ++ inside) (past_move old) new
-added_inside old mid new inside begun kept behind =
+-- the commits before a call that isn't to fail stand, and some of those inside of it
+pub added_inside : (old mid new : Played) (inside : List (List Message)) → (¬ IsListed old) → mid ≡ released old → new ≡ record mid { log = new.log } → IsBehind inside mid.log new.log → AddedFirst (before_of old ++ inside) (past_move old) new
+added_inside old mid new inside unlisted begun kept behind =
     let before : List (List Message) = before_of old in
     let front : List (List Message) = take behind.count inside in
     let there : new ≡ record (released old) { log = (old.log ++ map Changes before) ++ map Changes front } =
@@ -64,12 +64,12 @@ added_inside old mid new inside begun kept behind =
     let plan : new.plan ≡ (released old).plan = ap (λ (p : Played). p.plan) there in
     let made : List Logged → Plan → Played = λ l p. record (past_move old) { log = l; plan = p } in
     let is : HasAdded (before ++ front) (past_move old) new = there ∙ ap (λ (l : List Logged). made l (released old).plan) joined ∙ ap (made (old.log ++ map Changes (before ++ front))) (sym plan) in
-    added_so (past_move old) new (before ++ inside) (before ++ front) (length before + behind.count) (omega (arith, behind.few, length-append before inside)) (take-length-append before inside behind.count) (inl plan) is
+    added_so (past_move old) new (before ++ inside) (before ++ front) (length before + behind.count) (omega (arith, behind.few, length-append before inside)) (take-length-append before inside behind.count) (inl (unlisted, plan)) is
 
 -- all of them do
-pub added_both : (old new : Played) → new ≡ committed (inside_of old) (released old) → AddedFirst (before_of old ++ inside_of old) (past_move old) new
-added_both old new is =
-    added_inside old (released old) new (inside_of old) refl
+pub added_both : (old new : Played) → (¬ IsListed old) → new ≡ committed (inside_of old) (released old) → AddedFirst (before_of old ++ inside_of old) (past_move old) new
+added_both old new unlisted is =
+    added_inside old (released old) new (inside_of old) unlisted refl
     (is ∙ ap (λ (l : List Logged). record (released old) { log = l }) (sym (ap (λ (p : Played). p.log) is)))
     (record {
       count = length (inside_of old);

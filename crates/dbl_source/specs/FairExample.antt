@@ -1,4 +1,4 @@
--- The smallest played source that tells an honest select from another: a mark, and a select before whose rows other clients insert a,
+-- A small played source that tells an honest select from another: a mark, and a select before whose rows other clients insert a,
 -- and behind whose rows, before it returns, they insert b. Its rows are those of the position between.
 use Rattle.std.specs.Prelude.{ℕ, false, None, Some, List, [], ◌∷◌, length, codes}
 use Rattle.dbl_pgmsg.specs.declared.messages.Message.{Message}

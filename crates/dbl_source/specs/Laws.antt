@@ -26,7 +26,7 @@ abbrev pub NewSourcesAreFair : Type 0
 NewSourcesAreFair = (raws : List RawTable) (moves : List Move) (rows : List (List RawRow)) (fails : List ℕ) → AllByRecursion IsEntryInRange (catalogue (map keyed_table raws)) → AreNamed (map keyed_table raws)
     → AllByRecursion Fits (all_relations (map keyed_table raws)) → WasFair (new_played raws moves rows fails)
 
--- each select so far returned when there were no more commits than now; so it is in every source that was made
+-- each select so far returned when there were no more commits than now; so it is in every source that was made (SelectsHaveReturned)
 abbrev pub HaveReturned : Played → Type 0
 HaveReturned s = (n : ℕ) (question : Asked) → slice_get s.asked n ≡ Some question → question.upto ≤ length s.log
 
@@ -49,3 +49,11 @@ CommitsKeepFair = (commits : List (List Message)) (s : Played) → HaveReturned 
 abbrev pub SelectsKeepFair : Type 0
 SelectsKeepFair = (table : TableName) (above : Option Key) (limit from : ℕ) (inside : List (List Message)) (s : Played) → HaveReturned s → IsFitHistory (history_of s.tables (committed inside s).log) → IsFairLog s.tables (committed inside s).log
     → IsAnswered s.tables (committed inside s).log (question_of table above limit from (length s.log + length inside)) (next_rows s) → WasFair s → WasFair (with_select table above limit from inside s)
+
+-- Each select so far has returned, of a source that has been asked nothing, and of one to which other clients' commits, a mark or a
+-- select was added; no other call adds to its log or to its questions.
+pub record SelectsHaveReturned : Type 0 where
+  pub first : (raws : List RawTable) (moves : List Move) (rows : List (List RawRow)) (fails : List ℕ) → HaveReturned (new_played raws moves rows fails)
+  pub commits : (commits : List (List Message)) (s : Played) → HaveReturned s → HaveReturned (committed commits s)
+  pub mark : (value : List ℕ) (s : Played) → HaveReturned s → HaveReturned (with_mark value s)
+  pub select : (table : TableName) (above : Option Key) (limit from : ℕ) (inside : List (List Message)) (s : Played) → HaveReturned s → HaveReturned (with_select table above limit from inside s)

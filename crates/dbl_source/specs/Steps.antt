@@ -39,9 +39,9 @@ next_message s place = slice_get (sent_after s.tables place.after s.log) (length
 abbrev pub IsUnfit : Played → Type 0
 IsUnfit s = (place : Place) × (s.place ≡ Some place) × IsSomeAnd (next_message s place) (λ message. ¬ Fits message)
 
--- the plan behind a call: the call is counted, and a fault with it only where it was to fail
+-- the plan behind a call: the call is counted, and a fault with it exactly where it was to fail
 abbrev pub HasCounted : Played → Plan → Type 0
-HasCounted old plan = (plan ≡ (counted old).plan) ⊎ (IsListed old × (plan ≡ (with_fault (counted old)).plan))
+HasCounted old plan = ((¬ IsListed old) × (plan ≡ (counted old).plan)) ⊎ (IsListed old × (plan ≡ (with_fault (counted old)).plan))
 
 -- Memory ran out in a call that was to add these commits: some first ones of them stand, and nothing else changed but the counts
 -- of the plan.

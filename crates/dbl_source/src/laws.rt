@@ -3,7 +3,7 @@
 ghost use Rattle.std.specs.Prelude.{◌↔◌};
 ghost use Rattle.dbl_source.specs.Played.{Played};
 ghost use Rattle.dbl_source.specs.Steps.{WasFair};
-ghost use Rattle.dbl_source.specs.Laws.{NewSourcesAreFair, FirstCommitsAreFair, MarksKeepFair, CommitsKeepFair, SelectsKeepFair};
+ghost use Rattle.dbl_source.specs.Laws.{NewSourcesAreFair, FirstCommitsAreFair, MarksKeepFair, CommitsKeepFair, SelectsKeepFair, SelectsHaveReturned};
 ghost use Rattle.dbl_source.specs.FairExample.{FairSourcesStand};
 
 use crate::{ScriptedSource, Source};
@@ -33,13 +33,18 @@ pub fn commits_keep_fair()
     ensures { CommitsKeepFair }
 {}
 
-/// So does a select, where its rows are those of one position between its call and its return.
+/// So does a select, where its rows besides are those of one position between its call and its return.
 pub fn selects_keep_fair()
     ensures { SelectsKeepFair }
 {}
 
-/// There is a played source behind other clients' commits, a mark, a select and all reads that was honest so far, and one that
-/// wasn't.
+/// In a source that was made each select has returned, as these laws ask: it is so at first, and what is added leaves it so.
+pub fn selects_have_returned()
+    ensures { SelectsHaveReturned }
+{}
+
+/// Played sources behind other clients' commits, a mark, a select and all reads were honest so far, whichever position of the select
+/// its rows are of; and one behind another select, whose rows are of an earlier position, wasn't.
 pub fn fair_sources_stand()
     ensures { FairSourcesStand }
 {}

@@ -15,7 +15,7 @@ pub use dbl_honest::Started;
 pub use error::SourceError;
 pub use laws::{
     commits_keep_fair, fair_scripts_are_honest, fair_sources_stand, first_commits_are_fair,
-    marks_keep_fair, new_sources_are_fair, selects_keep_fair,
+    marks_keep_fair, new_sources_are_fair, selects_have_returned, selects_keep_fair,
 };
 pub use moves::{COMMIT_LIMIT, Move, has_room};
 pub use scripted::ScriptedSource;

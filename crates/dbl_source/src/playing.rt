@@ -1,5 +1,5 @@
-//! How a source plays its script: what a call begins with, what it does and what it answers. Each function has one state that
-//! it leads to at each of its ends; what a source promises of them is told of the calls of the trait.
+//! How a source plays its script: what a call begins with, what it does and what it answers. How each function ends is told by
+//! the state that it leads to; what a source promises of its calls is told of those of the trait.
 
 ghost use Rattle.std.specs.Prelude.{◌≡◌, ◌+◌, ◌≤◌, ◌<◌, ◌^◌, ◌++◌, ◌∷◌, [], length, max, Option, option_copied, Err, IsErr, IfOk, IfErr, OnOk, OnErr};
 ghost use Rattle.dbl_history.specs.History.{entry_of};
@@ -313,7 +313,8 @@ impl ScriptedSource {
     }
 
     pub(crate) fn play_start(&mut self, after: Lsn) -> Result<Started, SourceError>
-        ensures { Plays 0 ⊥ (before_of self.old) (AnswersStart after self.old) self.old self.new result }
+        ensures { Plays 0 ⊥ (before_of self.old) (AnswersStart after self.old)
+            self.old self.new result }
     {
         self.release(0)?;
         let started = self.begin_reading(after);

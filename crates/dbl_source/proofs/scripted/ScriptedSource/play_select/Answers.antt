@@ -5,6 +5,7 @@ use Rattle.dbl_source.specs.Played.{Played, inside_of, next_rows}
 use Rattle.dbl_source.specs.Exits.{AnswersRows}
 use Rattle.dbl_source.proofs.AddedLemmas.{select_is}
 use Rattle.dbl_source.proofs.MemoryLemmas.{added_both}
+use Rattle.dbl_source.proofs.PlannedLemmas.{no_listed}
 use Rattle.dbl_source.proofs.PlayedLemmas.{wanted, answered}
 use Rattle.dbl_source.proofs.scripted.ScriptedSource.play_select.Goals as goal
 
@@ -12,14 +13,14 @@ pub returns-in_err-rows-clause-plays : goal.returns-in_err-rows-clause-plays
 returns-in_err-rows-clause-plays c =
     let p = err_from_is_err_and c.from_residual-in_err-rows.result c.from_residual-in_err-rows.ensures.1 in
     rw (p.1, p.2) (wanted (length (inside_of c.args.self.now)) ⊥ _ _ c.args.self.now c.release_around.new.self c.release_around.new.self _ c.in_ok-release_around.field-0 c.in_err-rows.ensures.err c.release_around.ensures.was c.release_around.ensures.later
-    c.in_ok-release_around.ensures.planned (added_both c.args.self.now c.release_around.new.self c.in_ok-release_around.ensures.ok))
+    c.in_ok-release_around.ensures.planned (added_both c.args.self.now c.release_around.new.self (λ listed. no_listed c.in_ok-release_around.field-0 (c.in_ok-release_around.ensures.planned.listed listed)) c.in_ok-release_around.ensures.ok))
 
 pub returns-in_err-ask-clause-plays : goal.returns-in_err-ask-clause-plays
 returns-in_err-ask-clause-plays c =
     let p = err_from_is_err_and c.from_residual-in_err-ask.result c.from_residual-in_err-ask.ensures.1 in
     rw (p.1, p.2) (wanted (length (inside_of c.args.self.now)) ⊥ _ _ c.args.self.now c.release_around.new.self c.ask.new.self _ c.in_ok-release_around.field-0 c.in_err-ask.ensures.memory c.release_around.ensures.was
     (omega (arith, c.release_around.ensures.later, ap (λ (p : Played). p.plan.faults) c.in_err-ask.ensures.err))
-    c.in_ok-release_around.ensures.planned (added_both c.args.self.now c.ask.new.self (c.in_err-ask.ensures.err ∙ c.in_ok-release_around.ensures.ok)))
+    c.in_ok-release_around.ensures.planned (added_both c.args.self.now c.ask.new.self (λ listed. no_listed c.in_ok-release_around.field-0 (c.in_ok-release_around.ensures.planned.listed listed)) (c.in_err-ask.ensures.err ∙ c.in_ok-release_around.ensures.ok)))
 
 pub returns-clause-plays : goal.returns-clause-plays
 returns-clause-plays c =

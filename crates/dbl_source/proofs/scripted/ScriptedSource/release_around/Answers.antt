@@ -2,7 +2,7 @@ use Rattle.std.proofs.Common.{◌≡◌, ◌∙◌, ℕ, List, length, ap, subst
 use Rattle.std.proofs.lemmas.Result.{err_from_is_err_and}
 use Rattle.dbl_pgmsg.specs.declared.messages.Message.{Message}
 use Rattle.dbl_source.specs.declared.error.SourceError.TheVariants.{Memory}
-use Rattle.dbl_source.specs.Played.{before_of, inside_of, past_move, committed, released, FailsAsPlanned}
+use Rattle.dbl_source.specs.Played.{before_of, inside_of, IsListed, past_move, committed, released, FailsAsPlanned}
 use Rattle.dbl_source.specs.Steps.{IsBehind}
 use Rattle.dbl_source.proofs.PlannedLemmas.{released_so, planned_after, planned_on, answer_is, error_is, no_listed, on_ok, err_holds, not_failed}
 use Rattle.dbl_source.proofs.AddedLemmas.{room_left}
@@ -32,6 +32,9 @@ planned c =
     planned_after c.args.self.now c.next_move-before.new.self c.begin.new.self c.into_items.result.items c.len.result (answer_is c.in_ok-begin.field-0) c.next_move-before.ensures.past (c.into_items.ensures ∙ c.next_move-before.ensures.before)
     c.in_ok-begin.ensures.full c.in_ok-begin.ensures.listed c.in_ok-begin.ensures.failed
 
+unlisted : (c : In_ok-begin) → ¬ IsListed c.args.self.now
+unlisted c listed = no_listed c.in_ok-begin.field-0 ((planned c).listed listed)
+
 pub commit-requires : goal.commit-requires
 commit-requires c =
     let room = room_left c.next_move-before.new.self c.begin.new.self c.into_items.result.items c.len.result c.in_ok-begin.ensures.ok c.in_ok-begin.ensures.room in
@@ -56,8 +59,8 @@ returns-clause-memory c told =
     let known = goal.at.returns-clause-memory c in
     let behind = err_holds (IsBehind c.into_items-inside.result.items c.begin.new.self.log c.commit.new.self.log) c.commit.result Memory told c.commit.ensures.err in
     let kept = err_holds (c.commit.new.self ≡ record c.begin.new.self { log = c.commit.new.self.log }) c.commit.result Memory told c.commit.ensures.kept in
-    added_inside c.args.self.now c.begin.new.self c.commit.new.self (inside_of c.args.self.now) (begun known.In_ok-begin) kept
+    added_inside c.args.self.now c.begin.new.self c.commit.new.self (inside_of c.args.self.now) (unlisted known.In_ok-begin) (begun known.In_ok-begin) kept
     (subst (λ (l : List (List Message)). IsBehind l c.begin.new.self.log c.commit.new.self.log) (c.into_items-inside.ensures ∙ c.next_move-before.ensures.inside) behind)
 
 pub returns-clause-listed : goal.returns-clause-listed
-returns-clause-listed c listed told = absurd (no_listed c.in_ok-begin.field-0 ((planned (goal.at.returns-clause-listed c).In_ok-begin).listed listed))
+returns-clause-listed c listed told = absurd (unlisted (goal.at.returns-clause-listed c).In_ok-begin listed)

@@ -11,8 +11,9 @@ use Rattle.dbl_history.specs.FitsInfos.{AreCellsOf}
 use Rattle.dbl_history.specs.KeyedRows.{last_key}
 use Rattle.dbl_event.specs.declared.closed.Closed.{Closed}
 use Rattle.dbl_event.specs.Snapshots.{FitsChunk}
-use Rattle.dbl_window.specs.Plans.{IsFitChunk}
+use Rattle.dbl_window.specs.Plans.{Chunk, IsFitChunk}
 use Rattle.dbl_window.specs.Changing.{FitsRow}
+use Rattle.dbl_window.specs.Promise.{closed_of}
 
 each_fits : (P Q : Key × Row → Type 0) → ((entry : Key × Row) → P entry → Q entry) → (rows : List (Key × Row)) → AllByRecursion P rows → AllByRecursion Q rows
 each_fits P Q so [] all = tt
@@ -23,6 +24,10 @@ fits_chunk info limit closed fit = record {
   rows = each_fits (FitsRow info) (λ e. AreCellsOf (column_types info) e.1.cells × (key_of info e.1.cells ≡ e.0)) (λ entry fits. (fits.cells, fits.own)) closed.rows fit.each;
   through = fit.last;
 }
+
+-- a chunk, as it would be closed
+pub chunk_fits : (chunk : Chunk) → IsFitChunk chunk.plan.info chunk.plan.limit chunk.rows chunk.through → FitsChunk chunk.plan.info (closed_of chunk)
+chunk_fits chunk fit = fits_chunk chunk.plan.info chunk.plan.limit (closed_of chunk) fit
 
 pub fit_keys : (info : TableInfo) (limit : ℕ) (closed : Closed) → IsFitChunk info limit closed.rows closed.through → AllByRecursion (λ entry. IsKeyOf info entry.0) closed.rows
 fit_keys info limit closed fit = each_fits (FitsRow info) (λ entry. IsKeyOf info entry.0) (λ entry fits. fits.key) closed.rows fit.each

@@ -1,12 +1,12 @@
 -- What a select of an honest source leads to.
-use Rattle.std.proofs.Common.{◌≡◌, ◌∙◌, inl, inr, ℕ, Option, Some, None, List, [], length, refl, sym, subst}
-use Rattle.std.specs.Prelude.{Result, Ok, Err, IfOk, IfSome, nat_lt}
+use Rattle.std.proofs.Common.{◌≡◌, ◌∙◌, inl, inr, ℕ, Bool, true, false, Option, Some, None, List, [], length, refl, sym, ap, subst}
+use Rattle.std.specs.Prelude.{IsTrue, Result, Ok, Err, IfOk, OnOk, IfSome, nat_lt}
 use Rattle.dbl_value.specs.declared.error.ValueError.{ValueError}
 use Rattle.dbl_table.specs.declared.table.RawRow.{RawRow}
 use Rattle.dbl_table.specs.declared.table.TableInfo.{TableInfo}
 use Rattle.dbl_history.specs.Fit.{IsKeyOf, IsFitHistory}
 use Rattle.dbl_history.specs.KeyedRows.{last_key}
-use Rattle.dbl_honest.specs.Standings.{Standing}
+use Rattle.dbl_honest.specs.Standings.{Standing, Stood}
 use Rattle.dbl_honest.specs.Selected.{Selects}
 use Rattle.dbl_honest.specs.Calls.{Moved}
 use Rattle.dbl_honest.specs.Told.{Told, Selected, IsTakenBy, Tells}
@@ -33,6 +33,24 @@ none_taken (Some t) = refl
 pub memory_was : (e : SourceError) → window_fault e ≡ window.Memory → e ≡ source.Memory
 memory_was source.Failed is = cc
 memory_was source.Memory is = refl
+
+-- ---- what was read of a source
+
+-- a source stands for one thing, and so for what a call led to
+pub still_led : {S : Type 0} (stands : S → Standing → Type 0) (source : S) (P : Standing → Type 0) (s t : Standing) → ((a b : Standing) → stands source a → stands source b → a ≡ b) → Stood stands source P
+    → ((u : Standing) → P u → u.reading ≡ s.reading) → stands source t → t.reading ≡ s.reading
+still_led stands source P s t one stood same is = ap (λ (u : Standing). u.reading) (one t stood.standing is stood.is) ∙ same stood.standing stood.holds
+
+-- one that can't be used stands for nothing
+pub still_dead : {S : Type 0} (stands : S → Standing → Type 0) (is_live : S → Bool) (source : S) (s t : Standing) → ((u : Standing) → stands source u → IsTrue (is_live source)) → is_live source ≡ false → stands source t → t.reading ≡ s.reading
+still_dead stands is_live source s t lives dead is =
+    let contra : false ≡ true = sym dead ∙ lives t is in
+    absurd (cc)
+
+-- what holds at any rate holds of an answer
+pub on_ok : {T E P : Type 0} (r : Result T E) → P → OnOk r P
+on_ok (Ok x) holds = holds
+on_ok (Err e) holds = tt
 
 -- ---- what the rows are read as
 

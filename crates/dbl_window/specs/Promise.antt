@@ -41,6 +41,10 @@ KeepsPromise chunk closed =
     → slice_get infos chunk.plan.table ≡ Some chunk.plan.info → WasGiven infos commits low high chunk
     → IsRightWindow infos (all_changes commits) (moment_after_first commits low) (moment_after_first commits high) chunk.plan.above closed
 
+-- what a chunk is when it is closed
+abbrev pub closed_of : Chunk → Closed
+closed_of chunk = record { table = chunk.plan.table; rows = chunk.rows; through = chunk.through; done = chunk.done }
+
 -- a closed window has what its chunk has
 pub record IsClosedOf (chunk : Chunk) (closed : Closed) : Type 0 where
   pub table : closed.table ≡ chunk.plan.table

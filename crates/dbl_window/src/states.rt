@@ -19,7 +19,7 @@ ghost use Rattle.dbl_window.specs.Plans.{Chunk, low_text, high_text, IsFitChunk}
 ghost use Rattle.dbl_window.specs.Changing.{FitsTable, IsLeftBy};
 ghost use Rattle.dbl_window.specs.Selected.{IsCaptured, SelectsChunk, HasUnreadable, IsReadAs, IsReadFrom};
 ghost use Rattle.dbl_window.specs.Leaving.{MayStayOrMark, MayStayOrFollow};
-ghost use Rattle.dbl_window.specs.Promise.{KeepsPromise, IsClosedOf};
+ghost use Rattle.dbl_window.specs.Promise.{KeepsPromise, IsClosedOf, closed_of};
 
 use crate::frame::Frame;
 use crate::reading::{Read, read_rows};
@@ -192,6 +192,8 @@ impl Idle {
             Leaves S.stands S.may_leave src.old src.new MayStayOrFollow }
         ensures told { OnOk result (Tells (S.told src.new) Done) }
         ensures taken { IsTakenBy [] (S.told src.old) (S.told src.new) }
+        ensures still { (s t : Standing) → S.stands src.old s → S.stands src.new t →
+            t.reading ≡ s.reading }
         ensures reading { S.is_reading src.new ≡ S.is_reading src.old }
         ensures live { OnOk result (IsTrue (S.is_live src.new)) }
         ensures honest { S.honest src.new → S.honest src.old }
@@ -251,6 +253,8 @@ impl Marked {
         ensures left { Leaves S.stands S.may_leave src.old src.new MayFollow }
         ensures some { LeavesSome S.stands S.may_leave src.old src.new }
         ensures taken { IsTakenBy [] (S.told src.old) (S.told src.new) }
+        ensures still { (s t : Standing) → S.stands src.old s → S.stands src.new t →
+            t.reading ≡ s.reading }
         ensures reading { S.is_reading src.new ≡ S.is_reading src.old }
         ensures live { OnOk result (IsTrue (S.is_live src.new)) }
         ensures honest { S.honest src.new → S.honest src.old }
@@ -291,6 +295,8 @@ impl Marked {
         ensures left { Leaves S.stands S.may_leave src.old src.new MayFollow }
         ensures some { LeavesSome S.stands S.may_leave src.old src.new }
         ensures taken { IsTakenBy [] (S.told src.old) (S.told src.new) }
+        ensures still { (s t : Standing) → S.stands src.old s → S.stands src.new t →
+            t.reading ≡ s.reading }
         ensures reading { S.is_reading src.new ≡ S.is_reading src.old }
         ensures live { OnOk result (IsTrue (S.is_live src.new)) }
         ensures honest { S.honest src.new → S.honest src.old }
@@ -308,6 +314,7 @@ impl Held {
     fn low_mark(&self) -> &Text
         ensures text { result.now ≡ low_text self.now.plan }
         ensures ordered { AreInKeyOrder self.now.rows }
+        ensures fits { FitsChunk self.now.plan.info (closed_of self.now) }
     {
         in_order(&self.rows);
         &self.low
@@ -317,6 +324,7 @@ impl Held {
         ensures text { result.now ≡ high_text self.now.plan }
         ensures short { length result.now ≤ 64 }
         ensures few { length self.now.rows ≤ self.now.plan.limit }
+        ensures fits { FitsChunk self.now.plan.info (closed_of self.now) }
     {
         &self.high
     }
@@ -337,6 +345,8 @@ impl Held {
             Leaves S.stands S.may_leave src.old src.new MayFollow }
         ensures told { OnOk result (Tells (S.told src.new) Done) }
         ensures taken { IsTakenBy [] (S.told src.old) (S.told src.new) }
+        ensures still { (s t : Standing) → S.stands src.old s → S.stands src.new t →
+            t.reading ≡ s.reading }
         ensures reading { S.is_reading src.new ≡ S.is_reading src.old }
         ensures live { OnOk result (IsTrue (S.is_live src.new)) }
         ensures honest { S.honest src.new → S.honest src.old }
@@ -392,7 +402,8 @@ impl Held {
 impl Armed {
     /// The text of the mark that opens it.
     pub fn awaited(&self) -> &Text
-        ensures { result.now ≡ low_text self.now.plan }
+        ensures text { result.now ≡ low_text self.now.plan }
+        ensures fits { FitsChunk self.now.plan.info (closed_of self.now) }
     {
         self.held.low_mark()
     }
@@ -418,6 +429,7 @@ impl Open {
     pub fn awaited(&self) -> &Text
         ensures text { result.now ≡ high_text self.now.plan }
         ensures few { length self.now.rows ≤ self.now.plan.limit }
+        ensures fits { FitsChunk self.now.plan.info (closed_of self.now) }
     {
         self.held.high_mark()
     }

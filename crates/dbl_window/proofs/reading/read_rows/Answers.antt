@@ -46,3 +46,6 @@ loop-raw-preserved c =
       few = omega (arith, within);
       fit = subst (AllByRecursion (FitsRow frame.info)) (sym put) (all_more (FitsRow frame.info) old (key, row) inv.fit c.in_ok-key.ensures.fits);
     }
+
+pub returns-clause-through : goal.returns-clause-through
+returns-clause-through c = c.loop-raw.invariant.last

@@ -7,7 +7,7 @@ use Rattle.dbl_window.specs.declared.error.WindowError.TheVariants as window
 use Rattle.dbl_honest.specs.Standings.{Stood}
 use Rattle.dbl_honest.specs.Calls.{IsMarked}
 use Rattle.dbl_honest.specs.Leaves.{MayFollowMark}
-use Rattle.dbl_window.proofs.SelectLemmas.{memory_was}
+use Rattle.dbl_window.proofs.SelectLemmas.{memory_was, still_led, still_dead}
 use Rattle.dbl_window.proofs.states.Held.high.Goals as goal
 
 pub returns-in_err-mark-clause-left : goal.returns-in_err-mark-clause-left
@@ -27,3 +27,9 @@ returns-in_err-mark-clause-unmarked g c is =
     let fault : p.0 ≡ window.Memory = cc in
     let memory : c.in_err-mark.field-0.0 ≡ source.Memory = memory_was c.in_err-mark.field-0.0 (sym p.2 ∙ fault) in
     c.mark.ensures.unmarked (c.in_err-mark.was ∙ ap (λ (e : SourceError). Err e) memory)
+
+pub returns-in_err-mark-clause-still : goal.returns-in_err-mark-clause-still
+returns-in_err-mark-clause-still g c s t before after = still_dead g.S.Source.stands g.S.Source.is_live c.mark.new.self s t (g.met.S.Source.lives c.mark.new.self) c.in_err-mark.ensures.dead after
+
+pub returns-clause-still : goal.returns-clause-still
+returns-clause-still g c s t before after = still_led g.S.Source.stands c.mark.new.self _ s t (g.met.S.Source.one c.mark.new.self) (c.in_ok-mark.ensures.marked s before) (λ u marked. marked.reading) after

@@ -1,7 +1,8 @@
 use Rattle.std.proofs.Common.{◌≤◌, ℕ, List, length, sym, subst, arith}
 use Rattle.dbl_history.specs.MarkTexts.Side.{High}
 use Rattle.dbl_history.proofs.MarkLemmas.{marks_short}
-use Rattle.dbl_window.specs.Plans.{Chunk}
+use Rattle.dbl_window.specs.Plans.{Chunk, IsFitChunk}
+use Rattle.dbl_window.proofs.FitLemmas.{chunk_fits}
 use Rattle.dbl_window.proofs.states.Held.high_mark.Goals as goal
 
 pub returns-clause-short : goal.returns-clause-short
@@ -12,3 +13,6 @@ returns-clause-short c =
 
 pub returns-clause-few : goal.returns-clause-few
 returns-clause-few c = subst (λ (w : Chunk). length w.rows ≤ w.plan.limit) c.self.view_is c.self.invariant.fit.few
+
+pub returns-clause-fits : goal.returns-clause-fits
+returns-clause-fits c = chunk_fits c.args.self.now (subst (λ (w : Chunk). IsFitChunk w.plan.info w.plan.limit w.rows w.through) c.self.view_is c.self.invariant.fit)

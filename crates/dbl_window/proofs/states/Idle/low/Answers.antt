@@ -4,11 +4,11 @@ use Rattle.std.proofs.lemmas.Result.{err_from_is_err_and}
 use Rattle.dbl_source.specs.declared.error.SourceError.{SourceError}
 use Rattle.dbl_source.specs.declared.error.SourceError.TheVariants as source
 use Rattle.dbl_window.specs.declared.error.WindowError.TheVariants as window
-use Rattle.dbl_honest.specs.Standings.{Stood, left_of}
+use Rattle.dbl_honest.specs.Standings.{Standing, Stood, left_of}
 use Rattle.dbl_honest.specs.Calls.{IsMarked}
 use Rattle.dbl_honest.specs.Leaves.{MayFollowMark}
 use Rattle.dbl_window.specs.Plans.{low_text}
-use Rattle.dbl_window.proofs.SelectLemmas.{none_taken, memory_was}
+use Rattle.dbl_window.proofs.SelectLemmas.{none_taken, memory_was, still_led, still_dead}
 use Rattle.dbl_window.proofs.states.Idle.low.Goals as goal
 
 -- where memory runs out the source was asked for nothing
@@ -23,6 +23,9 @@ returns-in_err-marked-clause-unmarked g c is s l stands may = inl (g.met.S.Sourc
 
 pub returns-in_err-marked-clause-taken : goal.returns-in_err-marked-clause-taken
 returns-in_err-marked-clause-taken g c = none_taken (g.S.Source.told c.args.src.now)
+
+pub returns-in_err-marked-clause-still : goal.returns-in_err-marked-clause-still
+returns-in_err-marked-clause-still g c s t before after = ap (λ (u : Standing). u.reading) (g.met.S.Source.one c.args.src.now t s after before)
 
 pub returns-in_err-marked-clause-comes : goal.returns-in_err-marked-clause-comes
 returns-in_err-marked-clause-comes g c = g.met.S.Source.comes_self c.args.src.now
@@ -50,3 +53,23 @@ returns-in_err-mark-clause-unmarked g c is =
     let fault : p.0 ≡ window.Memory = cc in
     let memory : c.in_err-mark.field-0.0 ≡ source.Memory = memory_was c.in_err-mark.field-0.0 (sym p.2 ∙ fault) in
     λ s l stands may. inr (c.mark.ensures.unmarked (c.in_err-mark.was ∙ ap (λ (e : SourceError). Err e) memory) s l stands may)
+
+pub returns-in_err-mark-clause-still : goal.returns-in_err-mark-clause-still
+returns-in_err-mark-clause-still g c s t before after = still_dead g.S.Source.stands g.S.Source.is_live c.mark.new.self s t (g.met.S.Source.lives c.mark.new.self) c.in_err-mark.ensures.dead after
+
+pub returns-clause-still : goal.returns-clause-still
+returns-clause-still g c s t before after = still_led g.S.Source.stands c.mark.new.self _ s t (g.met.S.Source.one c.mark.new.self) (c.in_ok-mark.ensures.marked s before) (λ u marked. marked.reading) after
+
+-- what its mark tells
+
+pub returns-clause-some : goal.returns-clause-some
+returns-clause-some g c = c.mark.ensures.some
+
+pub returns-clause-told : goal.returns-clause-told
+returns-clause-told g c = c.in_ok-mark.ensures.told
+
+pub returns-clause-taken : goal.returns-clause-taken
+returns-clause-taken g c = c.mark.ensures.taken
+
+pub returns-clause-comes : goal.returns-clause-comes
+returns-clause-comes g c = c.mark.ensures.comes

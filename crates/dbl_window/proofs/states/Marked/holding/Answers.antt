@@ -1,5 +1,5 @@
-use Rattle.std.proofs.Common.{◌≡◌, ◌≤◌, ◌∙◌, inl, inr, length, sym, ap, subst, arith}
-use Rattle.std.specs.Prelude.{Ok, Err}
+use Rattle.std.proofs.Common.{◌≡◌, ◌≤◌, ◌∙◌, ℕ, inl, inr, length, sym, ap, subst, arith}
+use Rattle.std.specs.Prelude.{Ok, Err, nat_lt}
 use Rattle.std.proofs.lemmas.Result.{err_from_is_err_and}
 use Rattle.dbl_window.specs.declared.error.WindowError.{WindowError}
 use Rattle.dbl_window.specs.declared.error.WindowError.TheVariants as window
@@ -59,3 +59,8 @@ returns-clause-fit c =
     let few : read.count ≤ frame.limit = c.in_ok-rows.ensures.few in
     subst (λ (plan : Plan). IsFitChunk plan.info plan.limit read.rows.entries read.through) c.self.view_is
     (fit_chunk frame.info frame.limit frame.above read.rows.entries read.through c.self.invariant.is.start c.in_ok-rows.ensures.fit (omega (arith, counted, few)) c.in_ok-rows.ensures.through)
+
+pub returns-clause-done : goal.returns-clause-done
+returns-clause-done c =
+    let read = c.in_ok-rows.field-0 in
+    ap (λ (count : ℕ). nat_lt count c.self.inside.frame.limit) c.in_ok-rows.ensures.count ∙ ap (λ (plan : Plan). nat_lt (length read.rows.entries) plan.limit) c.self.view_is

@@ -1,5 +1,5 @@
 use Rattle.dbl_honest.specs.Standings.{left_of}
-use Rattle.dbl_window.proofs.SelectLemmas.{held_so, read_so, selects_so, never_so, cell_so}
+use Rattle.dbl_window.proofs.SelectLemmas.{on_ok, held_so, read_so, selects_so, never_so, cell_so}
 use Rattle.dbl_window.proofs.states.Marked.select.Goals as goal
 
 pub returns-clause-held : goal.returns-clause-held
@@ -34,3 +34,32 @@ returns-clause-cell g c s infos column error stands honest captured is =
       holds = cell_so c.args.self c.in_ok-rows.rows.items c.holding.result s stood.standing infos column error c.holding.ensures.read stood.holds.0
           (g.met.S.Source.fit c.answered.new.src (left_of stood.standing) (g.met.S.Source.may c.answered.new.src stood.standing stood.is) honest) c.answered.ensures.starts (stood.holds.1 honest) captured is;
     }
+
+-- what the rows' call tells
+
+pub returns-clause-left : goal.returns-clause-left
+returns-clause-left g c = c.answered.ensures.left
+
+pub returns-clause-some : goal.returns-clause-some
+returns-clause-some g c = c.answered.ensures.some
+
+pub returns-clause-taken : goal.returns-clause-taken
+returns-clause-taken g c = c.answered.ensures.taken
+
+pub returns-clause-still : goal.returns-clause-still
+returns-clause-still g c = c.answered.ensures.still
+
+pub returns-clause-reading : goal.returns-clause-reading
+returns-clause-reading g c = c.answered.ensures.reading
+
+pub returns-clause-honest : goal.returns-clause-honest
+returns-clause-honest g c = c.answered.ensures.honest
+
+pub returns-clause-comes : goal.returns-clause-comes
+returns-clause-comes g c = c.answered.ensures.comes
+
+pub returns-clause-later : goal.returns-clause-later
+returns-clause-later g c = c.answered.ensures.later
+
+pub returns-clause-live : goal.returns-clause-live
+returns-clause-live g c = on_ok c.holding.result c.in_ok-rows.ensures.live

@@ -6,8 +6,9 @@ use Rattle.dbl_table.specs.declared.table.TableInfo.{TableInfo}
 use Rattle.dbl_history.specs.declared.cursor.Cursor.{Cursor}
 use Rattle.dbl_history.specs.Cursors.{AreCursorsOf}
 use Rattle.dbl_envelope.specs.Writers.{Captured}
-use Rattle.dbl_event.specs.Snapshots.{AreInKeyOrder}
+use Rattle.dbl_event.specs.Snapshots.{AreInKeyOrder, FitsChunk}
 use Rattle.dbl_window.specs.Plans.{Plan, Chunk, low_text, high_text}
+use Rattle.dbl_window.specs.Promise.{closed_of}
 use Rattle.dbl_follow.specs.declared.window.Window.{Window}
 use Rattle.dbl_follow.specs.declared.window.Window.TheVariants.{Absent, Armed, Open}
 
@@ -23,6 +24,12 @@ abbrev pub awaited : Window → Option (List ℕ)
 awaited Absent = None
 awaited (Armed chunk) = Some (low_text chunk.plan)
 awaited (Open chunk) = Some (high_text chunk.plan)
+
+-- the rows of a window that waits fit what is captured of its table, each at its own key
+abbrev pub FitsWindow : Window → Type 0
+FitsWindow Absent = Unit {0}
+FitsWindow (Armed chunk) = FitsChunk chunk.plan.info (closed_of chunk)
+FitsWindow (Open chunk) = FitsChunk chunk.plan.info (closed_of chunk)
 
 -- the window's table is captured, and this is what is captured of it
 abbrev pub IsPlanned : List TableInfo → Plan → Type 0

@@ -9,12 +9,12 @@ use Rattle.dbl_table.specs.declared.change.Body.TheVariants.{Changes, Mark}
 use Rattle.dbl_table.specs.declared.change.Change.{Change}
 use Rattle.dbl_table.specs.declared.change.Commit.{Commit}
 use Rattle.dbl_history.specs.declared.cursor.Cursor.{Cursor}
-use Rattle.dbl_event.specs.declared.closed.Closed.{Closed}
 use Rattle.dbl_event.specs.Clashes.{Clash, clash_of, snapshot_clash}
 use Rattle.dbl_event.specs.EventJson.{envelopes}
 use Rattle.dbl_event.specs.Snapshots.{AreInKeyOrder, snapshot}
 use Rattle.dbl_window.specs.Plans.{Chunk, low_text, high_text}
 use Rattle.dbl_window.specs.Changing.{AreLeft}
+pub use Rattle.dbl_window.specs.Promise.{closed_of}
 use Rattle.dbl_follow.specs.declared.window.Window.{Window}
 use Rattle.dbl_follow.specs.declared.window.Window.TheVariants.{Absent, Armed, Open}
 use Rattle.dbl_follow.specs.Followed.{Following}
@@ -38,9 +38,6 @@ abbrev pub closing : Window → Option (List ℕ) → Option Chunk
 closing Absent mark = None
 closing (Armed chunk) mark = None
 closing (Open chunk) mark = if has_text (high_text chunk.plan) mark then Some chunk else None
-
-abbrev pub closed_of : Chunk → Closed
-closed_of chunk = record { table = chunk.plan.table; rows = chunk.rows; through = chunk.through; done = chunk.done }
 
 -- ---- records
 

@@ -10,7 +10,7 @@ ghost use Rattle.dbl_event.specs.Snapshots.{snapshot, FitsSnapshot};
 ghost use Rattle.dbl_event.specs.SnapshotLists.{IsSnapshot};
 ghost use Rattle.dbl_window.specs.Plans.{Chunk, high_text};
 ghost use Rattle.dbl_follow.specs.declared.window.Window.TheVariants as windows;
-ghost use Rattle.dbl_follow.specs.Followed.{awaited, IsPlanned, IsOpenOf, IsWindowOf};
+ghost use Rattle.dbl_follow.specs.Followed.{awaited, FitsWindow, IsPlanned, IsOpenOf, IsWindowOf};
 ghost use Rattle.dbl_follow.specs.Faults.{IsClashOf};
 ghost use Rattle.dbl_follow.specs.Steps.{Passes, Steps, clash_by, closed_of, closing, mark_of, records_by, seen_by};
 
@@ -109,7 +109,8 @@ impl Follower {
     /// The mark for which its window waits: the low one while it is armed, the high one while it is open. None exactly where it has no
     /// window. Takes no memory.
     pub fn waits_for(&self) -> Option<&Text>
-        ensures { option_copied result ≡ awaited self.now.window }
+        ensures text { option_copied result ≡ awaited self.now.window }
+        ensures fits { FitsWindow self.now.window }
     {
         match &self.window {
             Window::Absent => None,

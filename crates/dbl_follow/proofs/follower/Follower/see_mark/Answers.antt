@@ -1,4 +1,4 @@
-use Rattle.std.proofs.Common.{◌≡◌, ◌∙◌, ℤ, Some, ap, subst}
+use Rattle.std.proofs.Common.{◌≡◌, ◌∙◌, ℕ, ℤ, Some, None, List, sym, ap, subst}
 use Rattle.std.specs.Prelude.{IfOk}
 use Rattle.std.proofs.Math.Facts.{to_z-of_z}
 use Rattle.dbl_event.specs.SnapshotLists.{IsSnapshot}
@@ -8,7 +8,24 @@ use Rattle.dbl_follow.specs.declared.window.Window.TheVariants as windows
 use Rattle.dbl_follow.specs.Followed.{Following}
 use Rattle.dbl_follow.specs.Steps.{closing, closed_of}
 use Rattle.dbl_follow.proofs.SnapshotSteps.{closing_tells}
+use Rattle.dbl_follow.proofs.StepLemmas.{marked_clash}
 use Rattle.dbl_follow.proofs.follower.Follower.see_mark.Goals as goal
+
+-- an armed window closes nothing
+closes : (f : Following) (armed : Chunk) (value : List ℕ) → windows.Armed armed ≡ f.window → closing f.window (Some value) ≡ None
+closes f armed value window = ap (λ (w : Window). closing w (Some value)) (sym window)
+
+pub returns-in-Armed-clause-no_clash : goal.returns-in-Armed-clause-no_clash
+returns-in-Armed-clause-no_clash c =
+    let f = c.args.self.now in
+    let value = c.args.value.now in
+    marked_clash f c.args.commit.now value c.requires (closes f c.in-Armed.armed value (c.in-Armed.ensures.value ∙ ap (λ (g : Following). g.window) c.self.view_is))
+
+pub returns-in-Armed-clause-snapshot : goal.returns-in-Armed-clause-snapshot
+returns-in-Armed-clause-snapshot c chunk told =
+    let f = c.args.self.now in
+    let contra : None ≡ Some chunk = sym (closes f c.in-Armed.armed c.args.value.now (c.in-Armed.ensures.value ∙ ap (λ (g : Following). g.window) c.self.view_is)) ∙ told in
+    absurd (cc)
 
 pub returns-in-Open-clause-snapshot : goal.returns-in-Open-clause-snapshot
 returns-in-Open-clause-snapshot c chunk told =

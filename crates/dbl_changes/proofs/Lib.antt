@@ -1,0 +1,13 @@
+pub mod UnderLemmas
+pub mod OwnerLemmas
+pub mod SettledLemmas
+pub mod EndRows
+pub mod CommitRows
+pub mod DoRows
+pub mod PlanLemmas
+pub mod TruncateRows
+pub mod HolderLemmas
+pub mod VerdictLemmas
+pub mod ExitLemmas
+pub mod WriteLemmas
+pub mod JoinLemmas

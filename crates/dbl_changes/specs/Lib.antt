@@ -1,0 +1,5 @@
+pub mod Behind
+pub mod Written
+pub mod Planned
+pub mod Taking
+pub mod Laws

@@ -1,0 +1,96 @@
+//! How a planned change is taken: what can want memory comes before anything is seen of it.
+
+ghost use Rattle.std.specs.Prelude.{OnOk, OnErr};
+ghost use Rattle.std.specs.List.{AllByRecursion};
+ghost use Rattle.dbl_rows.specs.Changing.{HasSlot};
+ghost use Rattle.dbl_changes.specs.Written.{WritesAll};
+ghost use Rattle.dbl_changes.specs.Taking.{IsReady, AreReady, Joins, IsUnjoined, Takes, IsUntaken};
+
+use crate::planned::{Planned, Write};
+use crate::sessions::Session;
+use dbl_base::Text;
+use dbl_pgmsg::Message;
+use dbl_rows::{HeldKey, Rows, Slots, hold, list_key, make_slot};
+use std::alloc::{AllocError, Global};
+
+// Makes room for each write, and lists its key. Nobody sees anything of it.
+fn make_ready(
+    alloc: Global,
+    place: usize,
+    slots: &mut Slots,
+    keys: &mut Vec<HeldKey>,
+    writes: &[Write],
+) -> Result<(), AllocError>
+    ensures same { IsReady slots.old slots.new keys.old.items keys.new.items }
+    ensures ready { OnOk result (AreReady place writes.now slots.new keys.new.items) }
+{
+    for write in writes {
+        list_key(alloc, keys, place, &write.key)?;
+        make_slot(alloc, slots, &write.key)?;
+    }
+    Ok(())
+}
+
+fn hold_all(slots: &mut Slots, writes: Vec<Write>)
+    requires { AllByRecursion (λ write. HasSlot slots.old write.key) writes.items }
+    ensures { WritesAll writes.items slots.old slots.new }
+{
+    for write in writes {
+        let Write { key, held } = write;
+        hold(slots, &key, held);
+    }
+}
+
+// Adds a message to a session's, and the session to those that hold something of a table: both,
+// or neither.
+fn join(
+    alloc: Global,
+    rows: &mut Rows,
+    session: &mut Session,
+    name: &Text,
+    message: Message,
+    size: u64,
+) -> Result<(), AllocError>
+    ensures joined { OnOk result (Joins name.now message size rows.old rows.new session.old
+        session.new) }
+    ensures kept { OnErr result (IsUnjoined rows.old rows.new session.old session.new) }
+{
+    let holder = name.copy(alloc)?;
+    session.messages.push(message)?;
+    let Ok(_added) = rows.holders.insert(holder) else {
+        session.messages.pop();
+        return Err(AllocError);
+    };
+    session.size = size;
+    Ok(())
+}
+
+/// Takes a planned change of a table's rows.
+pub fn take(
+    alloc: Global,
+    place: usize,
+    rows: &mut Rows,
+    session: &mut Session,
+    name: &Text,
+    planned: Planned,
+) -> Result<(), AllocError>
+    ensures taken { OnOk result (Takes place name.now planned rows.old rows.new session.old
+        session.new) }
+    ensures kept { OnErr result (IsUntaken rows.old rows.new session.old session.new) }
+{
+    let Planned {
+        message,
+        size,
+        writes,
+    } = planned;
+    make_ready(
+        alloc,
+        place,
+        &mut rows.slots,
+        &mut session.keys,
+        writes.as_slice(),
+    )?;
+    join(alloc, rows, session, name, message, size)?;
+    hold_all(&mut rows.slots, writes);
+    Ok(())
+}

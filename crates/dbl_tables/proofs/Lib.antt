@@ -1,0 +1,13 @@
+pub mod StandLemmas
+pub mod DoStands
+pub mod UntakenLemmas
+pub mod TruncateTables
+pub mod ClearLemmas
+pub mod TruncateStands
+pub mod EndLemmas
+pub mod MadeLemmas
+pub mod StoreLemmas
+pub mod CutLemmas
+pub mod SelectLemmas
+pub mod SelectStands
+pub mod GatherLemmas

@@ -1,0 +1,7 @@
+use Rattle.std.proofs.Common.{◌≡◌, ◌+◌, ◌<◌, ◌^◌, map, take}
+use Rattle.std.specs.List.{AllByRecursion}
+use Rattle.dbl_feed.specs.Relations.{first_oid}
+use Rattle.dbl_tables.proofs.truncating.truncate_message.Given as goal
+
+abbrev pub invariant-loop-place : goal.invariant-loop-place
+invariant-loop-place l = AllByRecursion (λ place. place < 2 ^ 31) l.places → l.oids.items ≡ map (λ place. first_oid + place) (take l.place-index l.places)

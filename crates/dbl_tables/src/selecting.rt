@@ -1,0 +1,144 @@
+//! Selects: committed rows in key order, whoever is changing them.
+
+ghost use Rattle.std.specs.Prelude.{◌≡◌, ◌++◌, ◌↔◌, List, Some, None, IfOk, IfSome, IsTrue, OnOk, option_copied, option_to_list, filter_map, take, length, nat_le};
+ghost use Rattle.std.specs.BTreeMap.{IsOrdered};
+ghost use Rattle.dbl_table.specs.Keys.{key_cmp};
+ghost use Rattle.dbl_history.specs.Fit.{IsKeyOf};
+ghost use Rattle.dbl_serial.specs.declared.demo_table.DemoTable.{DemoTable};
+ghost use Rattle.dbl_serial.specs.Acts.{Accepted};
+ghost use Rattle.dbl_serial.specs.Selects.{SelectsCommitted};
+ghost use Rattle.dbl_rows.specs.Views.{base_of};
+ghost use Rattle.dbl_tables.specs.Shown.{rows_behind};
+ghost use Rattle.dbl_tables.specs.Stands.{Stands};
+
+use crate::tables::{Tables, place_of};
+use dbl_base::Seq;
+use dbl_history::key_fits;
+use dbl_rows::{Rows, Slot, Slots};
+use dbl_serial::StepError;
+use dbl_table::{Key, RawRow, TableInfo, TableName};
+use std::alloc::{AllocError, Global};
+use std::collections::btree_map::Range;
+use std::ops::Bound;
+
+// Adds the committed row of a slot.
+fn push_committed(alloc: Global, rows: &mut Vec<RawRow>, slot: &Slot) -> Result<(), AllocError>
+    ensures { OnOk result (rows.new.items ≡ rows.old.items ++ option_to_list slot.now.committed) }
+{
+    let Some(row) = &slot.committed else {
+        return Ok(());
+    };
+    rows.push(row.copy(alloc)?)?;
+    Ok(())
+}
+
+// Whether there are as many rows as are asked for.
+fn are_enough(rows: &Vec<RawRow>, limit: u32) -> bool
+    ensures { result ≡ nat_le limit (length rows.now.items) }
+{
+    rows.len() >= limit as usize
+}
+
+// The first rows of some slots, in their order.
+fn first_rows(
+    alloc: Global,
+    slots: Range<'_, Key, Slot>,
+    limit: u32,
+) -> Result<Vec<RawRow>, AllocError>
+    ensures { IfOk result (λ rows. rows.items ≡
+        take limit (filter_map (λ slot. slot.1.committed) slots.entry)) }
+{
+    let mut rows = Vec::new(alloc);
+    for (_key, slot) in slots {
+        if are_enough(&rows, limit) {
+            return Ok(rows);
+        }
+        push_committed(alloc, &mut rows, slot)?;
+    }
+    Ok(rows)
+}
+
+fn all_rows(alloc: Global, slots: &Slots, limit: u32) -> Result<Vec<RawRow>, AllocError>
+    ensures rows { IfOk result (λ rows. rows.items ≡ rows_behind slots.now None limit) }
+    ensures ordered { IsOrdered key_cmp slots.now }
+{
+    first_rows(alloc, slots.range(..), limit)
+}
+
+fn rows_above(
+    alloc: Global,
+    slots: &Slots,
+    key: &Key,
+    limit: u32,
+) -> Result<Vec<RawRow>, AllocError>
+    ensures rows { IfOk result (λ rows. rows.items ≡ rows_behind slots.now (Some key.now) limit) }
+    ensures ordered { IsOrdered key_cmp slots.now }
+{
+    first_rows(
+        alloc,
+        slots.range((Bound::Excluded(key), Bound::Unbounded)),
+        limit,
+    )
+}
+
+// The first rows of a table's slots above a key, all from the first on where there is no key.
+fn rows_behind(
+    alloc: Global,
+    slots: &Slots,
+    above: Option<&Key>,
+    limit: u32,
+) -> Result<Vec<RawRow>, AllocError>
+    ensures rows { IfOk result (λ rows. rows.items ≡
+        rows_behind slots.now (option_copied above.entry) limit) }
+    ensures ordered { IsOrdered key_cmp slots.now }
+{
+    match above {
+        None => all_rows(alloc, slots, limit),
+        Some(key) => rows_above(alloc, slots, key, limit),
+    }
+}
+
+// Whether rows can be above it: it is a key of the table's, or there is no key.
+fn is_bound_of(info: &TableInfo, above: Option<&Key>) -> bool
+    ensures { IsTrue result ↔ IfSome (option_copied above.entry) (IsKeyOf info.now) }
+{
+    match above {
+        None => true,
+        Some(key) => key_fits(info, key),
+    }
+}
+
+// The slots of what is committed.
+fn base(rows: &Rows) -> &Slots
+    ensures { result.now ≡ base_of rows.now.cleared rows.now.slots }
+{
+    match &rows.cleared {
+        Some(cleared) => &cleared.slots,
+        None => &rows.slots,
+    }
+}
+
+impl Tables {
+    /// The first committed rows of a table above a key, in key order; all from the first on where
+    /// there is no key. No row is above a key that isn't of the table's key types.
+    pub fn select(
+        &self,
+        table: &TableName,
+        above: Option<&Key>,
+        limit: u32,
+    ) -> Result<Seq<RawRow>, StepError>
+        ensures { (tables : List DemoTable) (past : List Accepted) → Stands tables past self.now →
+            SelectsCommitted tables past table.now (option_copied above.entry) limit result }
+    {
+        let Some(place) = place_of(&self.tables, table) else {
+            return Err(StepError::UnknownTable);
+        };
+        let Some(rows) = self.tables.get(place) else {
+            return Err(StepError::UnknownTable);
+        };
+        if !is_bound_of(&rows.table.info, above) {
+            return Ok(Seq::make(Vec::new(self.alloc)));
+        }
+        Ok(Seq::make(rows_behind(self.alloc, base(rows), above, limit)?))
+    }
+}

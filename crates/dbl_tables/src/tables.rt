@@ -1,0 +1,97 @@
+//! The store: its tables and its open sessions.
+
+ghost use Rattle.std.specs.Prelude.{◌≡◌, ◌≤◌, ◌<◌, ◌^◌, ◌+◌, [], List, IsTrue, IfOk, IfErr, length, map};
+ghost use Rattle.std.specs.List.{position_from};
+ghost use Rattle.dbl_table.specs.Tables.{same_name, are_distinct};
+ghost use Rattle.dbl_feed.specs.Relations.{first_oid};
+ghost use Rattle.dbl_serial.specs.declared.demo_table.DemoTable.{DemoTable};
+ghost use Rattle.dbl_serial.specs.Acts.{Accepted};
+ghost use Rattle.dbl_serial.specs.Steps.Step.{Begin};
+ghost use Rattle.dbl_tables.specs.Stands.{AreMade, Stands, Answers};
+
+use dbl_base::Text;
+use dbl_changes::Session;
+use dbl_rows::{Rows, make_rows};
+use dbl_serial::{DemoTable, StepError};
+use dbl_table::TableName;
+use std::alloc::Global;
+use std::collections::BTreeMap;
+
+/// The OID of the first table.
+const FIRST_OID: u32 = 16384;
+
+/// A small transactional store of rows. Sessions begin, change rows, commit and roll back; a change
+/// locks its keys, and a truncate its tables, until the session ends.
+#[derive(Drop)]
+pub struct Tables {
+    pub(crate) alloc: Global,
+    pub(crate) tables: Vec<Rows>,
+    pub(crate) sessions: BTreeMap<Text, Session>,
+}
+
+fn is_same_name(a: &TableName, b: &TableName) -> bool
+    ensures { result ≡ same_name a.now b.now }
+{
+    a.schema.as_str() == b.schema.as_str() && a.name.as_str() == b.name.as_str()
+}
+
+/// The place of the table of a name.
+pub fn place_of(tables: &Vec<Rows>, name: &TableName) -> Option<usize>
+    ensures { result ≡ position_from (λ rows. same_name rows.table.info.name name.now) 0
+        tables.now.items }
+{
+    tables
+        .iter()
+        .position(|rows| is_same_name(&rows.table.info.name, name))
+}
+
+/// The OID of the table at a place.
+pub fn oid_of(place: usize) -> u32
+    ensures { place < 2 ^ 31 → result ≡ first_oid + place }
+{
+    match u32::try_from(place) {
+        Ok(place) => FIRST_OID.saturating_add(place),
+        Err(_) => FIRST_OID,
+    }
+}
+
+fn make_tables(alloc: Global, tables: Vec<DemoTable>) -> Result<Vec<Rows>, StepError>
+    ensures made { IfOk result (λ made. AreMade tables.items made.items) }
+    ensures memory { IfErr result (λ e. e ≡ StepError.Memory) }
+{
+    let mut made = Vec::new(alloc);
+    for table in tables {
+        made.push(make_rows(alloc, table)?)?;
+    }
+    Ok(made)
+}
+
+impl Tables {
+    /// A store of these tables, without rows.
+    pub fn make(alloc: Global, tables: Vec<DemoTable>) -> Result<Tables, StepError>
+        requires few { length tables.items ≤ 64 }
+        requires distinct { IsTrue (are_distinct same_name (map (λ table. table.info.name)
+            tables.items)) }
+        ensures stands { IfOk result (Stands tables.items []) }
+        ensures memory { IfErr result (λ e. e ≡ StepError.Memory) }
+    {
+        Ok(Tables {
+            alloc,
+            tables: make_tables(alloc, tables)?,
+            sessions: BTreeMap::new(alloc),
+        })
+    }
+
+    /// A session begins.
+    pub fn begin(&mut self, session: &Text) -> Result<(), StepError>
+        ensures { (tables : List DemoTable) (past : List Accepted) → Stands tables past self.old →
+            Answers tables past (Begin session.now) self.new result }
+    {
+        if self.sessions.contains_key(session) {
+            return Err(StepError::AlreadyOpen);
+        }
+        let name = session.copy(self.alloc)?;
+        self.sessions.insert(name, Session::make(self.alloc))?;
+        Ok(())
+    }
+}

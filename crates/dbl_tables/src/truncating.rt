@@ -1,0 +1,171 @@
+//! Truncates: the tables that are named, and nothing else, are looked at. No row is.
+
+ghost use Rattle.std.specs.Prelude.{◌≡◌, ◌≤◌, ℕ, List, IfOk, option_copied, replicate, vec_len, length, slice_get};
+ghost use Rattle.dbl_serial.specs.declared.demo_table.DemoTable.{DemoTable};
+ghost use Rattle.dbl_serial.specs.Acts.{Accepted};
+ghost use Rattle.dbl_serial.specs.Steps.Step.{Truncate};
+ghost use Rattle.dbl_tables.specs.Stands.{Stands, Answers};
+ghost use Rattle.dbl_table.specs.declared.table.TableName.{TableName};
+ghost use Rattle.dbl_tables.specs.Truncates.{PlacesOf, IsHolderAt, FindsFirst, TruncatesOne, TruncatesAll, TruncatesAt, IsCut, Cuts};
+
+use crate::tables::{Tables, oid_of, place_of};
+use dbl_base::{Seq, Text};
+use dbl_changes::pass;
+use dbl_pgmsg::Message;
+use dbl_rows::{Rows, lesser, table_holder, truncate};
+use dbl_serial::{StepError, grown_size};
+use dbl_table::TableName;
+use std::alloc::{AllocError, Global};
+
+// The places of tables, where all are there.
+fn places_of(
+    alloc: Global,
+    tables: &Vec<Rows>,
+    names: &[TableName],
+) -> Result<Seq<usize>, StepError>
+    ensures { PlacesOf tables.now.items names.now result }
+{
+    let mut places = Vec::new(alloc);
+    for name in names {
+        let Some(place) = place_of(tables, name) else {
+            return Err(StepError::UnknownTable);
+        };
+        places.push(place)?;
+    }
+    Ok(Seq::make(places))
+}
+
+fn truncate_message(alloc: Global, places: &[usize]) -> Result<Message, AllocError>
+    ensures { IfOk result (λ message. TruncatesAt places.now message) }
+{
+    let mut oids = Vec::new(alloc);
+    for place in places {
+        oids.push(oid_of(*place))?;
+    }
+    Ok(Message::Truncate {
+        options: 0,
+        oids: Seq::make(oids),
+    })
+}
+
+fn holder_at<'a>(tables: &'a Vec<Rows>, place: usize, session: &Text) -> Option<&'a Text>
+    ensures { IsHolderAt session.now (slice_get tables.now.items place) (option_copied result) }
+{
+    match tables.get(place) {
+        Some(rows) => table_holder(rows, session),
+        None => None,
+    }
+}
+
+// Who is in the way of a truncate of the tables at some places.
+fn holder_of<'a>(tables: &'a Vec<Rows>, places: &[usize], session: &Text) -> Option<&'a Text>
+    ensures { FindsFirst session.now tables.now.items places.now (option_copied result) }
+{
+    let mut first = None;
+    for place in places {
+        first = lesser(first, holder_at(tables, *place, session));
+    }
+    first
+}
+
+fn copies(alloc: Global, name: &Text, count: usize) -> Result<Vec<Text>, AllocError>
+    ensures { IfOk result (λ names. names.items ≡ replicate count name.now) }
+{
+    let mut names = Vec::new(alloc);
+    for _place in 0..count {
+        names.push(name.copy(alloc)?)?;
+    }
+    Ok(names)
+}
+
+fn truncate_at(alloc: Global, tables: &mut Vec<Rows>, place: usize, name: Text)
+    ensures { TruncatesOne name place tables.old.items tables.new.items }
+{
+    match tables.get_mut(place) {
+        Some(rows) => truncate(alloc, rows, name),
+        None => {}
+    }
+}
+
+// Truncates each table once for each place, by a name for each. Takes no memory.
+fn truncate_all(alloc: Global, tables: &mut Vec<Rows>, places: &[usize], mut names: Vec<Text>)
+    ensures { (session : List ℕ) → names.items ≡ replicate (length places.now) session →
+        TruncatesAll session places.now tables.old.items tables.new.items }
+{
+    for place in places {
+        let Some(name) = names.pop() else {
+            return;
+        };
+        truncate_at(alloc, tables, *place, name);
+    }
+}
+
+/// A truncate, before the store takes it: its message, the size of the entry with it, its tables by
+/// their places, and the session's name for each.
+#[derive(Debug, Drop)]
+pub struct Cut {
+    pub message: Message,
+    pub size: u64,
+    pub places: Seq<usize>,
+    pub names: Vec<Text>,
+}
+
+impl Tables {
+    // Plans a truncate. Nothing is changed.
+    fn plan_truncate(&self, session: &Text, tables: &[TableName]) -> Result<Cut, StepError>
+        ensures { (all : List DemoTable) (past : List Accepted) → Stands all past self.now →
+            Cuts all past session.now tables.now self.now.tables.items result }
+    {
+        let alloc = self.alloc;
+        let Some(state) = self.sessions.get(session) else {
+            return Err(StepError::NotOpen);
+        };
+        let places = places_of(alloc, &self.tables, tables)?;
+        let message = truncate_message(alloc, places.items().as_slice())?;
+        let Some(size) = grown_size(state.size, &message) else {
+            return Err(StepError::BadRow);
+        };
+        pass(
+            alloc,
+            holder_of(&self.tables, places.items().as_slice(), session),
+        )?;
+        let names = copies(alloc, session, places.items().len())?;
+        Ok(Cut {
+            message,
+            size,
+            places,
+            names,
+        })
+    }
+
+    fn cut(&mut self, session: &Text, cut: Cut) -> Result<(), StepError>
+        ensures { (all : List DemoTable) (past : List Accepted) (names : List TableName) →
+            Stands all past self.old → IsCut all past session.now names self.old.tables.items cut →
+            Answers all past (Truncate session.now names) self.new result }
+    {
+        let Cut {
+            message,
+            size,
+            places,
+            names,
+        } = cut;
+        let alloc = self.alloc;
+        let Some(state) = self.sessions.get_mut(session) else {
+            return Err(StepError::NotOpen);
+        };
+        state.messages.push(message)?;
+        state.size = size;
+        truncate_all(alloc, &mut self.tables, places.items().as_slice(), names);
+        Ok(())
+    }
+
+    /// A session truncates tables, all of them or none.
+    pub fn truncate(&mut self, session: &Text, tables: &Vec<TableName>) -> Result<(), StepError>
+        requires { 1 ≤ vec_len tables.now }
+        ensures { (all : List DemoTable) (past : List Accepted) → Stands all past self.old →
+            Answers all past (Truncate session.now tables.now.items) self.new result }
+    {
+        let cut = self.plan_truncate(session, tables.as_slice())?;
+        self.cut(session, cut)
+    }
+}

@@ -1,0 +1,7 @@
+pub mod LineTexts
+pub mod Values
+pub mod Told
+pub mod Records
+pub mod Clear
+pub mod Pipe
+pub mod Example

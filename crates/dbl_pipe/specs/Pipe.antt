@@ -1,0 +1,60 @@
+-- What `replay | apply --lines` comes to: where `replay` takes a log to its end without a fault, `apply --lines` finds no fault
+-- in what it wrote, and prints exactly the last rows of the source whose log it was.
+use Rattle.std.specs.Prelude.{◌≡◌, ℕ, ℤ, List, [], Option, None}
+use Rattle.std.specs.Map.{lookup, keys_of}
+use Rattle.std.specs.BTreeMap.{is_at}
+use Rattle.std.specs.List.Sorted.{IsStrictlySortedBy}
+use Rattle.std.specs.Str.{IsUtf8}
+use Rattle.dbl_base.specs.Lines.{lines_of, lines_text}
+use Rattle.dbl_record.specs.Consumers.{consumer_of}
+use Rattle.dbl_consume.specs.Printing.{HeldRow, spot_cmp, AreRowsOf}
+use Rattle.dbl_table.specs.declared.identity.Identity.{Identity}
+use Rattle.dbl_table.specs.declared.table.TableInfo.{TableInfo}
+use Rattle.dbl_table.specs.Rows.{Rows}
+use Rattle.dbl_history.specs.History.{History}
+use Rattle.dbl_history.specs.Typed.{typed}
+use Rattle.dbl_history.specs.Ranges.{IsMomentInRange}
+use Rattle.dbl_history.specs.Fit.{AreInfosOf, IsFitHistory}
+use Rattle.dbl_history.specs.Image.{IsImage}
+use Rattle.dbl_commit.specs.Stated.{commits_of}
+use Rattle.dbl_commit.specs.Blocks.{onto}
+use Rattle.dbl_agreement.specs.Laws.{Holds, last_rows}
+use Rattle.dbl_replay.specs.declared.options.ReplayOptions.{ReplayOptions}
+use Rattle.dbl_replay.specs.Replay.{IsReplayed}
+use Rattle.dbl_replay.specs.Apply.{readings_of, first_fault}
+
+-- the names by which a connector goes are UTF-8, as each word is that the program takes
+pub record AreNamesUtf8 (identity : Identity) : Type 0 where
+  pub prefix : IsUtf8 identity.prefix
+  pub db : IsUtf8 identity.db
+  pub placeholder : IsUtf8 identity.placeholder
+
+-- A source's whole log, from its first commit on. `replay` writes these lines of it and meets no fault: so it ends outside of a
+-- transaction, and no cell of it is the placeholder. The source's history is fit: it begins with empty tables. The catalogue
+-- has each table as the log describes it, and the commits that the log states are those of the history.
+pub record IsWholeLog (options : ReplayOptions) (now : ℤ) (log lines : List (List ℕ)) (history : History) : Type 0 where
+  pub replayed : IsReplayed options now log lines None
+  pub moment : IsMomentInRange now
+  pub names : AreNamesUtf8 options.identity
+  pub fit : IsFitHistory history
+  pub captured : AreInfosOf history replayed.infos
+  pub stated : commits_of replayed.infos (onto [] replayed.messages) ≡ typed replayed.infos history
+
+-- Rows in the order in which `apply --lines` prints them, by topic and key text: at each these have exactly the cells that the
+-- source's row has there, each as its JSON text, and where the source has no row there is none.
+pub record AreSourceRows (identity : Identity) (infos : List TableInfo) (source : Rows) (rows : List HeldRow) : Type 0 where
+  pub ordered : IsStrictlySortedBy spot_cmp (keys_of rows)
+  pub exact : (topic text : List ℕ) (image : Option (List ℕ → Option (List ℕ))) → IsImage identity infos source topic text image → Holds (lookup (is_at (spot_cmp (topic, text))) rows) image
+
+-- What `apply --lines` makes of these bytes: it takes each of their lines, its consumer holds at each topic and key text exactly
+-- the source's row, and the rows that it prints are the source's. At each topic and key text the source has a row or none.
+pub record AppliesTo (identity : Identity) (infos : List TableInfo) (source : Rows) (bytes : List ℕ) : Type 0 where
+  pub clean : first_fault identity.placeholder (lines_of bytes) ≡ None
+  pub held : (topic text : List ℕ) (image : Option (List ℕ → Option (List ℕ))) → IsImage identity infos source topic text image → Holds (consumer_of identity.placeholder (readings_of (lines_of bytes)) topic text) image
+  pub printed : (rows : List HeldRow) → AreRowsOf (consumer_of identity.placeholder (readings_of (lines_of bytes))) rows → AreSourceRows identity infos source rows
+  pub stands : (topic text : List ℕ) → (image : Option (List ℕ → Option (List ℕ))) × IsImage identity infos source topic text image
+
+-- what `replay` writes of a whole log, byte for byte, `apply --lines` with the same placeholder applies to the source's last rows
+abbrev pub LastRowsAreApplied : Type 0
+LastRowsAreApplied = (options : ReplayOptions) (now : ℤ) (log lines : List (List ℕ)) (history : History) → (whole : IsWholeLog options now log lines history)
+    → AppliesTo options.identity whole.replayed.infos (last_rows whole.replayed.infos (typed whole.replayed.infos history)) (lines_text lines)

@@ -1,5 +1,5 @@
 -- What `apply --lines` makes of the lines of a whole log.
-use Rattle.std.proofs.Common.{◌≡◌, ◌∙◌, ◌+◌, ℕ, ℤ, List, [], ◌∷◌, Option, None, map, flat_map, refl, sym, ap, ap₂, subst}
+use Rattle.std.proofs.Common.{◌≡◌, ◌∙◌, ◌+◌, ℕ, ℤ, List, [], ◌∷◌, None, map, flat_map, refl, sym, ap, ap₂, subst}
 use Rattle.std.specs.List.{AllByRecursion}
 use Rattle.dbl_base.specs.Lines.{lines_of, lines_text}
 use Rattle.dbl_record.specs.declared.record.Record.{Record}
@@ -11,11 +11,10 @@ use Rattle.dbl_table.specs.declared.change.Commit.{Commit}
 use Rattle.dbl_table.specs.Rows.{no_rows, all_changes}
 use Rattle.dbl_history.specs.History.{History}
 use Rattle.dbl_history.specs.Typed.{typed}
-use Rattle.dbl_history.specs.Image.{IsImage}
 use Rattle.dbl_history.proofs.RangeLemmas.{typed_in_range, infos_in_range}
 use Rattle.dbl_event.specs.EventJson.{envelopes}
 use Rattle.dbl_commit.specs.Blocks.{onto}
-use Rattle.dbl_agreement.specs.Laws.{IsToldWhole, Holds, last_rows}
+use Rattle.dbl_agreement.specs.Laws.{IsToldWhole, Holds, held_of}
 use Rattle.dbl_agreement.proofs.Clashes.{fit_changes_are_wide, histories_lack_placeholders}
 use Rattle.dbl_agreement.proofs.Named.{hold_images, images_stand}
 use Rattle.dbl_replay.specs.declared.options.ReplayOptions.{ReplayOptions}
@@ -24,6 +23,7 @@ use Rattle.dbl_replay.specs.Apply.{readings_of, first_fault_from, or_later, firs
 use Rattle.dbl_pipe.specs.Pipe.{IsWholeLog, LastRowsAreApplied}
 use Rattle.dbl_pipe.proofs.LineTexts.{AreLineTexts, lines_back}
 use Rattle.dbl_pipe.proofs.Records.{IsPiped, no_fault, commits_piped}
+use Rattle.dbl_pipe.proofs.Printed.{source_rows}
 use Rattle.dbl_pipe.proofs.Clear.{IsClear, clear, spelled_fields}
 
 -- ---- lines of records that are taken
@@ -67,11 +67,11 @@ last_rows_applied options now log lines history whole =
     let back : lines_of (lines_text lines) ≡ map line_of items = ap (λ (ls : List (List ℕ)). lines_of (lines_text ls)) lines_are ∙ lines_back (map line_of items) (line_texts placeholder items piped) in
     let read : readings_of (lines_of (lines_text lines)) ≡ map reading_of (map as_line items) = ap readings_of back ∙ lines_read placeholder items piped in
     let told = told_whole options now log lines history whole in
-    let held : (topic text : List ℕ) (image : Option (List ℕ → Option (List ℕ))) → IsImage options.identity infos (last_rows infos commits) topic text image → Holds (consumer_of placeholder (readings_of (lines_of (lines_text lines))) topic text) image =
-    λ topic text image is. subst (λ (rs : List Reading). Holds (consumer_of placeholder rs topic text) image) (sym read) (hold_images history infos options.identity (λ commit. now) told topic text image is) in
+    let held : (topic text : List ℕ) → consumer_of placeholder (readings_of (lines_of (lines_text lines))) topic text ≡ held_of options.identity infos (λ commit. now) history topic text =
+    λ topic text. ap (λ (rs : List Reading). consumer_of placeholder rs topic text) read in
     record {
       clean = ap (λ (ls : List (List ℕ)). first_fault placeholder ls) back ∙ lines_clean 1 placeholder items piped;
-      held = held;
-      printed = λ rows are. record { ordered = are.ordered; exact = λ topic text image is. subst (λ h. Holds h image) (sym (are.exact topic text)) (held topic text image is) };
+      held = λ topic text image is. subst (λ h. Holds h image) (sym (held topic text)) (hold_images history infos options.identity (λ commit. now) told topic text image is);
+      printed = λ rows are. source_rows history infos options.identity (λ commit. now) told rows (record { ordered = are.ordered; exact = λ topic key. are.exact topic key ∙ held topic key });
       stands = λ topic text. images_stand history infos options.identity (λ commit. now) told topic text;
     }

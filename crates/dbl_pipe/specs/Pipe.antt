@@ -1,21 +1,27 @@
--- What `replay | apply --lines` comes to: where `replay` takes a log to its end without a fault, `apply --lines` finds no fault
--- in what it wrote, and prints exactly the last rows of the source whose log it was.
-use Rattle.std.specs.Prelude.{◌≡◌, ℕ, ℤ, List, [], Option, None}
+-- What `replay | apply --lines` comes to: where `replay` takes a source's whole log without a fault, `apply --lines` finds none in
+-- what was written, and prints exactly the source's last rows.
+use Rattle.std.specs.Prelude.{◌≡◌, ℕ, ℤ, List, [], ◌++◌, Option, Some, None, map, slice_get, codes}
+use Rattle.std.specs.List.{AllByRecursion}
 use Rattle.std.specs.Map.{lookup, keys_of}
 use Rattle.std.specs.BTreeMap.{is_at}
 use Rattle.std.specs.List.Sorted.{IsStrictlySortedBy}
 use Rattle.std.specs.Str.{IsUtf8}
+use Rattle.serde_json.specs.Written.{compact_text}
 use Rattle.dbl_base.specs.Lines.{lines_of, lines_text}
+use Rattle.dbl_value.specs.declared.value.Val.{Val}
 use Rattle.dbl_record.specs.Consumers.{consumer_of}
-use Rattle.dbl_consume.specs.Printing.{HeldRow, spot_cmp, AreRowsOf}
+use Rattle.dbl_consume.specs.Printing.{HeldRow, spot_cmp, AreRowsOf, row_line}
 use Rattle.dbl_table.specs.declared.identity.Identity.{Identity}
+use Rattle.dbl_table.specs.declared.row.Key.{Key}
 use Rattle.dbl_table.specs.declared.table.TableInfo.{TableInfo}
+use Rattle.dbl_table.specs.Infos.{topic_of}
 use Rattle.dbl_table.specs.Rows.{Rows}
 use Rattle.dbl_history.specs.History.{History}
 use Rattle.dbl_history.specs.Typed.{typed}
 use Rattle.dbl_history.specs.Ranges.{IsMomentInRange}
 use Rattle.dbl_history.specs.Fit.{AreInfosOf, IsFitHistory}
-use Rattle.dbl_history.specs.Image.{IsImage}
+use Rattle.dbl_history.specs.Image.{key_text, IsImage}
+use Rattle.dbl_event.specs.EventJson.{row_data}
 use Rattle.dbl_commit.specs.Stated.{commits_of}
 use Rattle.dbl_commit.specs.Blocks.{onto}
 use Rattle.dbl_agreement.specs.Laws.{Holds, last_rows}
@@ -29,9 +35,9 @@ pub record AreNamesUtf8 (identity : Identity) : Type 0 where
   pub db : IsUtf8 identity.db
   pub placeholder : IsUtf8 identity.placeholder
 
--- A source's whole log, from its first commit on. `replay` writes these lines of it and meets no fault: so it ends outside of a
--- transaction, and no cell of it is the placeholder. The source's history is fit: it begins with empty tables. The catalogue
--- has each table as the log describes it, and the commits that the log states are those of the history.
+-- A source's whole log, as the bytes of its messages. `replay` writes these lines of it and meets no fault: so no cell is the
+-- placeholder, and it ends outside of a transaction. The source's history is fit, and begins with empty tables. Its catalogue
+-- has each table as the log describes it, and the commits that the log states are its commits, from the first on.
 pub record IsWholeLog (options : ReplayOptions) (now : ℤ) (log lines : List (List ℕ)) (history : History) : Type 0 where
   pub replayed : IsReplayed options now log lines None
   pub moment : IsMomentInRange now
@@ -40,10 +46,25 @@ pub record IsWholeLog (options : ReplayOptions) (now : ℤ) (log lines : List (L
   pub captured : AreInfosOf history replayed.infos
   pub stated : commits_of replayed.infos (onto [] replayed.messages) ≡ typed replayed.infos history
 
--- Rows in the order in which `apply --lines` prints them, by topic and key text: at each these have exactly the cells that the
--- source's row has there, each as its JSON text, and where the source has no row there is none.
+-- the line of a table's row: its topic, its key and itself, both as JSON, with a space between
+abbrev pub source_line : Identity → TableInfo → Key → List Val → List ℕ
+source_line identity info key values = topic_of identity info ++ codes " " ++ key_text info key ++ codes " " ++ compact_text (row_data info values)
+
+-- it is the line of a row that the source has in a captured table
+pub record IsSourceLine (identity : Identity) (infos : List TableInfo) (source : Rows) (line : List ℕ) : Type 0 where
+  pub table : ℕ
+  pub info : TableInfo
+  pub key : Key
+  pub values : List Val
+  pub captured : slice_get infos table ≡ Some info
+  pub row : source table key ≡ Some values
+  pub line_is : line ≡ source_line identity info key values
+
+-- Rows in byte order of their topics and, within one, of their keys' texts. Each line is that of a row of the source; and at each
+-- topic and key text there is a row exactly where the source has one, with the same cells.
 pub record AreSourceRows (identity : Identity) (infos : List TableInfo) (source : Rows) (rows : List HeldRow) : Type 0 where
   pub ordered : IsStrictlySortedBy spot_cmp (keys_of rows)
+  pub lines : AllByRecursion (IsSourceLine identity infos source) (map row_line rows)
   pub exact : (topic text : List ℕ) (image : Option (List ℕ → Option (List ℕ))) → IsImage identity infos source topic text image → Holds (lookup (is_at (spot_cmp (topic, text))) rows) image
 
 -- What `apply --lines` makes of these bytes: it takes each of their lines, its consumer holds at each topic and key text exactly

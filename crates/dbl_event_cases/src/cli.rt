@@ -11,7 +11,7 @@ use std::alloc::Global;
 pub fn answer(alloc: Global, shown: &mut String, call: &str, arguments: &str) -> Result<()> {
     match call {
         "words" => line(alloc, shown, arguments),
-        "many" => line(alloc, shown, repeated(alloc, arguments)?.as_str()),
+        "many" => line(alloc, shown, repeat_case(alloc, arguments)?.as_str()),
         "none" => line(alloc, shown, ""),
         _ => bail!("no such call"),
     }

@@ -32,7 +32,7 @@ fn bytes(alloc: Global, shown: &mut String, digits: &str) -> Result<()> {
 }
 
 fn many(alloc: Global, shown: &mut String, arguments: &str) -> Result<()> {
-    let text = lines(alloc, repeated(alloc, arguments)?.as_str())?;
+    let text = lines(alloc, repeat_case(alloc, arguments)?.as_str())?;
     show_counts(alloc, shown, text.as_str())
 }
 

@@ -1,0 +1,113 @@
+-- Any number of sessions and stops.
+use Rattle.std.proofs.Common.{◌≡◌, ◌∙◌, ◌≤◌, ℕ, ℤ, max, Option, Some, None, List, [], ◌∷◌, ◌++◌, refl, sym, ap, subst, append-nil}
+use Rattle.dbl_record.specs.declared.record.Record.{Record}
+use Rattle.dbl_record.specs.Cuts.{cut, joined}
+use Rattle.dbl_table.specs.declared.config.Config.{Config}
+use Rattle.dbl_history.specs.History.{RawCommit, History}
+use Rattle.dbl_history.specs.Fit.{IsFitHistory}
+use Rattle.dbl_honest.specs.Growth.{Grows}
+use Rattle.dbl_honest.specs.Standings.{Left}
+use Rattle.dbl_offset.specs.declared.offset.Offset.{Offset}
+use Rattle.dbl_stores.specs.Stores.{lag}
+use Rattle.dbl_stores.specs.Faithful.{IsFaithful}
+use Rattle.dbl_stores.specs.Kept.{HasGrown}
+use Rattle.dbl_stores.specs.Onward.{Extends}
+use Rattle.dbl_stores.proofs.Longer.{longer_histories_stay_faithful}
+use Rattle.dbl_session.specs.Entries.{appends_behind}
+use Rattle.dbl_session.specs.Outcomes.{Follows}
+use Rattle.dbl_session.proofs.Completing.{read_sessions_are_complete}
+use Rattle.dbl_restarts.specs.Restarts.{Found, entry_at, found_left, After, nothing, others, session, IsUnused, IsRight, most_every}
+use Rattle.dbl_restarts.specs.Outcomes.{WentOn}
+use Rattle.dbl_restarts.specs.Laws.{RestartsStayFaithful, FirstSessionsAreFaithful, RestartsGoOn, CompletedRestartsAreImages}
+use Rattle.dbl_restarts.proofs.Going.{runs_keep_going}
+use Rattle.dbl_restarts.proofs.Leaving.{stops_follow}
+use Rattle.dbl_restarts.proofs.Farther.{le_on, over_none, under_both, extends_on, stays_put, offset_grown, offset_next, appends_next, others_new, lag_grown}
+
+abbrev grown_by : (old new : History) (grows : Grows old new) → HasGrown old new grows.others
+grown_by old new grows = record { tables = grows.tables; commits = grows.commits }
+
+module _ (first : Found) (right : IsRight first) where
+  -- ---- faithful
+
+  pub stays_right : (sessions : List Config) (last : Found) → After first sessions last → IsRight last
+  stays_right _ _ nothing = right
+  stays_right _ _ (others sessions last history after grows fits) =
+      let before : IsRight last = stays_right sessions last after in
+      record {
+        fit = fits;
+        faithful = longer_histories_stay_faithful last.history history grows.others last.confirmed (joined last.groups) last.offset before.fit fits (grown_by last.history history grows)
+            (others_new last.offset grows.others grows.are_others) before.faithful;
+      }
+  stays_right _ _ (session sessions last config now left groups offset after asked stops) =
+      let before : IsRight last = stays_right sessions last after in
+      let done = stops_follow (entry_at config now last) left groups offset asked before.fit before.faithful stops in
+      record { fit = done.1; faithful = done.0.faithful }
+
+  -- ---- onward
+
+  at_first : WentOn [] first first
+  at_first = record {
+    tables = refl;
+    commits = record { more = []; is = sym (append-nil first.history.commits) };
+    groups = record { more = []; is = sym (append-nil first.groups) };
+    offset = stays_put first.history first.offset;
+    appends = record { more = []; is = sym (append-nil (joined first.groups)); above = tt };
+    lag_is = over_none (lag first.history (joined first.groups) first.offset);
+  }
+
+  grown_on : (sessions : List Config) (last : Found) (history : History) → IsRight last → Grows last.history history → IsFitHistory history → WentOn sessions first last → WentOn sessions first (record last { history = history })
+  grown_on sessions last history before grows fits went = record {
+    tables = grows.tables ∙ went.tables;
+    commits = extends_on first.history.commits last.history.commits history.commits went.commits (record { more = grows.others; is = grows.commits });
+    groups = went.groups;
+    offset = offset_grown sessions first.history last.history history grows.others first.offset last.offset (grown_by last.history history grows) went.offset;
+    appends = went.appends;
+    lag_is = le_on (lag history (joined last.groups) last.offset) (lag last.history (joined last.groups) last.offset) (max (most_every sessions) (lag first.history (joined first.groups) first.offset))
+        (lag_grown last.history history last.confirmed (joined last.groups) last.offset before.fit fits grows before.faithful) went.lag_is;
+  }
+
+  session_on : (sessions : List Config) (last : Found) (config : Config) (now : ℤ) (left : Left) (groups : List (List Record)) (offset : Option Offset) → IsRight last → Follows (entry_at config now last) left groups offset
+      → WentOn sessions first last → WentOn (config ∷ sessions) first (found_left left groups offset)
+  session_on sessions last config now left groups offset before follows went = record {
+    tables = follows.onward.tables ∙ went.tables;
+    commits = extends_on first.history.commits last.history.commits left.history.commits went.commits follows.onward.commits;
+    groups = extends_on first.groups last.groups groups went.groups (record { more = cut follows.adds.more; is = follows.grouped });
+    offset = offset_next sessions config first.history last.history left.history follows.onward.commits.more first.offset last.offset offset went.commits
+        (record { tables = follows.onward.tables; commits = follows.onward.commits.is }) went.offset follows.onward.offset;
+    appends = appends_next sessions config first.history last.history left.history last.confirmed first.offset last.offset offset (joined first.groups) (joined last.groups) (joined groups)
+        before.faithful went.offset follows.onward.offset went.appends follows.adds;
+    lag_is = under_both (lag left.history (joined groups) offset) (lag last.history (joined last.groups) last.offset) (lag first.history (joined first.groups) first.offset) config.every (most_every sessions) follows.lag_is went.lag_is;
+  }
+
+  pub goes_on : (sessions : List Config) (last : Found) → After first sessions last → WentOn sessions first last
+  goes_on _ _ nothing = at_first
+  goes_on _ _ (others sessions last history after grows fits) = grown_on sessions last history (stays_right sessions last after) grows fits (goes_on sessions last after)
+  goes_on _ _ (session sessions last config now left groups offset after asked stops) =
+      let before : IsRight last = stays_right sessions last after in
+      session_on sessions last config now left groups offset before (stops_follow (entry_at config now last) left groups offset asked before.fit before.faithful stops).0 (goes_on sessions last after)
+
+pub restarts_stay_faithful : RestartsStayFaithful
+restarts_stay_faithful first last sessions right after = stays_right first right sessions last after
+
+pub restarts_go_on : RestartsGoOn
+restarts_go_on first last sessions right after = goes_on first right sessions last after
+
+-- ---- from the first session on
+
+unused_right : (first : Found) → IsUnused first → IsRight first
+unused_right first is = record {
+  fit = is.fit;
+  faithful = subst (λ (o : Option Offset). IsFaithful first.history first.confirmed (joined first.groups) o) (sym is.unstored)
+      (record { empty = ap joined is.empty; unmarked = is.unmarked; unconfirmed = is.unconfirmed });
+}
+
+pub first_sessions_are_faithful : FirstSessionsAreFaithful
+first_sessions_are_faithful first last sessions is after = stays_right first (unused_right first is) sessions last after
+
+-- ---- to the last
+
+pub completed_restarts_are_images : CompletedRestartsAreImages
+completed_restarts_are_images first last sessions config now stage left right after asked done =
+    let before : IsRight last = stays_right first right sessions last after in
+    read_sessions_are_complete (entry_at config now last) stage left done.more before.faithful done.read done.done done.may done.confirmed
+    (runs_keep_going (entry_at config now last) stage asked before.fit before.faithful done.run)

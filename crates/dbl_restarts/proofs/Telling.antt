@@ -1,0 +1,37 @@
+-- What a consumer can rely on behind any number of sessions and stops.
+use Rattle.std.proofs.Common.{◌≡◌, ℕ, true, Option, Some, List, subst}
+use Rattle.std.specs.Prelude.{slice_get}
+use Rattle.dbl_record.specs.declared.record.Record.{Record}
+use Rattle.dbl_record.specs.Cuts.{joined}
+use Rattle.dbl_ageing.specs.Commits.{AreFitCommits}
+use Rattle.dbl_ageing.proofs.Commits.{fit_commits}
+use Rattle.dbl_faithful.specs.Kinds.{is_row}
+use Rattle.dbl_faithful.proofs.Exact.{repeats_are_earlier}
+use Rattle.dbl_faithful.proofs.Words.{snapshot_rows_overwrite_nothing}
+use Rattle.dbl_offset.specs.declared.offset.Offset.{Offset}
+use Rattle.dbl_stores.specs.Faithful.{commits_of, IsFaithful, IsFaithfulTo}
+use Rattle.dbl_restarts.specs.Restarts.{Found, IsRight}
+use Rattle.dbl_restarts.specs.Telling.{OverwritesNothing, TellsTheSource, LogsTellTheSource}
+use Rattle.dbl_restarts.proofs.Chains.{first_sessions_are_faithful}
+
+module _ (last : Found) (offset : Offset) (right : IsRight last) (is : last.offset ≡ Some offset) where
+  faithful : IsFaithfulTo last.history last.confirmed (joined last.groups) offset
+  faithful = subst (λ (o : Option Offset). IsFaithful last.history last.confirmed (joined last.groups) o) is right.faithful
+
+  fit : AreFitCommits offset.infos (commits_of last.history offset)
+  fit = fit_commits last.history offset.infos right.fit faithful.behind.offset_is.infos
+
+  row : (place : ℕ) (item : Record) → slice_get (joined last.groups) place ≡ Some item → is_row item ≡ true → OverwritesNothing last.history (joined last.groups) offset place item
+  row place item at is_one =
+      let told = snapshot_rows_overwrite_nothing offset.identity offset.infos (commits_of last.history offset) offset.start.0 (joined last.groups) place item fit faithful.exact faithful.snapshots at is_one in
+      record { fresh = told.0; right = told.1; behind = told.2 }
+
+  pub tells : TellsTheSource last.history (joined last.groups) offset
+  tells = record {
+    agrees = faithful.agrees;
+    rows = row;
+    repeats = λ place item at change old. repeats_are_earlier offset.identity offset.infos (commits_of last.history offset) offset.start.0 (joined last.groups) place item fit faithful.exact at change old;
+  }
+
+pub logs_tell_the_source : LogsTellTheSource
+logs_tell_the_source first last sessions offset unused after is = tells last offset (first_sessions_are_faithful first last sessions unused after) is

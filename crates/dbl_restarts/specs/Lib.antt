@@ -1,0 +1,7 @@
+pub mod Runs
+pub mod Stops
+pub mod Restarts
+pub mod Outcomes
+pub mod Laws
+pub mod Telling
+pub mod Example

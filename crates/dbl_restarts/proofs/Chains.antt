@@ -1,9 +1,9 @@
 -- Any number of sessions and stops.
-use Rattle.std.proofs.Common.{◌≡◌, ◌∙◌, ◌≤◌, ℕ, ℤ, max, Option, Some, None, List, [], ◌∷◌, ◌++◌, refl, sym, ap, subst, append-nil}
+use Rattle.std.proofs.Common.{◌∙◌, ℤ, max, Option, List, [], ◌∷◌, refl, sym, ap, subst, append-nil}
 use Rattle.dbl_record.specs.declared.record.Record.{Record}
 use Rattle.dbl_record.specs.Cuts.{cut, joined}
 use Rattle.dbl_table.specs.declared.config.Config.{Config}
-use Rattle.dbl_history.specs.History.{RawCommit, History}
+use Rattle.dbl_history.specs.History.{History}
 use Rattle.dbl_history.specs.Fit.{IsFitHistory}
 use Rattle.dbl_honest.specs.Growth.{Grows}
 use Rattle.dbl_honest.specs.Standings.{Left}
@@ -11,9 +11,7 @@ use Rattle.dbl_offset.specs.declared.offset.Offset.{Offset}
 use Rattle.dbl_stores.specs.Stores.{lag}
 use Rattle.dbl_stores.specs.Faithful.{IsFaithful}
 use Rattle.dbl_stores.specs.Kept.{HasGrown}
-use Rattle.dbl_stores.specs.Onward.{Extends}
 use Rattle.dbl_stores.proofs.Longer.{longer_histories_stay_faithful}
-use Rattle.dbl_session.specs.Entries.{appends_behind}
 use Rattle.dbl_session.specs.Outcomes.{Follows}
 use Rattle.dbl_session.proofs.Completing.{read_sessions_are_complete}
 use Rattle.dbl_restarts.specs.Restarts.{Found, entry_at, found_left, After, nothing, others, session, IsUnused, IsRight, most_every}

@@ -18,7 +18,7 @@ use Rattle.dbl_stores.specs.Faithful.{IsFaithful}
 use Rattle.dbl_stores.specs.Kept.{HasGrown, IsNewBody}
 use Rattle.dbl_stores.specs.Onward.{Extends, OffsetGoesOn, Adds}
 use Rattle.dbl_stores.proofs.Faithful.{faithful_records_stand}
-use Rattle.dbl_stores.proofs.Lists.{longer, is_longer, behind_top, still_position}
+use Rattle.dbl_stores.proofs.Lists.{is_longer, behind_top, still_position}
 use Rattle.dbl_session.specs.Entries.{appends_behind}
 use Rattle.dbl_session.proofs.Ending.{lag_far}
 use Rattle.dbl_restarts.specs.Outcomes.{OffsetWentOn, AppendsBehind}

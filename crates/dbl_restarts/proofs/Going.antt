@@ -1,5 +1,5 @@
 -- A session that goes by its rules keeps what a session keeps.
-use Rattle.std.proofs.Common.{◌≡◌, ◌⊎◌, inl, inr, ℕ, Option, Some, None, List, sym, subst}
+use Rattle.std.proofs.Common.{inl, inr, ℕ, Option, Some, None, List, sym, subst}
 use Rattle.std.specs.Prelude.{IfSome}
 use Rattle.dbl_base.specs.declared.lsn.Lsn.{Lsn}
 use Rattle.dbl_record.specs.declared.record.Record.{Record}

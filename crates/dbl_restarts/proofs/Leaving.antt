@@ -1,5 +1,5 @@
 -- What a session leaves wherever it stops.
-use Rattle.std.proofs.Common.{◌≡◌, ℕ, Option, Some, List}
+use Rattle.std.proofs.Common.{Option, List}
 use Rattle.dbl_record.specs.declared.record.Record.{Record}
 use Rattle.dbl_history.specs.Fit.{IsFitHistory}
 use Rattle.dbl_honest.specs.Standings.{Left}

@@ -1,7 +1,7 @@
 -- Marks that stand when a session begins are none of its own.
-use Rattle.std.proofs.Common.{◌≡◌, ℕ, ◌<◌, ◌^◌, Option, Some, None, List, sym, ap, ◌∙◌}
+use Rattle.std.proofs.Common.{◌≡◌, ℕ, ◌<◌, ◌^◌, Some, List, ◌∙◌}
 use Rattle.std.specs.Prelude.{slice_get}
-use Rattle.dbl_history.specs.History.{RawBody, RawCommit, History}
+use Rattle.dbl_history.specs.History.{RawCommit, History}
 use Rattle.dbl_history.specs.History.RawBody.{Mark}
 use Rattle.dbl_history.specs.MarkTexts.{Side, Low, High, mark_text}
 use Rattle.dbl_follow.specs.declared.window.Window.{Window}

@@ -1,12 +1,11 @@
 -- Three sessions, two of which stop.
-use Rattle.std.proofs.Common.{◌≡◌, inr, ◌<◌, ◌^◌, ℕ, pos, List, [], ◌∷◌, Some, None, refl, arith, FitsSigned, w64}
+use Rattle.std.proofs.Common.{inr, ◌<◌, ◌^◌, ℕ, pos, [], ◌∷◌, Some, refl, arith, FitsSigned, w64}
 use Rattle.jiff_core.proofs.SignedLemmas.{signed_arith, fits_between}
 use Rattle.dbl_base.specs.declared.lsn.Lsn.{Lsn}
 use Rattle.dbl_pgmsg.specs.declared.messages.Message.{Message}
 use Rattle.dbl_pgmsg.specs.declared.messages.Message.TheVariants as says
 use Rattle.dbl_table.specs.declared.change.Body.TheVariants as body
 use Rattle.dbl_table.specs.declared.change.Commit.{Commit}
-use Rattle.dbl_history.specs.History.{RawCommit, History}
 use Rattle.dbl_history.specs.History.RawBody.{Changes, Mark}
 use Rattle.dbl_history.specs.Fit.{IsFitHistory}
 use Rattle.dbl_history.specs.MarkTexts.{Low, mark_text}
@@ -22,7 +21,7 @@ use Rattle.dbl_session.specs.Steps.{begun_at, following_of, WasFollowed, followe
 use Rattle.dbl_restarts.specs.Runs.{IsAsked, Begins, Run, begins, reads, follows, stores, confirms}
 use Rattle.dbl_restarts.specs.Stops.{with_the_first_offset, at_the_source}
 use Rattle.dbl_restarts.specs.Restarts.{Found, entry_at, found_left, After, nothing, others, session, IsUnused}
-use Rattle.dbl_restarts.specs.Example.{example_config, made, history_of, one_commit, two_commits, marked, example_offset, example_first, example_last, ThreeSessionsStand}
+use Rattle.dbl_restarts.specs.Example.{example_config, made, one_commit, two_commits, marked, example_offset, example_first, example_last, ThreeSessionsStand}
 
 at_zero : FitsSigned w64 (pos 0)
 at_zero = fits_between w64 (pos 0) (omega (arith, signed_arith), omega (arith, signed_arith))

@@ -1,5 +1,5 @@
 -- What a consumer can rely on behind any number of sessions and stops.
-use Rattle.std.proofs.Common.{◌≡◌, ℕ, true, Option, Some, List, subst}
+use Rattle.std.proofs.Common.{◌≡◌, ℕ, true, Option, Some, subst}
 use Rattle.std.specs.Prelude.{slice_get}
 use Rattle.dbl_record.specs.declared.record.Record.{Record}
 use Rattle.dbl_record.specs.Cuts.{joined}

@@ -1,7 +1,7 @@
 -- What one session does between its calls, said by its rules alone. No source, sink or store is named, so it speaks of every
 -- implementation that goes by them. Source: own, after Andreakis and Papapanagiotou, "DBLog: A Watermark Based Change-Data-Capture
 -- Framework" (2020).
-use Rattle.std.specs.Prelude.{◌≡◌, ℕ, ℤ, ◌<◌, ◌≤◌, ◌^◌, max, Option, Some, None, ◌∷◌}
+use Rattle.std.specs.Prelude.{◌≡◌, ℤ, ◌<◌, ◌≤◌, ◌^◌, max, Option, Some, None, ◌∷◌}
 use Rattle.dbl_base.specs.declared.lsn.Lsn.{Lsn}
 use Rattle.dbl_pgmsg.specs.declared.messages.Message.{Message}
 use Rattle.dbl_pgmsg.specs.Grammar.{FitsFields}

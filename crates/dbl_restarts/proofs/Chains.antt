@@ -1,12 +1,10 @@
 -- Any number of sessions and stops.
 use Rattle.std.proofs.Common.{◌∙◌, ℤ, max, Option, List, [], ◌∷◌, refl, sym, ap, subst, append-nil}
-use Rattle.dbl_record.specs.declared.record.Record.{Record}
 use Rattle.dbl_record.specs.Cuts.{cut, joined}
 use Rattle.dbl_table.specs.declared.config.Config.{Config}
 use Rattle.dbl_history.specs.History.{History}
 use Rattle.dbl_history.specs.Fit.{IsFitHistory}
 use Rattle.dbl_honest.specs.Growth.{Grows}
-use Rattle.dbl_honest.specs.Standings.{Left}
 use Rattle.dbl_offset.specs.declared.offset.Offset.{Offset}
 use Rattle.dbl_stores.specs.Stores.{lag}
 use Rattle.dbl_stores.specs.Faithful.{IsFaithful}
@@ -14,9 +12,9 @@ use Rattle.dbl_stores.specs.Kept.{HasGrown}
 use Rattle.dbl_stores.proofs.Longer.{longer_histories_stay_faithful}
 use Rattle.dbl_session.specs.Outcomes.{Follows}
 use Rattle.dbl_session.proofs.Completing.{read_sessions_are_complete}
-use Rattle.dbl_restarts.specs.Restarts.{Found, entry_at, found_left, After, nothing, others, session, IsUnused, IsRight, most_every}
+use Rattle.dbl_restarts.specs.Restarts.{Found, entry_at, source_of, IsRight, ByRules, ByPromise, After, nothing, others, session, IsUnused, most_every}
 use Rattle.dbl_restarts.specs.Outcomes.{WentOn}
-use Rattle.dbl_restarts.specs.Laws.{RestartsStayFaithful, FirstSessionsAreFaithful, RestartsGoOn, CompletedRestartsAreImages}
+use Rattle.dbl_restarts.specs.Laws.{RulesKeepPromises, RestartsStayFaithful, FirstSessionsAreFaithful, RestartsGoOn, CompletedRestartsAreImages}
 use Rattle.dbl_restarts.proofs.Going.{runs_keep_going}
 use Rattle.dbl_restarts.proofs.Leaving.{stops_follow}
 use Rattle.dbl_restarts.proofs.Farther.{le_on, over_none, under_both, extends_on, stays_put, offset_grown, offset_next, appends_next, others_new, lag_grown}
@@ -27,7 +25,7 @@ grown_by old new grows = record { tables = grows.tables; commits = grows.commits
 module _ (first : Found) (right : IsRight first) where
   -- ---- faithful
 
-  pub stays_right : (sessions : List Config) (last : Found) → After first sessions last → IsRight last
+  pub stays_right : (sessions : List Config) (last : Found) → After ByPromise first sessions last → IsRight last
   stays_right _ _ nothing = right
   stays_right _ _ (others sessions last history after grows fits) =
       let before : IsRight last = stays_right sessions last after in
@@ -36,10 +34,9 @@ module _ (first : Found) (right : IsRight first) where
         faithful = longer_histories_stay_faithful last.history history grows.others last.confirmed (joined last.groups) last.offset before.fit fits (grown_by last.history history grows)
             (others_new last.offset grows.others grows.are_others) before.faithful;
       }
-  stays_right _ _ (session sessions last config now left groups offset after asked stops) =
+  stays_right _ _ (session sessions last new config after leads) =
       let before : IsRight last = stays_right sessions last after in
-      let done = stops_follow (entry_at config now last) left groups offset asked before.fit before.faithful stops in
-      record { fit = done.1; faithful = done.0.faithful }
+      record { fit = leads.fit before; faithful = (leads.follows before).faithful }
 
   -- ---- onward
 
@@ -64,31 +61,47 @@ module _ (first : Found) (right : IsRight first) where
         (lag_grown last.history history last.confirmed (joined last.groups) last.offset before.fit fits grows before.faithful) went.lag_is;
   }
 
-  session_on : (sessions : List Config) (last : Found) (config : Config) (now : ℤ) (left : Left) (groups : List (List Record)) (offset : Option Offset) → IsRight last → Follows (entry_at config now last) left groups offset
-      → WentOn sessions first last → WentOn (config ∷ sessions) first (found_left left groups offset)
-  session_on sessions last config now left groups offset before follows went = record {
+  session_on : (sessions : List Config) (last new : Found) (config : Config) (now : ℤ) → IsRight last → Follows (entry_at config now last) (source_of new) new.groups new.offset → WentOn sessions first last → WentOn (config ∷ sessions) first new
+  session_on sessions last new config now before follows went = record {
     tables = follows.onward.tables ∙ went.tables;
-    commits = extends_on first.history.commits last.history.commits left.history.commits went.commits follows.onward.commits;
-    groups = extends_on first.groups last.groups groups went.groups (record { more = cut follows.adds.more; is = follows.grouped });
-    offset = offset_next sessions config first.history last.history left.history follows.onward.commits.more first.offset last.offset offset went.commits
+    commits = extends_on first.history.commits last.history.commits new.history.commits went.commits follows.onward.commits;
+    groups = extends_on first.groups last.groups new.groups went.groups (record { more = cut follows.adds.more; is = follows.grouped });
+    offset = offset_next sessions config first.history last.history new.history follows.onward.commits.more first.offset last.offset new.offset went.commits
         (record { tables = follows.onward.tables; commits = follows.onward.commits.is }) went.offset follows.onward.offset;
-    appends = appends_next sessions config first.history last.history left.history last.confirmed first.offset last.offset offset (joined first.groups) (joined last.groups) (joined groups)
+    appends = appends_next sessions config first.history last.history new.history last.confirmed first.offset last.offset new.offset (joined first.groups) (joined last.groups) (joined new.groups)
         before.faithful went.offset follows.onward.offset went.appends follows.adds;
-    lag_is = under_both (lag left.history (joined groups) offset) (lag last.history (joined last.groups) last.offset) (lag first.history (joined first.groups) first.offset) config.every (most_every sessions) follows.lag_is went.lag_is;
+    lag_is = under_both (lag new.history (joined new.groups) new.offset) (lag last.history (joined last.groups) last.offset) (lag first.history (joined first.groups) first.offset) config.every (most_every sessions) follows.lag_is went.lag_is;
   }
 
-  pub goes_on : (sessions : List Config) (last : Found) → After first sessions last → WentOn sessions first last
+  pub goes_on : (sessions : List Config) (last : Found) → After ByPromise first sessions last → WentOn sessions first last
   goes_on _ _ nothing = at_first
   goes_on _ _ (others sessions last history after grows fits) = grown_on sessions last history (stays_right sessions last after) grows fits (goes_on sessions last after)
-  goes_on _ _ (session sessions last config now left groups offset after asked stops) =
+  goes_on _ _ (session sessions last new config after leads) =
       let before : IsRight last = stays_right sessions last after in
-      session_on sessions last config now left groups offset before (stops_follow (entry_at config now last) left groups offset asked before.fit before.faithful stops).0 (goes_on sessions last after)
+      session_on sessions last new config leads.now before (leads.follows before) (goes_on sessions last after)
 
 pub restarts_stay_faithful : RestartsStayFaithful
 restarts_stay_faithful first last sessions right after = stays_right first right sessions last after
 
 pub restarts_go_on : RestartsGoOn
 restarts_go_on first last sessions right after = goes_on first right sessions last after
+
+-- ---- by the rules
+
+promised : (config : Config) (old new : Found) → ByRules config old new → ByPromise config old new
+promised config old new by = record {
+  now = by.now;
+  fit = λ right. (stops_follow (entry_at config by.now old) (source_of new) new.groups new.offset by.asked right.fit right.faithful by.stops).1;
+  follows = λ right. (stops_follow (entry_at config by.now old) (source_of new) new.groups new.offset by.asked right.fit right.faithful by.stops).0;
+}
+
+keeps : (first : Found) (sessions : List Config) (last : Found) → After ByRules first sessions last → After ByPromise first sessions last
+keeps first _ _ nothing = nothing
+keeps first _ _ (others sessions last history after grows fits) = others sessions last history (keeps first sessions last after) grows fits
+keeps first _ _ (session sessions last new config after leads) = session sessions last new config (keeps first sessions last after) (promised config last new leads)
+
+pub rules_keep_promises : RulesKeepPromises
+rules_keep_promises first last sessions after = keeps first sessions last after
 
 -- ---- from the first session on
 
@@ -100,7 +113,7 @@ unused_right first is = record {
 }
 
 pub first_sessions_are_faithful : FirstSessionsAreFaithful
-first_sessions_are_faithful first last sessions is after = stays_right first (unused_right first is) sessions last after
+first_sessions_are_faithful first last sessions is after = stays_right first (unused_right first is) sessions last (keeps first sessions last after)
 
 -- ---- to the last
 

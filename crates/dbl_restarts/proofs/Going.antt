@@ -75,7 +75,7 @@ module _ (entry : Entry) (asked : IsAsked entry.config entry.now) (fit : IsFitHi
   pub goes : (stage : Stage) → Run entry stage → IsGoing entry stage
   goes _ (begins history first is) = begun_goes history first is
   goes _ (others stage history run grows fits) = others_keep_going entry stage history grows fits (goes stage run)
-  goes _ (reads stage m run fields clean ends right) = messages_keep_going entry stage m fields clean ends right (goes stage run)
+  goes _ (reads stage m run is) = messages_keep_going entry stage m is.fields is.clean is.ends is.right (goes stage run)
   goes _ (arms stage history chunk run absent armed fits) = windows_keep_going entry stage history chunk absent asked.chunk armed fits (goes stage run)
   goes _ (follows stage m commit new run since followed) = commits_keep_going entry stage m commit new asked.moment since followed (goes stage run)
   goes _ (stores stage run) = stores_keep_going entry stage (goes stage run)

@@ -20,7 +20,7 @@ use Rattle.dbl_session.specs.Stages.{Stage}
 use Rattle.dbl_session.specs.Steps.{begun_at, following_of, WasFollowed, followed_at, stored_at}
 use Rattle.dbl_restarts.specs.Runs.{IsAsked, Begins, Run, begins, reads, follows, stores, confirms}
 use Rattle.dbl_restarts.specs.Stops.{with_the_first_offset, at_the_source}
-use Rattle.dbl_restarts.specs.Restarts.{Found, entry_at, found_left, After, nothing, others, session, IsUnused}
+use Rattle.dbl_restarts.specs.Restarts.{Found, entry_at, ByRules, After, nothing, others, session, IsUnused}
 use Rattle.dbl_restarts.specs.Example.{example_config, made, one_commit, two_commits, marked, example_offset, example_first, example_last, ThreeSessionsStand}
 
 at_zero : FitsSigned w64 (pos 0)
@@ -77,10 +77,15 @@ begun = record {
 abbrev left_unread : Left
 left_unread = record { history = one_commit; confirmed = record { 0 = 0 } }
 
-one_session : After example_first (example_config ∷ []) (found_left left_unread [] (Some (example_offset 1 1)))
-one_session =
-    session [] example_first example_config (pos 0) left_unread [] (Some (example_offset 1 1)) nothing asked
-    (with_the_first_offset one_commit left_unread (example_offset 1 1) begun (grows_none one_commit fit_one.rising) fit_one refl)
+abbrev left_first : Found
+left_first = record { history = one_commit; confirmed = record { 0 = 0 }; groups = []; offset = Some (example_offset 1 1) }
+
+one_session : After ByRules example_first (example_config ∷ []) left_first
+one_session = session [] example_first left_first example_config nothing (record {
+  now = pos 0;
+  asked = asked;
+  stops = with_the_first_offset one_commit left_unread (example_offset 1 1) begun (grows_none one_commit fit_one.rising) fit_one refl;
+})
 
 -- ---- another client, and the second session
 
@@ -88,10 +93,10 @@ two_grows : Grows one_commit two_commits
 two_grows = record { tables = refl; others = made 2 (Changes []) ∷ []; commits = refl; are_others = (tt, tt); rising = fit_two.rising }
 
 abbrev committed : Found
-committed = record (found_left left_unread [] (Some (example_offset 1 1))) { history = two_commits }
+committed = record left_first { history = two_commits }
 
-then_others : After example_first (example_config ∷ []) committed
-then_others = others (example_config ∷ []) (found_left left_unread [] (Some (example_offset 1 1))) two_commits one_session two_grows fit_two
+then_others : After ByRules example_first (example_config ∷ []) committed
+then_others = others (example_config ∷ []) left_first two_commits one_session two_grows fit_two
 
 abbrev second : Entry
 second = entry_at example_config (pos 0) committed
@@ -153,28 +158,32 @@ at_confirmed = record (stored_at at_followed) { history = two_commits; confirmed
 run : Run second at_confirmed
 run =
     confirms (stored_at at_followed) two_commits (record { 0 = 2 }) (record { 0 = 2 })
-    (stores at_followed (follows at_read commit read_commit (following_of (example_offset 2 1)) (reads at_begin begin (begins two_commits (example_offset 2 1) begun_again) (omega arith, at_zero, omega arith) refl refl begin_right) (omega arith) followed))
+    (stores at_followed (follows at_read commit read_commit (following_of (example_offset 2 1)) (reads at_begin begin (begins two_commits (example_offset 2 1) begun_again) (record { fields = (omega arith, at_zero, omega arith); clean = refl; ends = refl; right = begin_right })) (omega arith) followed))
     (grows_none two_commits fit_two.rising) fit_two (omega arith) refl
 
 abbrev left_marked : Left
 left_marked = record { history = marked; confirmed = record { 0 = 2 } }
 
-two_sessions : After example_first (example_config ∷ (example_config ∷ [])) (found_left left_marked [] (Some (example_offset 2 2)))
-two_sessions =
-    session (example_config ∷ []) committed example_config (pos 0) left_marked [] (Some (example_offset 2 2)) then_others asked
-    (at_the_source at_confirmed left_marked run
-    (record {
-      more = made 3 (Mark (mark_text 2 1 Low)) ∷ [];
-      grown = record { tables = refl; commits = refl };
-      marks = (record { incarnation = 2; number = 1; side = Low; is = refl; not_above = omega arith; small = omega arith }, tt);
-      fit = fit_marked;
-      confirmed = omega arith;
-    }))
+abbrev left_second : Found
+left_second = record { history = marked; confirmed = record { 0 = 2 }; groups = []; offset = Some (example_offset 2 2) }
+
+two_sessions : After ByRules example_first (example_config ∷ (example_config ∷ [])) left_second
+two_sessions = session (example_config ∷ []) committed left_second example_config then_others (record {
+  now = pos 0;
+  asked = asked;
+  stops = at_the_source at_confirmed left_marked run (record {
+    more = made 3 (Mark (mark_text 2 1 Low)) ∷ [];
+    grown = record { tables = refl; commits = refl };
+    marks = (record { incarnation = 2; number = 1; side = Low; is = refl; not_above = omega arith; small = omega arith }, tt);
+    fit = fit_marked;
+    confirmed = omega arith;
+  });
+})
 
 -- ---- the third session
 
 abbrev third : Entry
-third = entry_at example_config (pos 0) (found_left left_marked [] (Some (example_offset 2 2)))
+third = entry_at example_config (pos 0) left_second
 
 begun_third : Begins third marked (example_offset 3 2)
 begun_third = record {
@@ -185,11 +194,13 @@ begun_third = record {
   small = omega arith;
 }
 
-three_sessions : After example_first (example_config ∷ (example_config ∷ (example_config ∷ []))) example_last
-three_sessions =
-    session (example_config ∷ (example_config ∷ [])) (found_left left_marked [] (Some (example_offset 2 2))) example_config (pos 0) left_marked [] (Some (example_offset 3 2)) two_sessions asked
-    (at_the_source (begun_at third marked (example_offset 3 2) (following_of (example_offset 3 2))) left_marked (begins marked (example_offset 3 2) begun_third)
-    (record { more = []; grown = record { tables = refl; commits = refl }; marks = tt; fit = fit_marked; confirmed = omega arith }))
+three_sessions : After ByRules example_first (example_config ∷ (example_config ∷ (example_config ∷ []))) example_last
+three_sessions = session (example_config ∷ (example_config ∷ [])) left_second example_last example_config two_sessions (record {
+  now = pos 0;
+  asked = asked;
+  stops = at_the_source (begun_at third marked (example_offset 3 2) (following_of (example_offset 3 2))) left_marked (begins marked (example_offset 3 2) begun_third)
+      (record { more = []; grown = record { tables = refl; commits = refl }; marks = tt; fit = fit_marked; confirmed = omega arith });
+})
 
 pub three_sessions_stand : ThreeSessionsStand
 three_sessions_stand = (unused, three_sessions)

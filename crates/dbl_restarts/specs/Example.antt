@@ -7,7 +7,7 @@ use Rattle.dbl_history.specs.History.{RawBody, RawCommit, History}
 use Rattle.dbl_history.specs.History.RawBody.{Changes, Mark}
 use Rattle.dbl_history.specs.MarkTexts.{Low, mark_text}
 use Rattle.dbl_offset.specs.declared.offset.Offset.{Offset}
-use Rattle.dbl_restarts.specs.Restarts.{Found, After, IsUnused}
+use Rattle.dbl_restarts.specs.Restarts.{Found, ByRules, After, IsUnused}
 
 abbrev pub example_identity : Identity
 example_identity = record { prefix = codes "p"; db = codes "d"; placeholder = codes "unset" }
@@ -50,4 +50,5 @@ example_last = record { history = marked; confirmed = record { 0 = 2 }; groups =
 
 -- There they are, and they begin with stores that nobody used.
 abbrev pub ThreeSessionsStand : Type 0
-ThreeSessionsStand = IsUnused example_first × After example_first (example_config ∷ (example_config ∷ (example_config ∷ []))) example_last
+ThreeSessionsStand = IsUnused example_first
+    × After ByRules example_first (example_config ∷ (example_config ∷ (example_config ∷ []))) example_last

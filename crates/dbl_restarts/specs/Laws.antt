@@ -20,7 +20,7 @@ use Rattle.dbl_session.specs.Going.{IsGoing}
 use Rattle.dbl_session.specs.Outcomes.{Follows, IsComplete}
 use Rattle.dbl_restarts.specs.Runs.{IsAsked, Begins, Run}
 use Rattle.dbl_restarts.specs.Stops.{Stops, Completes}
-use Rattle.dbl_restarts.specs.Restarts.{Found, entry_at, After, IsUnused, IsRight}
+use Rattle.dbl_restarts.specs.Restarts.{Found, entry_at, IsRight, ByRules, ByPromise, After, IsUnused}
 use Rattle.dbl_restarts.specs.Outcomes.{IsCounted, WentOn}
 
 -- ---- one session
@@ -62,26 +62,35 @@ OldMarksAreOthers = (entry : Entry) (history : History) (first : Offset) (place 
 abbrev pub OldMarksDoNothing : Type 0
 OldMarksDoNothing = (entry : Entry) (history : History) (first : Offset) (place number : ℕ) (raw : RawCommit) (value : List ℕ)
     (old new : Following) (commit : Commit)
-    → WasFaithful entry → Begins entry history first → number < 2 ^ 64 → slice_get history.commits place ≡ Some raw → raw.body ≡ Mark value
-    → mark_of commit ≡ Some value → IsOwnWindow first.incarnation number old.window → Steps old commit new
+    → WasFaithful entry → Begins entry history first → number < 2 ^ 64
+    → slice_get history.commits place ≡ Some raw → raw.body ≡ Mark value → mark_of commit ≡ Some value → IsOwnWindow first.incarnation number old.window → Steps old commit new
     → (new ≡ old) × (records_by old commit entry.now ≡ [])
 
 -- ---- any number of sessions and stops
 
--- They keep stores faithful.
-abbrev pub RestartsStayFaithful : Type 0
-RestartsStayFaithful = (first last : Found) (sessions : List Config) → IsRight first → After first sessions last → IsRight last
+-- Sessions that go by the rules keep their promise, any number of them.
+abbrev pub RulesKeepPromises : Type 0
+RulesKeepPromises = (first last : Found) (sessions : List Config)
+    → After ByRules first sessions last → After ByPromise first sessions last
 
--- So whatever sessions ran, and wherever they stopped, stores that were unused at first are faithful.
-abbrev pub FirstSessionsAreFaithful : Type 0
-FirstSessionsAreFaithful = (first last : Found) (sessions : List Config) → IsUnused first → After first sessions last → IsRight last
+-- Sessions that keep their promise keep stores faithful, wherever they stop.
+abbrev pub RestartsStayFaithful : Type 0
+RestartsStayFaithful = (first last : Found) (sessions : List Config)
+    → IsRight first → After ByPromise first sessions last → IsRight last
 
 -- They only go on.
 abbrev pub RestartsGoOn : Type 0
-RestartsGoOn = (first last : Found) (sessions : List Config) → IsRight first → After first sessions last → WentOn sessions first last
+RestartsGoOn = (first last : Found) (sessions : List Config)
+    → IsRight first → After ByPromise first sessions last → WentOn sessions first last
+
+-- So whatever sessions ran by the rules, and wherever they stopped, stores that were unused at first are faithful.
+abbrev pub FirstSessionsAreFaithful : Type 0
+FirstSessionsAreFaithful = (first last : Found) (sessions : List Config)
+    → IsUnused first → After ByRules first sessions last → IsRight last
 
 -- A session that completes behind them leaves the source's tables, whichever sessions ran before it and wherever they stopped.
 abbrev pub CompletedRestartsAreImages : Type 0
-CompletedRestartsAreImages = (first last : Found) (sessions : List Config) (config : Config) (now : ℤ) (stage : Stage) (left : Left)
-    → IsRight first → After first sessions last → IsAsked config now → Completes (entry_at config now last) stage left
+CompletedRestartsAreImages = (first last : Found) (sessions : List Config) (config : Config) (now : ℤ) (stage : Stage)
+    (left : Left)
+    → IsRight first → After ByPromise first sessions last → IsAsked config now → Completes (entry_at config now last) stage left
     → IsComplete (entry_at config now last) left stage.groups (next_offset stage)

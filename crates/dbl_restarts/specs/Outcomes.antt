@@ -48,15 +48,16 @@ pub record AppendsBehind (from : ℕ) (old new : List Record) : Type 0 where
   pub is : new ≡ old ++ more
   pub above : AllByRecursion (λ item. from < item.position) more
 
--- Nothing is taken back; what was appended stands behind the LSN that was stored at first, or behind the start where none was; and a
--- restart repeats no more commits than at first, or than one of the sessions was asked for.
+-- Nothing is taken back; what was appended stands behind the LSN that was stored at first, or behind the start where none was;
+-- and a restart repeats no more commits than at first, or than one of the sessions was asked for.
 pub record WentOn (sessions : List Config) (old new : Found) : Type 0 where
   pub tables : new.history.tables ≡ old.history.tables
   pub commits : Extends old.history.commits new.history.commits
   pub groups : Extends old.groups new.groups
   pub offset : OffsetWentOn sessions old.history new.history old.offset new.offset
   pub appends : AppendsBehind (appends_behind old.offset new.offset) (joined old.groups) (joined new.groups)
-  pub lag_is : lag new.history (joined new.groups) new.offset ≤ max (most_every sessions) (lag old.history (joined old.groups) old.offset)
+  pub lag_is : lag new.history (joined new.groups) new.offset
+      ≤ max (most_every sessions) (lag old.history (joined old.groups) old.offset)
 
 -- ---- bounded repeat
 

@@ -13,6 +13,7 @@ use Rattle.dbl_offset.specs.declared.offset.Offset.{Offset}
 use Rattle.dbl_stores.specs.Stores.{Stores}
 use Rattle.dbl_stores.specs.Faithful.{HasNoMark, AreFaithful}
 use Rattle.dbl_session.specs.Entries.{Entry}
+use Rattle.dbl_session.specs.Outcomes.{Follows}
 use Rattle.dbl_restarts.specs.Runs.{IsAsked}
 use Rattle.dbl_restarts.specs.Stops.{Stops}
 
@@ -42,18 +43,42 @@ entry_at config now found = record {
   offset = found.offset;
 }
 
-abbrev pub found_left : Left → List (List Record) → Option Offset → Found
-found_left left groups offset = record { history = left.history; confirmed = left.confirmed; groups = groups; offset = offset }
+-- the source of these
+abbrev pub source_of : Found → Left
+source_of found = record { history = found.history; confirmed = found.confirmed }
 
--- From the first on, while no session runs others may commit; and a session may run, and stop wherever it does. The sessions are
--- told by what they were asked for, the newest first.
-pub data After (first : Found) : List Config → Found → Type 0 where
-  nothing : After first [] first
-  others : (sessions : List Config) (last : Found) (history : History) → After first sessions last → Grows last.history history → IsFitHistory history
-      → After first sessions (record last { history = history })
-  session : (sessions : List Config) (last : Found) (config : Config) (now : ℤ) (left : Left) (groups : List (List Record)) (offset : Option Offset)
-      → After first sessions last → IsAsked config now → Stops (entry_at config now last) left groups offset
-      → After first (config ∷ sessions) (found_left left groups offset)
+-- the history is fit, and the stores are faithful
+pub record IsRight (found : Found) : Type 0 where
+  pub fit : IsFitHistory found.history
+  pub faithful : AreFaithful (stores_of found)
+
+-- ---- one session and a stop
+
+-- By the rules of a session, which was asked for this: what it found, and what it may leave where it stops.
+pub record ByRules (config : Config) (old new : Found) : Type 0 where
+  pub now : ℤ
+  pub asked : IsAsked config now
+  pub stops : Stops (entry_at config now old) (source_of new) new.groups new.offset
+
+-- By the promise of a session, whatever it does: from faithful stores of a fit history it leaves such, which go on from them. A
+-- session that goes by the rules keeps the promise (law RulesKeepPromises).
+pub record ByPromise (config : Config) (old new : Found) : Type 0 where
+  pub now : ℤ
+  pub fit : IsRight old → IsFitHistory new.history
+  pub follows : IsRight old → Follows (entry_at config now old) (source_of new) new.groups new.offset
+
+-- ---- any number of them
+
+-- From the first on, while no session runs others may commit; and a session may run and stop, and lead so from what it found to
+-- what it left. The sessions are told by what they were asked for, the newest first.
+pub data After (Leads : Config → Found → Found → Type 0) (first : Found) : List Config → Found → Type 0 where
+  nothing : After Leads first [] first
+  others : (sessions : List Config) (last : Found) (history : History)
+      → After Leads first sessions last → Grows last.history history → IsFitHistory history
+      → After Leads first sessions (record last { history = history })
+  session : (sessions : List Config) (last new : Found) (config : Config)
+      → After Leads first sessions last → Leads config last new
+      → After Leads first (config ∷ sessions) new
 
 -- what there is before any session: a fit history in which nobody wrote a mark, and nothing else
 pub record IsUnused (found : Found) : Type 0 where
@@ -62,11 +87,6 @@ pub record IsUnused (found : Found) : Type 0 where
   pub unconfirmed : found.confirmed.0 ≡ 0
   pub empty : found.groups ≡ []
   pub unstored : found.offset ≡ None
-
--- the history is fit, and the stores are faithful
-pub record IsRight (found : Found) : Type 0 where
-  pub fit : IsFitHistory found.history
-  pub faithful : AreFaithful (stores_of found)
 
 -- behind how many commits the offset is stored at the latest, in whichever of the sessions
 abbrev pub most_every : List Config → ℕ

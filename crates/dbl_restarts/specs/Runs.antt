@@ -1,6 +1,6 @@
 -- What one session does between its calls, said by its rules alone. No source, sink or store is named, so it speaks of every
--- implementation that goes by them. Source: own, after Andreakis and Papapanagiotou, "DBLog: A Watermark Based Change-Data-Capture
--- Framework" (2020).
+-- implementation that goes by them. Source: own, after Andreakis and Papapanagiotou, "DBLog: A Watermark Based
+-- Change-Data-Capture Framework" (2020).
 use Rattle.std.specs.Prelude.{◌≡◌, ℤ, ◌<◌, ◌≤◌, ◌^◌, max, Option, Some, None, ◌∷◌}
 use Rattle.dbl_base.specs.declared.lsn.Lsn.{Lsn}
 use Rattle.dbl_pgmsg.specs.declared.messages.Message.{Message}
@@ -45,22 +45,32 @@ pub record Begins (entry : Entry) (history : History) (first : Offset) : Type 0 
 
 -- ---- its steps
 
+-- A message came that may stand behind those that were read, and that ends no commit.
+pub record WasRead (stage : Stage) (m : Message) : Type 0 where
+  pub fields : FitsFields m
+  pub clean : transaction_fault stage.first.infos stage.first.lsn m stage.messages ≡ None
+  pub ends : ended stage.first.infos m stage.messages ≡ None
+  pub right : ReadsOn stage m
+
 -- A session comes to a stage. It has stored its first offset, and then, in any order that its rules allow: others commit; a message
--- is read that ends no commit; a window is read between its two marks, where none waits; a message is read that ends a commit, and
--- that commit's records are put, or those of the window that it closes; the next offset is stored; a position that isn't behind the
--- stored offset is confirmed. Its source is honest: its histories are fit, and what it sends states their commits.
+-- is read that ends no commit; a window is read between its two marks, where none waits; a message is read that ends a commit,
+-- and that commit's records are put, or those of the window that it closes; the next offset is stored; a position that isn't
+-- behind the stored offset is confirmed. Its source is honest: its histories are fit, and what it sends states their commits.
 pub data Run (entry : Entry) : Stage → Type 0 where
-  begins : (history : History) (first : Offset) → Begins entry history first → Run entry (begun_at entry history first (following_of first))
+  begins : (history : History) (first : Offset) → Begins entry history first
+      → Run entry (begun_at entry history first (following_of first))
   others : (stage : Stage) (history : History) → Run entry stage → Grows stage.history history → IsFitHistory history
       → Run entry (record stage { history = history })
-  reads : (stage : Stage) (m : Message) → Run entry stage → FitsFields m
-      → transaction_fault stage.first.infos stage.first.lsn m stage.messages ≡ None → ended stage.first.infos m stage.messages ≡ None → ReadsOn stage m
+  reads : (stage : Stage) (m : Message) → Run entry stage → WasRead stage m
       → Run entry (record stage { messages = m ∷ stage.messages })
   arms : (stage : Stage) (history : History) (chunk : Chunk) → Run entry stage → stage.following.window ≡ Absent
-      → WasArmed stage entry.config.chunk history chunk → IsFitHistory history → Run entry (armed_at stage history chunk)
-  follows : (stage : Stage) (m : Message) (commit : Commit) (new : Following) → Run entry stage → stage.since < entry.config.every
-      → WasFollowed stage entry.now m commit new → Run entry (followed_at stage entry.now m commit new)
+      → WasArmed stage entry.config.chunk history chunk → IsFitHistory history
+      → Run entry (armed_at stage history chunk)
+  follows : (stage : Stage) (m : Message) (commit : Commit) (new : Following) → Run entry stage
+      → stage.since < entry.config.every → WasFollowed stage entry.now m commit new
+      → Run entry (followed_at stage entry.now m commit new)
   stores : (stage : Stage) → Run entry stage → Run entry (stored_at stage)
-  confirms : (stage : Stage) (history : History) (confirmed upto : Lsn) → Run entry stage → Grows stage.history history → IsFitHistory history
+  confirms : (stage : Stage) (history : History) (confirmed upto : Lsn) → Run entry stage
+      → Grows stage.history history → IsFitHistory history
       → upto.0 ≤ stage.stored.lsn.0 → confirmed.0 ≡ max stage.confirmed.0 upto.0
       → Run entry (record stage { history = history; confirmed = confirmed })

@@ -27,23 +27,28 @@ source_at stage = record { history = stage.history; confirmed = stage.confirmed 
 -- What may be left of source, sink and store.
 pub data Stops (entry : Entry) : Left → List (List Record) → Option Offset → Type 0 where
   -- before it has stored anything: what it found, and others have committed
-  before_the_first_store : (left : Left) → Grows entry.history left.history → IsFitHistory left.history → left.confirmed ≡ entry.confirmed
+  before_the_first_store : (left : Left)
+      → Grows entry.history left.history → IsFitHistory left.history → left.confirmed ≡ entry.confirmed
       → Stops entry left entry.groups entry.offset
   -- in the first store or behind it: its first offset
-  with_the_first_offset : (history : History) (left : Left) (first : Offset) → Begins entry history first → Grows history left.history
-      → IsFitHistory left.history → left.confirmed ≡ entry.confirmed → Stops entry left entry.groups (Some first)
+  with_the_first_offset : (history : History) (left : Left) (first : Offset) → Begins entry history first
+      → Grows history left.history → IsFitHistory left.history → left.confirmed ≡ entry.confirmed
+      → Stops entry left entry.groups (Some first)
   -- in a call of the source, or between two calls: others have committed, marks of the session may have been written, and what is
   -- confirmed isn't behind the stored offset
-  at_the_source : (stage : Stage) (left : Left) → Run entry stage → MayBeLeft stage left → Stops entry left stage.groups (Some stage.stored)
+  at_the_source : (stage : Stage) (left : Left) → Run entry stage → MayBeLeft stage left
+      → Stops entry left stage.groups (Some stage.stored)
   -- while the records of a commit are put: some first ones of them
-  at_the_sink : (stage : Stage) (m : Message) (commit : Commit) (new : Following) (n : ℕ) → Run entry stage → stage.since < entry.config.every
-      → WasFollowed stage entry.now m commit new
-      → Stops entry (source_at stage) (stage.groups ++ cut (take n (records_by stage.following commit entry.now))) (Some stage.stored)
+  at_the_sink : (stage : Stage) (m : Message) (commit : Commit) (new : Following) (n : ℕ) → Run entry stage
+      → stage.since < entry.config.every → WasFollowed stage entry.now m commit new
+      → Stops entry (source_at stage) (stage.groups ++ cut (take n (records_by stage.following commit entry.now)))
+      (Some stage.stored)
   -- in a store: the next offset
-  at_the_store : (stage : Stage) (left : Left) → Run entry stage → MayBeLeft stage left → Stops entry left stage.groups (Some (next_offset stage))
+  at_the_store : (stage : Stage) (left : Left) → Run entry stage → MayBeLeft stage left
+      → Stops entry left stage.groups (Some (next_offset stage))
 
--- A session completes at a stage: it has read every commit that stood when it began, each of its tables is read to its end, and the
--- next offset is stored and confirmed.
+-- A session completes at a stage: it has read every commit that stood when it began, each of its tables is read to its end, and
+-- the next offset is stored and confirmed.
 pub record Completes (entry : Entry) (stage : Stage) (left : Left) : Type 0 where
   pub run : Run entry stage
   pub more : List Commit

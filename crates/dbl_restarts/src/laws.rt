@@ -1,15 +1,20 @@
 //! Any number of sessions and stops. The functions do nothing: their contracts are the laws.
 
 ghost use Rattle.dbl_restarts.specs.Example.{ThreeSessionsStand};
-ghost use Rattle.dbl_restarts.specs.Laws.{RestartsStayFaithful, FirstSessionsAreFaithful, RestartsGoOn, CompletedRestartsAreImages};
+ghost use Rattle.dbl_restarts.specs.Laws.{RulesKeepPromises, RestartsStayFaithful, FirstSessionsAreFaithful, RestartsGoOn, CompletedRestartsAreImages};
 ghost use Rattle.dbl_restarts.specs.Telling.{LogsTellTheSource};
 
-/// They keep stores faithful.
+/// Sessions that go by the rules keep their promise.
+pub fn rules_keep_promises()
+    ensures { RulesKeepPromises }
+{}
+
+/// Those that keep it keep stores faithful.
 pub fn restarts_stay_faithful()
     ensures { RestartsStayFaithful }
 {}
 
-/// So they do from stores that nobody used.
+/// So those by the rules do from stores that nobody used.
 pub fn first_sessions_are_faithful()
     ensures { FirstSessionsAreFaithful }
 {}

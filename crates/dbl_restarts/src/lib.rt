@@ -6,7 +6,7 @@ mod session_laws;
 
 pub use laws::{
     completed_restarts_are_images, first_sessions_are_faithful, logs_tell_the_source,
-    restarts_go_on, restarts_stay_faithful, three_sessions_stand,
+    restarts_go_on, restarts_stay_faithful, rules_keep_promises, three_sessions_stand,
 };
 pub use session_laws::{
     faithful_entries_are_known, old_marks_are_others, old_marks_do_nothing, repeats_are_counted,

@@ -1,5 +1,5 @@
 -- A session that goes by its rules keeps what a session keeps.
-use Rattle.std.proofs.Common.{inl, inr, ℕ, Option, Some, None, List, sym, subst}
+use Rattle.std.proofs.Common.{inl, inr, ℕ, Option, Some, None, List, sym, subst, ◌+◌, ◌≤◌, refl, arith}
 use Rattle.std.specs.Prelude.{IfSome}
 use Rattle.dbl_base.specs.declared.lsn.Lsn.{Lsn}
 use Rattle.dbl_record.specs.declared.record.Record.{Record}
@@ -26,8 +26,8 @@ use Rattle.dbl_session.proofs.Starting.{sessions_begin}
 use Rattle.dbl_session.proofs.Stepping.{others_keep_going, confirms_keep_going, messages_keep_going, stores_keep_going}
 use Rattle.dbl_session.proofs.Arming.{windows_keep_going}
 use Rattle.dbl_session.proofs.Commits.{commits_keep_going}
-use Rattle.dbl_restarts.specs.Runs.{IsAsked, WasDescribed, Begins, Run, begins, others, reads, arms, follows, stores, confirms}
-use Rattle.dbl_restarts.specs.Laws.{FaithfulEntriesAreKnown, RunsKeepGoing}
+use Rattle.dbl_restarts.specs.Runs.{IsAsked, WasDescribed, Begins, raised, Run, begins, others, reads, arms, follows, stores, confirms}
+use Rattle.dbl_restarts.specs.Laws.{FaithfulEntriesAreKnown, StoredOffsetsBeginAgain, RunsKeepGoing}
 
 -- ---- what a session begins with
 
@@ -62,6 +62,19 @@ pub faithful_entries_are_known : FaithfulEntriesAreKnown
 faithful_entries_are_known entry faithful =
     let known = known_so entry.history entry.confirmed (joined entry.groups) entry.offset faithful in
     (known.0, stood_of entry faithful, known.1)
+
+one_more : (n : ℕ) → n ≤ n + 1
+one_more n = omega arith
+
+pub stored_offsets_begin_again : StoredOffsetsBeginAgain
+stored_offsets_begin_again entry history old grows fit was small = record {
+  grows = grows;
+  fit = fit;
+  began = subst (λ (o : Option Offset). IsFirstOf entry history (raised old) o) (sym was)
+      (record { identity = refl; infos = refl; start = refl; lsn = refl; cursors = refl; incarnation = one_more old.incarnation }, refl);
+  described = subst (λ (o : Option Offset). WasDescribed history (raised old) o) (sym was) tt;
+  small = small;
+}
 
 -- ---- its steps
 

@@ -1,5 +1,5 @@
 -- What holds across sessions and stops.
-use Rattle.std.specs.Prelude.{◌≡◌, ◌≢◌, ℕ, ℤ, ◌<◌, ◌≤◌, ◌^◌, Option, Some, List, [], slice_get}
+use Rattle.std.specs.Prelude.{◌≡◌, ◌≢◌, ℕ, ℤ, ◌+◌, ◌<◌, ◌≤◌, ◌^◌, Option, Some, List, [], slice_get}
 use Rattle.dbl_record.specs.declared.record.Record.{Record}
 use Rattle.dbl_record.specs.Cuts.{joined}
 use Rattle.dbl_table.specs.declared.config.Config.{Config}
@@ -8,6 +8,7 @@ use Rattle.dbl_history.specs.History.{RawCommit, History}
 use Rattle.dbl_history.specs.History.RawBody.{Mark}
 use Rattle.dbl_history.specs.Fit.{IsFitHistory}
 use Rattle.dbl_history.specs.MarkTexts.{Side, mark_text}
+use Rattle.dbl_honest.specs.Growth.{Grows}
 use Rattle.dbl_honest.specs.Standings.{Left}
 use Rattle.dbl_offset.specs.declared.offset.Offset.{Offset}
 use Rattle.dbl_follow.specs.Followed.{Following}
@@ -18,7 +19,7 @@ use Rattle.dbl_session.specs.Stages.{Stage, next_offset}
 use Rattle.dbl_session.specs.Marked.{IsOwnWindow}
 use Rattle.dbl_session.specs.Going.{IsGoing}
 use Rattle.dbl_session.specs.Outcomes.{Follows, IsComplete}
-use Rattle.dbl_restarts.specs.Runs.{IsAsked, Begins, Run}
+use Rattle.dbl_restarts.specs.Runs.{IsAsked, Begins, raised, Run}
 use Rattle.dbl_restarts.specs.Stops.{Stops, Completes}
 use Rattle.dbl_restarts.specs.Restarts.{Found, entry_at, IsRight, ByRules, ByPromise, After, IsUnused}
 use Rattle.dbl_restarts.specs.Outcomes.{IsCounted, WentOn}
@@ -29,6 +30,12 @@ use Rattle.dbl_restarts.specs.Outcomes.{IsCounted, WentOn}
 -- catalogue, the offset stands in the source's log, and the source has kept its log from there on.
 abbrev pub FaithfulEntriesAreKnown : Type 0
 FaithfulEntriesAreKnown = (entry : Entry) → WasFaithful entry → HadOwnTables entry × StoodInLog entry × WasKept entry
+
+-- A session may begin with each stored offset whose incarnation can still be raised, where others have committed or nobody has.
+abbrev pub StoredOffsetsBeginAgain : Type 0
+StoredOffsetsBeginAgain = (entry : Entry) (history : History) (old : Offset)
+    → Grows entry.history history → IsFitHistory history → entry.offset ≡ Some old → old.incarnation + 1 < 2 ^ 64
+    → Begins entry history (raised old)
 
 -- A session that begins with faithful stores keeps at each of its stages what a session keeps. That it begins with tables of the
 -- catalogue, and with keys of these tables, follows where an offset was stored.

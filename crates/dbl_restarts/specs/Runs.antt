@@ -1,7 +1,7 @@
 -- What one session does between its calls, said by its rules alone. No source, sink or store is named, so it speaks of every
 -- implementation that goes by them. Source: own, after Andreakis and Papapanagiotou, "DBLog: A Watermark Based
 -- Change-Data-Capture Framework" (2020).
-use Rattle.std.specs.Prelude.{◌≡◌, ℤ, ◌<◌, ◌≤◌, ◌^◌, max, Option, Some, None, ◌∷◌}
+use Rattle.std.specs.Prelude.{◌≡◌, ℤ, ◌+◌, ◌<◌, ◌≤◌, ◌^◌, max, Option, Some, None, ◌∷◌}
 use Rattle.dbl_base.specs.declared.lsn.Lsn.{Lsn}
 use Rattle.dbl_pgmsg.specs.declared.messages.Message.{Message}
 use Rattle.dbl_pgmsg.specs.Grammar.{FitsFields}
@@ -42,6 +42,10 @@ pub record Begins (entry : Entry) (history : History) (first : Offset) : Type 0 
   pub began : BeganWith entry history first
   pub described : WasDescribed history first entry.offset
   pub small : first.incarnation < 2 ^ 64
+
+-- the offset of the next session, where this one is stored
+abbrev pub raised : Offset → Offset
+raised old = record old { incarnation = old.incarnation + 1 }
 
 -- ---- its steps
 

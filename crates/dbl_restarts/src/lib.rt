@@ -10,5 +10,5 @@ pub use laws::{
 };
 pub use session_laws::{
     faithful_entries_are_known, old_marks_are_others, old_marks_do_nothing, repeats_are_counted,
-    runs_keep_going, stops_follow,
+    runs_keep_going, stops_follow, stored_offsets_begin_again,
 };

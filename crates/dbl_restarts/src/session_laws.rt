@@ -1,10 +1,15 @@
 //! One session that begins with what others left. The functions do nothing: their contracts are the laws.
 
-ghost use Rattle.dbl_restarts.specs.Laws.{FaithfulEntriesAreKnown, RunsKeepGoing, StopsFollow, RepeatsAreCounted, OldMarksAreOthers, OldMarksDoNothing};
+ghost use Rattle.dbl_restarts.specs.Laws.{FaithfulEntriesAreKnown, StoredOffsetsBeginAgain, RunsKeepGoing, StopsFollow, RepeatsAreCounted, OldMarksAreOthers, OldMarksDoNothing};
 
 /// Where it finds faithful stores, it finds all that promises on its answers ask of it.
 pub fn faithful_entries_are_known()
     ensures { FaithfulEntriesAreKnown }
+{}
+
+/// It may begin with each stored offset whose incarnation can still be raised.
+pub fn stored_offsets_begin_again()
+    ensures { StoredOffsetsBeginAgain }
 {}
 
 /// It keeps at each stage what a session keeps.

@@ -1,0 +1,32 @@
+-- What sound logs come to.
+use Rattle.std.specs.Prelude.{◌≡◌, ℕ, ◌+◌, List, [], ◌∷◌, ◌++◌, take}
+use Rattle.dbl_pgmsg.specs.declared.messages.Message.{Message}
+use Rattle.dbl_wal.specs.declared.entry.Entry.{Entry}
+use Rattle.dbl_wal.specs.Entries.{entry_form, FitsEntry}
+use Rattle.dbl_serial.specs.Serial.{serial}
+use Rattle.dbl_sound.specs.Workloads.{Workload, IsWorkload, session_steps_of, rows_of, steps_of, log_at}
+use Rattle.dbl_sound.specs.Sound.{IsNext, committed_in, steps_in}
+use Rattle.dbl_sound.specs.Wals.{Wal, IsWalOf, IsWal}
+use Rattle.dbl_sound.specs.Left.{with_entries}
+
+-- bytes are of one workload at most
+abbrev pub WorkloadsAreReadOnce : Type 0
+WorkloadsAreReadOnce = (bytes : List ℕ) (first second : Workload) → IsWorkload bytes first → IsWorkload bytes second → first ≡ second
+
+-- and of one wal
+abbrev pub WalsAreReadOnce : Type 0
+WalsAreReadOnce = (bytes : List ℕ) (first second : Wal) → IsWal bytes first → IsWal bytes second → first ≡ second
+
+-- Leaving out the marks, the commits are the serial run of the workload's rows and of the steps that the last entry with a number
+-- of steps counts, or of no steps where there is no such entry.
+abbrev pub SoundWalsAreSerial : Type 0
+SoundWalsAreSerial = (bytes : List ℕ) (wal : Wal) → IsWal bytes wal
+    → committed_in wal.entries ≡ serial wal.workload.tables (rows_of wal.workload) (session_steps_of (take (steps_in wal.entries) (steps_of wal.workload)))
+
+-- a sound log stays one with an entry that may stand behind it
+abbrev pub SoundWalsGoOn : Type 0
+SoundWalsGoOn = (forms : List (List ℕ)) (wal : Wal) (entry : Entry) → IsWalOf forms wal → FitsEntry entry → IsNext wal.workload wal.entries entry → IsWalOf (forms ++ entry_form entry ∷ []) (with_entries wal (entry ∷ []))
+
+-- the commits behind more steps begin with those behind fewer
+abbrev pub CommitsStay : Type 0
+CommitsStay = (w : Workload) (few more : ℕ) → (rest : List (List Message)) × (log_at w (few + more) ≡ log_at w few ++ rest)

@@ -1,0 +1,86 @@
+-- Workloads that can be run: what their bytes say, and the commits that their steps give. Source: own.
+use Rattle.std.specs.Prelude.{◌≡◌, ℕ, zero, suc, ◌≤◌, Option, None, Some, IsOk, filter_map, List, [], ◌∷◌, ◌++◌, length, map, take}
+use Rattle.std.specs.List.{AllZip}
+use Rattle.dbl_base.specs.Lines.{lines_of}
+use Rattle.dbl_pgmsg.specs.declared.messages.Message.{Message}
+use Rattle.dbl_table.specs.Infos.{IsInfoOf}
+use Rattle.dbl_script.specs.declared.script.Script.{Script}
+use Rattle.dbl_script.specs.declared.script.ScriptTable.{ScriptTable}
+use Rattle.dbl_script.specs.declared.script.ScriptRow.{ScriptRow}
+use Rattle.dbl_script.specs.declared.script.Step.{Step}
+use Rattle.dbl_script.specs.declared.script.Step.TheVariants as says
+use Rattle.dbl_script.specs.Scripts.{script_of, first_bad}
+use Rattle.dbl_serial.specs.declared.demo_table.DemoTable.{DemoTable}
+use Rattle.dbl_serial.specs.Acts.{Accepted}
+use Rattle.dbl_serial.specs.Steps.{Step as SessionStep, judged}
+use Rattle.dbl_serial.specs.Steps.Step as asks
+use Rattle.dbl_serial.specs.Serial.{InitialRow, accepted_onto, acts_after, initial_steps, serial}
+
+-- what a workload says, and its tables with what is captured of each
+pub record Workload : Type 0 where
+  pub script : Script
+  pub tables : List DemoTable
+
+-- ---- rows and steps of sessions
+
+abbrev pub initial_row : ScriptRow → InitialRow
+initial_row row = (row.table, row.cells)
+
+abbrev pub rows_of : Workload → List InitialRow
+rows_of w = map initial_row w.script.rows
+
+abbrev pub steps_of : Workload → List Step
+steps_of w = w.script.steps
+
+-- what a step of the workload asks of the store; the end of a group asks nothing
+abbrev pub session_step_of : Step → Option SessionStep
+session_step_of (says.Begin session) = Some (asks.Begin session)
+session_step_of (says.Commit session) = Some (asks.Commit session)
+session_step_of (says.Rollback session) = Some (asks.Rollback session)
+session_step_of (says.Insert session table cells) = Some (asks.Insert session table cells)
+session_step_of (says.Update session table key set) = Some (asks.Update session table key set)
+session_step_of (says.Delete session table key) = Some (asks.Delete session table key)
+session_step_of (says.Truncate session tables) = Some (asks.Truncate session tables)
+session_step_of says.Tick = None
+
+abbrev pub session_steps_of : List Step → List SessionStep
+session_steps_of steps = filter_map session_step_of steps
+
+-- ---- what has been done behind the first so many steps
+
+abbrev pub session_steps_at : Workload → ℕ → List SessionStep
+session_steps_at w steps = session_steps_of (take steps (steps_of w))
+
+-- what was accepted
+abbrev pub acts_at : Workload → ℕ → List Accepted
+acts_at w steps = acts_after w.tables [] (initial_steps (rows_of w) ++ session_steps_at w steps)
+
+-- what was committed: the serial run of the rows and of these steps
+abbrev pub log_at : Workload → ℕ → List (List Message)
+log_at w steps = serial w.tables (rows_of w) (session_steps_at w steps)
+
+-- what was committed just before: behind no step that is nothing, not even the rows
+abbrev pub log_before : Workload → ℕ → List (List Message)
+log_before w zero = []
+log_before w (suc steps) = log_at w steps
+
+-- ---- the workload of some bytes
+
+-- the table that a line of the workload describes
+pub record IsTableOf (line : ScriptTable) (table : DemoTable) : Type 0 where
+  pub info : IsInfoOf line.raw table.info
+  pub full : table.full ≡ line.full
+  pub toast : table.toast ≡ line.toast
+
+-- each of these steps is accepted behind those before it
+abbrev pub AreAccepted : List DemoTable → List Accepted → List SessionStep → Type 0
+AreAccepted tables past [] = Unit {0}
+AreAccepted tables past (step ∷ steps) = IsOk (judged tables past step) × AreAccepted tables (accepted_onto (judged tables past step) past) steps
+
+-- The bytes are the lines of a workload, each of its tables can be captured, and each row can be inserted.
+pub record IsWorkload (bytes : List ℕ) (w : Workload) : Type 0 where
+  pub few : length (lines_of bytes) ≤ 1000000
+  pub good : first_bad (lines_of bytes) ≡ None
+  pub script : w.script ≡ script_of (lines_of bytes)
+  pub tables : AllZip IsTableOf w.script.tables w.tables
+  pub rows : AreAccepted w.tables [] (initial_steps (rows_of w))

@@ -1,0 +1,40 @@
+//! Laws of logs of workloads. The functions do nothing: their contracts are the laws.
+
+ghost use Rattle.std.specs.Prelude.{◌≡◌, ℕ, List};
+ghost use Rattle.dbl_journal.specs.Form.{IsFaultAt};
+ghost use Rattle.dbl_sound.specs.Laws.{CommitsStay, SoundWalsAreSerial, SoundWalsGoOn, WalsAreReadOnce, WorkloadsAreReadOnce};
+ghost use Rattle.dbl_sound.specs.Wals.{HasBadEntry, IsWal, Wal};
+
+/// Bytes are of one workload at most, and of one log of it.
+pub fn wals_are_read_once()
+    ensures workload { WorkloadsAreReadOnce }
+    ensures wal { WalsAreReadOnce }
+{}
+
+/// Bytes never are two of these: a wal, no journal, a journal with a bad entry. They have one first
+/// bad entry at most.
+pub fn wals_or_faults()
+    ensures no_fault { (bytes : List ℕ) (wal : Wal) (at : ℕ) → IsWal bytes wal →
+        ¬ IsFaultAt bytes at }
+    ensures not_bad { (bytes : List ℕ) (wal : Wal) (index : ℕ) → IsWal bytes wal →
+        ¬ HasBadEntry bytes index }
+    ensures not_both { (bytes : List ℕ) (at index : ℕ) → IsFaultAt bytes at →
+        ¬ HasBadEntry bytes index }
+    ensures one_bad { (bytes : List ℕ) (first second : ℕ) → HasBadEntry bytes first →
+        HasBadEntry bytes second → first ≡ second }
+{}
+
+/// The commits of a wal, but for its marks, are the serial run of what it says was done.
+pub fn sound_wals_are_serial()
+    ensures { SoundWalsAreSerial }
+{}
+
+/// An entry that may stand behind a wal's makes it a wal again.
+pub fn sound_wals_go_on()
+    ensures { SoundWalsGoOn }
+{}
+
+/// More steps take back no commit.
+pub fn commits_stay()
+    ensures { CommitsStay }
+{}

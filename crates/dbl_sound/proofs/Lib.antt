@@ -3,6 +3,7 @@ pub mod WalLaws
 pub mod SerialLaws
 pub mod GrowthLaws
 pub mod GroupLemmas
+pub mod ReleaseLaws
 pub mod GrowsLemmas
 pub mod LeftLemmas
 pub mod SizeLemmas

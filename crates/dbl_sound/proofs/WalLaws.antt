@@ -109,7 +109,7 @@ next_stands forms wal (suc k) front bad =
     let here : slice_get (forms_of wal) (suc k) ≡ Some bad.entry = ap (λ (fs : List (List ℕ)). slice_get fs (suc k)) (sym front.are) ∙ bad.there in
     let at = entry_there wal k bad.entry front.fits here in
     let cut_forms : forms_of bad.wal ≡ forms_of (cut wal k) =
-        sym bad.front.are ∙ ap (λ (fs : List (List ℕ)). take (suc k) fs) front.are ∙ ap (λ (fs : List (List ℕ)). workload_form wal.script ∷ fs) (take-map entry_form k wal.entries) in
+    sym bad.front.are ∙ ap (λ (fs : List (List ℕ)). take (suc k) fs) front.are ∙ ap (λ (fs : List (List ℕ)). workload_form wal.script ∷ fs) (take-map entry_form k wal.entries) in
     let same : bad.wal ≡ cut wal k = one_front bad.wal (cut wal k) cut_forms bad.front.workload front.workload bad.front.fits (fits_take FitsEntry k wal.entries front.fits) in
     let next : IsNext wal.workload (take k wal.entries) at.entry = next_at wal.workload [] wal.entries k at.entry front.each at.there in
     bad.none at.entry at.spells (subst (λ (x : Wal). IsNext x.workload x.entries at.entry) (sym same) next)

@@ -1,12 +1,13 @@
 -- What sound logs come to.
-use Rattle.std.specs.Prelude.{◌≡◌, ℕ, ◌+◌, List, [], ◌∷◌, ◌++◌, take}
+use Rattle.std.specs.Prelude.{◌≡◌, ℕ, ◌+◌, ◌≤◌, List, [], ◌∷◌, ◌++◌, length, take}
 use Rattle.dbl_pgmsg.specs.declared.messages.Message.{Message}
 use Rattle.dbl_wal.specs.declared.entry.Entry.{Entry}
 use Rattle.dbl_wal.specs.Entries.{entry_form, FitsEntry}
 use Rattle.dbl_serial.specs.Serial.{serial}
 use Rattle.dbl_sound.specs.Workloads.{Workload, IsWorkload, session_steps_of, rows_of, steps_of, log_at}
-use Rattle.dbl_sound.specs.Sound.{IsNext, committed_in, steps_in}
+use Rattle.dbl_sound.specs.Sound.{IsNext, IsSilent, IsSound, committed_in, steps_in}
 use Rattle.dbl_sound.specs.Wals.{Wal, IsWalOf, IsWal}
+use Rattle.dbl_sound.specs.Groups.{released}
 use Rattle.dbl_sound.specs.Left.{with_entries}
 
 -- bytes are of one workload at most
@@ -30,3 +31,8 @@ SoundWalsGoOn = (forms : List (List ℕ)) (wal : Wal) (entry : Entry) → IsWalO
 -- the commits behind more steps begin with those behind fewer
 abbrev pub CommitsStay : Type 0
 CommitsStay = (w : Workload) (few more : ℕ) → (rest : List (List Message)) × (log_at w (few + more) ≡ log_at w few ++ rest)
+
+-- Running more steps adds to a sound log what may stand there, and then no step that was run commits anything that doesn't.
+abbrev pub SoundLogsRelease : Type 0
+SoundLogsRelease = (w : Workload) (entries : List Entry) (done upto : ℕ) → IsSound w entries → IsSilent w entries done → done ≤ upto → upto ≤ length (steps_of w)
+    → IsSound w (entries ++ released w done upto) × IsSilent w (entries ++ released w done upto) upto

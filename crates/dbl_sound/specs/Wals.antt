@@ -1,5 +1,5 @@
 -- The bytes of a source's log: a journal, whose first entry is the workload, and the others are sound behind it. Source: own.
-use Rattle.std.specs.Prelude.{◌≡◌, ◌≢◌, ℕ, ◌<◌, ◌^◌, Some, slice_get, List, ◌∷◌, length, map, take}
+use Rattle.std.specs.Prelude.{◌≡◌, ◌≢◌, ℕ, ◌<◌, ◌^◌, Some, slice_get, List, [], ◌∷◌, length, map, take}
 use Rattle.std.specs.List.{AllByRecursion}
 use Rattle.dbl_journal.specs.Form.{IsJournal}
 use Rattle.dbl_wal.specs.declared.entry.Entry.{Entry}

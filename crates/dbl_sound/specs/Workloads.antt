@@ -13,7 +13,7 @@ use Rattle.dbl_script.specs.Scripts.{script_of, first_bad}
 use Rattle.dbl_serial.specs.declared.demo_table.DemoTable.{DemoTable}
 use Rattle.dbl_serial.specs.Acts.{Accepted}
 use Rattle.dbl_serial.specs.Steps.{Step as SessionStep, judged}
-use Rattle.dbl_serial.specs.Steps.Step as asks
+use Rattle.dbl_serial.specs.Steps.Step.{Begin, Commit, Rollback, Insert, Update, Delete, Truncate}
 use Rattle.dbl_serial.specs.Serial.{InitialRow, accepted_onto, acts_after, initial_steps, serial}
 
 -- what a workload says, and its tables with what is captured of each
@@ -34,13 +34,13 @@ steps_of w = w.script.steps
 
 -- what a step of the workload asks of the store; the end of a group asks nothing
 abbrev pub session_step_of : Step → Option SessionStep
-session_step_of (says.Begin session) = Some (asks.Begin session)
-session_step_of (says.Commit session) = Some (asks.Commit session)
-session_step_of (says.Rollback session) = Some (asks.Rollback session)
-session_step_of (says.Insert session table cells) = Some (asks.Insert session table cells)
-session_step_of (says.Update session table key set) = Some (asks.Update session table key set)
-session_step_of (says.Delete session table key) = Some (asks.Delete session table key)
-session_step_of (says.Truncate session tables) = Some (asks.Truncate session tables)
+session_step_of (says.Begin session) = Some (Begin session)
+session_step_of (says.Commit session) = Some (Commit session)
+session_step_of (says.Rollback session) = Some (Rollback session)
+session_step_of (says.Insert session table cells) = Some (Insert session table cells)
+session_step_of (says.Update session table key set) = Some (Update session table key set)
+session_step_of (says.Delete session table key) = Some (Delete session table key)
+session_step_of (says.Truncate session tables) = Some (Truncate session tables)
 session_step_of says.Tick = None
 
 abbrev pub session_steps_of : List Step → List SessionStep

@@ -2,7 +2,7 @@
 
 ghost use Rattle.std.specs.Prelude.{◌≡◌, ℕ, List};
 ghost use Rattle.dbl_journal.specs.Form.{IsFaultAt};
-ghost use Rattle.dbl_sound.specs.Laws.{CommitsStay, SoundWalsAreSerial, SoundWalsGoOn, WalsAreReadOnce, WorkloadsAreReadOnce};
+ghost use Rattle.dbl_sound.specs.Laws.{CommitsStay, SoundLogsRelease, SoundWalsAreSerial, SoundWalsGoOn, WalsAreReadOnce, WorkloadsAreReadOnce};
 ghost use Rattle.dbl_sound.specs.Wals.{HasBadEntry, IsWal, Wal};
 
 /// Bytes are of one workload at most, and of one log of it.
@@ -37,4 +37,9 @@ pub fn sound_wals_go_on()
 /// More steps take back no commit.
 pub fn commits_stay()
     ensures { CommitsStay }
+{}
+
+/// Running more steps keeps a log sound.
+pub fn sound_logs_release()
+    ensures { SoundLogsRelease }
 {}

@@ -15,7 +15,7 @@ use Rattle.dbl_serial.specs.Acts.Accepted.{Began, Did, Committed, RolledBack}
 use Rattle.dbl_serial.specs.Steps.{Step as SessionStep, judged}
 use Rattle.dbl_serial.specs.Serial.{accepted_onto, acts_after}
 use Rattle.dbl_sound.specs.Workloads.{Workload, acts_at, log_at, session_step_of, session_steps_of, steps_of}
-use Rattle.dbl_sound.specs.Sound.{committed_by, committed_in, steps_in, HasBegun, AreNext, IsSilent, IsSound}
+use Rattle.dbl_sound.specs.Sound.{committed_by, committed_in, steps_in, HasBegun, AreNext, IsSilent}
 use Rattle.dbl_sound.specs.Groups.{entry_of_step, entries_of_steps, released}
 use Rattle.dbl_sound.specs.Laws.{SoundLogsRelease}
 use Rattle.dbl_sound.proofs.SerialLaws.{steps_from-append, committed-push}

@@ -2,6 +2,7 @@ pub mod Going
 pub mod Leaving
 pub mod Marks
 pub mod Repeats
+pub mod Again
 pub mod Farther
 pub mod Chains
 pub mod Telling

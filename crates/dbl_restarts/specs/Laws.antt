@@ -1,5 +1,5 @@
 -- What holds across sessions and stops.
-use Rattle.std.specs.Prelude.{◌≡◌, ◌≢◌, ℕ, ℤ, ◌+◌, ◌<◌, ◌≤◌, ◌^◌, Option, Some, List, [], slice_get}
+use Rattle.std.specs.Prelude.{◌≡◌, ◌≢◌, ℕ, ℤ, ◌+◌, ◌<◌, ◌≤◌, ◌^◌, Option, Some, List, [], length, filter, nat_le, slice_get}
 use Rattle.dbl_record.specs.declared.record.Record.{Record}
 use Rattle.dbl_record.specs.Cuts.{joined}
 use Rattle.dbl_table.specs.declared.config.Config.{Config}
@@ -13,9 +13,9 @@ use Rattle.dbl_honest.specs.Standings.{Left}
 use Rattle.dbl_offset.specs.declared.offset.Offset.{Offset}
 use Rattle.dbl_follow.specs.Followed.{Following}
 use Rattle.dbl_follow.specs.Steps.{Steps, mark_of, records_by}
-use Rattle.dbl_stores.specs.Stores.{top_position}
+use Rattle.dbl_stores.specs.Stores.{top_position, lag}
 use Rattle.dbl_session.specs.Entries.{Entry, WasFaithful, HadOwnTables, StoodInLog, WasKept}
-use Rattle.dbl_session.specs.Stages.{Stage, next_offset}
+use Rattle.dbl_session.specs.Stages.{Stage, read_at, next_offset}
 use Rattle.dbl_session.specs.Marked.{IsOwnWindow}
 use Rattle.dbl_session.specs.Going.{IsGoing}
 use Rattle.dbl_session.specs.Outcomes.{Follows, IsComplete}
@@ -56,6 +56,16 @@ RepeatsAreCounted = (entry : Entry) (left : Left) (groups : List (List Record)) 
     → IsFitHistory left.history → WasFaithful entry → entry.offset ≡ Some old
     → slice_get follows.adds.more place ≡ Some item → item.position ≤ top_position (joined entry.groups)
     → IsCounted entry.history (joined entry.groups) old item.position
+
+-- the commits that a session has read and that don't stand behind the log as it was
+abbrev pub read_again : Entry → Stage → List Commit
+read_again entry stage = filter (λ commit. nat_le commit.lsn.0 (top_position (joined entry.groups))) (read_at stage)
+
+-- So of the commits that it reads no more are read again than the lag counts.
+abbrev pub FewCommitsAreReadAgain : Type 0
+FewCommitsAreReadAgain = (entry : Entry) (stage : Stage)
+    → IsAsked entry.config entry.now → IsFitHistory entry.history → WasFaithful entry → Run entry stage
+    → length (read_again entry stage) ≤ lag entry.history (joined entry.groups) entry.offset
 
 -- ---- old marks
 

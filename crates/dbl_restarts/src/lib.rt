@@ -9,6 +9,7 @@ pub use laws::{
     restarts_go_on, restarts_stay_faithful, rules_keep_promises, three_sessions_stand,
 };
 pub use session_laws::{
-    faithful_entries_are_known, old_marks_are_others, old_marks_do_nothing, repeats_are_counted,
-    runs_keep_going, stops_follow, stored_offsets_begin_again,
+    faithful_entries_are_known, few_commits_are_read_again, old_marks_are_others,
+    old_marks_do_nothing, repeats_are_counted, runs_keep_going, stops_follow,
+    stored_offsets_begin_again,
 };

@@ -1,6 +1,6 @@
 //! One session that begins with what others left. The functions do nothing: their contracts are the laws.
 
-ghost use Rattle.dbl_restarts.specs.Laws.{FaithfulEntriesAreKnown, StoredOffsetsBeginAgain, RunsKeepGoing, StopsFollow, RepeatsAreCounted, OldMarksAreOthers, OldMarksDoNothing};
+ghost use Rattle.dbl_restarts.specs.Laws.{FaithfulEntriesAreKnown, StoredOffsetsBeginAgain, RunsKeepGoing, StopsFollow, RepeatsAreCounted, FewCommitsAreReadAgain, OldMarksAreOthers, OldMarksDoNothing};
 
 /// Where it finds faithful stores, it finds all that promises on its answers ask of it.
 pub fn faithful_entries_are_known()
@@ -25,6 +25,11 @@ pub fn stops_follow()
 /// It repeats no commit that the lag doesn't count.
 pub fn repeats_are_counted()
     ensures { RepeatsAreCounted }
+{}
+
+/// Of the commits that it reads it has no more read again than the lag counts.
+pub fn few_commits_are_read_again()
+    ensures { FewCommitsAreReadAgain }
 {}
 
 /// No mark that it finds is one of its own.

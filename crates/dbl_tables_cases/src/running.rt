@@ -1,0 +1,205 @@
+//! Runs the lines of a workload over a store.
+
+ghost use Rattle.std.specs.Prelude.{◌≡◌, ◌≤◌, IsTrue, IfOk, length, map};
+ghost use Rattle.dbl_table.specs.Tables.{same_name, are_distinct};
+
+use crate::shown;
+use anyhow::{Result, bail};
+use dbl_base::{Seq, Text};
+use dbl_script::{Script, ScriptRow, ScriptTable, Step, parse};
+use dbl_table::{TableInfo, TableName};
+use dbl_tables::{DemoTable, StepError, Tables};
+use std::alloc::Global;
+use std::fmt::Write;
+
+fn is_same_name(a: &TableName, b: &TableName) -> bool
+    ensures { result ≡ same_name a.now b.now }
+{
+    a.schema.as_str() == b.schema.as_str() && a.name.as_str() == b.name.as_str()
+}
+
+fn one(alloc: Global, first: DemoTable) -> Result<Vec<DemoTable>>
+    ensures few { IfOk result (λ tables. length tables.items ≤ 64) }
+    ensures distinct { IfOk result (λ tables. IsTrue (are_distinct same_name
+        (map (λ table. table.info.name) tables.items))) }
+{
+    let mut list = Vec::new(alloc);
+    list.push(first)?;
+    Ok(list)
+}
+
+fn two(alloc: Global, first: DemoTable, other: DemoTable) -> Result<Vec<DemoTable>>
+    ensures few { IfOk result (λ tables. length tables.items ≤ 64) }
+    ensures distinct { IfOk result (λ tables. IsTrue (are_distinct same_name
+        (map (λ table. table.info.name) tables.items))) }
+{
+    if is_same_name(&first.info.name, &other.info.name) {
+        bail!("no other table");
+    }
+    let mut list = Vec::new(alloc);
+    list.push(first)?;
+    list.push(other)?;
+    Ok(list)
+}
+
+fn table_of(alloc: Global, table: &ScriptTable) -> Result<DemoTable> {
+    Ok(DemoTable {
+        info: TableInfo::make(alloc, &table.raw)?,
+        full: table.full,
+        toast: table.toast,
+    })
+}
+
+/// The tables of a script: one, or two of distinct names.
+pub fn tables_of(alloc: Global, tables: &Vec<ScriptTable>) -> Result<Vec<DemoTable>>
+    ensures few { IfOk result (λ tables. length tables.items ≤ 64) }
+    ensures distinct { IfOk result (λ tables. IsTrue (are_distinct same_name
+        (map (λ table. table.info.name) tables.items))) }
+{
+    match tables.as_slice() {
+        [first] => one(alloc, table_of(alloc, first)?),
+        [first, other] => two(alloc, table_of(alloc, first)?, table_of(alloc, other)?),
+        _ => bail!("neither one table nor two"),
+    }
+}
+
+fn store_of(alloc: Global, tables: &Vec<ScriptTable>) -> Result<Tables> {
+    let tables = tables_of(alloc, tables)?;
+    Ok(Tables::make(alloc, tables)?)
+}
+
+fn done(shown: &mut String, answer: std::result::Result<(), StepError>) -> Result<()> {
+    match answer {
+        Ok(()) => shown::done(shown),
+        Err(error) => shown::refused(shown, &error),
+    }
+}
+
+fn commit(shown: &mut String, store: &mut Tables, session: &Text) -> Result<()> {
+    match store.commit(session) {
+        Ok(messages) => shown::committed(shown, &messages),
+        Err(error) => shown::refused(shown, &error),
+    }
+}
+
+fn table_rows(shown: &mut String, store: &Tables, name: &TableName, limit: u32) -> Result<()> {
+    let rows = store.select(name, None, limit)?;
+    shown::rows(shown, name, &rows)
+}
+
+// The first committed rows of each table.
+fn rows(shown: &mut String, store: &Tables, tables: &Vec<ScriptTable>, limit: u32) -> Result<()> {
+    shown.push(';')?;
+    for table in tables {
+        table_rows(shown, store, &table.raw.name, limit)?;
+    }
+    Ok(())
+}
+
+fn truncate(
+    shown: &mut String,
+    store: &mut Tables,
+    session: &Text,
+    tables: &Seq<TableName>,
+) -> Result<()> {
+    if tables.items().is_empty() {
+        bail!("no table");
+    }
+    done(shown, store.truncate(session, tables.items()))
+}
+
+fn step(
+    shown: &mut String,
+    store: &mut Tables,
+    tables: &Vec<ScriptTable>,
+    limit: u32,
+    step: &Step,
+) -> Result<()> {
+    match step {
+        Step::Begin { session } => done(shown, store.begin(session)),
+        Step::Commit { session } => commit(shown, store, session),
+        Step::Rollback { session } => done(shown, store.rollback(session)),
+        Step::Insert {
+            session,
+            table,
+            cells,
+        } => done(shown, store.insert(session, table, cells.items())),
+        Step::Update {
+            session,
+            table,
+            key,
+            set,
+        } => done(
+            shown,
+            store.update(session, table, key.items(), set.items()),
+        ),
+        Step::Delete {
+            session,
+            table,
+            key,
+        } => done(shown, store.delete(session, table, key.items())),
+        Step::Truncate { session, tables } => truncate(shown, store, session, tables),
+        Step::Tick => rows(shown, store, tables, limit),
+    }
+}
+
+fn commit_rows(shown: &mut String, store: &mut Tables, nobody: &Text) -> Result<()> {
+    let messages = store.commit(nobody)?;
+    shown::messages(shown, &messages)
+}
+
+fn insert_rows(
+    shown: &mut String,
+    store: &mut Tables,
+    nobody: &Text,
+    rows: &Vec<ScriptRow>,
+) -> Result<()> {
+    store.begin(nobody)?;
+    for row in rows {
+        store.insert(nobody, &row.table, row.cells.items())?;
+    }
+    shown.push_str("rows")?;
+    commit_rows(shown, store, nobody)
+}
+
+// Rows that are there before the first step are committed by a session without a name.
+fn first_rows(
+    alloc: Global,
+    shown: &mut String,
+    store: &mut Tables,
+    rows: &Vec<ScriptRow>,
+) -> Result<()> {
+    let nobody = Text::of(alloc, "")?;
+    insert_rows(shown, store, &nobody, rows)
+}
+
+fn play(
+    alloc: Global,
+    shown: &mut String,
+    store: &mut Tables,
+    script: &Script,
+    limit: u32,
+) -> Result<()> {
+    first_rows(alloc, shown, store, script.rows.items())?;
+    for each in script.steps.items() {
+        step(shown, store, script.tables.items(), limit, each)?;
+    }
+    Ok(())
+}
+
+/// Adds what the steps of a script answer, one behind the other, where a tick shows so many rows of a table at most.
+pub fn run(alloc: Global, shown: &mut String, script: &Script, limit: u32) -> Result<()> {
+    let mut store = store_of(alloc, script.tables.items())?;
+    play(alloc, shown, &mut store, script, limit)
+}
+
+fn run_text(alloc: Global, shown: &mut String, text: &str) -> Result<()> {
+    let script = parse(alloc, text.as_bytes())?;
+    run(alloc, shown, &script, 1_000)
+}
+
+/// Adds what the lines answer, a step behind the other.
+pub fn answer(alloc: Global, shown: &mut String, lines: &str) -> Result<()> {
+    let text = lines.replace(alloc, "; ", "\n")?;
+    run_text(alloc, shown, text.as_str())
+}

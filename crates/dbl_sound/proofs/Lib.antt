@@ -7,3 +7,7 @@ pub mod ReleaseLaws
 pub mod GrowsLemmas
 pub mod LeftLemmas
 pub mod SizeLemmas
+pub mod ContentLemmas
+pub mod TableLemmas
+pub mod RangeLaws
+pub mod FitLaws

@@ -1,13 +1,19 @@
 -- What sound logs come to.
 use Rattle.std.specs.Prelude.{◌≡◌, ℕ, ◌+◌, ◌≤◌, List, [], ◌∷◌, ◌++◌, length, take}
+use Rattle.std.specs.List.{AllByRecursion}
 use Rattle.dbl_pgmsg.specs.declared.messages.Message.{Message}
+use Rattle.dbl_history.specs.Fit.{IsFitHistory}
+use Rattle.dbl_feed.specs.Fair.{IsFairLog}
+use Rattle.dbl_feed.specs.FitLogs.{AreFitLog}
 use Rattle.dbl_wal.specs.declared.entry.Entry.{Entry}
 use Rattle.dbl_wal.specs.Entries.{entry_form, FitsEntry}
 use Rattle.dbl_serial.specs.Serial.{serial}
-use Rattle.dbl_sound.specs.Workloads.{Workload, IsWorkload, session_steps_of, rows_of, steps_of, log_at}
-use Rattle.dbl_sound.specs.Sound.{IsNext, IsSilent, IsSound, committed_in, steps_in}
+use Rattle.dbl_isolation.specs.Laws.{AreDescribable, IsRowInRange, IsStepInRange}
+use Rattle.dbl_sound.specs.Workloads.{Workload, IsWorkload, session_steps_at, session_steps_of, rows_of, steps_of, log_at}
+use Rattle.dbl_sound.specs.Sound.{IsNext, IsSilent, IsSound, committed_in, logged_in, steps_in}
 use Rattle.dbl_sound.specs.Wals.{Wal, IsWalOf, IsWal}
 use Rattle.dbl_sound.specs.Groups.{released}
+use Rattle.dbl_sound.specs.Standings.{tables_of, history_in}
 use Rattle.dbl_sound.specs.Left.{with_entries}
 
 -- bytes are of one workload at most
@@ -36,3 +42,23 @@ CommitsStay = (w : Workload) (few more : ℕ) → (rest : List (List Message)) �
 abbrev pub SoundLogsRelease : Type 0
 SoundLogsRelease = (w : Workload) (entries : List Entry) (done upto : ℕ) → IsSound w entries → IsSilent w entries done → done ≤ upto → upto ≤ length (steps_of w)
     → IsSound w (entries ++ released w done upto) × IsSilent w (entries ++ released w done upto) upto
+
+-- What is read of the rows and of the first so many steps is such as the store takes it: tables that can be described, and texts.
+pub record IsRanged (w : Workload) (done : ℕ) : Type 0 where
+  pub described : AreDescribable w.tables
+  pub rows : AllByRecursion IsRowInRange (rows_of w)
+  pub steps : AllByRecursion IsStepInRange (session_steps_at w done)
+
+abbrev pub WorkloadsAreInRange : Type 0
+WorkloadsAreInRange = (bytes : List ℕ) (w : Workload) → IsWorkload bytes w → (done : ℕ) → IsRanged w done
+
+-- the log of a wal is fit, and its history with it, whatever is captured
+abbrev pub WalsAreFit : Type 0
+WalsAreFit = (bytes : List ℕ) (wal : Wal) → IsWal bytes wal → AreFitLog (tables_of wal) (logged_in wal.entries)
+
+abbrev pub WalsHaveFitHistories : Type 0
+WalsHaveFitHistories = (bytes : List ℕ) (wal : Wal) → IsWal bytes wal → IsFitHistory (history_in wal)
+
+-- and what is read of it is read right
+abbrev pub WalsAreFair : Type 0
+WalsAreFair = (bytes : List ℕ) (wal : Wal) → IsWal bytes wal → IsFairLog (tables_of wal) (logged_in wal.entries)

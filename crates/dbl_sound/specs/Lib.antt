@@ -1,3 +1,4 @@
+pub mod Contents
 pub mod Workloads
 pub mod Sound
 pub mod Wals

@@ -2,7 +2,8 @@
 
 ghost use Rattle.std.specs.Prelude.{◌≡◌, ℕ, List};
 ghost use Rattle.dbl_journal.specs.Form.{IsFaultAt};
-ghost use Rattle.dbl_sound.specs.Laws.{CommitsStay, SoundLogsRelease, SoundWalsAreSerial, SoundWalsGoOn, WalsAreReadOnce, WorkloadsAreReadOnce};
+ghost use Rattle.dbl_sound.specs.Contents.{GoodScriptsHaveFewTables, ScriptsAreFilled};
+ghost use Rattle.dbl_sound.specs.Laws.{CommitsStay, SoundLogsRelease, SoundWalsAreSerial, SoundWalsGoOn, WalsAreFair, WalsAreFit, WalsAreReadOnce, WalsHaveFitHistories, WorkloadsAreInRange, WorkloadsAreReadOnce};
 ghost use Rattle.dbl_sound.specs.Wals.{HasBadEntry, IsWal, Wal};
 
 /// Bytes are of one workload at most, and of one log of it.
@@ -42,4 +43,27 @@ pub fn commits_stay()
 /// Running more steps keeps a log sound.
 pub fn sound_logs_release()
     ensures { SoundLogsRelease }
+{}
+
+/// In the script of any lines columns have short names, cells that aren't null texts, and a truncate
+/// names a table. That of lines none of which is bad has at most 64 tables, of different names.
+pub fn workloads_are_filled()
+    ensures filled { ScriptsAreFilled }
+    ensures few { GoodScriptsHaveFewTables }
+{}
+
+/// A workload's tables can be described, and its cells are texts.
+pub fn workloads_are_in_range()
+    ensures { WorkloadsAreInRange }
+{}
+
+/// The log of a wal is fit, whatever its workload is, and so is its history, whatever is captured.
+pub fn wals_are_fit()
+    ensures log { WalsAreFit }
+    ensures history { WalsHaveFitHistories }
+{}
+
+/// What is read of a wal states its history.
+pub fn wals_are_fair()
+    ensures { WalsAreFair }
 {}

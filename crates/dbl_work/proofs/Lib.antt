@@ -1,0 +1,12 @@
+pub mod Exits
+pub mod Planning
+pub mod WindowFaults
+pub mod Gathering
+pub mod Puts
+pub mod Putting
+pub mod Describing
+pub mod Looking
+pub mod Taking
+pub mod Following
+pub mod Working
+pub mod KindLemmas

@@ -1,0 +1,236 @@
+//! How a session begins: with the first offset of a connector, or with the stored one.
+
+ghost use Rattle.std.specs.Prelude.{◌≡◌, ◌≢◌, ◌⊎◌, ◌^◌, ◌<◌, ◌≤◌, ◌∷◌, [], Contains, Option, None, Some, IfOk, IfErr, IfSome, IsTrue, OnOk, OnErr, length, map};
+ghost use Rattle.dbl_base.specs.Streams.{Rose};
+ghost use Rattle.dbl_table.specs.Configs.{IsGoodConfig};
+ghost use Rattle.dbl_history.specs.Fit.{AreInfosOf};
+ghost use Rattle.dbl_honest.specs.Standings.{Standing, Leads};
+ghost use Rattle.dbl_honest.specs.Calls.{Moved, IsHead, IsBegun};
+ghost use Rattle.dbl_honest.specs.Leaves.{Leaves, LeavesSome, MayFollow};
+ghost use Rattle.dbl_honest.specs.Told.{Began, IsTakenBy, IsTakenAnew, Tells};
+ghost use Rattle.dbl_offset.specs.declared.offset.Offset.{Offset as SpecOffset};
+ghost use Rattle.dbl_offset.specs.Entries.{spelling};
+ghost use Rattle.dbl_offset.specs.Measures.{capped};
+ghost use Rattle.dbl_offset.specs.Offsets.{IsOffset};
+ghost use Rattle.dbl_offset.specs.Stores.{ComesOf, Holds, IsLive, LeavesOffset, disk_of};
+ghost use Rattle.dbl_work.specs.Begins.{AreDescribed, AreUnread, IsAbsentHalt, IsAgain, IsDescribedAs, IsExhausted, IsFaultless, IsFirst, IsGoneFrom, IsModelFault, IsOffsetFor, IsTooLong, MayRest};
+
+use crate::Halt;
+use dbl_base::{Lsn, Seq};
+use dbl_disk::Disk;
+use dbl_history::Cursor;
+use dbl_honest::Started;
+use dbl_offset::{Offset, OffsetStore};
+use dbl_source::Source;
+use dbl_table::{Config, TableInfo, TableName};
+use std::alloc::{AllocError, Global};
+
+// What is captured of a table, as the catalogue describes it.
+fn described<S: Source>(alloc: Global, src: &mut S, name: &TableName) -> Result<TableInfo, Halt>
+    requires { IsTrue (S.is_live src.old) }
+    ensures described { Leads S.stands src.old src.new result (IsDescribedAs name.now) }
+    ensures named { IfOk result (λ info. info.name ≡ name.now) }
+    ensures faultless { OnOk result (IsFaultless name.now (S.told src.new)) }
+    ensures fault { IfErr result (λ h. (h ≡ Halt.Memory) ⊎ ((h ≡ Halt.Source)
+        ⊎ IsModelFault name.now (S.told src.new) h)) }
+    ensures absent { (s : Standing) → S.stands src.old s →
+        IfErr result (IsAbsentHalt (name.now ∷ []) s.history) }
+    ensures left { Leaves S.stands S.may_leave src.old src.new MayFollow }
+    ensures some { LeavesSome S.stands S.may_leave src.old src.new }
+    ensures still { (s t : Standing) → S.stands src.old s → S.stands src.new t →
+        t.reading ≡ s.reading }
+    ensures taken { IsTakenBy [] (S.told src.old) (S.told src.new) }
+    ensures live { OnOk result (IsTrue (S.is_live src.new)) }
+    ensures honest { S.honest src.new → S.honest src.old }
+    ensures comes { S.comes_of src.old src.new }
+    ensures later { S.faults src.old ≤ S.faults src.new }
+    ensures failed { result ≡ Err Halt.Source → Rose (S.faults src.old) (S.faults src.new) }
+{
+    match src.describe(name)? {
+        Some(raw) => Ok(TableInfo::make(alloc, &raw)?),
+        None => Err(Halt::UnknownTable {
+            table: name.copy(alloc)?,
+        }),
+    }
+}
+
+// The same of each table, in order.
+fn all_described<S: Source>(
+    alloc: Global,
+    src: &mut S,
+    names: &Vec<TableName>,
+) -> Result<Vec<TableInfo>, Halt>
+    requires { IsTrue (S.is_live src.old) }
+    ensures described { Leads S.stands src.old src.new result (λ infos s t. Moved s t
+        × AreDescribed s.history infos.items) }
+    ensures named { IfOk result (λ infos. map (λ info. info.name) infos.items ≡ names.now.items) }
+    ensures fault { IfErr result (λ h. (h ≡ Halt.Memory) ⊎ ((h ≡ Halt.Source)
+        ⊎ ((name : _) × Contains names.now.items name × IsModelFault name (S.told src.new) h))) }
+    ensures absent { (s : Standing) → S.stands src.old s →
+        IfErr result (IsAbsentHalt names.now.items s.history) }
+    ensures left { Leaves S.stands S.may_leave src.old src.new MayRest }
+    ensures some { LeavesSome S.stands S.may_leave src.old src.new }
+    ensures still { (s t : Standing) → S.stands src.old s → S.stands src.new t →
+        t.reading ≡ s.reading }
+    ensures taken { IsTakenBy [] (S.told src.old) (S.told src.new) }
+    ensures live { OnOk result (IsTrue (S.is_live src.new)) }
+    ensures honest { S.honest src.new → S.honest src.old }
+    ensures comes { S.comes_of src.old src.new }
+    ensures later { S.faults src.old ≤ S.faults src.new }
+    ensures failed { result ≡ Err Halt.Source → Rose (S.faults src.old) (S.faults src.new) }
+{
+    let mut infos = Vec::with_capacity(alloc, names.len())?;
+    'tables: for name in names {
+        infos.push(described(alloc, src, name)?)?;
+    }
+    Ok(infos)
+}
+
+// Nothing was read yet of so many tables.
+fn unread(alloc: Global, count: usize) -> Result<Vec<Cursor>, AllocError>
+    ensures { IfOk result (λ cursors. AreUnread count cursors.items) }
+{
+    let mut cursors = Vec::with_capacity(alloc, count)?;
+    for _table in 0..count {
+        cursors.push(Cursor {
+            last: None,
+            done: false,
+        })?;
+    }
+    Ok(cursors)
+}
+
+// A connector's first offset, at a head of the log.
+fn offset_at(
+    alloc: Global,
+    config: &Config,
+    infos: Vec<TableInfo>,
+    head: Lsn,
+) -> Result<Offset, AllocError>
+    ensures { IfOk result (IsFirst config.now infos.items head) }
+{
+    let cursors = unread(alloc, infos.len())?;
+    Ok(Offset {
+        identity: config.identity.copy(alloc)?,
+        incarnation: 1,
+        start: head,
+        lsn: head,
+        end_lsn: head,
+        infos: Seq::make(infos),
+        cursors: Seq::make(cursors),
+    })
+}
+
+/// The first offset of a connector: each table is described, and then the head is asked for.
+pub fn first_offset<S: Source>(alloc: Global, config: &Config, src: &mut S) -> Result<Offset, Halt>
+    requires live { IsTrue (S.is_live src.old) }
+    requires config { IsGoodConfig config.now }
+    ensures first { Leads S.stands src.old src.new result (λ offset s t. Moved s t
+        × ((infos : _) × (head : _) × IsFirst config.now infos head offset
+        × (map (λ info. info.name) infos ≡ config.now.tables) × AreInfosOf t.history infos
+        × IsHead head s t)) }
+    ensures of { IfOk result (IsOffsetFor config.now None) }
+    ensures asked { IfOk result IsOffset }
+    ensures fault { IfErr result (λ h. (h ≡ Halt.Memory) ⊎ ((h ≡ Halt.Source)
+        ⊎ ((name : _) × Contains config.now.tables name × IsModelFault name (S.told src.new) h))) }
+    ensures absent { (s : Standing) → S.stands src.old s →
+        IfErr result (IsAbsentHalt config.now.tables s.history) }
+    ensures left { Leaves S.stands S.may_leave src.old src.new MayRest }
+    ensures some { LeavesSome S.stands S.may_leave src.old src.new }
+    ensures still { (s t : Standing) → S.stands src.old s → S.stands src.new t →
+        t.reading ≡ s.reading }
+    ensures taken { IsTakenBy [] (S.told src.old) (S.told src.new) }
+    ensures live { OnOk result (IsTrue (S.is_live src.new)) }
+    ensures honest { S.honest src.new → S.honest src.old }
+    ensures comes { S.comes_of src.old src.new }
+    ensures later { S.faults src.old ≤ S.faults src.new }
+    ensures failed { result ≡ Err Halt.Source → Rose (S.faults src.old) (S.faults src.new) }
+{
+    let infos = all_described(alloc, src, config.tables.items())?;
+    let head = src.head()?;
+    Ok(offset_at(alloc, config, infos, head)?)
+}
+
+/// The stored offset, of the next incarnation; none where none is stored.
+pub fn again<D: Disk>(alloc: Global, store: &OffsetStore<D>) -> Result<Option<Offset>, Halt>
+    requires { IsLive store.now }
+    ensures again { IfOk result (IsAgain store.now.offset) }
+    ensures asked { IfOk result (λ offset. IfSome offset IsOffset) }
+    ensures exhausted { IfSome store.now.offset (λ stored. 2 ^ 63 ≤ stored.incarnation →
+        result ≡ Err (Halt.Exhausted stored.incarnation)) }
+    ensures halt { IfErr result (λ h. (h ≡ Halt.Memory) ⊎ IsExhausted store.now.offset h) }
+{
+    let Some(stored) = store.load() else {
+        return Ok(None);
+    };
+    if stored.incarnation >= 1 << 63 {
+        return Err(Halt::Exhausted {
+            incarnation: stored.incarnation,
+        });
+    }
+    let mut offset = stored.copy(alloc)?;
+    offset.incarnation += 1;
+    Ok(Some(offset))
+}
+
+/// Stores an offset.
+pub fn put_offset<D: Disk>(
+    alloc: Global,
+    store: &mut OffsetStore<D>,
+    offset: Offset,
+) -> Result<(), Halt>
+    requires live { IsLive store.old }
+    requires offset { IsOffset offset }
+    ensures stored { (old : Option SpecOffset) → Holds D.seen D.may_leave store.old old →
+        OnOk result (Holds D.seen D.may_leave store.new (Some offset)) }
+    ensures left { (old : Option SpecOffset) → Holds D.seen D.may_leave store.old old →
+        LeavesOffset D.may_leave (disk_of store.new) (λ left. (left ≡ old) ⊎ (left ≡ Some offset)) }
+    ensures comes { ComesOf D.seen D.may_leave store.old store.new }
+    ensures loads { OnOk result (store.new.offset ≡ Some offset) }
+    ensures kept { OnErr result (result ≢ Err Halt.Offsets → store.new ≡ store.old) }
+    ensures keeps { OnErr result (store.new.offset ≡ store.old.offset) }
+    ensures live { OnOk result (IsLive store.new) }
+    ensures halt { IfErr result (λ h. (h ≡ Halt.Memory) ⊎ ((h ≡ Halt.Offsets)
+        ⊎ IsTooLong offset h)) }
+    ensures long { 2 ^ 28 < length (spelling offset) →
+        result ≡ Err (Halt.OffsetTooLong (capped (length (spelling offset)))) }
+    ensures later { D.faults (disk_of store.old) ≤ D.faults (disk_of store.new) }
+    ensures failed { result ≡ Err Halt.Offsets →
+        Rose (D.faults (disk_of store.old)) (D.faults (disk_of store.new)) }
+{
+    store.store(alloc, offset)?;
+    Ok(())
+}
+
+/// Reading begins behind an LSN.
+pub fn start<S: Source>(src: &mut S, after: Lsn) -> Result<(), Halt>
+    requires { IsTrue (S.is_live src.old) }
+    ensures started { Leads S.stands src.old src.new result (λ done. IsBegun after) }
+    ensures gone { (asked first : _) → result ≡ Err (Halt.Gone asked first) → (asked ≡ after)
+        × Tells (S.told src.new) (Began (Started.Gone first)) }
+    ensures never { (s : Standing) → S.stands src.old s → s.confirmed.0 ≤ after.0 →
+        (asked first : _) → result ≢ Err (Halt.Gone asked first) }
+    ensures halt { IfErr result (λ h. (h ≡ Halt.Memory) ⊎ ((h ≡ Halt.Source)
+        ⊎ IsGoneFrom after h)) }
+    ensures reading { OnOk result (IsTrue (S.is_reading src.new)) }
+    ensures left { Leaves S.stands S.may_leave src.old src.new MayFollow }
+    ensures some { LeavesSome S.stands S.may_leave src.old src.new }
+    ensures unread { (s t : Standing) → S.stands src.old s → S.stands src.new t →
+        IfSome t.reading (λ r. (r.after ≡ after) × (r.messages ≡ [])) }
+    ensures taken { OnOk result (IsTakenAnew (S.told src.old) (S.told src.new)) }
+    ensures fell { OnErr result (IsTakenBy [] (S.told src.old) (S.told src.new)
+        ⊎ IsTakenAnew (S.told src.old) (S.told src.new)) }
+    ensures live { OnOk result (IsTrue (S.is_live src.new)) }
+    ensures honest { S.honest src.new → S.honest src.old }
+    ensures comes { S.comes_of src.old src.new }
+    ensures later { S.faults src.old ≤ S.faults src.new }
+    ensures failed { result ≡ Err Halt.Source → Rose (S.faults src.old) (S.faults src.new) }
+{
+    match src.start(after)? {
+        Started::Ready => Ok(()),
+        Started::Gone { first } => Err(Halt::Gone {
+            asked: after,
+            first,
+        }),
+    }
+}

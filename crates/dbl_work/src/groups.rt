@@ -1,0 +1,181 @@
+//! Records in groups, as a sink takes them.
+
+ghost use Rattle.std.specs.Prelude.{◌≡◌, ◌≢◌, ◌⊎◌, ◌^◌, ◌<◌, ◌≤◌, ◌++◌, ◌∷◌, [], ℕ, Some, List, length, slice_get, IfErr, IfOk, IsErr, IsTrue, OnOk, OnErr};
+ghost use Rattle.dbl_base.specs.Streams.{Rose};
+ghost use Rattle.dbl_record.specs.declared.record.Record.{Record as SpecRecord};
+ghost use Rattle.dbl_record.specs.Cuts.{IsHandful, begins_behind, cut};
+ghost use Rattle.dbl_record.specs.Groups.{group_form};
+ghost use Rattle.dbl_topic.specs.Sinks.{IsLeftByPut, told_length};
+ghost use Rattle.dbl_work.specs.Causes.{IsLongRecord};
+ghost use Rattle.dbl_work.specs.Groups.{HasLastsAtItsEnd, HoldsPut, IsGathered, IsLeftByCut, WerePut, ends_commit, report_with};
+
+use crate::{Halt, Report};
+use dbl_record::{Record, record_length};
+use dbl_topic::Sink;
+use std::alloc::{AllocError, Global};
+
+/// The most records of a group.
+const RECORDS: usize = 1000;
+
+/// The most bytes of a group of several records.
+const BYTES: u64 = 16_777_216;
+
+// A group that was begun.
+#[derive(Drop)]
+struct Gathered {
+    items: Vec<Record>,
+    // of its bytes form
+    bytes: u64,
+    // of its last record
+    position: u64,
+}
+
+fn begun(alloc: Global, item: Record) -> Result<Gathered, AllocError>
+    ensures items { IfOk result (λ gathered. gathered.items.items ≡ item ∷ []) }
+    ensures gathered { IfOk result IsGathered }
+{
+    let position = item.position;
+    let bytes = record_length(&item).saturating_add(4);
+    let mut items = Vec::new(alloc);
+    items.push(item)?;
+    Ok(Gathered {
+        items,
+        bytes,
+        position,
+    })
+}
+
+// Whether a record begins a new group.
+#[tactic(auto, unfolding(dbl_record::specs::Cuts::begins_behind))]
+fn begins(gathered: &Gathered, item: &Record) -> bool
+    requires { IsGathered gathered.now }
+    ensures { result ≡ begins_behind gathered.now.items.items item.now }
+{
+    item.position != gathered.position
+        || gathered.items.len() >= RECORDS
+        || gathered.bytes.saturating_add(record_length(item)) > BYTES
+}
+
+// One record more.
+fn gather(gathered: &mut Gathered, item: Record) -> Result<(), AllocError>
+    requires { IsGathered gathered.old }
+    ensures items { OnOk result (gathered.new.items.items ≡ gathered.old.items.items ++ item ∷ []) }
+    ensures gathered { OnOk result (IsGathered gathered.new) }
+{
+    gathered.position = item.position;
+    gathered.bytes = gathered.bytes.saturating_add(record_length(&item));
+    gathered.items.push(item)?;
+    Ok(())
+}
+
+// Whether a group's last record is the last of its commit.
+fn ends(group: &Vec<Record>) -> bool
+    requires { IsHandful group.now.items }
+    ensures { result ≡ ends_commit group.now.items }
+{
+    match group.last() {
+        Some(item) => item.last,
+        None => false,
+    }
+}
+
+// What a group that was put adds to a report.
+fn note(report: &mut Report, group: &Vec<Record>, snapshot: bool)
+    requires { IsHandful group.now.items }
+    ensures { HasLastsAtItsEnd group.now.items →
+        report.new ≡ report_with snapshot group.now.items report.old }
+{
+    let count = group.len() as u64;
+    // All its counts are of 64 bits.
+    let (chunks, rows) = (report.chunks, report.snapshot_rows);
+    report.records = report.records.saturating_add(count);
+    if snapshot {
+        let ended = if ends(group) { 1 } else { 0 };
+        report.chunks = chunks.saturating_add(ended);
+        report.snapshot_rows = rows.saturating_add(count - ended);
+    }
+}
+
+// One group.
+fn put_group<K: Sink>(
+    sink: &mut K,
+    group: &Vec<Record>,
+    snapshot: bool,
+    report: &mut Report,
+) -> Result<(), Halt>
+    requires live { IsTrue (K.is_live sink.old) }
+    requires handful { IsHandful group.now.items }
+    ensures put { (groups : List (List SpecRecord)) → K.holds sink.old groups →
+        OnOk result (K.holds sink.new (groups ++ group.now.items ∷ [])) }
+    ensures kept { (groups : List (List SpecRecord)) → K.holds sink.old groups →
+        OnErr result (result ≢ Err Halt.Sink → K.holds sink.new groups) }
+    ensures left { (groups left : List (List SpecRecord)) → K.holds sink.old groups →
+        K.may_leave sink.new left → IsLeftByPut groups group.now.items left }
+    ensures some { (groups : List (List SpecRecord)) → K.holds sink.old groups →
+        (left : List (List SpecRecord)) × K.may_leave sink.new left }
+    ensures noted { OnOk result (HasLastsAtItsEnd group.now.items →
+        report.new ≡ report_with snapshot group.now.items report.old) }
+    ensures unnoted { OnErr result (report.new ≡ report.old) }
+    ensures halt { IfErr result (λ h. (h ≡ Halt.Memory) ⊎ ((h ≡ Halt.Sink)
+        ⊎ ((2 ^ 28 < length (group_form group.now.items))
+        × (h ≡ Halt.RecordTooLong (told_length group.now.items))))) }
+    ensures long { 2 ^ 28 < length (group_form group.now.items) → IsErr result }
+    ensures live { OnOk result (IsTrue (K.is_live sink.new)) }
+    ensures comes { K.comes_of sink.old sink.new }
+    ensures later { K.faults sink.old ≤ K.faults sink.new }
+    ensures failed { result ≡ Err Halt.Sink → Rose (K.faults sink.old) (K.faults sink.new) }
+{
+    sink.put(group)?;
+    note(report, group, snapshot);
+    Ok(())
+}
+
+/// Puts the records of a commit, in the groups of their cut. They are a snapshot's or a commit's own.
+pub fn put_all<K: Sink>(
+    alloc: Global,
+    sink: &mut K,
+    records: Vec<Record>,
+    snapshot: bool,
+    report: &mut Report,
+) -> Result<(), Halt>
+    requires live { IsTrue (K.is_live sink.old) }
+    ensures put { (groups : List (List SpecRecord)) → K.holds sink.old groups →
+        OnOk result (K.holds sink.new (groups ++ cut records.items)) }
+    ensures left { (groups left : List (List SpecRecord)) → K.holds sink.old groups →
+        K.may_leave sink.new left → IsLeftByCut groups records.items left }
+    ensures some { (groups : List (List SpecRecord)) → K.holds sink.old groups →
+        (left : List (List SpecRecord)) × K.may_leave sink.new left }
+    ensures noted { HasLastsAtItsEnd records.items →
+        WerePut snapshot records.items report.old report.new }
+    ensures whole { OnOk result (HasLastsAtItsEnd records.items →
+        report.new ≡ report_with snapshot records.items report.old) }
+    ensures kept { (groups : List (List SpecRecord)) → K.holds sink.old groups →
+        HasLastsAtItsEnd records.items → OnErr result (result ≢ Err Halt.Sink →
+        HoldsPut K.holds groups snapshot records.items report.old report.new sink.new) }
+    ensures halt { IfErr result (λ h. (h ≡ Halt.Memory) ⊎ ((h ≡ Halt.Sink)
+        ⊎ IsLongRecord records.items h)) }
+    ensures long { (place : ℕ) (item : SpecRecord) → slice_get records.items place ≡ Some item →
+        2 ^ 28 < length (group_form (item ∷ [])) → IsErr result }
+    ensures live { OnOk result (IsTrue (K.is_live sink.new)) }
+    ensures comes { K.comes_of sink.old sink.new }
+    ensures later { K.faults sink.old ≤ K.faults sink.new }
+    ensures failed { result ≡ Err Halt.Sink → Rose (K.faults sink.old) (K.faults sink.new) }
+{
+    // All its counts are of 64 bits.
+    let (_records, _chunks, _rows) = (report.records, report.chunks, report.snapshot_rows);
+    let mut rest = records.into_iter();
+    let Some(first) = rest.next() else {
+        return Ok(());
+    };
+    let mut gathered = begun(alloc, first)?;
+    'records: for item in rest {
+        if begins(&gathered, &item) {
+            put_group(sink, &gathered.items, snapshot, report)?;
+            gathered = begun(alloc, item)?;
+        } else {
+            gather(&mut gathered, item)?;
+        }
+    }
+    put_group(sink, &gathered.items, snapshot, report)?;
+    Ok(())
+}

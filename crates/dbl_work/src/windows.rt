@@ -1,0 +1,184 @@
+//! Windows of a session: rows that are read between two marks.
+
+ghost use Rattle.std.specs.Prelude.{◌≡◌, ◌⊎◌, ◌+◌, ◌^◌, ◌<◌, ◌≤◌, [], length, IfErr, IfOk, IsTrue, OnOk, Some, List};
+ghost use Rattle.dbl_base.specs.Streams.{Rose};
+ghost use Rattle.dbl_table.specs.declared.table.TableInfo.{TableInfo as SpecInfo};
+ghost use Rattle.dbl_honest.specs.Leaves.{Leaves, LeavesSome};
+ghost use Rattle.dbl_honest.specs.Standings.{Standing, Stood, Leads};
+ghost use Rattle.dbl_honest.specs.Told.{IsTakenBy};
+ghost use Rattle.dbl_window.specs.Plans.{Plan};
+ghost use Rattle.dbl_window.specs.Selected.{IsCaptured};
+ghost use Rattle.dbl_follow.specs.declared.window.Window.TheVariants as windows;
+ghost use Rattle.dbl_work.specs.Causes.{IsChunkHalt, IsHonestChunkHalt, IsHonestFault, IsOfRows};
+ghost use Rattle.dbl_work.specs.Halts.{window_halt};
+ghost use Rattle.dbl_work.specs.Windowed.{MayHaveMarks, HasReadWindow, WasLooked, WasWindowed};
+ghost use Rattle.dbl_work.specs.Works.{IsArmedWork, IsCalm, IsOpenTable, IsReady, plan_at};
+
+use crate::Halt;
+use crate::work::Work;
+use dbl_source::Source;
+use dbl_table::{Key, TableName};
+use dbl_window::{Armed, Idle, Marked, WindowError};
+use std::alloc::{AllocError, Global};
+
+// A window's fault, with its table.
+fn halt_of(alloc: Global, table: &TableName, error: WindowError) -> Halt
+    ensures { (result ≡ Halt.Memory) ⊎ (result ≡ window_halt table.now error) }
+{
+    let halted = match table.copy(alloc) {
+        Ok(table) => match error {
+            WindowError::BadChunk { row } => Halt::Chunk { table, row },
+            WindowError::Cell { column, error } => Halt::Cell {
+                table,
+                column,
+                error,
+            },
+            WindowError::Failed => Halt::Source,
+            WindowError::Memory => Halt::Memory,
+        },
+        Err(_) => match error {
+            WindowError::Failed => Halt::Source,
+            _ => Halt::Memory,
+        },
+    };
+    halted
+}
+
+// The rows behind a low mark, and the high mark behind them.
+fn rows_and_high<S: Source>(marked: Marked, src: &mut S) -> Result<Armed, WindowError>
+    requires { IsTrue (S.is_live src.old) }
+    ensures looked { Leads S.stands src.old src.new result
+        (λ armed s t. WasLooked (S.honest src.new) marked armed s t) }
+    ensures plan { IfOk result (λ armed. (armed.plan ≡ marked)
+        × (length armed.rows ≤ marked.limit)) }
+    ensures rows { IfErr result (λ e. (e ≡ WindowError.Memory) ⊎ ((e ≡ WindowError.Failed)
+        ⊎ IsOfRows marked (S.told src.new) e)) }
+    ensures never { (s : Standing) (infos : List SpecInfo) → S.stands src.old s → S.honest src.new →
+        IsCaptured infos s.history marked →
+        IfErr result (IsHonestFault marked (S.stands src.new) infos) }
+    ensures left { Leaves S.stands S.may_leave src.old src.new (MayHaveMarks 1 marked) }
+    ensures some { LeavesSome S.stands S.may_leave src.old src.new }
+    ensures still { (s t : Standing) → S.stands src.old s → S.stands src.new t →
+        t.reading ≡ s.reading }
+    ensures taken { IsTakenBy [] (S.told src.old) (S.told src.new) }
+    ensures calm { OnOk result (IsCalm (S.told src.new)) }
+    ensures reading { S.is_reading src.new ≡ S.is_reading src.old }
+    ensures live { OnOk result (IsTrue (S.is_live src.new)) }
+    ensures honest { S.honest src.new → S.honest src.old }
+    ensures comes { S.comes_of src.old src.new }
+    ensures later { S.faults src.old ≤ S.faults src.new }
+    ensures failed { result ≡ Err WindowError.Failed →
+        Rose (S.faults src.old) (S.faults src.new) }
+{
+    let held = marked.select(src)?;
+    held.high(src)
+}
+
+// The same with the low mark before them.
+fn between_marks<S: Source>(idle: Idle, src: &mut S) -> Result<Armed, WindowError>
+    requires { IsTrue (S.is_live src.old) }
+    ensures windowed { Leads S.stands src.old src.new result
+        (λ armed s t. WasWindowed (S.honest src.new) idle armed s t) }
+    ensures plan { IfOk result (λ armed. (armed.plan ≡ idle) × (length armed.rows ≤ idle.limit)) }
+    ensures rows { IfErr result (λ e. (e ≡ WindowError.Memory) ⊎ ((e ≡ WindowError.Failed)
+        ⊎ IsOfRows idle (S.told src.new) e)) }
+    ensures never { (s : Standing) (infos : List SpecInfo) → S.stands src.old s → S.honest src.new →
+        IsCaptured infos s.history idle →
+        IfErr result (IsHonestFault idle (S.stands src.new) infos) }
+    ensures left { Leaves S.stands S.may_leave src.old src.new (MayHaveMarks 2 idle) }
+    ensures some { LeavesSome S.stands S.may_leave src.old src.new }
+    ensures still { (s t : Standing) → S.stands src.old s → S.stands src.new t →
+        t.reading ≡ s.reading }
+    ensures taken { IsTakenBy [] (S.told src.old) (S.told src.new) }
+    ensures calm { OnOk result (IsCalm (S.told src.new)) }
+    ensures reading { S.is_reading src.new ≡ S.is_reading src.old }
+    ensures live { OnOk result (IsTrue (S.is_live src.new)) }
+    ensures honest { S.honest src.new → S.honest src.old }
+    ensures comes { S.comes_of src.old src.new }
+    ensures later { S.faults src.old ≤ S.faults src.new }
+    ensures failed { result ≡ Err WindowError.Failed →
+        Rose (S.faults src.old) (S.faults src.new) }
+{
+    let marked = idle.low(src)?;
+    rows_and_high(marked, src)
+}
+
+fn copied(alloc: Global, last: &Option<Key>) -> Result<Option<Key>, AllocError>
+    ensures { IfOk result (λ key. key ≡ last.now) }
+{
+    match last {
+        Some(key) => Ok(Some(key.copy(alloc)?)),
+        None => Ok(None),
+    }
+}
+
+// The next window, of this table.
+fn window_of(work: &Work, table: u32) -> Result<Idle, AllocError>
+    requires ready { IsReady work.now }
+    requires table { table < length work.now.offset.infos }
+    requires number { work.now.number + 1 < 2 ^ 64 }
+    ensures { IfOk result (λ idle. plan_at work.now table ≡ Some idle) }
+{
+    let info = work.offset.infos.items()[table as usize].copy(work.alloc)?;
+    let above = copied(work.alloc, &work.follower.cursors()[table as usize].last)?;
+    Ok(dbl_window::new(
+        work.alloc,
+        info,
+        table,
+        above,
+        work.chunk,
+        work.offset.incarnation,
+        work.number + 1,
+    ))
+}
+
+/// Reads the next window of a table between two marks, and waits for these.
+pub fn read_window<S: Source>(work: &mut Work, table: u32, src: &mut S) -> Result<(), Halt>
+    requires live { IsTrue (S.is_live src.old) }
+    requires ready { IsReady work.old }
+    requires absent { work.old.follower.window ≡ windows.Absent }
+    requires table { IsOpenTable work.old table }
+    requires number { work.old.number + 1 < 2 ^ 64 }
+
+    // What it has in hand, and what the source stands for.
+    ensures same { OnOk result (IsArmedWork table work.old work.new) }
+    ensures kept { work.new ≡
+        record work.old { follower = work.new.follower; number = work.new.number } }
+    ensures windowed { (s : Standing) → S.stands src.old s →
+        OnOk result (HasReadWindow (S.honest src.new) S.stands table work.old work.new s src.new) }
+
+    // Why it halts.
+    ensures halt { IfErr result (IsChunkHalt work.old table (S.told src.new)) }
+    ensures never { (s : Standing) (infos : List SpecInfo) (plan : Plan) →
+        S.stands src.old s → S.honest src.new →
+        plan_at work.old table ≡ Some plan → IsCaptured infos s.history plan →
+        IfErr result (IsHonestChunkHalt plan (S.stands src.new) infos) }
+    ensures failed { result ≡ Err Halt.Source → Rose (S.faults src.old) (S.faults src.new) }
+
+    // Of the source, whatever it answers.
+    ensures left { (plan : Plan) → plan_at work.old table ≡ Some plan →
+        Leaves S.stands S.may_leave src.old src.new (MayHaveMarks 2 plan) }
+    ensures some { LeavesSome S.stands S.may_leave src.old src.new }
+    ensures calm { OnOk result (IsCalm (S.told src.new)) }
+    ensures still { (s t : Standing) → S.stands src.old s → S.stands src.new t →
+        t.reading ≡ s.reading }
+    ensures taken { IsTakenBy [] (S.told src.old) (S.told src.new) }
+    ensures reading { S.is_reading src.new ≡ S.is_reading src.old }
+    ensures live { OnOk result (IsTrue (S.is_live src.new)) }
+    ensures honest { S.honest src.new → S.honest src.old }
+    ensures comes { S.comes_of src.old src.new }
+    ensures later { S.faults src.old ≤ S.faults src.new }
+{
+    let idle = window_of(work, table)?;
+    match between_marks(idle, src) {
+        Ok(armed) => {
+            work.number += 1;
+            work.follower.arm(armed);
+            Ok(())
+        }
+        Err(error) => {
+            let info = &work.offset.infos.items()[table as usize];
+            Err(halt_of(work.alloc, &info.name, error))
+        }
+    }
+}

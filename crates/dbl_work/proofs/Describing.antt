@@ -26,7 +26,6 @@ use Rattle.dbl_history.specs.History.{History, IsRising, entry_of}
 use Rattle.dbl_honest.specs.Calls.{IsHead, Moved}
 use Rattle.dbl_honest.specs.Leaves.{MayFollow}
 use Rattle.dbl_honest.specs.Standings.{Standing, Left}
-use Rattle.dbl_honest.specs.Told.{Told, Described, Tells}
 use Rattle.dbl_honest.proofs.GrowthLemmas.{grows_on}
 use Rattle.dbl_offset.specs.declared.offset.Offset.{Offset}
 use Rattle.dbl_offset.specs.Offsets.{IsOffset}
@@ -34,7 +33,7 @@ use Rattle.dbl_faithful.proofs.Items.{all_weaker}
 use Rattle.dbl_stores.specs.Behind.{IsUnread}
 use Rattle.dbl_work.specs.declared.halt.Halt.{Halt}
 use Rattle.dbl_work.specs.declared.halt.Halt.TheVariants as halt
-use Rattle.dbl_work.specs.Begins.{AreDescribed, AreUnread, CanBeCaptured, IsAbsentHalt, IsFaultOf, IsFaultless, IsFirst, IsFirstAtFault, IsInfoAt, IsModelFault, IsOffsetFor, MayRest}
+use Rattle.dbl_work.specs.Begins.{AreDescribed, AreUnread, CanBeCaptured, IsAbsentHalt, IsFaultOf, IsFirst, IsFirstAtFault, IsInfoAt, IsOffsetFor, MayRest}
 use Rattle.dbl_work.specs.Halts.{model_halt}
 
 -- ---- one table

@@ -1,8 +1,7 @@
 -- What is known where a call of a device answered an error, and where two calls stand one behind the other.
-use Rattle.std.proofs.Common.{◌≡◌, ◌∙◌, ◌⊎◌, inl, inr, ◌+◌, ◌-◌, ◌^◌, ◌≤◌, ◌<◌, ℕ, Bool, true, false, Option, Some, None, List, [], length, refl, sym, ap, subst, arith, IsTrue}
+use Rattle.std.proofs.Common.{◌≡◌, ◌∙◌, ◌⊎◌, inl, inr, ◌+◌, ◌-◌, ◌^◌, ◌≤◌, ◌<◌, ℕ, Bool, true, false, Option, Some, None, List, [], length, refl, sym, ap, arith, IsTrue}
 use Rattle.std.specs.Prelude.{min, Result, Ok, Err, IfOk}
 use Rattle.dbl_base.specs.Streams.{Rose}
-use Rattle.dbl_table.specs.declared.table.RawRow.{RawRow}
 use Rattle.dbl_table.specs.declared.table.TableName.{TableName}
 use Rattle.dbl_history.specs.History.{History}
 use Rattle.dbl_honest.specs.Calls.{Moved}
@@ -16,7 +15,6 @@ use Rattle.dbl_offset.specs.Entries.{spelling}
 use Rattle.dbl_offset.specs.Measures.{capped}
 use Rattle.dbl_source.specs.declared.error.SourceError.{SourceError}
 use Rattle.dbl_source.specs.declared.error.SourceError.TheVariants as source
-use Rattle.dbl_work.specs.declared.halt.Halt.{Halt}
 use Rattle.dbl_work.specs.declared.halt.Halt.TheVariants as halt
 use Rattle.dbl_work.specs.Begins.{IsAbsentHalt, IsTooLong}
 use Rattle.dbl_work.specs.Halts.{offset_halt, source_halt}

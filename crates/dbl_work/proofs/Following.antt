@@ -1,5 +1,5 @@
 -- Why a commit isn't followed.
-use Rattle.std.proofs.Common.{◌≡◌, ◌⊎◌, inl, inr, Option, Some, None, List, refl, sym, ap}
+use Rattle.std.proofs.Common.{◌≡◌, ◌⊎◌, inl, inr, Option, Some, None, List, refl}
 use Rattle.std.specs.Prelude.{option_map}
 use Rattle.dbl_record.specs.declared.record.Record.{Record}
 use Rattle.dbl_envelope.specs.declared.error.EnvelopeError.TheVariants as writer

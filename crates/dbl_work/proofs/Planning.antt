@@ -1,7 +1,6 @@
 -- What the next window of a table is to read, where the table is open.
-use Rattle.std.proofs.Common.{◌≡◌, ◌∙◌, ◌+◌, ◌≤◌, ◌<◌, ℕ, zero, suc, false, Option, Some, None, List, [], ◌∷◌, length, refl, sym, ap, subst, arith}
+use Rattle.std.proofs.Common.{◌≡◌, ◌∙◌, ◌+◌, ◌<◌, ℕ, zero, suc, Option, Some, None, List, [], ◌∷◌, length, refl, sym, ap, subst}
 use Rattle.std.specs.Prelude.{IfSome, slice_get}
-use Rattle.dbl_table.specs.declared.row.Key.{Key}
 use Rattle.dbl_table.specs.declared.table.TableInfo.{TableInfo}
 use Rattle.dbl_table.proofs.Lists.{slice_get-lt}
 use Rattle.dbl_history.specs.declared.cursor.Cursor.{Cursor}

@@ -1,6 +1,6 @@
 -- The records of a commit, as they are put group by group: what the sink holds, what it may leave, and what a report counts.
 use Rattle.std.proofs.Common.{◌≡◌, ◌∙◌, ◌⊎◌, inl, inr, ◌+◌, ◌-◌, ◌^◌, ◌≤◌, ◌<◌, ℕ, zero, suc, min, Bool, true, false, cond, Some, List, [], ◌∷◌, ◌++◌, length, filter, take, refl, sym, ap, subst, arith, append_assoc, append-nil, length-append, le_refl}
-use Rattle.std.specs.Prelude.{if◌then◌else◌, slice_get}
+use Rattle.std.specs.Prelude.{slice_get}
 use Rattle.std.specs.List.{AllByRecursion}
 use Rattle.std.proofs.lemmas.List.Concat.{flat_map-append}
 use Rattle.std.proofs.lemmas.List.Elements.{filter-append}
@@ -13,7 +13,7 @@ use Rattle.dbl_agreement.proofs.Consumers.{all_right}
 use Rattle.dbl_faithful.proofs.Items.{at_left, at_right}
 use Rattle.dbl_session.proofs.Events.{take_whole}
 use Rattle.dbl_work.specs.declared.report.Report.{Report}
-use Rattle.dbl_work.specs.Groups.{counted, lasts, chunks_of, rows_of, report_with, IsLeftByCut, HasLastsAtItsEnd}
+use Rattle.dbl_work.specs.Groups.{lasts, chunks_of, rows_of, report_with, IsLeftByCut, HasLastsAtItsEnd}
 
 -- ---- where the puts stand
 

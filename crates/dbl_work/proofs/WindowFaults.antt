@@ -1,6 +1,6 @@
 -- Why a window isn't read, and which halt it is.
-use Rattle.std.proofs.Common.{◌≡◌, ◌∙◌, ◌⊎◌, inl, inr, ℕ, Option, Some, None, List, refl, sym, ap, subst}
-use Rattle.std.specs.Prelude.{Result, Ok, Err, IfErr, slice_get}
+use Rattle.std.proofs.Common.{◌≡◌, ◌∙◌, ◌⊎◌, inl, inr, ℕ, Option, Some, List, refl, sym, ap, subst}
+use Rattle.std.specs.Prelude.{Err, slice_get}
 use Rattle.dbl_value.specs.declared.error.ValueError.{ValueError}
 use Rattle.dbl_table.specs.declared.table.TableInfo.{TableInfo}
 use Rattle.dbl_table.specs.declared.table.TableName.{TableName}

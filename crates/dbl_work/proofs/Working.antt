@@ -1,7 +1,5 @@
 -- What a session has in hand when it begins, and the offset that it would store.
 use Rattle.std.proofs.Common.{◌≡◌, ◌∙◌, ◌≤◌, List, [], refl, sym, ap, subst}
-use Rattle.dbl_base.specs.declared.lsn.Lsn.{Lsn}
-use Rattle.dbl_pgmsg.specs.declared.messages.Message.{Message}
 use Rattle.dbl_table.specs.declared.change.Change.{Change}
 use Rattle.dbl_table.specs.declared.table.TableInfo.{TableInfo}
 use Rattle.dbl_history.specs.Cursors.{AreCursorsOf}
@@ -12,7 +10,7 @@ use Rattle.dbl_offset.specs.Offsets.{IsOffset}
 use Rattle.dbl_follow.specs.Followed.{Following}
 use Rattle.dbl_session.specs.Steps.{following_of}
 use Rattle.dbl_work.specs.declared.work.Work.{Work}
-use Rattle.dbl_work.specs.Works.{IsBegun, IsOwnWaiting, IsWork, next_of}
+use Rattle.dbl_work.specs.Works.{IsBegun, IsOwnWaiting}
 
 -- the assembler of copies of the tables is that of the tables
 stands_so : (offset : Offset) (copies : List TableInfo) (work : Work) → work.offset ≡ offset → copies ≡ offset.infos → ((held : List Change) → Stands copies offset.lsn [] held work.assembler)

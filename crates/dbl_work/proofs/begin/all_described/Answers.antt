@@ -3,10 +3,10 @@ use Rattle.std.specs.Prelude.{Err}
 use Rattle.std.proofs.lemmas.Result.{err_from_is_err_and}
 use Rattle.dbl_table.specs.declared.table.TableInfo.{TableInfo}
 use Rattle.dbl_table.specs.declared.table.TableName.{TableName}
-use Rattle.dbl_honest.specs.Standings.{Standing, left_of}
+use Rattle.dbl_honest.specs.Standings.{left_of}
 use Rattle.dbl_work.specs.declared.halt.Halt.{Halt}
 use Rattle.dbl_work.specs.declared.halt.Halt.TheVariants as halt
-use Rattle.dbl_work.specs.Begins.{AreDescribed, IsAbsentHalt}
+use Rattle.dbl_work.specs.Begins.{AreDescribed}
 use Rattle.dbl_work.proofs.Exits.{later_on, moved_on, none_taken, rose_behind, taken_on}
 use Rattle.dbl_work.proofs.Describing.{absent_next, described_more, moved_none, name_among, named_push, rest_on}
 use Rattle.dbl_work.proofs.begin.all_described.Goals as goal

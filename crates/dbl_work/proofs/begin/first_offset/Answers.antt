@@ -8,7 +8,7 @@ use Rattle.dbl_honest.specs.Standings.{Standing}
 use Rattle.dbl_source.specs.declared.error.SourceError.{SourceError}
 use Rattle.dbl_work.specs.declared.halt.Halt.TheVariants as halt
 use Rattle.dbl_work.specs.Begins.{IsAbsentHalt}
-use Rattle.dbl_work.proofs.Exits.{dead_source, later_on, moved_on, rose_behind, source_absent, source_failed, taken_on}
+use Rattle.dbl_work.proofs.Exits.{moved_on, rose_behind, source_absent, source_failed, taken_on}
 use Rattle.dbl_work.proofs.Describing.{first_is_for, first_is_offset, head_from, infos_described, rest_on}
 use Rattle.dbl_work.proofs.begin.first_offset.Goals as goal
 

@@ -1,4 +1,4 @@
-use Rattle.std.proofs.Common.{◌≡◌, ◌∙◌, Bool, true, cond, ap, sym}
+use Rattle.std.proofs.Common.{◌≡◌, ◌∙◌, Bool, cond, ap, sym}
 use Rattle.dbl_work.specs.Groups.{ends_commit, report_with}
 use Rattle.dbl_work.proofs.Gathering.{noted_snapshot}
 use Rattle.dbl_work.proofs.groups.note.Goals as goal

@@ -1,6 +1,6 @@
-use Rattle.std.proofs.Common.{◌≡◌, ◌∙◌, ◌⊎◌, ◌≤◌, inl, length, refl, sym, ap, subst}
+use Rattle.std.proofs.Common.{◌≡◌, ◌∙◌, ◌⊎◌, ◌≤◌, inl, length, refl, sym, subst}
 use Rattle.std.proofs.lemmas.Result.{IfErr-weaker, IfOk-weaker, err_from_is_err_and}
-use Rattle.dbl_honest.specs.Standings.{Standing, Stood}
+use Rattle.dbl_honest.specs.Standings.{Stood}
 use Rattle.dbl_window.specs.declared.error.WindowError.{WindowError}
 use Rattle.dbl_window.specs.declared.error.WindowError.TheVariants as window
 use Rattle.dbl_window.specs.Plans.{Chunk, Plan, low_text}

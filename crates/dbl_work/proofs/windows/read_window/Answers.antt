@@ -3,7 +3,7 @@ use Rattle.std.specs.Prelude.{Err, slice_get}
 use Rattle.std.proofs.lemmas.Option.{slice_get_read}
 use Rattle.std.proofs.lemmas.Result.{err_from_is_err_and}
 use Rattle.dbl_table.specs.declared.table.TableInfo.{TableInfo}
-use Rattle.dbl_honest.specs.Standings.{Standing, Stood, left_of}
+use Rattle.dbl_honest.specs.Standings.{Stood}
 use Rattle.dbl_window.specs.declared.error.WindowError.{WindowError}
 use Rattle.dbl_window.specs.Plans.{Plan}
 use Rattle.dbl_window.specs.Selected.{IsCaptured}

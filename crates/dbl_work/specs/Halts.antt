@@ -1,5 +1,4 @@
--- Which halt an error becomes. Want of memory is one, whatever wanted it.
-use Rattle.std.specs.Prelude.{ℕ}
+-- Which halt an error becomes. Out of memory is one, whatever ran out of it.
 use Rattle.dbl_table.specs.declared.error.ModelError.{ModelError}
 use Rattle.dbl_table.specs.declared.error.ModelError.TheVariants as model
 use Rattle.dbl_table.specs.declared.table.TableName.{TableName}
@@ -12,10 +11,6 @@ use Rattle.dbl_topic.specs.declared.error.SinkError.{SinkError}
 use Rattle.dbl_topic.specs.declared.error.SinkError.TheVariants as sink
 use Rattle.dbl_offset.specs.declared.error.OffsetError.{OffsetError}
 use Rattle.dbl_offset.specs.declared.error.OffsetError.TheVariants as offset
-use Rattle.dbl_pgmsg.specs.declared.error.MsgError.{MsgError}
-use Rattle.dbl_pgmsg.specs.declared.error.MsgError.TheVariants as message
-use Rattle.dbl_commit.specs.declared.txn_error.TxnError.{TxnError}
-use Rattle.dbl_commit.specs.declared.txn_error.TxnError.TheVariants as txn
 use Rattle.dbl_window.specs.declared.error.WindowError.{WindowError}
 use Rattle.dbl_window.specs.declared.error.WindowError.TheVariants as window
 use Rattle.dbl_work.specs.declared.halt.Halt.{Halt}
@@ -49,15 +44,6 @@ model_halt (model.FloatColumn table column) = halt.Model (model.FloatColumn tabl
 model_halt (model.NoKey table) = halt.Model (model.NoKey table)
 model_halt (model.KeyType table column) = halt.Model (model.KeyType table column)
 model_halt model.Memory = halt.Memory
-
--- of a message with this number
-abbrev pub message_halt : ℕ → MsgError → Halt
-message_halt number message.Memory = halt.Memory
-message_halt number error = halt.Message number error
-
-abbrev pub txn_halt : ℕ → TxnError → Halt
-txn_halt number txn.Memory = halt.Memory
-txn_halt number error = halt.Txn number error
 
 -- of a window of this table
 abbrev pub window_halt : TableName → WindowError → Halt

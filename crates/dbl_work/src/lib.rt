@@ -1,4 +1,5 @@
-//! What a session of a connector has in hand, and what it does with a source, a sink or a store: at most two calls of them at a time.
+//! What a session of a connector has in hand, and what it does with a source, a sink
+//! or a store, with one of them at a time.
 #![tactic(auto)]
 
 mod begin;

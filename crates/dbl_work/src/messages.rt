@@ -1,6 +1,6 @@
 //! Messages that were read, and commits that are followed.
 
-ghost use Rattle.std.specs.Prelude.{◌≡◌, ◌≢◌, ◌⊎◌, ◌+◌, ◌^◌, ◌<◌, ◌≤◌, ◌++◌, All, Some, None, List, IfErr, IfOk, IfSome, IsErr, IsTrue, OnOk, is_ok, is_some};
+ghost use Rattle.std.specs.Prelude.{◌≡◌, ◌≢◌, ◌⊎◌, ◌+◌, ◌^◌, ◌<◌, ◌≤◌, ◌++◌, All, Some, None, List, IfErr, IfOk, IfSome, IsErr, IsTrue, OnErr, OnOk, is_ok, is_some};
 ghost use Rattle.dbl_base.specs.declared.lsn.Lsn.{Lsn as SpecLsn};
 ghost use Rattle.dbl_base.specs.Streams.{Rose};
 ghost use Rattle.dbl_pgmsg.specs.declared.messages.Message.{Message as SpecMessage};
@@ -14,6 +14,7 @@ ghost use Rattle.dbl_commit.specs.Stated.{transaction_fault};
 ghost use Rattle.dbl_txn.specs.Stands.{StandsWhole, Taken};
 ghost use Rattle.dbl_follow.specs.Steps.{clash_by, mark_of, records_by};
 ghost use Rattle.dbl_work.specs.Causes.{IsLongRecord};
+ghost use Rattle.dbl_work.specs.Groups.{HoldsPut};
 ghost use Rattle.dbl_work.specs.Takes.{IsClashIn, IsLeftByStep, IsMessageHalt, IsTxnHalt, ReportsStep, WasStepped, WasTaken, closes};
 ghost use Rattle.dbl_work.specs.Works.{AreShort, IsReady, IsWork};
 
@@ -102,6 +103,11 @@ pub fn follow<K: Sink>(
         K.may_leave sink.new left → IsLeftByStep commit.now work.old groups left }
     ensures some { (groups : List (List SpecRecord)) → K.holds sink.old groups →
         (left : List (List SpecRecord)) × K.may_leave sink.new left }
+    // Behind an error but the sink's, what the sink holds and what the report counts are one prefix of the records.
+    ensures kept { (groups : List (List SpecRecord)) → K.holds sink.old groups →
+        OnErr result (result ≢ Err Halt.Sink → HoldsPut K.holds groups
+        (is_some (mark_of commit.now)) (records_by work.old.follower commit.now work.old.now_ms)
+        report.old report.new sink.new) }
     ensures stepped { OnOk result (WasStepped commit.now work.old work.new) }
     ensures closes { IfOk result (λ closed. closed ≡ closes work.old commit.now) }
     ensures noted { ReportsStep commit.now work.old report.old report.new (is_ok result) }

@@ -1,17 +1,19 @@
 use Rattle.std.proofs.Common.{◌≡◌, ◌∙◌, ◌⊎◌, ◌++◌, List, refl, sym, ap, subst, arith, rules, of_z, to_z, w64}
-use Rattle.std.specs.Prelude.{Err}
+use Rattle.std.specs.Prelude.{Bool, Err, is_some}
 use Rattle.std.proofs.Math.Facts.{to_z-of_z}
 use Rattle.std.proofs.lemmas.Result.{err_from_is_err_and}
 use Rattle.dbl_record.specs.declared.record.Record.{Record}
 use Rattle.dbl_record.specs.Cuts.{cut}
-use Rattle.dbl_follow.specs.Steps.{clash_by, records_by}
+use Rattle.dbl_follow.specs.Steps.{clash_by, mark_of, records_by}
+use Rattle.dbl_work.specs.declared.halt.Halt.{Halt}
 use Rattle.dbl_work.specs.declared.halt.Halt.TheVariants as halt
 use Rattle.dbl_work.specs.declared.report.Report.{Report}
 use Rattle.dbl_work.specs.Causes.{IsLongRecord}
-use Rattle.dbl_work.specs.Groups.{HasLastsAtItsEnd}
+use Rattle.dbl_work.specs.Groups.{HasLastsAtItsEnd, HoldsPut}
 use Rattle.dbl_work.specs.Halts.{follow_halt}
 use Rattle.dbl_work.specs.Works.{AreShort}
 use Rattle.dbl_work.proofs.Following.{clash_halt, clash_kinds, follow_not_sink, put_halt}
+use Rattle.dbl_work.proofs.Putting.{none_holds}
 use Rattle.dbl_work.proofs.Taking.{closes_mark, lasts_by, none_by_changes, reports_all, reports_none, reports_some, short_by_place, step_are, step_left, step_listed}
 use Rattle.dbl_work.proofs.messages.follow.Goals as goal
 use Rattle.dbl_work.proofs.messages.follow.Goals.{then-snapshot, else-snapshot}
@@ -29,6 +31,13 @@ returns-in_err-records-clause-halt g c =
     let error = c.in_err-records.field-0.0 in
     let clash = clash_by work.follower commit in
     rw (p.1, p.2) (clash_halt clash (records_by work.follower commit work.now_ms) (follow_halt error) (clash_kinds clash error c.in_err-records.ensures.err))
+
+pub returns-in_err-records-clause-kept : goal.returns-in_err-records-clause-kept
+returns-in_err-records-clause-kept g c groups held =
+    let p = err_from_is_err_and c.from_residual.result c.from_residual.ensures.1 in
+    let work = c.args.work.now in
+    let commit = c.args.commit.now in
+    rw p.1 (λ other. none_holds g.K.Sink.holds (is_some (mark_of commit)) groups (records_by work.follower commit work.now_ms) c.args.sink.now c.args.report.now (omega arith) (omega arith) (omega arith) held)
 
 pub returns-in_err-records-clause-sink : goal.returns-in_err-records-clause-sink
 returns-in_err-records-clause-sink g c is =
@@ -53,6 +62,20 @@ returns-in_err-put_all-clause-left g c groups left held may =
     let told = c.in_ok-records.ensures in
     step_left commit work c.step.new.self items groups left told.steps told.no_clash (step_listed work commit items _ time told.records told.snapshot) (step_are work commit items _ time told.records)
     (c.put_all.ensures.left groups left held may)
+
+pub returns-in_err-put_all-clause-kept : goal.returns-in_err-put_all-clause-kept
+returns-in_err-put_all-clause-kept g c groups held =
+    let p = err_from_is_err_and c.from_residual-in_err-put_all.result c.from_residual-in_err-put_all.ensures.1 in
+    let work = c.args.work.now in
+    let commit = c.args.commit.now in
+    let items = c.in_ok-records.records.items in
+    let time : to_z w64 (of_z w64 work.now_ms) ≡ work.now_ms = to_z-of_z {w = w64} {z = work.now_ms} (search rules) in
+    let are = step_are work commit items _ time c.in_ok-records.ensures.records in
+    let lasts = subst HasLastsAtItsEnd (sym are) (lasts_by work.follower commit work.now_ms) in
+    rw (p.1, p.2) (λ other.
+    subst (λ (l : List Record). HoldsPut g.K.Sink.holds groups (is_some (mark_of commit)) l c.args.report.now c.put_all.new.report c.put_all.new.sink) are
+    (subst (λ (b : Bool). HoldsPut g.K.Sink.holds groups b items c.args.report.now c.put_all.new.report c.put_all.new.sink) c.is_mark-snapshot.ensures
+    (c.in_err-put_all.ensures.kept groups held lasts (λ failed. let is : c.in_err-put_all.field-0.0 ≡ halt.Sink = cc in other (ap (λ (x : Halt). Err x) is)))))
 
 pub returns-in_err-put_all-clause-noted : goal.returns-in_err-put_all-clause-noted
 returns-in_err-put_all-clause-noted g c =

@@ -18,5 +18,6 @@ pub use laws::{
     marks_keep_fair, new_sources_are_fair, selects_have_returned, selects_keep_fair,
 };
 pub use moves::{COMMIT_LIMIT, Move, has_room};
+pub use reading::{Step, next_step};
 pub use scripted::ScriptedSource;
 pub use source::Source;

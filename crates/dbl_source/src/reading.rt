@@ -21,7 +21,7 @@ use std::collections::BTreeSet;
 
 /// What is read next: its bytes, where the reader is behind it, and the table that it describes.
 #[derive(Debug, Drop)]
-pub(crate) struct Step {
+pub struct Step {
     pub bytes: Bytes,
     pub place: Place,
     pub described: Option<u32>,
@@ -219,7 +219,7 @@ fn inner_step(
 }
 
 /// What is read next of the commit with this number, which is the entry.
-pub(crate) fn next_step(
+pub fn next_step(
     alloc: Global,
     tables: &[LogTable],
     entry: &Logged,

@@ -1,4 +1,4 @@
--- For private clauses: a change that was planned, before the store takes it.
+-- A change that was planned, before the store takes it.
 use Rattle.std.specs.Prelude.{◌≡◌, ◌⊎◌, ℕ, ◌≤◌, ◌&&◌, not, Bool, true, false, if◌then◌else◌, is_some, IfSome, Option, None, Some, Result, Ok, Err, List, [], ◌∷◌, ◌++◌, length}
 use Rattle.std.specs.List.{AllByRecursion, list_any}
 use Rattle.dbl_pgmsg.specs.declared.messages.Message.{Message}

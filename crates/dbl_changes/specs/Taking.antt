@@ -1,4 +1,4 @@
--- For private clauses: how the store takes a planned change, and what it leaves where memory is wanting.
+-- How the store takes a planned change, and what it leaves where memory runs out.
 use Rattle.std.specs.Prelude.{◌≡◌, ◌||◌, ◌++◌, ℕ, true, List, [], ◌∷◌, bytes_eq}
 use Rattle.std.specs.List.{AllByRecursion}
 use Rattle.std.specs.BTreeSet.{contains}

@@ -1,4 +1,4 @@
--- For private clauses: locks that were put on the keys of some writes.
+-- Locks that were put on the keys of some writes.
 use Rattle.std.specs.Prelude.{◌≡◌, ◌&&◌, not, Bool, true, if◌then◌else◌, Option, Some, List, [], ◌∷◌}
 use Rattle.std.specs.List.{list_any}
 use Rattle.dbl_table.specs.declared.row.Key.{Key}

@@ -1,4 +1,4 @@
-//! How a planned change is taken: what can want memory comes before anything is seen of it.
+//! How a planned change is taken: all that can run out of memory comes before anything is seen of it.
 
 ghost use Rattle.std.specs.Prelude.{OnOk, OnErr};
 ghost use Rattle.std.specs.List.{AllByRecursion};

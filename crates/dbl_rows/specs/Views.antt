@@ -1,4 +1,4 @@
--- For private clauses: what the store holds of a table, key by key.
+-- What the store holds of a table, key by key.
 use Rattle.std.specs.Prelude.{◌≡◌, ℕ, ◌||◌, IfSome, length, Bool, false, if◌then◌else◌, Option, None, Some, option_map, option_and_then, List, bytes_eq}
 use Rattle.std.specs.BTreeMap.{BTreeMap, get}
 use Rattle.std.specs.BTreeSet.{BTreeSet, contains}

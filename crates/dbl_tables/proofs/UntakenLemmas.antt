@@ -1,4 +1,4 @@
--- The whole store where a change wasn't taken for want of memory: nobody sees anything of it.
+-- The whole store where a change wasn't taken because memory ran out: nobody sees anything of it.
 use Rattle.std.proofs.Common.{◌≡◌, ◌∙◌, ℕ, Bool, true, false, Option, Some, None, List, length, map, refl, sym, ap, subst}
 use Rattle.std.specs.Prelude.{◌||◌, nat_eq, IfSome, if◌then◌else◌, slice_get, bytes_eq}
 use Rattle.std.specs.List.{AllByRecursion}

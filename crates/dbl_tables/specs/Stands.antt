@@ -53,7 +53,7 @@ pub record IsAccepted (tables : List DemoTable) (past : List Accepted) (call : S
   pub accepted : judged tables past call ≡ Ok act
   pub stands : Stands tables (act ∷ past) new
 
--- the call was refused, by its first refusal or for want of memory, and the store stands as it did
+-- the call was refused, by its first refusal or because memory ran out, and the store stands as it did
 pub record IsRefused (tables : List DemoTable) (past : List Accepted) (call : Step) (e : StepError) (new : Tables) : Type 0 where
   pub why : (e ≡ errors.Memory) ⊎ (judged tables past call ≡ Err e)
   pub stands : Stands tables past new

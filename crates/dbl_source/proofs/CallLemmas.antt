@@ -45,6 +45,7 @@ pub record WentOn (old new : Played) : Type 0 where
   pub confirmed : new.confirmed ≡ old.confirmed
   pub place : new.place ≡ old.place
   pub last : new.last ≡ old.last
+  pub ended : new.ended ≡ old.ended
 
 -- so it stands for its old parts over the longer log
 pub standing_went : (old new : Played) (w : WentOn old new) → standing_of new ≡ standing_at old.tables (old.log ++ map Changes w.more) old.confirmed old.place
@@ -146,7 +147,7 @@ module _ (old mid : Played) (s : Standing) (w : WentOn old mid) (kept : IsKept o
       at : Bool → Started
       at b = if b then Gone mid.confirmed else Ready
 
-      by : (b : Bool) → nat_lt after.0 mid.confirmed.0 ≡ b → Stood StandsFor (with_answer (answers.Began (at b)) (record mid { place = place_of after (at b) })) (Starts after (at b) s)
+      by : (b : Bool) → nat_lt after.0 mid.confirmed.0 ≡ b → Stood StandsFor (with_answer (answers.Began (at b)) (record mid { place = place_of after (at b); ended = false })) (Starts after (at b) s)
       by true low =
           let lt : after.0 < mid.confirmed.0 = grind (arith, nat_tests) in
           let gone = gone_behind mid.tables mid.log mid.confirmed after mid.place lt in

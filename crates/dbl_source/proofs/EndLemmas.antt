@@ -1,6 +1,6 @@
 -- What a source promises of each of the seven calls, from what the call made of the script.
 use Rattle.std.proofs.Common.{◌≡◌, ◌∙◌, ℕ, true, false, Option, Some, None, List, [], ◌∷◌, length, map, refl, sym, ap, subst, ◌++◌}
-use Rattle.std.specs.Prelude.{IsTrue, is_some, IfSome, MatchOption, slice_get, Result, Ok, Err, IfOk, OnOk}
+use Rattle.std.specs.Prelude.{IsTrue, is_some, is_none, IfSome, MatchOption, slice_get, Result, Ok, Err, IfOk, OnOk}
 use Rattle.dbl_base.specs.declared.lsn.Lsn.{Lsn}
 use Rattle.dbl_pgmsg.specs.declared.messages.Message.{Message}
 use Rattle.dbl_pgmsg.specs.Grammar.{Spells, spelling}
@@ -22,15 +22,15 @@ use Rattle.dbl_source.specs.declared.asked.Last.{Last}
 use Rattle.dbl_source.specs.declared.asked.Last.TheVariants as answers
 use Rattle.dbl_source.specs.Played.{Played, messages_of, told_of, inside_of, released, with_answer, with_mark, with_confirmed, started_at, with_start, with_head, with_select, before_of, next_rows}
 use Rattle.dbl_source.specs.Steps.{IsKept, StandsFor, MayLeave, WasFair, IsAtEnd, IsUnfit}
-use Rattle.dbl_source.specs.Exits.{AnswersEntry, AnswersHead, AnswersStart, HasRead, last_read, AnswersRead, AnswersRows, Plays}
+use Rattle.dbl_source.specs.Exits.{AnswersEntry, AnswersHead, AnswersStart, HasRead, last_read, with_read, AnswersRead, AnswersRows, Plays}
 use Rattle.dbl_source.proofs.CallLemmas.{WentOn, went_follows, went_fair, went_read, head_leads, describe_leads, confirm_leads, confirm_follows, mark_leads, mark_follows, start_leads, select_leads, select_follows, stood_to}
 use Rattle.dbl_source.proofs.AddedLemmas.{select_read, select_fair, mark_read, mark_fair}
 use Rattle.dbl_source.proofs.EntryLemmas.{found_named, answer_told}
 use Rattle.dbl_source.proofs.StartLemmas.{nothing_read, is_begun}
 use Rattle.dbl_source.proofs.ReadCallLemmas.{reads_lead, read_left, read_fair, read_taken}
-use Rattle.dbl_source.proofs.ExitLemmas.{went_released, SameRead, SameReader, Ends, Held, held}
+use Rattle.dbl_source.proofs.ExitLemmas.{went_released, stays, SameRead, SameReader, Ends, Held, held}
 use Rattle.dbl_honest.proofs.CallLemmas.{without_mark, unconfirmed}
-use Rattle.dbl_source.specs.declared.error.SourceError.{SourceError}
+use Rattle.dbl_reading.specs.declared.error.SourceError.{SourceError}
 
 -- the last answer is this
 tells : (new : Played) (answer : Answer) → (told_of new).answer ≡ answer → Tells (Some (told_of new)) answer
@@ -140,13 +140,18 @@ Takes new read s = MatchOption read (Stood StandsFor new (λ t. Moved s t × (Wa
 abbrev pub ReadBesides : Played → Played → Option (List ℕ) → Type 0
 ReadBesides old new read = MatchOption read (SameRead old new) (λ bytes. map spelling (messages_of new) ≡ bytes ∷ map spelling (messages_of old))
 
+-- it leads to the same where it is kept whether that was the end
+kept_end : (here : Played) (read : Option (List ℕ)) (s : Standing) → Takes (with_answer (last_read read) here) read s → Takes (with_read read here) read s
+kept_end here None s t = record { standing = t.standing; is = t.is; holds = t.holds }
+kept_end here (Some bytes) s t = (t.0, t.1, record { standing = t.2.standing; is = t.2.is; holds = t.2.holds })
+
 -- whether there is a reader doesn't change
 reader_stays : (old here : Played) (read : Option (List ℕ)) → HasRead (released old) here read → SameReader old here
 reader_stays old here None has = ap (λ (p : Played). is_some p.place) has.is
 reader_stays old here (Some bytes) has = ap (λ (p : Played). is_some p.place) has.is ∙ sym (ap (λ (o : Option Place). is_some o) has.was)
 
 -- the newest message is the one that was answered
-newest : (old here : Played) (read : Option (List ℕ)) → ReadBesides old here read → (told_of (with_answer (last_read read) here)).answer ≡ Read read
+newest : (old here : Played) (read : Option (List ℕ)) → ReadBesides old here read → (told_of (with_read read here)).answer ≡ Read read
 newest old here None taken = refl
 newest old here (Some bytes) taken = ap (λ (l : List (List ℕ)). Read (slice_get l 0)) taken
 
@@ -156,7 +161,7 @@ read_ends old new read kept a =
     let w : WentOn old mid = went_released old in
     let taken : ReadBesides old a.here read = read_taken old mid a.here read w kept a.has in
     record {
-      leads = λ s stands. subst (λ (n : Played). Takes n read s) (sym a.is) (reads_lead old mid s w kept stands a.here (last_read read) read a.has);
+      leads = λ s stands. subst (λ (n : Played). Takes n read s) (sym a.is) (kept_end a.here read s (reads_lead old mid s w kept stands a.here (last_read read) read a.has));
       left = λ s l stands may. went_follows old mid s l w kept stands (read_left mid a.here l read a.has (subst (λ (p : Played). MayLeave p l) a.is may));
       live = ap (λ (p : Played). p.live) a.is;
       honest = λ fair. went_fair old mid w kept (read_fair mid a.here read a.has (subst WasFair a.is fair));
@@ -166,16 +171,17 @@ read_ends old new read kept a =
     }
 
 -- what it makes of a source that has a reader
-pub read_plays : (old new : Played) (read : Option (List ℕ)) → IsTrue (is_some old.place) → AnswersRead old read new → (place : Place) × (what : Last) × (new ≡ with_answer what (record (released old) { place = Some place }))
-read_plays old new (Some bytes) some a = (a.has.next, answers.Message, a.is ∙ ap (with_answer answers.Message) a.has.is)
+pub read_plays : (old new : Played) (read : Option (List ℕ)) → IsTrue (is_some old.place) → AnswersRead old read new
+    → (place : Place) × (what : Last) × (new ≡ with_answer what (record (released old) { place = Some place; ended = is_none read }))
+read_plays old new (Some bytes) some a = (a.has.next, answers.Message, a.is ∙ ap (with_read (Some bytes)) a.has.is)
 read_plays old new None some a = by old.place refl some
   where
-    stays : new ≡ with_answer answers.Nothing (released old)
-    stays = a.is ∙ ap (with_answer answers.Nothing) a.has.is
+    unmoved : new ≡ with_read None (released old)
+    unmoved = a.is ∙ ap (with_read None) a.has.is
 
-    by : (o : Option Place) → old.place ≡ o → IsTrue (is_some o) → (place : Place) × (what : Last) × (new ≡ with_answer what (record (released old) { place = Some place }))
+    by : (o : Option Place) → old.place ≡ o → IsTrue (is_some o) → (place : Place) × (what : Last) × (new ≡ with_answer what (record (released old) { place = Some place; ended = true }))
     by None at none = let never : false ≡ true = none in cc
-    by (Some place) at some_is = (place, answers.Nothing, stays ∙ ap (λ (o : Option Place). with_answer answers.Nothing (record (released old) { place = o })) at)
+    by (Some place) at some_is = (place, answers.Nothing, unmoved ∙ ap (λ (o : Option Place). with_read None (record (released old) { place = o })) at)
 
 some_none : (bytes : List ℕ) → Some bytes ≡ None → ⊥
 some_none bytes is = cc
@@ -184,8 +190,8 @@ some_none bytes is = cc
 pub read_at_end : (old new : Played) (read : Option (List ℕ)) → AnswersRead old read new → read ≡ None → (place : Place) → new.place ≡ Some place → IsAtEnd new.log place
 read_at_end old new (Some bytes) a none place at = absurd (some_none bytes none)
 read_at_end old new None a none place at =
-    let stays : new ≡ with_answer answers.Nothing (released old) = a.is ∙ ap (with_answer answers.Nothing) a.has.is in
-    subst (λ (p : Played). IsAtEnd p.log place) (sym stays) (a.has.ends place (sym (ap (λ (p : Played). p.place) stays) ∙ at))
+    let unmoved : new ≡ with_read None (released old) = a.is ∙ ap (with_read None) a.has.is in
+    subst (λ (p : Played). IsAtEnd p.log place) (sym unmoved) (a.has.ends place (sym (ap (λ (p : Played). p.place) unmoved) ∙ at))
 
 -- ---- whatever it answers
 
@@ -233,6 +239,33 @@ confirm_held upto old new r p =
     held (λ done s. Stood StandsFor new (IsConfirmed upto s)) (MayFollowConfirm upto) (λ done. Done) (λ done. SameRead old new) (λ done. SameReader old new) 0 ⊥ (before_of old) (λ done n. n ≡ with_confirmed upto (released old)) old new r p
     (λ s l may. unconfirmed upto s l may) (λ done kept is. confirm_ends upto old new kept is)
 
+-- ---- whether reading has ended
+
+pub describe_still : (name : TableName) (old new : Played) (r : Result (Option RawTable) SourceError) → Plays 0 ⊥ (before_of old) (AnswersEntry name old) old new r → new.ended ≡ old.ended
+describe_still name old new r p = stays 0 ⊥ (before_of old) (AnswersEntry name old) old new r p (λ entry a. ap (λ (q : Played). q.ended) a.is)
+
+pub head_still : (old new : Played) (r : Result Lsn SourceError) → Plays 0 ⊥ (before_of old) (AnswersHead old) old new r → new.ended ≡ old.ended
+head_still old new r p = stays 0 ⊥ (before_of old) (AnswersHead old) old new r p (λ lsn a. ap (λ (q : Played). q.ended) a.is)
+
+pub start_unended : (after : Lsn) (old new : Played) (r : Result Started SourceError) → Plays 0 ⊥ (before_of old) (AnswersStart after old) old new r → OnOk r (new.ended ≡ false)
+start_unended after old new (Ok started) p = ap (λ (q : Played). q.ended) p.played.is
+start_unended after old new (Err e) p = tt
+
+pub read_none : (old new : Played) (r : Result (Option (List ℕ)) SourceError) → Plays 0 (IsUnfit (released old)) (before_of old) (AnswersRead old) old new r → IfOk r (λ read. new.ended ≡ is_none read)
+read_none old new (Ok read) p = ap (λ (q : Played). q.ended) p.played.is
+read_none old new (Err e) p = tt
+
+pub select_still : {T : Type 0} (items : T → List RawRow) (table : TableName) (above : Option Key) (limit : ℕ) (old new : Played) (r : Result T SourceError)
+    → Plays (length (inside_of old)) ⊥ (before_of old ++ inside_of old) (λ rows. AnswersRows table above limit old (items rows)) old new r → new.ended ≡ old.ended
+select_still items table above limit old new r p =
+    stays (length (inside_of old)) ⊥ (before_of old ++ inside_of old) (λ rows. AnswersRows table above limit old (items rows)) old new r p (λ rows a. ap (λ (q : Played). q.ended) a.is)
+
+pub mark_still : {T : Type 0} (value : List ℕ) (old new : Played) (r : Result T SourceError) → Plays 1 ⊥ (before_of old) (λ done n. n ≡ with_mark value (released old)) old new r → new.ended ≡ old.ended
+mark_still value old new r p = stays 1 ⊥ (before_of old) (λ done n. n ≡ with_mark value (released old)) old new r p (λ done is. ap (λ (q : Played). q.ended) is)
+
+pub confirm_still : {T : Type 0} (upto : Lsn) (old new : Played) (r : Result T SourceError) → Plays 0 ⊥ (before_of old) (λ done n. n ≡ with_confirmed upto (released old)) old new r → new.ended ≡ old.ended
+confirm_still upto old new r p = stays 0 ⊥ (before_of old) (λ done n. n ≡ with_confirmed upto (released old)) old new r p (λ done is. ap (λ (q : Played). q.ended) is)
+
 -- ---- what they make of the script, where they answer
 
 pub describe_played : (name : TableName) (old new : Played) (r : Result (Option RawTable) SourceError) → Plays 0 ⊥ (before_of old) (AnswersEntry name old) old new r
@@ -254,7 +287,7 @@ start_played after old new (Ok started) p = (p.played.told, p.played.is)
 start_played after old new (Err e) p = tt
 
 pub read_played : (old new : Played) (r : Result (Option (List ℕ)) SourceError) → IsTrue (is_some old.place) → Plays 0 (IsUnfit (released old)) (before_of old) (AnswersRead old) old new r
-    → OnOk r ((place : Place) × (what : Last) × (new ≡ with_answer what (record (released old) { place = Some place })))
+    → IfOk r (λ read. (place : Place) × (what : Last) × (new ≡ with_answer what (record (released old) { place = Some place; ended = is_none read })))
 read_played old new (Ok read) some p = read_plays old new read some p.played
 read_played old new (Err e) some p = tt
 

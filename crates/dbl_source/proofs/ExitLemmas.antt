@@ -9,8 +9,8 @@ use Rattle.dbl_honest.specs.Standings.{Standing, Left, left_of}
 use Rattle.dbl_honest.specs.Leaves.{Leaves, LeavesSome, MayFollow}
 use Rattle.dbl_honest.specs.Told.{Answer, Tells}
 use Rattle.dbl_feed.specs.declared.place.Place.{Place}
-use Rattle.dbl_source.specs.declared.error.SourceError.{SourceError}
-use Rattle.dbl_source.specs.declared.error.SourceError.TheVariants.{Failed, Memory}
+use Rattle.dbl_reading.specs.declared.error.SourceError.{SourceError}
+use Rattle.dbl_reading.specs.declared.error.SourceError.TheVariants.{Failed, Memory}
 use Rattle.dbl_source.specs.Played.{Played, messages_of, standing_of, told_of, before_of, past_move, called, released, with_fault}
 use Rattle.dbl_source.specs.Steps.{IsKept, AddedFirst, StandsFor, MayLeave, WasFair}
 use Rattle.dbl_source.specs.Exits.{Plays}
@@ -20,10 +20,10 @@ use Rattle.dbl_source.proofs.CallLemmas.{WentOn, went_follows, went_fair, went_r
 -- ---- other clients committed, and nothing else happened
 
 went_called : (old : Played) → WentOn old (called old)
-went_called old = record { more = []; log = sym (append-nil old.log); tables = refl; rows = refl; asked = refl; confirmed = refl; place = refl; last = refl }
+went_called old = record { more = []; log = sym (append-nil old.log); tables = refl; rows = refl; asked = refl; confirmed = refl; place = refl; last = refl; ended = refl }
 
 pub went_released : (old : Played) → WentOn old (released old)
-went_released old = record { more = before_of old; log = refl; tables = refl; rows = refl; asked = refl; confirmed = refl; place = refl; last = refl }
+went_released old = record { more = before_of old; log = refl; tables = refl; rows = refl; asked = refl; confirmed = refl; place = refl; last = refl; ended = refl }
 
 went_added : (commits : List (List Message)) (old new : Played) → AddedFirst commits (past_move old) new → WentOn old new
 went_added commits old new added = record {
@@ -35,6 +35,7 @@ went_added commits old new added = record {
   confirmed = ap (λ (p : Played). p.confirmed) added.is;
   place = ap (λ (p : Played). p.place) added.is;
   last = ap (λ (p : Played). p.last) added.is;
+  ended = ap (λ (p : Played). p.ended) added.is;
 }
 
 -- ---- the call failed
@@ -46,7 +47,7 @@ pub record Ended (old new : Played) (e : SourceError) : Type 0 where
 
 ended_faulty : (old mid new : Played) → WentOn old mid → mid.live ≡ false → mid.plan.faults ≡ old.plan.faults → new ≡ with_fault mid → Ended old new Failed
 ended_faulty old mid new w dead same is =
-    let faulty : WentOn old (with_fault mid) = record { more = w.more; log = w.log; tables = w.tables; rows = w.rows; asked = w.asked; confirmed = w.confirmed; place = w.place; last = w.last } in
+    let faulty : WentOn old (with_fault mid) = record { more = w.more; log = w.log; tables = w.tables; rows = w.rows; asked = w.asked; confirmed = w.confirmed; place = w.place; last = w.last; ended = w.ended } in
     let one : new.plan.faults ≡ raised old.plan.faults = ap (λ (p : Played). p.plan.faults) is ∙ ap raised same in
     record {
       went = subst (WentOn old) (sym is) faulty;
@@ -69,6 +70,17 @@ ended own more commits done old new Failed p = elim (p.planned.failed refl) [
     | inr other ↦ ended_faulty old (released old) new (went_released old) refl refl other.3
   ]
 ]
+
+-- it leaves whether reading has ended
+pub still : {T : Type 0} (own : ℕ) (more : Type 0) (commits : List (List Message)) (done : T → Played → Type 0) (old new : Played) (r : Result T SourceError) → Plays own more commits done old new r → OnErr r (new.ended ≡ old.ended)
+still own more commits done old new (Ok x) p = tt
+still own more commits done old new (Err e) p = (ended own more commits done old new e p).went.ended
+
+-- and so it is at any rate of a call whose answer leaves it
+pub stays : {T : Type 0} (own : ℕ) (more : Type 0) (commits : List (List Message)) (done : T → Played → Type 0) (old new : Played) (r : Result T SourceError) → Plays own more commits done old new r
+    → ((x : T) → done x new → new.ended ≡ old.ended) → new.ended ≡ old.ended
+stays own more commits done old new (Ok x) p leaves = leaves x p.played
+stays own more commits done old new (Err e) p leaves = (ended own more commits done old new e p).went.ended
 
 -- ---- the call answered
 

@@ -3,7 +3,6 @@ pub mod CallLemmas
 pub mod PlannedLemmas
 pub mod NewLemmas
 mod FairExample
-pub mod ReadingLemmas
 pub mod KeptLemmas
 pub mod EntryLemmas
 pub mod StepLemmas

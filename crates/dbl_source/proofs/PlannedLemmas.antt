@@ -2,8 +2,8 @@
 use Rattle.std.proofs.Common.{◌≡◌, ◌∙◌, inl, inr, ℕ, List, length, ap, subst}
 use Rattle.std.specs.Prelude.{Result, Ok, Err, IsErr, IfErr, OnOk, OnErr}
 use Rattle.dbl_pgmsg.specs.declared.messages.Message.{Message}
-use Rattle.dbl_source.specs.declared.error.SourceError.{SourceError}
-use Rattle.dbl_source.specs.declared.error.SourceError.TheVariants.{Failed, Memory}
+use Rattle.dbl_reading.specs.declared.error.SourceError.{SourceError}
+use Rattle.dbl_reading.specs.declared.error.SourceError.TheVariants.{Failed, Memory}
 use Rattle.dbl_source.specs.Played.{Played, before_of, IsListed, IsFullBy, past_move, counted, committed, released, FailsAsPlanned}
 use Rattle.dbl_source.specs.Steps.{HasFailed}
 

@@ -1,8 +1,8 @@
 -- How a call of a played source ends that began: memory is wanting, or it answers. The other ends are found by the search.
 use Rattle.std.proofs.Common.{◌≡◌, ◌≤◌, ℕ, List, refl, ap}
 use Rattle.dbl_pgmsg.specs.declared.messages.Message.{Message}
-use Rattle.dbl_source.specs.declared.error.SourceError.{SourceError}
-use Rattle.dbl_source.specs.declared.error.SourceError.TheVariants.{Failed, Memory}
+use Rattle.dbl_reading.specs.declared.error.SourceError.{SourceError}
+use Rattle.dbl_reading.specs.declared.error.SourceError.TheVariants.{Failed, Memory}
 use Rattle.dbl_source.specs.Played.{Played, past_move, FailsAsPlanned}
 use Rattle.dbl_source.specs.Steps.{IsKept, AddedFirst}
 use Rattle.dbl_source.specs.Exits.{Plays}

@@ -1,25 +1,21 @@
 -- The step to the next message of a played source, where its parts are those of slices and of a set.
-use Rattle.std.proofs.Common.{◌≡◌, ◌∙◌, inl, inr, ◌+◌, ◌<◌, ℕ, Bool, true, false, cond, Option, Some, None, List, ◌∷◌, length, get_or, refl, sym, ap, subst, rules}
-use Rattle.std.specs.Prelude.{is_some, if◌then◌else◌, ◌==◌, IsSomeAnd, nat_eq, slice_get, Result, Err}
-use Rattle.std.specs.Ordering.{is_eq, nat_cmp}
-use Rattle.std.specs.BTreeSet.{BTreeSet, contains}
+use Rattle.std.proofs.Common.{◌≡◌, ◌∙◌, inl, inr, ◌+◌, ◌<◌, ℕ, Option, Some, List, ◌∷◌, length, get_or, sym, ap, subst}
+use Rattle.std.specs.Prelude.{IsSomeAnd, slice_get, Result, Err}
+use Rattle.std.specs.BTreeSet.{BTreeSet}
 use Rattle.std.proofs.lemmas.Option.{slice_get-get_or}
 use Rattle.dbl_pgmsg.specs.declared.messages.Message.{Message}
-use Rattle.dbl_pgmsg.specs.declared.messages.Message.TheVariants as says
 use Rattle.dbl_pgmsg.specs.Grammar.{Fits}
-use Rattle.dbl_commit.specs.declared.message_parts.Relation.{Relation}
-use Rattle.dbl_commit.specs.Past.{described, relation_of}
 use Rattle.dbl_feed.specs.declared.logged.LogTable.{LogTable}
 use Rattle.dbl_feed.specs.declared.logged.Logged.{Logged}
 use Rattle.dbl_feed.specs.declared.place.Place.{Place}
-use Rattle.dbl_feed.specs.Sent.{described_in, index_of, told_at, IsPlaceIn}
+use Rattle.dbl_feed.specs.Sent.{index_of, told_at, IsPlaceIn}
 use Rattle.dbl_source.specs.declared.asked.Asked.{Asked}
-use Rattle.dbl_source.specs.declared.error.SourceError.{SourceError}
-use Rattle.dbl_source.specs.declared.error.SourceError.TheVariants.{Failed, Memory}
-use Rattle.dbl_source.specs.declared.reading.Step.{Step}
+use Rattle.dbl_reading.specs.declared.error.SourceError.{SourceError}
+use Rattle.dbl_reading.specs.declared.error.SourceError.TheVariants.{Failed, Memory}
+use Rattle.dbl_reading.specs.declared.reading.Step.{Step}
+use Rattle.dbl_reading.specs.Readings.{Describes, IsNext, HasUnfit, Steps}
 use Rattle.dbl_source.specs.Played.{Played, with_fault}
-use Rattle.dbl_source.specs.Steps.{IsUnfit, Describes, IsPlayed, FailsToRead}
-use Rattle.dbl_source.specs.Readings.{IsNext, HasUnfit, Steps}
+use Rattle.dbl_source.specs.Steps.{IsUnfit, IsPlayed, FailsToRead}
 use Rattle.dbl_source.proofs.PlayLemmas.{next_sent}
 
 -- ---- the step
@@ -54,41 +50,6 @@ fails_to_read old new place e at steps faulty same = elim steps [
 ]
 
 -- ---- it was read
-
-no_oid : (oid : ℕ) → None ≡ Some oid → ⊥
-no_oid oid is = cc
-
-same_oid : (a b : ℕ) → Some a ≡ Some b → a ≡ b
-same_oid a b is = cc
-
-same_number : (m n : ℕ) → is_eq (nat_cmp m n) ≡ nat_eq m n
-same_number m n = search rules
-
--- whether an OID is among those that were described, where one more was
-either_there : (b : Bool) (relation : Relation) (o : Option Relation) → cond b true (is_some o) ≡ is_some (if b then Some relation else o)
-either_there true relation o = refl
-either_there false relation o = refl
-
-one_described : (given oid : ℕ) (relation : Relation) (past : List Message) (known now : BTreeSet ℕ) (q : ℕ) → given ≡ oid → contains nat_cmp now q ≡ cond (is_eq (nat_cmp oid q)) true (contains nat_cmp known q)
-    → contains nat_cmp known q ≡ is_some (relation_of q past) → contains nat_cmp now q ≡ is_some (if given == q then Some relation else relation_of q past)
-one_described given oid relation past known now q same more all =
-    more
-    ∙ ap (λ (b : Bool). cond b true (contains nat_cmp known q)) (same_number oid q)
-    ∙ ap (λ (b : Bool). cond (nat_eq oid q) true b) all
-    ∙ either_there (nat_eq oid q) relation (relation_of q past)
-    ∙ ap (λ (n : ℕ). is_some (if n == q then Some relation else relation_of q past)) (sym same)
-
--- the table that the message describes is in the set now
-pub described_more : (m : Message) (past : List Message) (known now : BTreeSet ℕ) (oid : ℕ) → described_in m ≡ Some oid → ((q : ℕ) → contains nat_cmp now q ≡ cond (is_eq (nat_cmp oid q)) true (contains nat_cmp known q))
-    → Describes known past → Describes now (m ∷ past)
-described_more (says.Relation given namespace name identity columns) past known now oid is more all q =
-    one_described given oid (described namespace name identity columns) past known now q (same_oid given oid is) (more q) (all q)
-described_more m past known now oid is more all q = absurd (no_oid oid is)
-
--- a message that describes none leaves the set right
-pub described_same : (m : Message) (past : List Message) (known : BTreeSet ℕ) → described_in m ≡ None → Describes known past → Describes known (m ∷ past)
-described_same (says.Relation given namespace name identity columns) past known is all q = absurd (no_oid given (sym is))
-described_same m past known is all q = all q
 
 same_place : (a b : Place) → Some a ≡ Some b → a ≡ b
 same_place a b is = cc

@@ -1,5 +1,5 @@
 -- For private clauses: how the calls of a played source end.
-use Rattle.std.specs.Prelude.{◌≡◌, ◌≤◌, ℕ, Option, Some, None, Result, Err, IfOk, MatchOption, List, [], length}
+use Rattle.std.specs.Prelude.{◌≡◌, ◌≤◌, ℕ, is_none, Option, Some, None, Result, Err, IfOk, MatchOption, List, [], length}
 use Rattle.dbl_base.specs.declared.lsn.Lsn.{Lsn}
 use Rattle.dbl_pgmsg.specs.declared.messages.Message.{Message}
 use Rattle.dbl_table.specs.declared.row.Key.{Key}
@@ -12,8 +12,8 @@ use Rattle.dbl_feed.specs.Numbers.{lsn_of}
 use Rattle.dbl_feed.specs.Histories.{history_of}
 use Rattle.dbl_source.specs.declared.asked.Last.{Last}
 use Rattle.dbl_source.specs.declared.asked.Last.TheVariants as answers
-use Rattle.dbl_source.specs.declared.error.SourceError.{SourceError}
-use Rattle.dbl_source.specs.declared.error.SourceError.TheVariants.{Memory}
+use Rattle.dbl_reading.specs.declared.error.SourceError.{SourceError}
+use Rattle.dbl_reading.specs.declared.error.SourceError.TheVariants.{Memory}
 use Rattle.dbl_source.specs.Played.{Played, entry_at, inside_of, past_move, released, FailsAsPlanned, with_answer, started_at, with_start, with_head, next_rows, with_select}
 use Rattle.dbl_source.specs.Steps.{IsKept, AddedFirst, IsReadBy, IsUnmoved}
 
@@ -52,10 +52,14 @@ abbrev pub last_read : Option (List ℕ) → Last
 last_read None = answers.Nothing
 last_read (Some bytes) = answers.Message
 
+-- it answered a read: whether that was the end is kept
+abbrev pub with_read : Option (List ℕ) → Played → Played
+with_read read s = with_answer (last_read read) (record s { ended = is_none read })
+
 pub record AnswersRead (old : Played) (read : Option (List ℕ)) (new : Played) : Type 0 where
   pub here : Played
   pub has : HasRead (released old) here read
-  pub is : new ≡ with_answer (last_read read) here
+  pub is : new ≡ with_read read here
 
 pub record AnswersRows (table : TableName) (above : Option Key) (limit : ℕ) (old : Played) (rows : List RawRow) (new : Played) : Type 0 where
   pub told : rows ≡ next_rows old

@@ -1,6 +1,6 @@
 -- A small played source that tells an honest select from another: a mark, and a select before whose rows other clients insert a,
 -- and behind whose rows, before it returns, they insert b. Its rows are those of the position between.
-use Rattle.std.specs.Prelude.{ℕ, false, None, Some, List, [], ◌∷◌, length, codes}
+use Rattle.std.specs.Prelude.{ℕ, true, false, None, Some, List, [], ◌∷◌, length, codes}
 use Rattle.dbl_pgmsg.specs.declared.messages.Message.{Message}
 use Rattle.dbl_pgmsg.specs.declared.messages.Message.TheVariants.{Insert}
 use Rattle.dbl_pgmsg.specs.declared.messages.TupleCell.TheVariants.{Text}
@@ -53,7 +53,7 @@ selected_example = selected marked_example
 
 -- all three commits were read
 abbrev pub read_example : Played
-read_example = with_answer answers.Nothing (record selected_example { place = Some (record { after = record { 0 = 0 }; commits = 3; begun = false; change = 0; table = 0 }) })
+read_example = with_answer answers.Nothing (record selected_example { place = Some (record { after = record { 0 = 0 }; commits = 3; begun = false; change = 0; table = 0 }); ended = true })
 
 -- the same where the select is answered by other rows: by none, as the table was at the call, and by both, as it was at the return
 abbrev pub answered_by : List RawRow → Played

@@ -16,5 +16,6 @@ played_of i = record {
   place = i.place;
   plan = i.plan;
   last = i.last;
+  ended = i.ended;
   live = i.live;
 }

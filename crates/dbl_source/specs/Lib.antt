@@ -4,7 +4,6 @@ pub mod Fairness
 pub mod Steps
 pub mod Fields
 pub mod Exits
-pub mod Readings
 pub mod ScriptLaws
 pub mod Laws
 pub mod FairExample

@@ -24,12 +24,13 @@ use Rattle.dbl_source.specs.declared.asked.Asked.{Asked}
 use Rattle.dbl_source.specs.declared.asked.Last.{Last}
 use Rattle.dbl_source.specs.declared.asked.Last.TheVariants as answers
 use Rattle.dbl_source.specs.declared.moves.Move.{Move}
-use Rattle.dbl_source.specs.declared.error.SourceError.{SourceError}
-use Rattle.dbl_source.specs.declared.error.SourceError.TheVariants.{Failed}
+use Rattle.dbl_reading.specs.declared.error.SourceError.{SourceError}
+use Rattle.dbl_reading.specs.declared.error.SourceError.TheVariants.{Failed}
 use Rattle.dbl_source.specs.Moves.{commit_limit}
 
 -- The script's tables, what is left of its moves, its rows for each select; the selects so far; the log that was committed, up to
--- where it was confirmed, and where its reader is; which calls are to fail; what was answered last; whether it can be used.
+-- where it was confirmed, and where its reader is; which calls are to fail; what was answered last; whether the last read
+-- since the last start answered that nothing is left; whether it can be used.
 pub record Played : Type 0 where
   pub tables : List LogTable
   pub moves : List Move
@@ -40,6 +41,7 @@ pub record Played : Type 0 where
   pub place : Option Place
   pub plan : Plan
   pub last : Last
+  pub ended : Bool
   pub live : Bool
 
 -- a table whose replica identity is its primary key
@@ -58,6 +60,7 @@ new_played tables moves rows fails = record {
   place = None;
   plan = new_plan fails;
   last = answers.Done;
+  ended = false;
   live = true;
 }
 
@@ -168,7 +171,7 @@ place_of after Ready = Some (record { after = after; commits = 0; begun = false;
 place_of after (Gone first) = None
 
 abbrev pub with_start : Lsn → Played → Played
-with_start after s = with_answer (answers.Began (started_at after s)) (record s { place = place_of after (started_at after s) })
+with_start after s = with_answer (answers.Began (started_at after s)) (record s { place = place_of after (started_at after s); ended = false })
 
 abbrev pub with_head : Played → Played
 with_head s = with_answer (answers.Head (lsn_of (length s.log))) s

@@ -1,20 +1,20 @@
 -- A source that is played from a script as a `Source`, and how its `read` answers.
-use Rattle.std.specs.Prelude.{◌≡◌, ◌⊎◌, ℕ, ◌<◌, ◌≤◌, IsTrue, is_some, Option, Some, IsSomeAnd, slice_get, List, ◌∷◌, ◌++◌, length, map, take}
-use Rattle.std.specs.Ordering.{nat_cmp}
-use Rattle.std.specs.BTreeSet.{BTreeSet, contains}
+use Rattle.std.specs.Prelude.{◌≡◌, ◌⊎◌, ℕ, ◌<◌, ◌≤◌, IsTrue, Option, Some, IsSomeAnd, slice_get, List, ◌∷◌, ◌++◌, length, map, take}
+use Rattle.std.specs.BTreeSet.{BTreeSet}
 use Rattle.dbl_base.specs.Memory.{Plan}
 use Rattle.dbl_pgmsg.specs.declared.messages.Message.{Message}
 use Rattle.dbl_pgmsg.specs.Grammar.{Fits, Spells}
 use Rattle.dbl_honest.specs.Standings.{Standing, Left, left_of}
-use Rattle.dbl_commit.specs.Past.{relation_of}
 use Rattle.dbl_feed.specs.declared.logged.LogTable.{LogTable}
 use Rattle.dbl_feed.specs.declared.logged.Logged.{Logged}
 use Rattle.dbl_feed.specs.declared.logged.Logged.TheVariants.{Changes}
 use Rattle.dbl_feed.specs.declared.place.Place.{Place}
 use Rattle.dbl_feed.specs.Sent.{sent_after, index_of, told_at, IsPlaceIn}
 use Rattle.dbl_source.specs.declared.asked.Asked.{Asked}
-use Rattle.dbl_source.specs.declared.error.SourceError.{SourceError}
-use Rattle.dbl_source.specs.declared.error.SourceError.TheVariants.{Failed, Memory}
+use Rattle.dbl_reading.specs.declared.error.SourceError.{SourceError}
+use Rattle.dbl_reading.specs.declared.error.SourceError.TheVariants.{Failed, Memory}
+use Rattle.dbl_reading.specs.declared.reading.Step.{Step}
+use Rattle.dbl_reading.specs.Readings.{IsNext, Describes}
 use Rattle.dbl_source.specs.Moves.{commit_limit}
 use Rattle.dbl_source.specs.Fairness.{IsFair}
 use Rattle.dbl_source.specs.Played.{Played, standing_of, IsFullBy, IsListed, counted, committed, with_fault}
@@ -87,6 +87,12 @@ pub record IsReadBy (old new : Played) (bytes : List ℕ) : Type 0 where
   pub spelled : Spells bytes message
   pub told : told_at old.tables old.log next ≡ message ∷ told_at old.tables old.log place
 
+-- the step reads the next message of a source, whose reader is at some place
+pub record ReadsOn (s : Played) (step : Step) : Type 0 where
+  pub place : Place
+  pub was : s.place ≡ Some place
+  pub next : IsNext s.tables s.log place step
+
 -- nothing is left to be read, and nothing changed
 pub record IsUnmoved (old new : Played) : Type 0 where
   pub is : new ≡ old
@@ -95,10 +101,6 @@ pub record IsUnmoved (old new : Played) : Type 0 where
 -- what one more message is read of: where it has no spelling a fault is counted, and else nothing changed
 abbrev pub FailsToRead : Played → Played → SourceError → Type 0
 FailsToRead old new e = ((e ≡ Memory) × (new ≡ old)) ⊎ ((e ≡ Failed) × (new ≡ with_fault old) × IsUnfit old)
-
--- the set has the OIDs of the tables that were described since the start
-abbrev pub Describes : BTreeSet ℕ → List Message → Type 0
-Describes described past = (oid : ℕ) → contains nat_cmp described oid ≡ is_some (relation_of oid past)
 
 -- what holds of the parts of each played source
 pub record IsPlayed (tables : List LogTable) (log : List Logged) (asked : List Asked) (place : Option Place) (described : BTreeSet ℕ) : Type 0 where

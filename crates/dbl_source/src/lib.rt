@@ -3,21 +3,18 @@
 
 mod asked;
 mod catalogue;
-mod error;
 mod laws;
 mod moves;
 mod playing;
-mod reading;
 mod scripted;
 mod source;
 
 pub use dbl_honest::Started;
-pub use error::SourceError;
+pub use dbl_reading::{SourceError, Step, next_step, remember};
 pub use laws::{
     commits_keep_fair, fair_scripts_are_honest, fair_sources_stand, first_commits_are_fair,
     marks_keep_fair, new_sources_are_fair, selects_have_returned, selects_keep_fair,
 };
 pub use moves::{COMMIT_LIMIT, Move, has_room};
-pub use reading::{Step, next_step};
 pub use scripted::ScriptedSource;
 pub use source::Source;

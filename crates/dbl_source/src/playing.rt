@@ -1,27 +1,26 @@
 //! How a source plays its script: what a call begins with, what it does and what it answers. How each function ends is told by
 //! the state that it leads to; what a source promises of its calls is told of those of the trait.
 
-ghost use Rattle.std.specs.Prelude.{◌≡◌, ◌+◌, ◌≤◌, ◌<◌, ◌^◌, ◌++◌, ◌∷◌, [], length, max, Option, option_copied, Err, IsErr, IfOk, IfErr, OnOk, OnErr};
+ghost use Rattle.std.specs.Prelude.{◌≡◌, ◌+◌, ◌≤◌, ◌<◌, ◌^◌, ◌++◌, ◌∷◌, [], false, length, max, Option, option_copied, Err, IsErr, IfOk, IfErr, OnOk, OnErr};
 ghost use Rattle.dbl_history.specs.History.{entry_of};
 ghost use Rattle.dbl_feed.specs.declared.logged.Logged.TheVariants.{Mark};
 ghost use Rattle.dbl_feed.specs.Histories.{history_of};
 ghost use Rattle.dbl_feed.specs.Numbers.{lsn_of};
-ghost use Rattle.dbl_source.specs.declared.error.SourceError.TheVariants.{Failed, Memory};
+ghost use Rattle.dbl_reading.specs.declared.error.SourceError.TheVariants.{Failed, Memory};
 ghost use Rattle.dbl_source.specs.Exits.{Plays, AnswersEntry, AnswersHead, AnswersStart, HasRead, AnswersRead, AnswersRows};
 ghost use Rattle.dbl_source.specs.Moves.{HasRoom};
 ghost use Rattle.dbl_source.specs.Played.{entry_at, before_of, inside_of, IsListed, IsFullBy, past_move, counted, committed, released, with_fault, FailsAsPlanned, with_answer, with_mark, with_confirmed, started_at, place_of, next_rows, question_of};
-ghost use Rattle.dbl_source.specs.Readings.{ReadsOn};
-ghost use Rattle.dbl_source.specs.Steps.{IsKept, IsBehind, AddedFirst, HasFailed, IsUnfit, IsReadBy, FailsToRead};
+ghost use Rattle.dbl_source.specs.Steps.{IsKept, IsBehind, AddedFirst, HasFailed, IsUnfit, ReadsOn, IsReadBy, FailsToRead};
 
 use crate::asked::{Last, question, rows_at};
 use crate::catalogue::{entry_at, place_of};
 use crate::moves::{Move, append, has_room, no_move};
-use crate::reading::{Step, next_step, remember};
 use crate::{ScriptedSource, SourceError};
 use dbl_base::{Bytes, Lsn, Seq, Text};
 use dbl_feed::{Logged, Place, commits_upto, lsn_of};
 use dbl_honest::Started;
 use dbl_pgmsg::Message;
+use dbl_reading::{Step, next_step, remember};
 use dbl_table::{Key, RawRow, RawTable, TableName};
 
 impl ScriptedSource {
@@ -122,6 +121,15 @@ impl ScriptedSource {
         self.live = true;
     }
 
+    // It answered a read, with a message or at the end.
+    fn answer_read(&mut self, last: Last, ended: bool)
+        ensures { self.new ≡ with_answer last (record self.old { ended = ended }) }
+    {
+        self.last = last;
+        self.ended = ended;
+        self.live = true;
+    }
+
     // ---- what it does
 
     fn find(&self, name: &TableName) -> Option<usize>
@@ -147,9 +155,11 @@ impl ScriptedSource {
     // The log is gone exactly below the confirmed position. Takes no memory.
     fn begin_reading(&mut self, after: Lsn) -> Started
         ensures told { result ≡ started_at after self.old }
-        ensures place { self.new ≡ record self.old { place = place_of after result } }
+        ensures place { self.new ≡
+            record self.old { place = place_of after result; ended = false } }
     {
         self.described.clear();
+        self.ended = false;
         if after.0 < self.confirmed.0 {
             self.place = None;
             return Started::Gone {
@@ -329,11 +339,11 @@ impl ScriptedSource {
         self.release(0)?;
         match self.next_bytes()? {
             Some(bytes) => {
-                self.answer(Last::Message);
+                self.answer_read(Last::Message, false);
                 Ok(Some(bytes))
             }
             None => {
-                self.answer(Last::Nothing);
+                self.answer_read(Last::Nothing, true);
                 Ok(None)
             }
         }

@@ -1,4 +1,4 @@
-ghost use Rattle.std.specs.Prelude.{◌≡◌, ◌≢◌, ◌+◌, ◌≤◌, ◌<◌, ◌^◌, ◌++◌, ◌∷◌, [], ℕ, length, map, Option, Some, None, false, is_some, option_copied, Err, IsTrue, IfSome, IfOk, IfErr, OnOk, OnErr, MatchOption};
+ghost use Rattle.std.specs.Prelude.{◌≡◌, ◌≢◌, ◌+◌, ◌≤◌, ◌<◌, ◌^◌, ◌++◌, ◌∷◌, [], ℕ, length, map, Option, Some, None, false, is_some, is_none, option_copied, Err, IsTrue, IfSome, IfOk, IfErr, OnOk, OnErr, MatchOption};
 ghost use Rattle.std.specs.List.{AllByRecursion};
 ghost use Rattle.dbl_base.specs.Streams.{Rose};
 ghost use Rattle.dbl_pgmsg.specs.declared.messages.Message.{Message};
@@ -12,7 +12,7 @@ ghost use Rattle.dbl_honest.specs.Leaves.{Leaves, LeavesSome, MayFollow, MayFoll
 ghost use Rattle.dbl_honest.specs.Told.{Described, Head, Began, Read, Selected, Done, IsTakenBy, IsTakenAnew, Tells, is_ready};
 ghost use Rattle.dbl_feed.specs.Relations.{catalogue, all_relations};
 ghost use Rattle.dbl_source.specs.declared.asked.Last.TheVariants as answers;
-ghost use Rattle.dbl_source.specs.declared.error.SourceError.TheVariants.{Failed, Memory};
+ghost use Rattle.dbl_reading.specs.declared.error.SourceError.TheVariants.{Failed, Memory};
 ghost use Rattle.dbl_source.specs.Played.{keyed_table, new_played, told_of, before_of, inside_of, IsListed, past_move, released, FailsAsPlanned, with_answer, with_mark, with_confirmed, started_at, with_start, with_head, next_rows, with_select};
 ghost use Rattle.dbl_source.specs.Steps.{AddedFirst, StandsFor, MayLeave, WasFair, IsUnfit, IsAtEnd};
 
@@ -48,6 +48,8 @@ pub struct ScriptedSource {
     pub(crate) described: BTreeSet<u32>,
     pub(crate) plan: FaultPlan,
     pub(crate) last: Last,
+    // Whether the last read since the last start answered that nothing is left.
+    pub(crate) ended: bool,
     pub(crate) live: bool,
 }
 
@@ -105,6 +107,7 @@ impl ScriptedSource {
             described: BTreeSet::new(alloc),
             plan: FaultPlan::make(fails),
             last: Last::Done,
+            ended: false,
             live: true,
         })
     }
@@ -129,6 +132,8 @@ impl Source for ScriptedSource {
     ghost is_live = { λ s. s.live };
 
     ghost is_reading = { λ s. is_some s.place };
+
+    ghost has_ended = { λ s. s.ended };
 
     ghost faults = { λ s. s.plan.faults };
 
@@ -165,6 +170,7 @@ impl Source for ScriptedSource {
         ensures told { IfOk result (λ entry. Tells (Some (told_of self.new)) (Described entry)) }
         ensures taken { IsTakenBy [] (Some (told_of self.old)) (Some (told_of self.new)) }
         ensures reading { is_some self.new.place ≡ is_some self.old.place }
+        ensures ended { self.new.ended ≡ self.old.ended }
         ensures live { OnOk result (IsTrue self.new.live) }
         ensures dead { OnErr result (self.new.live ≡ false) }
         ensures honest { WasFair self.new → WasFair self.old }
@@ -188,6 +194,7 @@ impl Source for ScriptedSource {
         ensures told { IfOk result (λ lsn. Tells (Some (told_of self.new)) (Head lsn)) }
         ensures taken { IsTakenBy [] (Some (told_of self.old)) (Some (told_of self.new)) }
         ensures reading { is_some self.new.place ≡ is_some self.old.place }
+        ensures ended { self.new.ended ≡ self.old.ended }
         ensures live { OnOk result (IsTrue self.new.live) }
         ensures dead { OnErr result (self.new.live ≡ false) }
         ensures honest { WasFair self.new → WasFair self.old }
@@ -215,6 +222,8 @@ impl Source for ScriptedSource {
             (IsTakenBy [] (Some (told_of self.old)) (Some (told_of self.new))) }
         ensures reading { IfOk result (λ started. is_some self.new.place ≡ is_ready started) }
         ensures unread { OnErr result (is_some self.new.place ≡ is_some self.old.place) }
+        ensures unended { OnOk result (self.new.ended ≡ false) }
+        ensures still { OnErr result (self.new.ended ≡ self.old.ended) }
         ensures live { OnOk result (IsTrue self.new.live) }
         ensures dead { OnErr result (self.new.live ≡ false) }
         ensures honest { WasFair self.new → WasFair self.old }
@@ -246,6 +255,8 @@ impl Source for ScriptedSource {
         ensures untaken { OnErr result
             (IsTakenBy [] (Some (told_of self.old)) (Some (told_of self.new))) }
         ensures reading { is_some self.new.place ≡ is_some self.old.place }
+        ensures ended { IfOk result (λ read. self.new.ended ≡ is_none read) }
+        ensures still { OnErr result (self.new.ended ≡ self.old.ended) }
         ensures live { OnOk result (IsTrue self.new.live) }
         ensures dead { OnErr result (self.new.live ≡ false) }
         ensures honest { WasFair self.new → WasFair self.old }
@@ -255,8 +266,9 @@ impl Source for ScriptedSource {
         ensures planned { FailsAsPlanned 0 (IsUnfit (released self.old)) self.old self.new result }
         ensures memory { result ≡ Err Memory
             → AddedFirst (before_of self.old) (past_move self.old) self.new }
-        ensures played { OnOk result ((place : Place) × (what : Last)
-            × (self.new ≡ with_answer what (record (released self.old) { place = Some place }))) }
+        ensures played { IfOk result (λ read. (place : Place) × (what : Last)
+            × (self.new ≡ with_answer what
+            (record (released self.old) { place = Some place; ended = is_none read }))) }
         ensures ends { IfOk result (λ read. (read ≡ None) → (place : Place)
             → self.new.place ≡ Some place → IsAtEnd self.new.log place) }
     {
@@ -278,6 +290,7 @@ impl Source for ScriptedSource {
         ensures told { IfOk result (λ rows. Tells (Some (told_of self.new)) (Selected rows.items)) }
         ensures taken { IsTakenBy [] (Some (told_of self.old)) (Some (told_of self.new)) }
         ensures reading { is_some self.new.place ≡ is_some self.old.place }
+        ensures ended { self.new.ended ≡ self.old.ended }
         ensures live { OnOk result (IsTrue self.new.live) }
         ensures dead { OnErr result (self.new.live ≡ false) }
         ensures honest { WasFair self.new → WasFair self.old }
@@ -307,6 +320,7 @@ impl Source for ScriptedSource {
         ensures told { OnOk result (Tells (Some (told_of self.new)) Done) }
         ensures taken { IsTakenBy [] (Some (told_of self.old)) (Some (told_of self.new)) }
         ensures reading { is_some self.new.place ≡ is_some self.old.place }
+        ensures ended { self.new.ended ≡ self.old.ended }
         ensures live { OnOk result (IsTrue self.new.live) }
         ensures dead { OnErr result (self.new.live ≡ false) }
         ensures honest { WasFair self.new → WasFair self.old }
@@ -331,6 +345,7 @@ impl Source for ScriptedSource {
         ensures told { OnOk result (Tells (Some (told_of self.new)) Done) }
         ensures taken { IsTakenBy [] (Some (told_of self.old)) (Some (told_of self.new)) }
         ensures reading { is_some self.new.place ≡ is_some self.old.place }
+        ensures ended { self.new.ended ≡ self.old.ended }
         ensures live { OnOk result (IsTrue self.new.live) }
         ensures dead { OnErr result (self.new.live ≡ false) }
         ensures honest { WasFair self.new → WasFair self.old }

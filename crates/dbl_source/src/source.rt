@@ -1,10 +1,10 @@
-ghost use Rattle.std.specs.Prelude.{◌≡◌, ◌≤◌, ℕ, List, [], ◌∷◌, length, Bool, false, is_some, IsTrue, Option, None, Some, option_copied, IfSome, IfOk, OnOk, OnErr, MatchOption};
+ghost use Rattle.std.specs.Prelude.{◌≡◌, ◌≤◌, ℕ, List, [], ◌∷◌, length, Bool, false, is_some, is_none, IsTrue, Option, None, Some, option_copied, IfSome, IfOk, OnOk, OnErr, MatchOption};
 ghost use Rattle.dbl_base.specs.Streams.{Rose};
 ghost use Rattle.dbl_pgmsg.specs.declared.messages.Message.{Message};
 ghost use Rattle.dbl_pgmsg.specs.Grammar.{Spells};
 ghost use Rattle.dbl_history.specs.History.{IsRising};
 ghost use Rattle.dbl_history.specs.Fit.{IsFitHistory};
-ghost use Rattle.dbl_source.specs.declared.error.SourceError.TheVariants.{Failed, Memory};
+ghost use Rattle.dbl_reading.specs.declared.error.SourceError.TheVariants.{Failed, Memory};
 ghost use Rattle.dbl_honest.specs.Standings.{Reading, Standing, Left, left_of, Stood, Leads};
 ghost use Rattle.dbl_honest.specs.Answered.{IsDescribed, IsHeaded, IsSelected};
 ghost use Rattle.dbl_honest.specs.Stated.{IsReadRight};
@@ -45,6 +45,9 @@ pub trait Source {
     /// Whether the last start answered that reading begins.
     ghost is_reading: { Self → Bool };
 
+    /// Whether the last read since the last start answered that nothing is left. A call that fails is none of them.
+    ghost has_ended: { Self → Bool };
+
     /// How often the source has failed. A count that stands at 2^64 - 1 stays there.
     ghost faults: { Self → ℕ };
 
@@ -58,6 +61,7 @@ pub trait Source {
         ensures told { IfOk result (λ entry. Tells (told self.new) (Described entry)) }
         ensures taken { IsTakenBy [] (told self.old) (told self.new) }
         ensures reading { is_reading self.new ≡ is_reading self.old }
+        ensures ended { has_ended self.new ≡ has_ended self.old }
         ensures live { OnOk result (IsTrue (is_live self.new)) }
         ensures dead { OnErr result (is_live self.new ≡ false) }
         ensures honest { honest self.new → honest self.old }
@@ -74,6 +78,7 @@ pub trait Source {
         ensures told { IfOk result (λ lsn. Tells (told self.new) (Head lsn)) }
         ensures taken { IsTakenBy [] (told self.old) (told self.new) }
         ensures reading { is_reading self.new ≡ is_reading self.old }
+        ensures ended { has_ended self.new ≡ has_ended self.old }
         ensures live { OnOk result (IsTrue (is_live self.new)) }
         ensures dead { OnErr result (is_live self.new ≡ false) }
         ensures honest { honest self.new → honest self.old }
@@ -94,6 +99,8 @@ pub trait Source {
         ensures untaken { OnErr result (IsTakenBy [] (told self.old) (told self.new)) }
         ensures reading { IfOk result (λ started. is_reading self.new ≡ is_ready started) }
         ensures unread { OnErr result (is_reading self.new ≡ is_reading self.old) }
+        ensures unended { OnOk result (has_ended self.new ≡ false) }
+        ensures still { OnErr result (has_ended self.new ≡ has_ended self.old) }
         ensures live { OnOk result (IsTrue (is_live self.new)) }
         ensures dead { OnErr result (is_live self.new ≡ false) }
         ensures honest { honest self.new → honest self.old }
@@ -116,6 +123,8 @@ pub trait Source {
             (λ bytes. IsTakenBy (bytes ∷ []) (told self.old) (told self.new))) }
         ensures untaken { OnErr result (IsTakenBy [] (told self.old) (told self.new)) }
         ensures reading { is_reading self.new ≡ is_reading self.old }
+        ensures ended { IfOk result (λ read. has_ended self.new ≡ is_none read) }
+        ensures still { OnErr result (has_ended self.new ≡ has_ended self.old) }
         ensures live { OnOk result (IsTrue (is_live self.new)) }
         ensures dead { OnErr result (is_live self.new ≡ false) }
         ensures honest { honest self.new → honest self.old }
@@ -141,6 +150,7 @@ pub trait Source {
         ensures told { IfOk result (λ rows. Tells (told self.new) (Selected rows.items)) }
         ensures taken { IsTakenBy [] (told self.old) (told self.new) }
         ensures reading { is_reading self.new ≡ is_reading self.old }
+        ensures ended { has_ended self.new ≡ has_ended self.old }
         ensures live { OnOk result (IsTrue (is_live self.new)) }
         ensures dead { OnErr result (is_live self.new ≡ false) }
         ensures honest { honest self.new → honest self.old }
@@ -160,6 +170,7 @@ pub trait Source {
         ensures told { OnOk result (Tells (told self.new) Done) }
         ensures taken { IsTakenBy [] (told self.old) (told self.new) }
         ensures reading { is_reading self.new ≡ is_reading self.old }
+        ensures ended { has_ended self.new ≡ has_ended self.old }
         ensures live { OnOk result (IsTrue (is_live self.new)) }
         ensures dead { OnErr result (is_live self.new ≡ false) }
         ensures honest { honest self.new → honest self.old }
@@ -179,6 +190,7 @@ pub trait Source {
         ensures told { OnOk result (Tells (told self.new) Done) }
         ensures taken { IsTakenBy [] (told self.old) (told self.new) }
         ensures reading { is_reading self.new ≡ is_reading self.old }
+        ensures ended { has_ended self.new ≡ has_ended self.old }
         ensures live { OnOk result (IsTrue (is_live self.new)) }
         ensures dead { OnErr result (is_live self.new ≡ false) }
         ensures honest { honest self.new → honest self.old }

@@ -10,8 +10,8 @@ use Rattle.dbl_honest.specs.Standings.{Standing, Stood}
 use Rattle.dbl_honest.specs.Selected.{Selects}
 use Rattle.dbl_honest.specs.Calls.{Moved}
 use Rattle.dbl_honest.specs.Told.{Told, Selected, IsTakenBy, Tells}
-use Rattle.dbl_source.specs.declared.error.SourceError.{SourceError}
-use Rattle.dbl_source.specs.declared.error.SourceError.TheVariants as source
+use Rattle.dbl_reading.specs.declared.error.SourceError.{SourceError}
+use Rattle.dbl_reading.specs.declared.error.SourceError.TheVariants as source
 use Rattle.dbl_window.specs.declared.error.WindowError.{WindowError}
 use Rattle.dbl_window.specs.declared.error.WindowError.TheVariants as window
 use Rattle.dbl_window.specs.Errors.{window_fault}

@@ -13,8 +13,8 @@ use Rattle.dbl_offset.specs.declared.error.OffsetError.TheVariants as offset
 use Rattle.dbl_offset.specs.declared.offset.Offset.{Offset}
 use Rattle.dbl_offset.specs.Entries.{spelling}
 use Rattle.dbl_offset.specs.Measures.{capped}
-use Rattle.dbl_source.specs.declared.error.SourceError.{SourceError}
-use Rattle.dbl_source.specs.declared.error.SourceError.TheVariants as source
+use Rattle.dbl_reading.specs.declared.error.SourceError.{SourceError}
+use Rattle.dbl_reading.specs.declared.error.SourceError.TheVariants as source
 use Rattle.dbl_work.specs.declared.halt.Halt.TheVariants as halt
 use Rattle.dbl_work.specs.Begins.{IsAbsentHalt, IsTooLong}
 use Rattle.dbl_work.specs.Halts.{offset_halt, source_halt}

@@ -5,8 +5,8 @@ use Rattle.dbl_table.specs.declared.table.TableName.{TableName}
 use Rattle.dbl_envelope.specs.declared.error.EnvelopeError.TheVariants as writer
 use Rattle.dbl_follow.specs.declared.error.FollowError.{FollowError}
 use Rattle.dbl_follow.specs.declared.error.FollowError.TheVariants as follow
-use Rattle.dbl_source.specs.declared.error.SourceError.{SourceError}
-use Rattle.dbl_source.specs.declared.error.SourceError.TheVariants as source
+use Rattle.dbl_reading.specs.declared.error.SourceError.{SourceError}
+use Rattle.dbl_reading.specs.declared.error.SourceError.TheVariants as source
 use Rattle.dbl_topic.specs.declared.error.SinkError.{SinkError}
 use Rattle.dbl_topic.specs.declared.error.SinkError.TheVariants as sink
 use Rattle.dbl_offset.specs.declared.error.OffsetError.{OffsetError}

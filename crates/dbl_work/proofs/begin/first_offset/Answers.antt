@@ -5,7 +5,7 @@ use Rattle.dbl_table.specs.declared.table.TableInfo.{TableInfo}
 use Rattle.dbl_table.specs.declared.table.TableName.{TableName}
 use Rattle.dbl_table.specs.Tables.{are_distinct, same_name}
 use Rattle.dbl_honest.specs.Standings.{Standing}
-use Rattle.dbl_source.specs.declared.error.SourceError.{SourceError}
+use Rattle.dbl_reading.specs.declared.error.SourceError.{SourceError}
 use Rattle.dbl_work.specs.declared.halt.Halt.TheVariants as halt
 use Rattle.dbl_work.specs.Begins.{IsAbsentHalt}
 use Rattle.dbl_work.proofs.Exits.{moved_on, rose_behind, source_absent, source_failed, taken_on}

@@ -1,8 +1,7 @@
 use Rattle.std.proofs.Common.{Some, refl, sym, subst}
 use Rattle.dbl_feed.specs.Sent.{told_at}
 use Rattle.dbl_source.specs.Played.{Played}
-use Rattle.dbl_source.specs.Steps.{IsReadBy}
-use Rattle.dbl_source.specs.Readings.{ReadsOn}
+use Rattle.dbl_source.specs.Steps.{ReadsOn, IsReadBy}
 use Rattle.dbl_source.specs.Fields.{played_of}
 use Rattle.dbl_source.proofs.StepLemmas.{next_played}
 use Rattle.dbl_source.proofs.scripted.ScriptedSource.advance.Goals as goal

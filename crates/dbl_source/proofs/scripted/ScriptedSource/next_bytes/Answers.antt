@@ -1,10 +1,10 @@
 use Rattle.std.proofs.Common.{◌∙◌, ◌+◌, sym, ap, subst, arith}
 use Rattle.std.specs.Prelude.{Result, Err}
-use Rattle.dbl_source.specs.declared.error.SourceError.{SourceError}
-use Rattle.dbl_source.specs.declared.reading.Step.{Step}
+use Rattle.dbl_reading.specs.declared.error.SourceError.{SourceError}
+use Rattle.dbl_reading.specs.declared.reading.Step.{Step}
+use Rattle.dbl_reading.specs.Readings.{Steps}
 use Rattle.dbl_source.specs.Played.{Played}
-use Rattle.dbl_source.specs.Readings.{ReadsOn, Steps}
-use Rattle.dbl_source.specs.Steps.{FailsToRead}
+use Rattle.dbl_source.specs.Steps.{ReadsOn, FailsToRead}
 use Rattle.dbl_source.specs.Fields.{played_of}
 use Rattle.dbl_source.proofs.StepLemmas.{steps_here, fails_to_read}
 use Rattle.dbl_source.proofs.scripted.ScriptedSource.next_bytes.Goals as goal

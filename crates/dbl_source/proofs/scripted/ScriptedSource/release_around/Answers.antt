@@ -1,7 +1,7 @@
 use Rattle.std.proofs.Common.{◌≡◌, ◌∙◌, ℕ, List, length, ap, subst, arith}
 use Rattle.std.proofs.lemmas.Result.{err_from_is_err_and}
 use Rattle.dbl_pgmsg.specs.declared.messages.Message.{Message}
-use Rattle.dbl_source.specs.declared.error.SourceError.TheVariants.{Memory}
+use Rattle.dbl_reading.specs.declared.error.SourceError.TheVariants.{Memory}
 use Rattle.dbl_source.specs.Played.{before_of, inside_of, IsListed, past_move, committed, released, FailsAsPlanned}
 use Rattle.dbl_source.specs.Steps.{IsBehind}
 use Rattle.dbl_source.proofs.PlannedLemmas.{released_so, planned_after, planned_on, answer_is, error_is, no_listed, on_ok, err_holds, not_failed}

@@ -1,5 +1,5 @@
 use Rattle.dbl_source.proofs.ExitLemmas.{both}
-use Rattle.dbl_source.proofs.EndLemmas.{confirm_held}
+use Rattle.dbl_source.proofs.EndLemmas.{confirm_held, confirm_still}
 use Rattle.dbl_source.proofs.scripted.ScriptedSourceSource.confirm.Goals as goal
 
 pub returns : goal.returns
@@ -14,6 +14,7 @@ returns c =
       told = held.told;
       taken = both c.play_confirm.result held.taken held.untaken;
       reading = both c.play_confirm.result held.reading held.unread;
+      ended = confirm_still c.args.upto c.args.self.now c.play_confirm.new.self c.play_confirm.result plays;
       live = held.live;
       dead = held.dead;
       honest = held.honest;

@@ -1,5 +1,5 @@
 use Rattle.dbl_source.proofs.ExitLemmas.{both}
-use Rattle.dbl_source.proofs.EndLemmas.{describe_held, describe_named, describe_played}
+use Rattle.dbl_source.proofs.EndLemmas.{describe_held, describe_named, describe_played, describe_still}
 use Rattle.dbl_source.proofs.scripted.ScriptedSourceSource.describe.Goals as goal
 
 pub returns : goal.returns
@@ -14,6 +14,7 @@ returns c =
       told = held.told;
       taken = both c.play_describe.result held.taken held.untaken;
       reading = both c.play_describe.result held.reading held.unread;
+      ended = describe_still c.args.name.now c.args.self.now c.play_describe.new.self c.play_describe.result plays;
       live = held.live;
       dead = held.dead;
       honest = held.honest;

@@ -1,5 +1,5 @@
 use Rattle.dbl_source.proofs.ExitLemmas.{both}
-use Rattle.dbl_source.proofs.EndLemmas.{head_held, head_played}
+use Rattle.dbl_source.proofs.EndLemmas.{head_held, head_played, head_still}
 use Rattle.dbl_source.proofs.scripted.ScriptedSourceSource.head.Goals as goal
 
 pub returns : goal.returns
@@ -13,6 +13,7 @@ returns c =
       told = held.told;
       taken = both c.play_head.result held.taken held.untaken;
       reading = both c.play_head.result held.reading held.unread;
+      ended = head_still c.args.self.now c.play_head.new.self c.play_head.result plays;
       live = held.live;
       dead = held.dead;
       honest = held.honest;

@@ -1,5 +1,5 @@
 use Rattle.dbl_source.proofs.ExitLemmas.{both}
-use Rattle.dbl_source.proofs.EndLemmas.{mark_held}
+use Rattle.dbl_source.proofs.EndLemmas.{mark_held, mark_still}
 use Rattle.dbl_source.proofs.scripted.ScriptedSourceSource.mark.Goals as goal
 
 pub returns : goal.returns
@@ -14,6 +14,7 @@ returns c =
       told = held.told;
       taken = both c.play_mark.result held.taken held.untaken;
       reading = both c.play_mark.result held.reading held.unread;
+      ended = mark_still c.args.value.now c.args.self.now c.play_mark.new.self c.play_mark.result plays;
       live = held.live;
       dead = held.dead;
       honest = held.honest;

@@ -1,5 +1,5 @@
-use Rattle.dbl_source.proofs.ExitLemmas.{both}
-use Rattle.dbl_source.proofs.EndLemmas.{read_held, read_played, read_ended}
+use Rattle.dbl_source.proofs.ExitLemmas.{still, both}
+use Rattle.dbl_source.proofs.EndLemmas.{read_held, read_none, read_played, read_ended}
 use Rattle.dbl_source.proofs.scripted.ScriptedSourceSource.read.Goals as goal
 
 pub returns : goal.returns
@@ -14,6 +14,8 @@ returns c =
       taken = held.taken;
       untaken = held.untaken;
       reading = both c.play_read.result held.reading held.unread;
+      ended = read_none c.args.self.now c.play_read.new.self c.play_read.result plays;
+      still = still _ _ _ _ c.args.self.now c.play_read.new.self c.play_read.result plays;
       live = held.live;
       dead = held.dead;
       honest = held.honest;

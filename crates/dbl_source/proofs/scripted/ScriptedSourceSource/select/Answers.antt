@@ -1,6 +1,6 @@
 use Rattle.std.specs.Prelude.{option_copied}
 use Rattle.dbl_source.proofs.ExitLemmas.{both}
-use Rattle.dbl_source.proofs.EndLemmas.{select_held, select_played}
+use Rattle.dbl_source.proofs.EndLemmas.{select_held, select_played, select_still}
 use Rattle.dbl_source.proofs.scripted.ScriptedSourceSource.select.Goals as goal
 
 pub returns : goal.returns
@@ -14,6 +14,7 @@ returns c =
       told = held.told;
       taken = both c.play_select.result held.taken held.untaken;
       reading = both c.play_select.result held.reading held.unread;
+      ended = select_still _ c.args.table.now (option_copied c.args.above) c.args.limit c.args.self.now c.play_select.new.self c.play_select.result plays;
       live = held.live;
       dead = held.dead;
       honest = held.honest;

@@ -1,4 +1,5 @@
-use Rattle.dbl_source.proofs.EndLemmas.{start_held, start_played}
+use Rattle.dbl_source.proofs.ExitLemmas.{still}
+use Rattle.dbl_source.proofs.EndLemmas.{start_held, start_unended, start_played}
 use Rattle.dbl_source.proofs.scripted.ScriptedSourceSource.start.Goals as goal
 
 pub returns : goal.returns
@@ -14,6 +15,8 @@ returns c =
       untaken = held.untaken;
       reading = held.reading;
       unread = held.unread;
+      unended = start_unended c.args.after c.args.self.now c.play_start.new.self c.play_start.result plays;
+      still = still _ _ _ _ c.args.self.now c.play_start.new.self c.play_start.result plays;
       live = held.live;
       dead = held.dead;
       honest = held.honest;

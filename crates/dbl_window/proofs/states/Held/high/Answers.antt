@@ -1,8 +1,8 @@
 use Rattle.std.proofs.Common.{◌≡◌, ◌∙◌, List, ℕ, sym, ap, subst}
 use Rattle.std.specs.Prelude.{Err}
 use Rattle.std.proofs.lemmas.Result.{err_from_is_err_and}
-use Rattle.dbl_source.specs.declared.error.SourceError.{SourceError}
-use Rattle.dbl_source.specs.declared.error.SourceError.TheVariants as source
+use Rattle.dbl_reading.specs.declared.error.SourceError.{SourceError}
+use Rattle.dbl_reading.specs.declared.error.SourceError.TheVariants as source
 use Rattle.dbl_window.specs.declared.error.WindowError.TheVariants as window
 use Rattle.dbl_honest.specs.Standings.{Stood}
 use Rattle.dbl_honest.specs.Calls.{IsMarked}

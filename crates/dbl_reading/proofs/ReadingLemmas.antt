@@ -16,12 +16,12 @@ use Rattle.dbl_feed.specs.Relations.{relation_at}
 use Rattle.dbl_feed.specs.Sent.{oids_of, messages_in, onto_relation, onto_relations, index_of, told_at, IsPlaceIn}
 use Rattle.dbl_feed.proofs.SentLemmas.{onto_relations-append}
 use Rattle.dbl_feed.proofs.PlaceLemmas.{table_looked_at, change_told, base, told_begun, relation_read, change_read, placed_begun}
-use Rattle.dbl_source.specs.declared.error.SourceError.{SourceError}
-use Rattle.dbl_source.specs.declared.error.SourceError.TheVariants.{Failed, Memory}
-use Rattle.dbl_source.specs.declared.reading.Step.{Step}
-use Rattle.dbl_source.specs.declared.reading.Missing.{Missing}
-use Rattle.dbl_source.specs.Steps.{Describes}
-use Rattle.dbl_source.specs.Readings.{IsMissing, LeadsTo, Steps}
+use Rattle.dbl_reading.specs.declared.error.SourceError.{SourceError}
+use Rattle.dbl_reading.specs.declared.error.SourceError.TheVariants.{Failed, Memory}
+use Rattle.dbl_reading.specs.declared.reading.Step.{Step}
+use Rattle.dbl_reading.specs.declared.reading.Missing.{Missing}
+use Rattle.dbl_reading.specs.Readings.{Describes}
+use Rattle.dbl_reading.specs.Readings.{IsMissing, LeadsTo, Steps}
 
 -- the step to the place behind a message reads the next one, where the reader has read the message there
 pub leads_steps : (tables : List LogTable) (log : List Logged) (place next : Place) (m : Message) (r : Result Step SourceError) → IfOk r (LeadsTo m next)

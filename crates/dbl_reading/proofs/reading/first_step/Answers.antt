@@ -2,8 +2,8 @@ use Rattle.std.proofs.Common.{◌∙◌, ◌∷◌, refl, sym, ap}
 use Rattle.dbl_pgmsg.specs.declared.messages.Message.{Message}
 use Rattle.dbl_feed.specs.Sent.{begin_message, told_at}
 use Rattle.dbl_feed.proofs.PlaceLemmas.{begun_at, begin_read, placed_begun}
-use Rattle.dbl_source.proofs.ReadingLemmas.{leads_steps}
-use Rattle.dbl_source.proofs.reading.first_step.Goals as goal
+use Rattle.dbl_reading.proofs.ReadingLemmas.{leads_steps}
+use Rattle.dbl_reading.proofs.reading.first_step.Goals as goal
 
 pub returns : goal.returns
 returns c tables log entry number idle there placed =

@@ -1,8 +1,8 @@
 use Rattle.std.proofs.Common.{◌≡◌, ◌-◌, List, length, take}
 use Rattle.dbl_pgmsg.specs.declared.messages.Message.{Message}
 use Rattle.dbl_feed.specs.Sent.{oids_of, onto_relations}
-use Rattle.dbl_source.specs.Steps.{Describes}
-use Rattle.dbl_source.proofs.reading.next_missing.Given as goal
+use Rattle.dbl_reading.specs.Readings.{Describes}
+use Rattle.dbl_reading.proofs.reading.next_missing.Given as goal
 
 abbrev pub invariant-loop-oid : goal.invariant-loop-oid
 invariant-loop-oid l =

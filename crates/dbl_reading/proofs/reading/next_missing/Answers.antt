@@ -1,9 +1,9 @@
 use Rattle.std.proofs.Common.{◌∙◌, ◌∷◌, ℕ, List, sym, ap, subst, arith}
 use Rattle.dbl_pgmsg.specs.declared.messages.Message.{Message}
 use Rattle.dbl_feed.specs.Sent.{oids_of, onto_relations}
-use Rattle.dbl_source.specs.Steps.{Describes}
-use Rattle.dbl_source.proofs.ReadingLemmas.{passed_over, none_to_tell, one_missing, oid_within, all_looked_at}
-use Rattle.dbl_source.proofs.reading.next_missing.Goals as goal
+use Rattle.dbl_reading.specs.Readings.{Describes}
+use Rattle.dbl_reading.proofs.ReadingLemmas.{passed_over, none_to_tell, one_missing, oid_within, all_looked_at}
+use Rattle.dbl_reading.proofs.reading.next_missing.Goals as goal
 
 pub loop-oid-preserved-then-contains : goal.loop-oid-preserved-then-contains
 loop-oid-preserved-then-contains c base all =

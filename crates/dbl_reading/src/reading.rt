@@ -7,8 +7,7 @@ ghost use Rattle.dbl_feed.specs.declared.logged.LogTable.{LogTable};
 ghost use Rattle.dbl_feed.specs.declared.logged.Logged.{Logged};
 ghost use Rattle.dbl_feed.specs.declared.logged.Logged.TheVariants.{Mark};
 ghost use Rattle.dbl_feed.specs.Sent.{described_in, oids_of, messages_in, onto_relations, index_of, told_at, IsPlaceIn};
-ghost use Rattle.dbl_source.specs.Steps.{Describes};
-ghost use Rattle.dbl_source.specs.Readings.{Finds, LeadsTo, Steps};
+ghost use Rattle.dbl_reading.specs.Readings.{Describes, Steps, Finds, LeadsTo};
 
 use crate::SourceError;
 use dbl_base::{Bytes, Text};
@@ -218,7 +217,9 @@ fn inner_step(
     }
 }
 
-/// What is read next of the commit with this number, which is the entry.
+/// What is read next of the commit with this number, from 1, which is the entry: the message behind those that a reader at this
+/// place has read, of a log whose Relations have described these tables to it. `Failed` comes where that message has no spelling;
+/// it counts no fault.
 pub fn next_step(
     alloc: Global,
     tables: &[LogTable],
@@ -242,7 +243,7 @@ pub fn next_step(
 }
 
 /// A message was read: the table that it describes, where it describes one, is described now.
-pub(crate) fn remember(described: &mut BTreeSet<u32>, oid: Option<u32>) -> Result<(), AllocError>
+pub fn remember(described: &mut BTreeSet<u32>, oid: Option<u32>) -> Result<(), AllocError>
     ensures ok { OnOk result ((message : Message) (past : List Message)
         → described_in message ≡ oid
         → Describes described.old past → Describes described.new (message ∷ past)) }

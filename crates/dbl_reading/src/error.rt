@@ -13,7 +13,7 @@ pub enum SourceError {
 
 impl From<Failed> for SourceError {
     ghost use Rattle.std.specs.Prelude.{◌≡◌};
-    ghost use Rattle.dbl_source.specs.declared.error.SourceError.TheVariants.{Failed};
+    ghost use Rattle.dbl_reading.specs.declared.error.SourceError.TheVariants.{Failed};
 
     ghost from_gives = { λ _ e. e ≡ Failed };
 
@@ -24,7 +24,7 @@ impl From<Failed> for SourceError {
 
 impl From<AllocError> for SourceError {
     ghost use Rattle.std.specs.Prelude.{◌≡◌};
-    ghost use Rattle.dbl_source.specs.declared.error.SourceError.TheVariants.{Memory};
+    ghost use Rattle.dbl_reading.specs.declared.error.SourceError.TheVariants.{Memory};
 
     ghost from_gives = { λ _ e. e ≡ Memory };
 
@@ -35,7 +35,7 @@ impl From<AllocError> for SourceError {
 
 impl<T: Drop> From<AllocFailed<T>> for SourceError {
     ghost use Rattle.std.specs.Prelude.{◌≡◌};
-    ghost use Rattle.dbl_source.specs.declared.error.SourceError.TheVariants.{Memory};
+    ghost use Rattle.dbl_reading.specs.declared.error.SourceError.TheVariants.{Memory};
 
     ghost from_gives = { λ _ e. e ≡ Memory };
 

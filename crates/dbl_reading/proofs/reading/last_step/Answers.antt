@@ -2,8 +2,8 @@ use Rattle.std.proofs.Common.{◌∙◌, ◌∷◌, refl, sym, ap}
 use Rattle.dbl_pgmsg.specs.declared.messages.Message.{Message}
 use Rattle.dbl_feed.specs.Sent.{commit_message, told_at}
 use Rattle.dbl_feed.proofs.PlaceLemmas.{commit_told, commit_read, placed_told}
-use Rattle.dbl_source.proofs.ReadingLemmas.{leads_steps}
-use Rattle.dbl_source.proofs.reading.last_step.Goals as goal
+use Rattle.dbl_reading.proofs.ReadingLemmas.{leads_steps}
+use Rattle.dbl_reading.proofs.reading.last_step.Goals as goal
 
 pub returns : goal.returns
 returns c tables log entry number begun there none placed =

@@ -1,6 +1,6 @@
 use Rattle.std.proofs.Common.{◌∙◌}
-use Rattle.dbl_source.proofs.StepLemmas.{described_more, described_same}
-use Rattle.dbl_source.proofs.reading.remember.Goals as goal
+use Rattle.dbl_reading.proofs.DescribedLemmas.{described_more, described_same}
+use Rattle.dbl_reading.proofs.reading.remember.Goals as goal
 
 pub returns-in_ok-insert-in-Some-clause-ok : goal.returns-in_ok-insert-in-Some-clause-ok
 returns-in_ok-insert-in-Some-clause-ok c message past is all = described_more message past c.args.described.now c.insert.new.self c.in-Some.oid (is ∙ c.in-Some.is) c.in_ok-insert-in-Some.ensures.updates.0 all

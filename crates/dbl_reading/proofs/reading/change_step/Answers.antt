@@ -2,10 +2,10 @@ use Rattle.std.proofs.Common.{◌≡◌, Option, take, subst}
 use Rattle.std.specs.Prelude.{MatchOption}
 use Rattle.dbl_feed.specs.Sent.{oids_of, onto_relations}
 use Rattle.dbl_feed.proofs.PlaceLemmas.{base}
-use Rattle.dbl_source.specs.declared.reading.Missing.{Missing}
-use Rattle.dbl_source.specs.Readings.{IsMissing}
-use Rattle.dbl_source.proofs.ReadingLemmas.{describes_here, missing_steps, change_steps}
-use Rattle.dbl_source.proofs.reading.change_step.Goals as goal
+use Rattle.dbl_reading.specs.declared.reading.Missing.{Missing}
+use Rattle.dbl_reading.specs.Readings.{IsMissing}
+use Rattle.dbl_reading.proofs.ReadingLemmas.{describes_here, missing_steps, change_steps}
+use Rattle.dbl_reading.proofs.reading.change_step.Goals as goal
 
 pub returns-in-Some : goal.returns-in-Some
 returns-in-Some c log entry begun there change placed all =

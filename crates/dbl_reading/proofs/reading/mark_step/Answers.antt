@@ -2,7 +2,7 @@ use Rattle.std.proofs.Common.{◌∙◌, Some, sym, ap}
 use Rattle.std.specs.Prelude.{slice_get}
 use Rattle.dbl_feed.specs.declared.logged.Logged.TheVariants.{Mark}
 use Rattle.dbl_feed.specs.Sent.{messages_in}
-use Rattle.dbl_source.proofs.reading.mark_step.Goals as goal
+use Rattle.dbl_reading.proofs.reading.mark_step.Goals as goal
 
 pub returns : goal.returns
 returns c log begun there placed all =

@@ -1,4 +1,4 @@
-use Rattle.std.proofs.Common.{◌∙◌, Bool, bytes_eq, refl, sym, ap}
+use Rattle.std.proofs.Common.{◌∙◌, Bool, refl, sym, ap}
 use Rattle.std.specs.Prelude.{if◌then◌else◌}
 use Rattle.std.proofs.lemmas.Slice.Eq.{bytes_eq-Decides}
 use Rattle.dbl_window.specs.Plans.{Chunk, low_text}

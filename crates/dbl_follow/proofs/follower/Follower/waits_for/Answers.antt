@@ -1,5 +1,4 @@
 use Rattle.std.proofs.Common.{◌≡◌, ◌∙◌, ℕ, Some, List, sym, ap, subst}
-use Rattle.dbl_follow.specs.declared.window.Window.{Window}
 use Rattle.dbl_follow.specs.declared.window.Window.TheVariants as windows
 use Rattle.dbl_follow.specs.Followed.{Following, FitsWindow, awaited}
 use Rattle.dbl_follow.proofs.follower.Follower.waits_for.Goals as goal

@@ -48,7 +48,7 @@ pub data Stops (entry : Entry) : Left → List (List Record) → Option Offset �
       → Stops entry left stage.groups (Some (next_offset stage))
 
 -- A session completes at a stage: it has read every commit that stood when it began, each of its tables is read to its end, and
--- the next offset is stored and confirmed.
+-- what is stored and what is confirmed have come as far as the last commit that it has read.
 pub record Completes (entry : Entry) (stage : Stage) (left : Left) : Type 0 where
   pub run : Run entry stage
   pub more : List Commit

@@ -207,6 +207,7 @@ first_is_for config infos head offset named first = (
   first.incarnation,
   first.lsn ∙ sym first.start,
   first.end_lsn ∙ sym first.start,
+  subst (λ (l : List TableInfo). AreUnread (length l) offset.cursors) (sym first.infos_are) first.cursors,
 )
 
 -- what the catalogue describes is what is captured of it

@@ -1,17 +1,16 @@
 -- What a window that is read does to a source, and what may be left of it.
-use Rattle.std.proofs.Common.{◌≡◌, ◌∙◌, ◌⊎◌, inl, inr, ◌+◌, ◌≤◌, ℕ, List, [], ◌∷◌, ◌++◌, length, refl, sym, ap, subst, arith, append-nil, append_assoc, length-append}
-use Rattle.std.specs.List.{AllByRecursion}
+use Rattle.std.proofs.Common.{◌≡◌, ◌∙◌, ◌⊎◌, inl, inr, ℕ, zero, suc, List, [], ◌∷◌, ◌++◌, length, refl, sym, ap, subst, append-nil, append_assoc}
 use Rattle.dbl_history.specs.History.{RawBody, RawCommit, History}
 use Rattle.dbl_history.specs.History.RawBody.{Changes, Mark}
 use Rattle.dbl_honest.specs.Calls.{Moved, IsMarked}
 use Rattle.dbl_honest.specs.Growth.{AreOthers, Grows, HasChanges, Marks, mark_in_body, marks_in}
 use Rattle.dbl_honest.specs.Leaves.{MayFollow}
 use Rattle.dbl_honest.specs.Standings.{Standing, Left, left_of}
-use Rattle.dbl_faithful.proofs.Items.{all_weaker}
 use Rattle.dbl_window.specs.Leaving.{MayStayOrMark}
 use Rattle.dbl_window.specs.Plans.{Plan, Chunk, low_text, high_text}
 use Rattle.dbl_window.specs.Selected.{IsCaptured, IsSelected, SelectsChunk}
-use Rattle.dbl_work.specs.Windowed.{IsBodyOf, MayHaveMarks, WasLooked, WasWindowed}
+use Rattle.dbl_work.specs.Windowed.{MayHaveMarks, WasLooked, WasWindowed}
+use Rattle.dbl_work.specs.Works.{IsChunkOf}
 
 -- ---- what was done
 
@@ -56,93 +55,64 @@ no_marks : (xs : List RawCommit) → AreOthers xs → marks_in xs ≡ []
 no_marks [] others = refl
 no_marks (x ∷ xs) others = ap (λ (l : List (List ℕ)). l ++ marks_in xs) (no_mark x.body others.0) ∙ no_marks xs others.1
 
-none_few : (xs : List RawCommit) (most : ℕ) → AreOthers xs → length (marks_in xs) ≤ most
-none_few xs most others = subst (λ (l : List (List ℕ)). length l ≤ most) (sym (no_marks xs others)) (at_least most)
-  where
-    at_least : (n : ℕ) → 0 ≤ n
-    at_least n = omega arith
-
-others_bodies : (plan : Plan) (xs : List RawCommit) → AreOthers xs → AllByRecursion (λ (c : RawCommit). IsBodyOf plan c.body) xs
-others_bodies plan xs others = all_weaker (λ (c : RawCommit). HasChanges c.body) (λ (c : RawCommit). IsBodyOf plan c.body) xs (λ c has. by c.body has) others
-  where
-    by : (body : RawBody) → HasChanges body → IsBodyOf plan body
-    by (Changes changes) has = tt
-    by (Mark value) has = absurd has
-
-all_join : (plan : Plan) (xs ys : List RawCommit) → AllByRecursion (λ (c : RawCommit). IsBodyOf plan c.body) xs → AllByRecursion (λ (c : RawCommit). IsBodyOf plan c.body) ys
-    → AllByRecursion (λ (c : RawCommit). IsBodyOf plan c.body) (xs ++ ys)
-all_join plan [] ys one two = two
-all_join plan (x ∷ xs) ys one two = (one.0, all_join plan xs ys one.1 two)
-
 -- nothing happened
-pub rest_left : (most : ℕ) (plan : Plan) (s : Standing) (left : Left) → left ≡ left_of s → MayHaveMarks most plan s left
-rest_left most plan s left same = record {
+pub rest_left : (values : List (List ℕ)) (s : Standing) (left : Left) → left ≡ left_of s → MayHaveMarks values s left
+rest_left values s left same = record {
   more = [];
   grown = record { tables = ap (λ (l : Left). l.history.tables) same; commits = ap (λ (l : Left). l.history.commits) same ∙ sym (append-nil s.history.commits) };
-  bodies = tt;
-  few = none_few [] most tt;
+  count = zero;
+  marks = refl;
   confirmed = ap (λ (l : Left). l.confirmed) same;
 }
 
 -- others have committed
-pub others_left : (most : ℕ) (plan : Plan) (s : Standing) (left : Left) → MayFollow s left → MayHaveMarks most plan s left
-others_left most plan s left may = record {
+pub others_left : (values : List (List ℕ)) (s : Standing) (left : Left) → MayFollow s left → MayHaveMarks values s left
+others_left values s left may = record {
   more = may.grows.others;
   grown = record { tables = may.grows.tables; commits = may.grows.commits };
-  bodies = others_bodies plan may.grows.others may.grows.are_others;
-  few = none_few may.grows.others most may.grows.are_others;
+  count = zero;
+  marks = no_marks may.grows.others may.grows.are_others;
   confirmed = may.confirmed;
 }
 
--- one of the window's marks is there
-marks_one : (value : List ℕ) (old new : History) (m : Marks value old new) → length (marks_in (m.before ++ m.mark ∷ m.after)) ≡ 1
+-- one mark is there
+marks_one : (value : List ℕ) (old new : History) (m : Marks value old new) → marks_in (m.before ++ m.mark ∷ m.after) ≡ value ∷ []
 marks_one value old new m =
-    ap length
-    (marks_append m.before (m.mark ∷ m.after)
+    marks_append m.before (m.mark ∷ m.after)
     ∙ (ap (λ (l : List (List ℕ)). l ++ (mark_in_body m.mark.body ++ marks_in m.after)) (no_marks m.before m.before_are_others)
     ∙ (ap (λ (b : RawBody). mark_in_body b ++ marks_in m.after) m.is_mark
-    ∙ ap (λ (l : List (List ℕ)). value ∷ l) (no_marks m.after m.after_are_others))))
+    ∙ ap (λ (l : List (List ℕ)). value ∷ l) (no_marks m.after m.after_are_others)))
 
-marked_bodies : (plan : Plan) (value : List ℕ) (old new : History) (m : Marks value old new) → (value ≡ low_text plan) ⊎ (value ≡ high_text plan)
-    → AllByRecursion (λ (c : RawCommit). IsBodyOf plan c.body) (m.before ++ m.mark ∷ m.after)
-marked_bodies plan value old new m own =
-    all_join plan m.before (m.mark ∷ m.after) (others_bodies plan m.before m.before_are_others)
-    (subst (IsBodyOf plan) (sym m.is_mark) own, others_bodies plan m.after m.after_are_others)
-
-pub mark_left : (plan : Plan) (value : List ℕ) (s : Standing) (left : Left) → (value ≡ low_text plan) ⊎ (value ≡ high_text plan) → MayStayOrMark value s left → MayHaveMarks 1 plan s left
-mark_left plan value s left own (inl same) = rest_left 1 plan s left same
-mark_left plan value s left own (inr may) = by may.history
+pub mark_left : (value : List ℕ) (rest : List (List ℕ)) (s : Standing) (left : Left) → MayStayOrMark value s left → MayHaveMarks (value ∷ rest) s left
+mark_left value rest s left (inl same) = rest_left (value ∷ rest) s left same
+mark_left value rest s left (inr may) = by may.history
   where
-    exactly : (n : ℕ) → n ≡ 1 → n ≤ 1
-    exactly n is = omega (arith, is)
-
-    by : Grows s.history left.history ⊎ Marks value s.history left.history → MayHaveMarks 1 plan s left
-    by (inl grows) = others_left 1 plan s left (record { grows = grows; confirmed = may.confirmed })
+    by : Grows s.history left.history ⊎ Marks value s.history left.history → MayHaveMarks (value ∷ rest) s left
+    by (inl grows) = others_left (value ∷ rest) s left (record { grows = grows; confirmed = may.confirmed })
     by (inr m) = record {
       more = m.before ++ m.mark ∷ m.after;
       grown = record { tables = m.tables; commits = m.commits ∙ append_assoc s.history.commits m.before (m.mark ∷ m.after) };
-      bodies = marked_bodies plan value s.history left.history m own;
-      few = exactly (length (marks_in (m.before ++ m.mark ∷ m.after))) (marks_one value s.history left.history m);
+      count = suc zero;
+      marks = marks_one value s.history left.history m;
       confirmed = may.confirmed;
     }
 
 -- it goes on behind others' commits
-pub moved_left : (most : ℕ) (plan : Plan) (s mid : Standing) (left : Left) → Moved s mid → MayHaveMarks most plan mid left → MayHaveMarks most plan s left
-moved_left most plan s mid left moved may = record {
+pub moved_left : (values : List (List ℕ)) (s mid : Standing) (left : Left) → Moved s mid → MayHaveMarks values mid left → MayHaveMarks values s left
+moved_left values s mid left moved may = record {
   more = moved.grows.others ++ may.more;
   grown = record {
     tables = may.grown.tables ∙ moved.grows.tables;
     commits = may.grown.commits ∙ (ap (λ (l : List RawCommit). l ++ may.more) moved.grows.commits ∙ append_assoc s.history.commits moved.grows.others may.more);
   };
-  bodies = all_join plan moved.grows.others may.more (others_bodies plan moved.grows.others moved.grows.are_others) may.bodies;
-  few = subst (λ (l : List (List ℕ)). length l ≤ most)
-      (sym (marks_append moved.grows.others may.more ∙ ap (λ (l : List (List ℕ)). l ++ marks_in may.more) (no_marks moved.grows.others moved.grows.are_others))) may.few;
+  count = may.count;
+  marks = marks_append moved.grows.others may.more ∙ (ap (λ (l : List (List ℕ)). l ++ marks_in may.more) (no_marks moved.grows.others moved.grows.are_others) ∙ may.marks);
   confirmed = may.confirmed ∙ moved.confirmed;
 }
 
--- and behind its low mark there is one more
-pub marked_left : (plan : Plan) (value : List ℕ) (s mid : Standing) (left : Left) → (value ≡ low_text plan) ⊎ (value ≡ high_text plan) → IsMarked value s mid → MayHaveMarks 1 plan mid left → MayHaveMarks 2 plan s left
-marked_left plan value s mid left own marked may = record {
+-- and behind a mark
+pub marked_left : (value : List ℕ) (rest : List (List ℕ)) (s mid : Standing) (left : Left) → IsMarked value s mid → MayHaveMarks rest mid left → MayHaveMarks (value ∷ rest) s left
+marked_left value rest s mid left marked may = record {
   more = (marked.marks.before ++ marked.marks.mark ∷ marked.marks.after) ++ may.more;
   grown = record {
     tables = may.grown.tables ∙ marked.marks.tables;
@@ -151,20 +121,15 @@ marked_left plan value s mid left own marked may = record {
         ∙ (ap (λ (l : List RawCommit). l ++ may.more) (marked.marks.commits ∙ append_assoc s.history.commits marked.marks.before (marked.marks.mark ∷ marked.marks.after))
         ∙ append_assoc s.history.commits (marked.marks.before ++ marked.marks.mark ∷ marked.marks.after) may.more);
   };
-  bodies = all_join plan (marked.marks.before ++ marked.marks.mark ∷ marked.marks.after) may.more (marked_bodies plan value s.history mid.history marked.marks own) may.bodies;
-  few = both (length (marks_in (marked.marks.before ++ marked.marks.mark ∷ marked.marks.after))) (length (marks_in may.more))
-      (length (marks_in ((marked.marks.before ++ marked.marks.mark ∷ marked.marks.after) ++ may.more)))
-      (marks_one value s.history mid.history marked.marks) may.few
-      (ap length (marks_append (marked.marks.before ++ marked.marks.mark ∷ marked.marks.after) may.more)
-      ∙ length-append (marks_in (marked.marks.before ++ marked.marks.mark ∷ marked.marks.after)) (marks_in may.more));
+  count = suc may.count;
+  marks =
+      marks_append (marked.marks.before ++ marked.marks.mark ∷ marked.marks.after) may.more
+      ∙ (ap (λ (l : List (List ℕ)). l ++ marks_in may.more) (marks_one value s.history mid.history marked.marks) ∙ ap (λ (l : List (List ℕ)). value ∷ l) may.marks);
   confirmed = may.confirmed ∙ marked.confirmed;
 }
-  where
-    both : (a b c : ℕ) → a ≡ 1 → b ≤ 1 → c ≡ a + b → c ≤ 2
-    both a b c one two three = omega (arith, one, two, three)
 
-one_of_two : (n : ℕ) → n ≤ 1 → n ≤ 2
-one_of_two n le = omega (arith, le)
+-- ---- what was read
 
-pub one_is_few : (plan : Plan) (s : Standing) (left : Left) → MayHaveMarks 1 plan s left → MayHaveMarks 2 plan s left
-one_is_few plan s left may = record { more = may.more; grown = may.grown; bodies = may.bodies; few = one_of_two (length (marks_in may.more)) may.few; confirmed = may.confirmed }
+-- by the plan that it has
+pub chunk_own : (plan : Plan) (chunk : Chunk) → IsChunkOf plan chunk → IsChunkOf chunk.plan chunk
+chunk_own plan chunk is = subst (λ (p : Plan). IsChunkOf p chunk) (sym is.plan_is) is

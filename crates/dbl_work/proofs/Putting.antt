@@ -8,14 +8,14 @@ use Rattle.dbl_record.specs.Cuts.{begins_behind, cut_behind, cut, joined}
 use Rattle.dbl_record.specs.Groups.{record_form, group_form}
 use Rattle.dbl_record.proofs.CutLaws.{cuts_join}
 use Rattle.dbl_record.proofs.Sizes.{group_size}
-use Rattle.dbl_topic.specs.Sinks.{told_length}
+use Rattle.dbl_topic.specs.Sinks.{IsLeftByPut, told_length}
 use Rattle.dbl_faithful.proofs.Items.{at_left, at_right, at_cases}
 use Rattle.dbl_session.proofs.Events.{take_whole}
 use Rattle.dbl_work.specs.declared.report.Report.{Report}
 use Rattle.dbl_work.specs.declared.halt.Halt.{Halt}
 use Rattle.dbl_work.specs.declared.halt.Halt.TheVariants as halt
 use Rattle.dbl_work.specs.Causes.{IsLongRecord}
-use Rattle.dbl_work.specs.Groups.{report_with, IsLeftByCut, HasLastsAtItsEnd, HoldsPut, WerePut}
+use Rattle.dbl_work.specs.Groups.{report_with, IsLeftByCut, HasLastsAtItsEnd, HoldsPut, WasTorn, WerePut}
 use Rattle.dbl_work.proofs.Puts.{IsNextGroup, front_cut, group_lasts, joined_push, left_cut, next_handful, report_none, report_twice, take_more}
 
 -- a sink takes a group of so many bytes
@@ -174,6 +174,22 @@ module _ {K : Type 0} (holds : K → List (List Record) → Type 0) (snapshot : 
         count = length (joined p.put);
         held = subst (λ (l : List (List Record)). holds new (groups ++ l)) (sym (ap cut same ∙ front_cut records p.put some.0 some.1)) (p.held groups held);
         report = p.counted lasts ∙ ap (λ (l : List Record). report_with snapshot l before) (sym same);
+      }
+
+  -- the put of the next group failed
+  pub torn_put : (may_leave : K → List (List Record) → Type 0) (groups : List (List Record)) (records gathered rest group : List Record) (old mid new : K) (before after next : Report)
+      → (p : IsPut holds snapshot records gathered rest old mid before after) → IsNextGroup records p.put group → HasLastsAtItsEnd records → next ≡ after
+      → ((found : List (List Record)) → may_leave new found → IsLeftByPut (groups ++ p.put) group found) → WasTorn may_leave groups snapshot records before next new
+  torn_put may_leave groups records gathered rest group old mid new before after next p n lasts same left =
+      let taken = taken_is records gathered rest old mid before after p in
+      let front : p.put ≡ cut (take (length (joined p.put)) records) = sym (ap cut taken ∙ front_cut records p.put group n) in
+      record {
+        count = length (joined p.put);
+        group = group;
+        later = n.later;
+        parted = subst (λ (l : List (List Record)). cut records ≡ l ++ group ∷ n.later) front n.parted;
+        left = λ found may. subst (λ (l : List (List Record)). IsLeftByPut (groups ++ l) group found) front (left found may);
+        report = same ∙ (p.counted lasts ∙ ap (λ (l : List Record). report_with snapshot l before) (sym taken));
       }
 
   -- a sink that tells what it holds leaves no less

@@ -3,7 +3,6 @@ use Rattle.std.specs.Prelude.{◌≡◌, ◌⊎◌, ℕ, ◌+◌, ◌^◌, ◌<�
 use Rattle.std.specs.List.{AllByRecursion}
 use Rattle.dbl_base.specs.declared.lsn.Lsn.{Lsn}
 use Rattle.dbl_table.specs.declared.config.Config.{Config}
-use Rattle.dbl_table.specs.declared.identity.Identity.{Identity}
 use Rattle.dbl_table.specs.declared.table.TableName.{TableName}
 use Rattle.dbl_table.specs.declared.table.RawTable.{RawTable}
 use Rattle.dbl_table.specs.declared.table.TableInfo.{TableInfo}
@@ -11,7 +10,6 @@ use Rattle.dbl_table.specs.declared.error.ModelError.{ModelError}
 use Rattle.dbl_table.specs.Infos.{IsInfoOf}
 use Rattle.dbl_table.specs.Made.{table_fault}
 use Rattle.dbl_history.specs.declared.cursor.Cursor.{Cursor}
-use Rattle.dbl_history.specs.Fit.{AreInfosOf}
 use Rattle.dbl_history.specs.History.{History, entry_of}
 use Rattle.dbl_honest.specs.Calls.{Moved}
 use Rattle.dbl_honest.specs.Leaves.{MayFollow}
@@ -21,7 +19,6 @@ use Rattle.dbl_offset.specs.declared.offset.Offset.{Offset}
 use Rattle.dbl_offset.specs.Entries.{spelling}
 use Rattle.dbl_offset.specs.Measures.{capped}
 use Rattle.dbl_stores.specs.Behind.{IsUnread}
-use Rattle.dbl_session.specs.Entries.{Entry}
 use Rattle.dbl_work.specs.declared.halt.Halt.{Halt}
 use Rattle.dbl_work.specs.declared.halt.Halt.TheVariants as halt
 
@@ -108,25 +105,8 @@ IsExhausted (Some stored) h = (2 ^ 63 ≤ stored.incarnation) × (h ≡ halt.Exh
 -- The offset that a session stores first: of what it is asked for, with nothing read yet; or the stored one, of the next incarnation.
 abbrev pub IsOffsetFor : Config → Option Offset → Offset → Type 0
 IsOffsetFor config None offset = (offset.identity ≡ config.identity) × (map (λ info. info.name) offset.infos ≡ config.tables) × (offset.incarnation ≡ 1)
-    × (offset.lsn ≡ offset.start) × (offset.end_lsn ≡ offset.start)
+    × (offset.lsn ≡ offset.start) × (offset.end_lsn ≡ offset.start) × AreUnread (length offset.infos) offset.cursors
 IsOffsetFor config (Some stored) offset = offset ≡ record stored { incarnation = stored.incarnation + 1 }
-
--- ---- what is captured
-
--- what a session captures, and for which connector: of the stored offset that it found, and of what it is asked for where it found none
-abbrev pub Captures : Config → History → Option Offset → List TableInfo → Type 0
-Captures config history None infos = (map (λ info. info.name) infos ≡ config.tables) × AreInfosOf history infos
-Captures config history (Some offset) infos = infos ≡ offset.infos
-
-abbrev pub IsCapturing : Entry → List TableInfo → Type 0
-IsCapturing entry infos = Captures entry.config entry.history entry.offset infos
-
-abbrev pub named_by : Config → Option Offset → Identity
-named_by config None = config.identity
-named_by config (Some offset) = offset.identity
-
-abbrev pub identity_of : Entry → Identity
-identity_of entry = named_by entry.config entry.offset
 
 -- ---- other halts
 

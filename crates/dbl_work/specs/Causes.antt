@@ -1,19 +1,11 @@
 -- Why a session halts. Each cause is said of what the source told, where it tells it, and of the stored offset; want of memory is free.
-use Rattle.std.specs.Prelude.{◌≡◌, ◌⊎◌, ℕ, ◌<◌, ◌≤◌, ◌^◌, take, Option, Some, None, Err, List, [], ◌∷◌, length, slice_get}
+use Rattle.std.specs.Prelude.{◌≡◌, ◌⊎◌, ℕ, ◌<◌, ◌≤◌, ◌^◌, take, Option, Some, Err, List, [], ◌∷◌, length, slice_get}
 use Rattle.std.specs.List.{AllByRecursion}
-use Rattle.dbl_base.specs.declared.lsn.Lsn.{Lsn}
-use Rattle.dbl_pgmsg.specs.declared.error.MsgError.{MsgError}
-use Rattle.dbl_pgmsg.specs.declared.messages.Message.{Message}
-use Rattle.dbl_pgmsg.specs.Faults.{IsFault}
 use Rattle.dbl_record.specs.declared.record.Record.{Record}
 use Rattle.dbl_record.specs.Groups.{group_form}
 use Rattle.dbl_table.specs.declared.table.TableInfo.{TableInfo}
-use Rattle.dbl_commit.specs.declared.txn_error.TxnError.{TxnError}
-use Rattle.dbl_commit.specs.Blocks.{IsAccepted}
-use Rattle.dbl_commit.specs.Stated.{transaction_fault}
 use Rattle.dbl_honest.specs.Standings.{Standing}
 use Rattle.dbl_honest.specs.Told.{Told}
-use Rattle.dbl_offset.specs.declared.offset.Offset.{Offset}
 use Rattle.dbl_topic.specs.Sinks.{told_length}
 use Rattle.dbl_window.specs.declared.error.WindowError.{WindowError}
 use Rattle.dbl_window.specs.declared.error.WindowError.TheVariants as window
@@ -23,32 +15,7 @@ use Rattle.dbl_work.specs.declared.halt.Halt.{Halt}
 use Rattle.dbl_work.specs.declared.halt.Halt.TheVariants as halt
 use Rattle.dbl_work.specs.declared.work.Work.{Work}
 use Rattle.dbl_work.specs.Halts.{window_halt}
-use Rattle.dbl_work.specs.Works.{plan_at, AreSpelled}
-
--- ---- messages
-
--- The newest bytes that were read are no message, and this is why. Their number is how many were read.
-pub record IsMessageFault (read : List (List ℕ)) (number : ℕ) (error : MsgError) : Type 0 where
-  pub bytes : List ℕ
-  pub earlier : List (List ℕ)
-  pub newest : read ≡ bytes ∷ earlier
-  pub fault : IsFault bytes error
-  pub number_is : number ≡ length read
-
--- The newest message has this fault behind the others, which have none.
-pub record IsTxnFault (infos : List TableInfo) (after : Lsn) (read : List (List ℕ)) (number : ℕ) (error : TxnError) : Type 0 where
-  pub message : Message
-  pub messages : List Message
-  pub spelled : AreSpelled read (message ∷ messages)
-  pub accepted : IsAccepted infos after messages
-  pub fault : transaction_fault infos after message messages ≡ Some error
-  pub number_is : number ≡ length read
-
--- what a session captures, and behind which LSN it reads: of the offset that it found, and of the first one where it found none
-abbrev pub IsBehindOf : Option Offset → Option Offset → List TableInfo → Lsn → Type 0
-IsBehindOf (Some old) new infos after = (infos ≡ old.infos) × (after ≡ old.lsn)
-IsBehindOf None (Some first) infos after = (infos ≡ first.infos) × (after ≡ first.start)
-IsBehindOf None None infos after = ⊥
+use Rattle.dbl_work.specs.Works.{plan_at}
 
 -- ---- windows
 

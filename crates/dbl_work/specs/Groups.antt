@@ -3,6 +3,7 @@ use Rattle.std.specs.Prelude.{◌≡◌, ℕ, ◌+◌, ◌-◌, ◌^◌, ◌≤�
 use Rattle.dbl_record.specs.declared.record.Record.{Record}
 use Rattle.dbl_record.specs.Cuts.{cut}
 use Rattle.dbl_record.specs.Groups.{group_form}
+use Rattle.dbl_topic.specs.Sinks.{IsLeftByPut}
 use Rattle.dbl_work.specs.declared.groups.Gathered.{Gathered}
 use Rattle.dbl_work.specs.declared.report.Report.{Report}
 
@@ -63,4 +64,15 @@ pub record HoldsPut {K : Type 0} (holds : K → List (List Record) → Type 0) (
     (records : List Record) (before after : Report) (sink : K) : Type 0 where
   pub count : ℕ
   pub held : holds sink (groups ++ cut (take count records))
+  pub report : after ≡ report_with snapshot (take count records) before
+
+-- what is left where a put failed: some first records were put, and are counted; and of the group behind them, the next one of the cut,
+-- some first records may be there
+pub record WasTorn {K : Type 0} (may_leave : K → List (List Record) → Type 0) (groups : List (List Record)) (snapshot : Bool)
+    (records : List Record) (before after : Report) (sink : K) : Type 0 where
+  pub count : ℕ
+  pub group : List Record
+  pub later : List (List Record)
+  pub parted : cut records ≡ cut (take count records) ++ group ∷ later
+  pub left : (found : List (List Record)) → may_leave sink found → IsLeftByPut (groups ++ cut (take count records)) group found
   pub report : after ≡ report_with snapshot (take count records) before

@@ -1,9 +1,7 @@
 -- What reading a window does to a source.
-use Rattle.std.specs.Prelude.{◌≡◌, ◌⊎◌, ℕ, ◌≤◌, List, length}
-use Rattle.std.specs.List.{AllByRecursion}
+use Rattle.std.specs.Prelude.{◌≡◌, ℕ, List, [], ◌∷◌, length, take}
 use Rattle.dbl_table.specs.declared.table.TableInfo.{TableInfo}
-use Rattle.dbl_history.specs.History.{RawBody, RawCommit, History}
-use Rattle.dbl_history.specs.History.RawBody.{Changes, Mark}
+use Rattle.dbl_history.specs.History.{RawCommit, History}
 use Rattle.dbl_honest.specs.Growth.{Grows, Marks, marks_in}
 use Rattle.dbl_honest.specs.Standings.{Standing, Left, Stood}
 use Rattle.dbl_stores.specs.Kept.{HasGrown}
@@ -35,15 +33,14 @@ pub record HasReadWindow {S : Type 0} (honest : Type 0) (stands : S → Standing
 
 -- ---- what may be left of it
 
--- the mark of another is none, and of the window's own there are two
-abbrev pub IsBodyOf : Plan → RawBody → Type 0
-IsBodyOf plan (Changes changes) = Unit {0}
-IsBodyOf plan (Mark value) = (value ≡ low_text plan) ⊎ (value ≡ high_text plan)
+-- the marks of a window, in the order in which they are written
+abbrev pub own_marks : Plan → List (List ℕ)
+own_marks plan = low_text plan ∷ high_text plan ∷ []
 
--- others may have committed, and so many of the window's marks may stand there
-pub record MayHaveMarks (most : ℕ) (plan : Plan) (s : Standing) (l : Left) : Type 0 where
+-- others may have committed, and some first ones of these marks may stand among their commits
+pub record MayHaveMarks (values : List (List ℕ)) (s : Standing) (l : Left) : Type 0 where
   pub more : List RawCommit
   pub grown : HasGrown s.history l.history more
-  pub bodies : AllByRecursion (λ commit. IsBodyOf plan commit.body) more
-  pub few : length (marks_in more) ≤ most
+  pub count : ℕ
+  pub marks : marks_in more ≡ take count values
   pub confirmed : l.confirmed ≡ s.confirmed

@@ -7,7 +7,7 @@ ghost use Rattle.dbl_history.specs.Fit.{AreInfosOf};
 ghost use Rattle.dbl_honest.specs.Standings.{Standing, Leads};
 ghost use Rattle.dbl_honest.specs.Calls.{Moved, IsHead, IsBegun};
 ghost use Rattle.dbl_honest.specs.Leaves.{Leaves, LeavesSome, MayFollow};
-ghost use Rattle.dbl_honest.specs.Told.{Began, IsTakenBy, IsTakenAnew, Tells};
+ghost use Rattle.dbl_honest.specs.Told.{Began, Head, IsTakenBy, IsTakenAnew, Tells};
 ghost use Rattle.dbl_offset.specs.declared.offset.Offset.{Offset as SpecOffset};
 ghost use Rattle.dbl_offset.specs.Entries.{spelling};
 ghost use Rattle.dbl_offset.specs.Measures.{capped};
@@ -131,6 +131,7 @@ pub fn first_offset<S: Source>(alloc: Global, config: &Config, src: &mut S) -> R
         × IsHead head s t)) }
     ensures of { IfOk result (IsOffsetFor config.now None) }
     ensures asked { IfOk result IsOffset }
+    ensures headed { IfOk result (λ offset. Tells (S.told src.new) (Head offset.start)) }
     ensures fault { IfErr result (λ h. (h ≡ Halt.Memory) ⊎ ((h ≡ Halt.Source)
         ⊎ ((name : _) × Contains config.now.tables name × IsModelFault name (S.told src.new) h))) }
     ensures absent { (s : Standing) → S.stands src.old s →

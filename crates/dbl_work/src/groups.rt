@@ -7,7 +7,7 @@ ghost use Rattle.dbl_record.specs.Cuts.{IsHandful, begins_behind, cut};
 ghost use Rattle.dbl_record.specs.Groups.{group_form};
 ghost use Rattle.dbl_topic.specs.Sinks.{IsLeftByPut, told_length};
 ghost use Rattle.dbl_work.specs.Causes.{IsLongRecord};
-ghost use Rattle.dbl_work.specs.Groups.{HasLastsAtItsEnd, HoldsPut, IsGathered, IsLeftByCut, WerePut, ends_commit, report_with};
+ghost use Rattle.dbl_work.specs.Groups.{HasLastsAtItsEnd, HoldsPut, IsGathered, IsLeftByCut, WasTorn, WerePut, ends_commit, report_with};
 
 use crate::{Halt, Report};
 use dbl_record::{Record, record_length};
@@ -152,6 +152,9 @@ pub fn put_all<K: Sink>(
     ensures kept { (groups : List (List SpecRecord)) → K.holds sink.old groups →
         HasLastsAtItsEnd records.items → OnErr result (result ≢ Err Halt.Sink →
         HoldsPut K.holds groups snapshot records.items report.old report.new sink.new) }
+    ensures torn { (groups : List (List SpecRecord)) → K.holds sink.old groups →
+        HasLastsAtItsEnd records.items → result ≡ Err Halt.Sink →
+        WasTorn K.may_leave groups snapshot records.items report.old report.new sink.new }
     ensures halt { IfErr result (λ h. (h ≡ Halt.Memory) ⊎ ((h ≡ Halt.Sink)
         ⊎ IsLongRecord records.items h)) }
     ensures long { (place : ℕ) (item : SpecRecord) → slice_get records.items place ≡ Some item →

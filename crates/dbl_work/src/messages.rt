@@ -14,7 +14,7 @@ ghost use Rattle.dbl_commit.specs.Stated.{transaction_fault};
 ghost use Rattle.dbl_txn.specs.Stands.{StandsWhole, Taken};
 ghost use Rattle.dbl_follow.specs.Steps.{clash_by, mark_of, records_by};
 ghost use Rattle.dbl_work.specs.Causes.{IsLongRecord};
-ghost use Rattle.dbl_work.specs.Groups.{HoldsPut};
+ghost use Rattle.dbl_work.specs.Groups.{HoldsPut, WasTorn};
 ghost use Rattle.dbl_work.specs.Takes.{IsClashIn, IsLeftByStep, IsMessageHalt, IsTxnHalt, ReportsStep, WasStepped, WasTaken, closes};
 ghost use Rattle.dbl_work.specs.Works.{AreShort, IsReady, IsWork};
 
@@ -108,6 +108,11 @@ pub fn follow<K: Sink>(
         OnErr result (result ≢ Err Halt.Sink → HoldsPut K.holds groups
         (is_some (mark_of commit.now)) (records_by work.old.follower commit.now work.old.now_ms)
         report.old report.new sink.new) }
+    // Behind the sink's own error the report counts a prefix, and at most the next group of the cut is torn.
+    ensures torn { (groups : List (List SpecRecord)) → K.holds sink.old groups →
+        result ≡ Err Halt.Sink → WasTorn K.may_leave groups
+        (is_some (mark_of commit.now)) (records_by work.old.follower commit.now work.old.now_ms)
+        report.old report.new sink.new }
     ensures stepped { OnOk result (WasStepped commit.now work.old work.new) }
     ensures closes { IfOk result (λ closed. closed ≡ closes work.old commit.now) }
     ensures noted { ReportsStep commit.now work.old report.old report.new (is_ok result) }

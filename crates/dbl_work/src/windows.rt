@@ -1,18 +1,18 @@
 //! Windows of a session: rows that are read between two marks.
 
-ghost use Rattle.std.specs.Prelude.{◌≡◌, ◌⊎◌, ◌+◌, ◌^◌, ◌<◌, ◌≤◌, [], length, IfErr, IfOk, IsTrue, OnOk, Some, List};
+ghost use Rattle.std.specs.Prelude.{◌≡◌, ◌⊎◌, ◌+◌, ◌^◌, ◌<◌, ◌≤◌, ◌∷◌, [], length, IfErr, IfOk, IsTrue, OnErr, OnOk, Some, List};
 ghost use Rattle.dbl_base.specs.Streams.{Rose};
 ghost use Rattle.dbl_table.specs.declared.table.TableInfo.{TableInfo as SpecInfo};
 ghost use Rattle.dbl_honest.specs.Leaves.{Leaves, LeavesSome};
-ghost use Rattle.dbl_honest.specs.Standings.{Standing, Stood, Leads};
+ghost use Rattle.dbl_honest.specs.Standings.{Standing, Leads};
 ghost use Rattle.dbl_honest.specs.Told.{IsTakenBy};
-ghost use Rattle.dbl_window.specs.Plans.{Plan};
+ghost use Rattle.dbl_window.specs.Plans.{Plan, high_text};
 ghost use Rattle.dbl_window.specs.Selected.{IsCaptured};
 ghost use Rattle.dbl_follow.specs.declared.window.Window.TheVariants as windows;
 ghost use Rattle.dbl_work.specs.Causes.{IsChunkHalt, IsHonestChunkHalt, IsHonestFault, IsOfRows};
 ghost use Rattle.dbl_work.specs.Halts.{window_halt};
-ghost use Rattle.dbl_work.specs.Windowed.{MayHaveMarks, HasReadWindow, WasLooked, WasWindowed};
-ghost use Rattle.dbl_work.specs.Works.{IsArmedWork, IsCalm, IsOpenTable, IsReady, plan_at};
+ghost use Rattle.dbl_work.specs.Windowed.{HasReadWindow, MayHaveMarks, WasLooked, WasWindowed, own_marks};
+ghost use Rattle.dbl_work.specs.Works.{IsArmedWork, IsCalm, IsChunkOf, IsOpenTable, IsReady, plan_at};
 
 use crate::Halt;
 use crate::work::Work;
@@ -49,14 +49,14 @@ fn rows_and_high<S: Source>(marked: Marked, src: &mut S) -> Result<Armed, Window
     requires { IsTrue (S.is_live src.old) }
     ensures looked { Leads S.stands src.old src.new result
         (λ armed s t. WasLooked (S.honest src.new) marked armed s t) }
-    ensures plan { IfOk result (λ armed. (armed.plan ≡ marked)
-        × (length armed.rows ≤ marked.limit)) }
+    ensures chunk { IfOk result (IsChunkOf marked) }
     ensures rows { IfErr result (λ e. (e ≡ WindowError.Memory) ⊎ ((e ≡ WindowError.Failed)
         ⊎ IsOfRows marked (S.told src.new) e)) }
     ensures never { (s : Standing) (infos : List SpecInfo) → S.stands src.old s → S.honest src.new →
         IsCaptured infos s.history marked →
         IfErr result (IsHonestFault marked (S.stands src.new) infos) }
-    ensures left { Leaves S.stands S.may_leave src.old src.new (MayHaveMarks 1 marked) }
+    ensures left { Leaves S.stands S.may_leave src.old src.new
+        (MayHaveMarks (high_text marked ∷ [])) }
     ensures some { LeavesSome S.stands S.may_leave src.old src.new }
     ensures still { (s t : Standing) → S.stands src.old s → S.stands src.new t →
         t.reading ≡ s.reading }
@@ -79,13 +79,13 @@ fn between_marks<S: Source>(idle: Idle, src: &mut S) -> Result<Armed, WindowErro
     requires { IsTrue (S.is_live src.old) }
     ensures windowed { Leads S.stands src.old src.new result
         (λ armed s t. WasWindowed (S.honest src.new) idle armed s t) }
-    ensures plan { IfOk result (λ armed. (armed.plan ≡ idle) × (length armed.rows ≤ idle.limit)) }
+    ensures chunk { IfOk result (IsChunkOf idle) }
     ensures rows { IfErr result (λ e. (e ≡ WindowError.Memory) ⊎ ((e ≡ WindowError.Failed)
         ⊎ IsOfRows idle (S.told src.new) e)) }
     ensures never { (s : Standing) (infos : List SpecInfo) → S.stands src.old s → S.honest src.new →
         IsCaptured infos s.history idle →
         IfErr result (IsHonestFault idle (S.stands src.new) infos) }
-    ensures left { Leaves S.stands S.may_leave src.old src.new (MayHaveMarks 2 idle) }
+    ensures left { Leaves S.stands S.may_leave src.old src.new (MayHaveMarks (own_marks idle)) }
     ensures some { LeavesSome S.stands S.may_leave src.old src.new }
     ensures still { (s t : Standing) → S.stands src.old s → S.stands src.new t →
         t.reading ≡ s.reading }
@@ -142,8 +142,7 @@ pub fn read_window<S: Source>(work: &mut Work, table: u32, src: &mut S) -> Resul
 
     // What it has in hand, and what the source stands for.
     ensures same { OnOk result (IsArmedWork table work.old work.new) }
-    ensures kept { work.new ≡
-        record work.old { follower = work.new.follower; number = work.new.number } }
+    ensures kept { OnErr result (work.new ≡ work.old) }
     ensures windowed { (s : Standing) → S.stands src.old s →
         OnOk result (HasReadWindow (S.honest src.new) S.stands table work.old work.new s src.new) }
 
@@ -157,7 +156,7 @@ pub fn read_window<S: Source>(work: &mut Work, table: u32, src: &mut S) -> Resul
 
     // Of the source, whatever it answers.
     ensures left { (plan : Plan) → plan_at work.old table ≡ Some plan →
-        Leaves S.stands S.may_leave src.old src.new (MayHaveMarks 2 plan) }
+        Leaves S.stands S.may_leave src.old src.new (MayHaveMarks (own_marks plan)) }
     ensures some { LeavesSome S.stands S.may_leave src.old src.new }
     ensures calm { OnOk result (IsCalm (S.told src.new)) }
     ensures still { (s t : Standing) → S.stands src.old s → S.stands src.new t →

@@ -1,10 +1,12 @@
 use Rattle.std.proofs.Common.{◌≡◌, ◌∙◌, inl, inr, IsTrue, List, sym, ap, subst}
 use Rattle.std.specs.Prelude.{Contains, Err, map}
 use Rattle.std.proofs.lemmas.Result.{err_from_is_err_and}
+use Rattle.dbl_base.specs.declared.lsn.Lsn.{Lsn}
 use Rattle.dbl_table.specs.declared.table.TableInfo.{TableInfo}
 use Rattle.dbl_table.specs.declared.table.TableName.{TableName}
 use Rattle.dbl_table.specs.Tables.{are_distinct, same_name}
 use Rattle.dbl_honest.specs.Standings.{Standing}
+use Rattle.dbl_honest.specs.Told.{Head, Tells}
 use Rattle.dbl_reading.specs.declared.error.SourceError.{SourceError}
 use Rattle.dbl_work.specs.declared.halt.Halt.TheVariants as halt
 use Rattle.dbl_work.specs.Begins.{IsAbsentHalt}
@@ -87,6 +89,9 @@ returns-clause-of g c = first_is_for c.args.config.now c.in_ok-infos.infos.items
 pub returns-clause-asked : goal.returns-clause-asked
 returns-clause-asked g c =
     first_is_offset c.args.config.now c.in_ok-infos.infos.items c.in_ok-head.head c.in_ok-offset_at.field-0 c.requires.config (c.in_ok-infos.ensures.named ∙ c.items.ensures) c.in_ok-offset_at.ensures
+
+pub returns-clause-headed : goal.returns-clause-headed
+returns-clause-headed g c = subst (λ (lsn : Lsn). Tells (g.S.Source.told c.head.new.self) (Head lsn)) (sym c.in_ok-offset_at.ensures.start) c.in_ok-head.ensures.told
 
 pub returns-clause-left : goal.returns-clause-left
 returns-clause-left g c s l stands may =

@@ -10,7 +10,7 @@ use Rattle.dbl_work.specs.declared.report.Report.{Report}
 use Rattle.dbl_work.specs.Groups.{WerePut}
 use Rattle.dbl_work.proofs.Exits.{later_on, rose_behind}
 use Rattle.dbl_work.proofs.Puts.{left_cut, next_handful}
-use Rattle.dbl_work.proofs.Putting.{IsPut, all_counted, all_held, all_put, all_short, gather_on, holds_put, last_group, left_still, long_group, next_begins, none_holds, none_left_over, none_long, none_put, put_at, put_begins, put_kept, put_more, put_on, were_put}
+use Rattle.dbl_work.proofs.Putting.{IsPut, all_counted, all_held, all_put, all_short, gather_on, holds_put, last_group, left_still, long_group, next_begins, none_holds, none_left_over, none_long, none_put, put_at, put_begins, put_kept, put_more, put_on, torn_put, were_put}
 use Rattle.dbl_work.proofs.groups.put_all.Goals as goal
 
 pub returns-in_err-gathered-clause-left : goal.returns-in_err-gathered-clause-left
@@ -79,6 +79,12 @@ returns-in_err-put_group-clause-kept g c groups held lasts =
     rw (p.1, p.2) (λ other. holds_put g.K.Sink.holds c.args.snapshot groups records gathered rest old new before c.put_group.new.report
     (put_kept g.K.Sink.holds c.args.snapshot records gathered rest old mid new before c.records.report c.put_group.new.report c.records.invariant.put
     (λ held_groups h. c.in_err-put_group.ensures.kept held_groups h (λ failed. let is : c.in_err-put_group.field-0.0 ≡ halt.Sink = cc in other (ap (λ (x : Halt). Err x) is))) c.in_err-put_group.ensures.unnoted) held lasts)
+
+pub returns-in_err-put_group-clause-torn : goal.returns-in_err-put_group-clause-torn
+returns-in_err-put_group-clause-torn g c groups held lasts is =
+    let here = put_at _ _ _ _ _ _ _ _ _ _ c.in-Some-item.ensures.steps.0 c.records.invariant.put in
+    torn_put _ _ g.K.Sink.may_leave groups _ _ _ _ _ _ c.put_group.new.sink _ _ c.put_group.new.report here (next_begins _ _ _ _ _ _ _ _ _ _ (sym c.begins.ensures ∙ c.if-begins.true) here) lasts c.in_err-put_group.ensures.unnoted
+    (λ found may. c.put_group.ensures.left (groups ++ here.put) found (here.held groups held) may)
 
 pub returns-in_err-put_group-clause-halt : goal.returns-in_err-put_group-clause-halt
 returns-in_err-put_group-clause-halt g c =
@@ -213,6 +219,13 @@ returns-in_err-put_group-2-clause-kept g c groups held lasts =
     rw (p.1, p.2) (λ other. holds_put g.K.Sink.holds c.args.snapshot groups records gathered rest old new before c.put_group-2.new.report
     (put_kept g.K.Sink.holds c.args.snapshot records gathered rest old mid new before c.records.report c.put_group-2.new.report c.records.invariant.put
     (λ held_groups h. c.in_err-put_group-2.ensures.kept held_groups h (λ failed. let is : c.in_err-put_group-2.field-0.0 ≡ halt.Sink = cc in other (ap (λ (x : Halt). Err x) is))) c.in_err-put_group-2.ensures.unnoted) held lasts)
+
+pub returns-in_err-put_group-2-clause-torn : goal.returns-in_err-put_group-2-clause-torn
+returns-in_err-put_group-2-clause-torn g c groups held lasts is =
+    let none : into_iter_items c.records.item-iterator ≡ [] = no_items (into_iter_items c.records.item-iterator) (omega (arith, c.in-None.ensures.steps.0, c.records.item-iterator.rest.ok)) in
+    let here = put_at _ _ _ _ _ _ _ _ _ _ none c.records.invariant.put in
+    torn_put _ _ g.K.Sink.may_leave groups _ _ _ _ _ _ c.put_group-2.new.sink _ _ c.put_group-2.new.report here (last_group _ _ _ _ _ _ _ _ here) lasts c.in_err-put_group-2.ensures.unnoted
+    (λ found may. c.put_group-2.ensures.left (groups ++ here.put) found (here.held groups held) may)
 
 pub returns-in_err-put_group-2-clause-halt : goal.returns-in_err-put_group-2-clause-halt
 returns-in_err-put_group-2-clause-halt g c =

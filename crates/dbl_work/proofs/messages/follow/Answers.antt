@@ -9,7 +9,7 @@ use Rattle.dbl_work.specs.declared.halt.Halt.{Halt}
 use Rattle.dbl_work.specs.declared.halt.Halt.TheVariants as halt
 use Rattle.dbl_work.specs.declared.report.Report.{Report}
 use Rattle.dbl_work.specs.Causes.{IsLongRecord}
-use Rattle.dbl_work.specs.Groups.{HasLastsAtItsEnd, HoldsPut}
+use Rattle.dbl_work.specs.Groups.{HasLastsAtItsEnd, HoldsPut, WasTorn}
 use Rattle.dbl_work.specs.Halts.{follow_halt}
 use Rattle.dbl_work.specs.Works.{AreShort}
 use Rattle.dbl_work.proofs.Following.{clash_halt, clash_kinds, follow_not_sink, put_halt}
@@ -38,6 +38,13 @@ returns-in_err-records-clause-kept g c groups held =
     let work = c.args.work.now in
     let commit = c.args.commit.now in
     rw p.1 (λ other. none_holds g.K.Sink.holds (is_some (mark_of commit)) groups (records_by work.follower commit work.now_ms) c.args.sink.now c.args.report.now (omega arith) (omega arith) (omega arith) held)
+
+pub returns-in_err-records-clause-torn : goal.returns-in_err-records-clause-torn
+returns-in_err-records-clause-torn g c groups held is =
+    let p = err_from_is_err_and c.from_residual.result c.from_residual.ensures.1 in
+    let both : Err p.0 ≡ Err halt.Sink = sym p.1 ∙ is in
+    let halted : p.0 ≡ halt.Sink = cc in
+    absurd (follow_not_sink c.in_err-records.field-0.0 (sym p.2 ∙ halted))
 
 pub returns-in_err-records-clause-sink : goal.returns-in_err-records-clause-sink
 returns-in_err-records-clause-sink g c is =
@@ -76,6 +83,21 @@ returns-in_err-put_all-clause-kept g c groups held =
     subst (λ (l : List Record). HoldsPut g.K.Sink.holds groups (is_some (mark_of commit)) l c.args.report.now c.put_all.new.report c.put_all.new.sink) are
     (subst (λ (b : Bool). HoldsPut g.K.Sink.holds groups b items c.args.report.now c.put_all.new.report c.put_all.new.sink) c.is_mark-snapshot.ensures
     (c.in_err-put_all.ensures.kept groups held lasts (λ failed. let is : c.in_err-put_all.field-0.0 ≡ halt.Sink = cc in other (ap (λ (x : Halt). Err x) is)))))
+
+pub returns-in_err-put_all-clause-torn : goal.returns-in_err-put_all-clause-torn
+returns-in_err-put_all-clause-torn g c groups held is =
+    let p = err_from_is_err_and c.from_residual-in_err-put_all.result c.from_residual-in_err-put_all.ensures.1 in
+    let both : Err p.0 ≡ Err halt.Sink = sym p.1 ∙ is in
+    let halted : p.0 ≡ halt.Sink = cc in
+    let work = c.args.work.now in
+    let commit = c.args.commit.now in
+    let items = c.in_ok-records.records.items in
+    let time : to_z w64 (of_z w64 work.now_ms) ≡ work.now_ms = to_z-of_z {w = w64} {z = work.now_ms} (search rules) in
+    let are = step_are work commit items _ time c.in_ok-records.ensures.records in
+    let lasts = subst HasLastsAtItsEnd (sym are) (lasts_by work.follower commit work.now_ms) in
+    subst (λ (l : List Record). WasTorn g.K.Sink.may_leave groups (is_some (mark_of commit)) l c.args.report.now c.put_all.new.report c.put_all.new.sink) are
+    (subst (λ (b : Bool). WasTorn g.K.Sink.may_leave groups b items c.args.report.now c.put_all.new.report c.put_all.new.sink) c.is_mark-snapshot.ensures
+    (c.in_err-put_all.ensures.torn groups held lasts (ap (λ (x : Halt). Err x) (sym p.2 ∙ halted))))
 
 pub returns-in_err-put_all-clause-noted : goal.returns-in_err-put_all-clause-noted
 returns-in_err-put_all-clause-noted g c =

@@ -1,14 +1,15 @@
-use Rattle.std.proofs.Common.{◌≡◌, ◌∙◌, ◌⊎◌, ◌≤◌, inl, length, refl, sym, subst}
+use Rattle.std.proofs.Common.{◌≡◌, ◌⊎◌, [], ◌∷◌, sym, subst}
 use Rattle.std.proofs.lemmas.Result.{IfErr-weaker, IfOk-weaker, err_from_is_err_and}
 use Rattle.dbl_honest.specs.Standings.{Stood}
 use Rattle.dbl_window.specs.declared.error.WindowError.{WindowError}
 use Rattle.dbl_window.specs.declared.error.WindowError.TheVariants as window
-use Rattle.dbl_window.specs.Plans.{Chunk, Plan, low_text}
+use Rattle.dbl_window.specs.Plans.{Chunk, Plan, high_text, low_text}
 use Rattle.dbl_window.specs.Selected.{IsCaptured}
 use Rattle.dbl_work.specs.Causes.{IsHonestFault, IsOfRows}
 use Rattle.dbl_work.specs.Windowed.{MayHaveMarks, WasLooked, WasWindowed}
+use Rattle.dbl_work.specs.Works.{IsChunkOf}
 use Rattle.dbl_work.proofs.Exits.{rose_behind, taken_on}
-use Rattle.dbl_work.proofs.Looking.{mark_left, marked_left, one_is_few, was_windowed}
+use Rattle.dbl_work.proofs.Looking.{mark_left, marked_left, was_windowed}
 use Rattle.dbl_work.proofs.WindowFaults.{captured_on, mark_fault, mark_honest}
 use Rattle.dbl_work.proofs.windows.between_marks.Goals as goal
 
@@ -24,7 +25,7 @@ returns-in_err-marked-clause-never g c s infos stands honest captured =
 
 pub returns-in_err-marked-clause-left : goal.returns-in_err-marked-clause-left
 returns-in_err-marked-clause-left g c s l stands may =
-    one_is_few c.args.idle s l (mark_left c.args.idle (low_text c.args.idle) s l (inl refl) (c.low.ensures.left s l stands may))
+    mark_left (low_text c.args.idle) (high_text c.args.idle ∷ []) s l (c.low.ensures.left s l stands may)
 
 pub returns-clause-windowed : goal.returns-clause-windowed
 returns-clause-windowed g c s stands =
@@ -38,13 +39,10 @@ returns-clause-windowed g c s stands =
       holds = was_windowed honest c.args.idle c.in_ok-marked.marked armed s low.standing looked.standing c.in_ok-marked.ensures.same low.holds looked.holds;
     }) (c.rows_and_high.ensures.looked low.standing low.is)
 
-pub returns-clause-plan : goal.returns-clause-plan
-returns-clause-plan g c =
-    let same = c.in_ok-marked.ensures.same in
-    let marked = c.in_ok-marked.marked in
-    let idle = c.args.idle in
-    IfOk-weaker c.rows_and_high.result (λ (armed : Chunk). (armed.plan ≡ marked) × (length armed.rows ≤ marked.limit)) (λ (armed : Chunk). (armed.plan ≡ idle) × (length armed.rows ≤ idle.limit))
-    (λ armed planned. (planned.0 ∙ same, subst (λ (p : Plan). length armed.rows ≤ p.limit) same planned.1)) c.rows_and_high.ensures.plan
+pub returns-clause-chunk : goal.returns-clause-chunk
+returns-clause-chunk g c =
+    IfOk-weaker c.rows_and_high.result (IsChunkOf c.in_ok-marked.marked) (IsChunkOf c.args.idle) (λ armed is. subst (λ (p : Plan). IsChunkOf p armed) c.in_ok-marked.ensures.same is)
+    c.rows_and_high.ensures.chunk
 
 pub returns-clause-rows : goal.returns-clause-rows
 returns-clause-rows g c =
@@ -68,8 +66,8 @@ pub returns-clause-left : goal.returns-clause-left
 returns-clause-left g c s l stands may =
     let low = c.in_ok-marked.ensures.marks s stands in
     let idle = c.args.idle in
-    marked_left idle (low_text idle) s low.standing l (inl refl) low.holds
-    (subst (λ (p : Plan). MayHaveMarks 1 p low.standing l) c.in_ok-marked.ensures.same (c.rows_and_high.ensures.left low.standing l low.is may))
+    marked_left (low_text idle) (high_text idle ∷ []) s low.standing l low.holds
+    (subst (λ (p : Plan). MayHaveMarks (high_text p ∷ []) low.standing l) c.in_ok-marked.ensures.same (c.rows_and_high.ensures.left low.standing l low.is may))
 
 pub returns-clause-taken : goal.returns-clause-taken
 returns-clause-taken g c = taken_on (g.S.Source.told c.args.src.now) (g.S.Source.told c.low.new.src) (g.S.Source.told c.rows_and_high.new.src) c.low.ensures.taken c.rows_and_high.ensures.taken

@@ -1,4 +1,4 @@
-use Rattle.std.proofs.Common.{◌≡◌, ◌∙◌, ◌+◌, ◌<◌, ◌≤◌, inl, Some, List, length, refl, sym, ap, subst}
+use Rattle.std.proofs.Common.{◌≡◌, ◌∙◌, ◌+◌, ◌<◌, inl, Some, List, length, refl, sym, ap, subst}
 use Rattle.std.specs.Prelude.{Err, slice_get}
 use Rattle.std.proofs.lemmas.Option.{slice_get_read}
 use Rattle.std.proofs.lemmas.Result.{err_from_is_err_and}
@@ -10,9 +10,9 @@ use Rattle.dbl_window.specs.Selected.{IsCaptured}
 use Rattle.dbl_follow.specs.Followed.{IsPlanned}
 use Rattle.dbl_work.specs.declared.halt.Halt.TheVariants as halt
 use Rattle.dbl_work.specs.Causes.{IsHonestFault}
-use Rattle.dbl_work.specs.Windowed.{MayHaveMarks, WasWindowed}
+use Rattle.dbl_work.specs.Windowed.{MayHaveMarks, WasWindowed, own_marks}
 use Rattle.dbl_work.proofs.Exits.{none_taken}
-use Rattle.dbl_work.proofs.Looking.{rest_left}
+use Rattle.dbl_work.proofs.Looking.{chunk_own, rest_left}
 use Rattle.dbl_work.proofs.Planning.{plan_info, plan_planned, planned_at}
 use Rattle.dbl_work.proofs.WindowFaults.{chunk_cause, chunk_halt, halt_failed, honest_halt}
 use Rattle.dbl_work.proofs.windows.read_window.Goals as goal
@@ -32,43 +32,50 @@ returns-in_err-idle-clause-never g c s infos plan stands honest planned captured
     rw (p.1, p.2) (inl refl)
 
 pub returns-in_err-idle-clause-left : goal.returns-in_err-idle-clause-left
-returns-in_err-idle-clause-left g c plan planned s l stands may = rest_left 2 plan s l (g.met.S.Source.only c.args.src.now s l stands may)
+returns-in_err-idle-clause-left g c plan planned s l stands may = rest_left (own_marks plan) s l (g.met.S.Source.only c.args.src.now s l stands may)
 
 pub returns-in_err-idle-clause-taken : goal.returns-in_err-idle-clause-taken
 returns-in_err-idle-clause-taken g c = none_taken (g.S.Source.told c.args.src.now)
 
 pub arm-requires-clause-planned : goal.arm-requires-clause-planned
 arm-requires-clause-planned g c =
-    let planned = plan_planned c.args.work.now c.args.table c.in-Ok.armed.plan (c.in_ok-idle.ensures ∙ ap (λ (p : Plan). Some p) (sym c.in-Ok.ensures.plan.0)) in
+    let planned = plan_planned c.args.work.now c.args.table c.in-Ok.armed.plan (c.in_ok-idle.ensures ∙ ap (λ (p : Plan). Some p) (sym c.in-Ok.ensures.chunk.plan_is)) in
     subst (λ (l : List TableInfo). IsPlanned l c.in-Ok.armed.plan) (sym c.requires.ready.is.infos) planned
 
 pub returns-in-Ok-clause-same : goal.returns-in-Ok-clause-same
-returns-in-Ok-clause-same g c = record {
-  chunk = c.in-Ok.armed;
-  plan = c.in_ok-idle.ensures ∙ ap (λ (p : Plan). Some p) (sym c.in-Ok.ensures.plan.0);
-  few = subst (λ (p : Plan). length c.in-Ok.armed.rows ≤ p.limit) (sym c.in-Ok.ensures.plan.0) c.in-Ok.ensures.plan.1;
-  is = λ i. record c.args.work.now { follower = c.arm.ensures i; number = c.args.work.now.number + 1 };
-}
+returns-in-Ok-clause-same g c =
+    let own = chunk_own c.in_ok-idle.idle c.in-Ok.armed c.in-Ok.ensures.chunk in
+    record {
+      chunk = c.in-Ok.armed;
+      plan = c.in_ok-idle.ensures ∙ ap (λ (p : Plan). Some p) (sym c.in-Ok.ensures.chunk.plan_is);
+      few = own.few;
+      through = own.through;
+      done = own.done;
+      is = λ i. record c.args.work.now { follower = c.arm.ensures i; number = c.args.work.now.number + 1 };
+    }
 
 pub returns-in-Ok-clause-windowed : goal.returns-in-Ok-clause-windowed
 returns-in-Ok-clause-windowed g c s stands =
     let src = c.between_marks.new.src in
     let chunk = c.in-Ok.armed in
+    let own = chunk_own c.in_ok-idle.idle chunk c.in-Ok.ensures.chunk in
     record {
       armed = record {
         chunk = chunk;
-        plan = c.in_ok-idle.ensures ∙ ap (λ (p : Plan). Some p) (sym c.in-Ok.ensures.plan.0);
-        few = subst (λ (p : Plan). length chunk.rows ≤ p.limit) (sym c.in-Ok.ensures.plan.0) c.in-Ok.ensures.plan.1;
+        plan = c.in_ok-idle.ensures ∙ ap (λ (p : Plan). Some p) (sym c.in-Ok.ensures.chunk.plan_is);
+        few = own.few;
+        through = own.through;
+        done = own.done;
         is = λ i. record c.args.work.now { follower = c.arm.ensures i; number = c.args.work.now.number + 1 };
       };
-      stood = subst (λ (p : Plan). Stood g.S.Source.stands src (WasWindowed (g.S.Source.honest src) p chunk s)) (sym c.in-Ok.ensures.plan.0) (c.in-Ok.ensures.windowed s stands);
+      stood = subst (λ (p : Plan). Stood g.S.Source.stands src (WasWindowed (g.S.Source.honest src) p chunk s)) (sym c.in-Ok.ensures.chunk.plan_is) (c.in-Ok.ensures.windowed s stands);
     }
 
 pub returns-in-Ok-clause-left : goal.returns-in-Ok-clause-left
 returns-in-Ok-clause-left g c plan planned s l stands may =
     let both : Some c.in_ok-idle.idle ≡ Some plan = sym c.in_ok-idle.ensures ∙ planned in
     let same : c.in_ok-idle.idle ≡ plan = cc in
-    subst (λ (p : Plan). MayHaveMarks 2 p s l) same (c.between_marks.ensures.left s l stands may)
+    subst (λ (p : Plan). MayHaveMarks (own_marks p) s l) same (c.between_marks.ensures.left s l stands may)
 
 pub returns-in-Err-clause-halt : goal.returns-in-Err-clause-halt
 returns-in-Err-clause-halt g c =
@@ -107,4 +114,4 @@ pub returns-in-Err-clause-left : goal.returns-in-Err-clause-left
 returns-in-Err-clause-left g c plan planned s l stands may =
     let both : Some c.in_ok-idle.idle ≡ Some plan = sym c.in_ok-idle.ensures ∙ planned in
     let same : c.in_ok-idle.idle ≡ plan = cc in
-    subst (λ (p : Plan). MayHaveMarks 2 p s l) same (c.between_marks.ensures.left s l stands may)
+    subst (λ (p : Plan). MayHaveMarks (own_marks p) s l) same (c.between_marks.ensures.left s l stands may)

@@ -1,13 +1,14 @@
-use Rattle.std.proofs.Common.{◌≡◌, ◌∙◌, ◌⊎◌, ◌≤◌, inr, length, sym, ap, subst}
+use Rattle.std.proofs.Common.{◌≡◌, ◌⊎◌, [], ◌∷◌, inr, sym, ap, subst}
 use Rattle.std.specs.Prelude.{Err}
 use Rattle.std.proofs.lemmas.Result.{IfErr-weaker, IfOk-weaker, err_from_is_err_and, on_ok_weaker}
 use Rattle.dbl_honest.specs.Calls.{IsMarked}
 use Rattle.dbl_honest.specs.Standings.{Stood}
 use Rattle.dbl_window.specs.declared.error.WindowError.{WindowError}
 use Rattle.dbl_window.specs.declared.error.WindowError.TheVariants as window
-use Rattle.dbl_window.specs.Plans.{Chunk, high_text}
+use Rattle.dbl_window.specs.Plans.{Chunk, Plan, high_text}
 use Rattle.dbl_work.specs.Causes.{IsHonestFault, IsOfRows}
-use Rattle.dbl_work.specs.Windowed.{WasLooked}
+use Rattle.dbl_work.specs.Windowed.{MayHaveMarks, WasLooked}
+use Rattle.dbl_work.specs.Works.{IsChunkOf}
 use Rattle.dbl_work.proofs.Exits.{both_ok, calm_done, rose_behind, taken_on}
 use Rattle.dbl_work.proofs.Looking.{mark_left, moved_left, others_left, was_looked}
 use Rattle.dbl_work.proofs.WindowFaults.{mark_fault, mark_honest, rows_fault, select_honest}
@@ -26,7 +27,7 @@ returns-in_err-held-clause-never g c s infos stands honest captured =
     (λ name error is. c.in_err-held.ensures.cell s infos name error stands honest captured (ap (λ (e : WindowError). Err e) is)))
 
 pub returns-in_err-held-clause-left : goal.returns-in_err-held-clause-left
-returns-in_err-held-clause-left g c s l stands may = others_left 1 c.args.marked s l (c.select.ensures.left s l stands may)
+returns-in_err-held-clause-left g c s l stands may = others_left (high_text c.args.marked ∷ []) s l (c.select.ensures.left s l stands may)
 
 pub returns-clause-looked : goal.returns-clause-looked
 returns-clause-looked g c s stands =
@@ -42,15 +43,11 @@ returns-clause-looked g c s stands =
       holds = was_looked honest (g.S.Source.honest c.select.new.src) c.args.marked held armed s mid marked.standing c.high.ensures.honest same c.in_ok-held.ensures.same stood.holds.0 stood.holds.1 marked.holds;
     }) (c.high.ensures.marks mid stood.is) c.high.ensures.same
 
-pub returns-clause-plan : goal.returns-clause-plan
-returns-clause-plan g c =
-    let held = c.in_ok-held.held in
-    let plan = c.args.marked in
-    IfOk-weaker c.high.result (λ (armed : Chunk). armed ≡ held) (λ (armed : Chunk). (armed.plan ≡ plan) × (length armed.rows ≤ plan.limit))
-    (λ armed same. (
-      ap (λ (w : Chunk). w.plan) same ∙ c.in_ok-held.ensures.same,
-      subst (λ (w : Chunk). length w.rows ≤ plan.limit) (sym same) c.in_ok-held.ensures.few,
-    )) c.high.ensures.same
+pub returns-clause-chunk : goal.returns-clause-chunk
+returns-clause-chunk g c =
+    let held = c.in_ok-held.ensures in
+    IfOk-weaker c.high.result (λ (armed : Chunk). armed ≡ c.in_ok-held.held) (IsChunkOf c.args.marked)
+    (λ armed same. subst (IsChunkOf c.args.marked) (sym same) (record { plan_is = held.same; few = held.few; through = held.through; done = held.done })) c.high.ensures.same
 
 pub returns-clause-rows : goal.returns-clause-rows
 returns-clause-rows g c =
@@ -66,9 +63,9 @@ pub returns-clause-left : goal.returns-clause-left
 returns-clause-left g c s l stands may =
     let stood = c.in_ok-held.ensures.held s stands in
     let held = c.in_ok-held.held in
-    let plan = c.args.marked in
-    moved_left 1 plan s stood.standing l stood.holds.0
-    (mark_left plan (high_text held.plan) stood.standing l (inr (ap high_text c.in_ok-held.ensures.same)) (inr (c.high.ensures.left stood.standing l stood.is may)))
+    let values = high_text c.args.marked ∷ [] in
+    moved_left values s stood.standing l stood.holds.0
+    (subst (λ (p : Plan). MayHaveMarks (high_text p ∷ []) stood.standing l) c.in_ok-held.ensures.same (mark_left (high_text held.plan) [] stood.standing l (inr (c.high.ensures.left stood.standing l stood.is may))))
 
 pub returns-clause-taken : goal.returns-clause-taken
 returns-clause-taken g c = taken_on (g.S.Source.told c.args.src.now) (g.S.Source.told c.select.new.src) (g.S.Source.told c.high.new.src) c.select.ensures.taken c.high.ensures.taken

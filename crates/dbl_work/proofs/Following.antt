@@ -1,5 +1,5 @@
 -- Why a commit isn't followed.
-use Rattle.std.proofs.Common.{◌≡◌, ◌⊎◌, inl, inr, Option, Some, None, List, refl}
+use Rattle.std.proofs.Common.{◌≡◌, ◌⊎◌, inl, inr, ℕ, Option, Some, None, List, refl}
 use Rattle.std.specs.Prelude.{option_map}
 use Rattle.dbl_record.specs.declared.record.Record.{Record}
 use Rattle.dbl_envelope.specs.declared.error.EnvelopeError.TheVariants as writer
@@ -42,3 +42,8 @@ pub follow_not_sink : (e : FollowError) → follow_halt e ≡ halt.Sink → ⊥
 follow_not_sink follow.Memory is = cc
 follow_not_sink (follow.Envelope writer.Memory) is = cc
 follow_not_sink (follow.Envelope (writer.PlaceholderClash table column)) is = cc
+
+pub follow_not_long : (e : FollowError) (len : ℕ) → follow_halt e ≡ halt.RecordTooLong len → ⊥
+follow_not_long follow.Memory len is = cc
+follow_not_long (follow.Envelope writer.Memory) len is = cc
+follow_not_long (follow.Envelope (writer.PlaceholderClash table column)) len is = cc

@@ -14,7 +14,7 @@ use Rattle.dbl_session.proofs.Events.{take_whole}
 use Rattle.dbl_work.specs.declared.report.Report.{Report}
 use Rattle.dbl_work.specs.declared.halt.Halt.{Halt}
 use Rattle.dbl_work.specs.declared.halt.Halt.TheVariants as halt
-use Rattle.dbl_work.specs.Causes.{IsLongRecord}
+use Rattle.dbl_work.specs.Causes.{HasPutBefore, IsLongRecord}
 use Rattle.dbl_work.specs.Groups.{report_with, IsLeftByCut, HasLastsAtItsEnd, HoldsPut, WasTorn, WerePut}
 use Rattle.dbl_work.proofs.Puts.{IsNextGroup, front_cut, group_lasts, joined_push, left_cut, next_handful, report_none, report_twice, take_more}
 
@@ -314,29 +314,53 @@ shorts_alone : (groups : List (List Record)) → AllByRecursion IsShortGroup gro
 shorts_alone [] short = tt
 shorts_alone (group ∷ groups) short = all_join (λ (other : Record). length (group_form (other ∷ [])) ≤ 2 ^ 28) group (joined groups) (short_alone group short.0.short) (shorts_alone groups short.1)
 
--- it is of one record, the first that is too long
-pub long_group : (records : List Record) (put : List (List Record)) (group : List Record) (h : Halt) → IsNextGroup records put group → AllByRecursion IsShortGroup put → 2 ^ 28 < length (group_form group) → h ≡ halt.RecordTooLong (told_length group) → IsLongRecord records h
-long_group records put group h n short long is = by (next_handful records put group n).small
+-- it is of one record, the first that is too long, and stands behind those that were put
+pub long_at : (records : List Record) (put : List (List Record)) (group : List Record) (h : Halt) → IsNextGroup records put group → AllByRecursion IsShortGroup put → 2 ^ 28 < length (group_form group) → h ≡ halt.RecordTooLong (told_length group)
+    → (long : IsLongRecord records h) × (long.place ≡ length (joined put))
+long_at records put group h n short long is = by (next_handful records put group n).small
   where
     none_below : (m : ℕ) → 0 ≤ m
     none_below m = omega arith
 
-    by : (length (group_form group) ≤ 16777216) ⊎ (length group ≡ 1) → IsLongRecord records h
+    by : (length (group_form group) ≤ 16777216) ⊎ (length group ≡ 1) → (long : IsLongRecord records h) × (long.place ≡ length (joined put))
     by (inl small) = absurd (too_long (length (group_form group)) (2 ^ 28) (le_both (length (group_form group)) 16777216 (2 ^ 28) small (omega arith)) long)
     by (inr one) =
-        let some = first_at group one in
-        record {
-          place = length (joined put) + 0;
-          item = some.0;
-          stands =
-              ap (λ (l : List Record). slice_get l (length (joined put) + 0)) n.whole
-              ∙ at_right (joined put) (group ++ n.rest) 0 some.0 (at_left group n.rest 0 some.0 (ap (λ (l : List Record). slice_get l 0) some.1));
-          first = subst (AllByRecursion (λ (other : Record). length (group_form (other ∷ [])) ≤ 2 ^ 28))
-              (sym (ap (take (length (joined put) + 0)) n.whole ∙ (take_more (joined put) group n.rest 0 (none_below (length group)) ∙ append-nil (joined put))))
-              (shorts_alone put short);
-          long = subst (λ (l : List Record). 2 ^ 28 < length (group_form l)) some.1 long;
-          is = is ∙ ap (λ (l : List Record). halt.RecordTooLong (told_length l)) some.1;
-        }
+        let some = first_at group one in (
+          record {
+            place = length (joined put) + 0;
+            item = some.0;
+            stands =
+                ap (λ (l : List Record). slice_get l (length (joined put) + 0)) n.whole
+                ∙ at_right (joined put) (group ++ n.rest) 0 some.0 (at_left group n.rest 0 some.0 (ap (λ (l : List Record). slice_get l 0) some.1));
+            first = subst (AllByRecursion (λ (other : Record). length (group_form (other ∷ [])) ≤ 2 ^ 28))
+                (sym (ap (take (length (joined put) + 0)) n.whole ∙ (take_more (joined put) group n.rest 0 (none_below (length group)) ∙ append-nil (joined put))))
+                (shorts_alone put short);
+            long = subst (λ (l : List Record). 2 ^ 28 < length (group_form l)) some.1 long;
+            is = is ∙ ap (λ (l : List Record). halt.RecordTooLong (told_length l)) some.1;
+          },
+          add-zero (length (joined put)),
+        )
+
+pub long_group : (records : List Record) (put : List (List Record)) (group : List Record) (h : Halt) → IsNextGroup records put group → AllByRecursion IsShortGroup put → 2 ^ 28 < length (group_form group) → h ≡ halt.RecordTooLong (told_length group) → IsLongRecord records h
+long_group records put group h n short long is = (long_at records put group h n short long is).0
+
+-- which halt a group's is
+abbrev pub IsGroupHalt : List Record → Halt → Type 0
+IsGroupHalt group h = (h ≡ halt.Memory) ⊎ ((h ≡ halt.Sink) ⊎ ((2 ^ 28 < length (group_form group)) × (h ≡ halt.RecordTooLong (told_length group))))
+
+pub long_put : {K : Type 0} (holds : K → List (List Record) → Type 0) (snapshot : Bool) (groups : List (List Record)) (records gathered rest group : List Record) (old mid new : K) (before after next : Report) (len : ℕ)
+    → (p : IsPut holds snapshot records gathered rest old mid before after) → IsNextGroup records p.put group → HasLastsAtItsEnd records → next ≡ after → holds new (groups ++ p.put) → IsGroupHalt group (halt.RecordTooLong len)
+    → HasPutBefore holds groups snapshot records before next new (halt.RecordTooLong len)
+long_put holds snapshot groups records gathered rest group old mid new before after next len p n lasts same held (inl memory) = cc
+long_put holds snapshot groups records gathered rest group old mid new before after next len p n lasts same held (inr (inl failed)) = cc
+long_put holds snapshot groups records gathered rest group old mid new before after next len p n lasts same held (inr (inr long)) =
+    let at = long_at records p.put group (halt.RecordTooLong len) n p.short long.0 long.1 in
+    let taken : take at.0.place records ≡ joined p.put = ap (λ (m : ℕ). take m records) at.1 ∙ taken_is holds snapshot records gathered rest old mid before after p in
+    record {
+      long = at.0;
+      held = subst (λ (l : List (List Record)). holds new (groups ++ l)) (sym (ap cut taken ∙ front_cut records p.put group n)) held;
+      report = same ∙ (p.counted lasts ∙ ap (λ (l : List Record). report_with snapshot l before) (sym taken));
+    }
 
 -- where nothing was put, nothing is left of the records
 pub none_left_over : (groups left : List (List Record)) (records : List Record) → left ≡ groups → IsLeftByCut groups records left

@@ -1,7 +1,8 @@
 -- Why a session halts. Each cause is said of what the source told, where it tells it, and of the stored offset; want of memory is free.
-use Rattle.std.specs.Prelude.{◌≡◌, ◌⊎◌, ℕ, ◌<◌, ◌≤◌, ◌^◌, take, Option, Some, Err, List, [], ◌∷◌, length, slice_get}
+use Rattle.std.specs.Prelude.{◌≡◌, ◌⊎◌, ℕ, ◌<◌, ◌≤◌, ◌^◌, take, Option, Some, Err, List, [], ◌∷◌, ◌++◌, Bool, length, slice_get}
 use Rattle.std.specs.List.{AllByRecursion}
 use Rattle.dbl_record.specs.declared.record.Record.{Record}
+use Rattle.dbl_record.specs.Cuts.{cut}
 use Rattle.dbl_record.specs.Groups.{group_form}
 use Rattle.dbl_table.specs.declared.table.TableInfo.{TableInfo}
 use Rattle.dbl_honest.specs.Standings.{Standing}
@@ -13,7 +14,9 @@ use Rattle.dbl_window.specs.Plans.{Plan}
 use Rattle.dbl_window.specs.Selected.{HasUnreadable, IsReadOf}
 use Rattle.dbl_work.specs.declared.halt.Halt.{Halt}
 use Rattle.dbl_work.specs.declared.halt.Halt.TheVariants as halt
+use Rattle.dbl_work.specs.declared.report.Report.{Report}
 use Rattle.dbl_work.specs.declared.work.Work.{Work}
+use Rattle.dbl_work.specs.Groups.{report_with}
 use Rattle.dbl_work.specs.Halts.{window_halt}
 use Rattle.dbl_work.specs.Works.{plan_at}
 
@@ -53,3 +56,10 @@ pub record IsLongRecord (records : List Record) (h : Halt) : Type 0 where
   pub first : AllByRecursion (λ other. length (group_form (other ∷ [])) ≤ 2 ^ 28) (take place records)
   pub long : 2 ^ 28 < length (group_form (item ∷ []))
   pub is : h ≡ halt.RecordTooLong (told_length (item ∷ []))
+
+-- The first record that is too long: the sink holds those before it, in the groups of their cut, and the report counts them.
+pub record HasPutBefore {K : Type 0} (holds : K → List (List Record) → Type 0) (groups : List (List Record)) (snapshot : Bool)
+    (records : List Record) (before after : Report) (sink : K) (h : Halt) : Type 0 where
+  pub long : IsLongRecord records h
+  pub held : holds sink (groups ++ cut (take long.place records))
+  pub report : after ≡ report_with snapshot (take long.place records) before

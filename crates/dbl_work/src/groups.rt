@@ -6,7 +6,7 @@ ghost use Rattle.dbl_record.specs.declared.record.Record.{Record as SpecRecord};
 ghost use Rattle.dbl_record.specs.Cuts.{IsHandful, begins_behind, cut};
 ghost use Rattle.dbl_record.specs.Groups.{group_form};
 ghost use Rattle.dbl_topic.specs.Sinks.{IsLeftByPut, told_length};
-ghost use Rattle.dbl_work.specs.Causes.{IsLongRecord};
+ghost use Rattle.dbl_work.specs.Causes.{HasPutBefore, IsLongRecord};
 ghost use Rattle.dbl_work.specs.Groups.{HasLastsAtItsEnd, HoldsPut, IsGathered, IsLeftByCut, WasTorn, WerePut, ends_commit, report_with};
 
 use crate::{Halt, Report};
@@ -157,6 +157,10 @@ pub fn put_all<K: Sink>(
         WasTorn K.may_leave groups snapshot records.items report.old report.new sink.new }
     ensures halt { IfErr result (λ h. (h ≡ Halt.Memory) ⊎ ((h ≡ Halt.Sink)
         ⊎ IsLongRecord records.items h)) }
+    ensures before { (groups : List (List SpecRecord)) → K.holds sink.old groups →
+        HasLastsAtItsEnd records.items → (len : ℕ) → result ≡ Err (Halt.RecordTooLong len) →
+        HasPutBefore K.holds groups snapshot records.items report.old report.new sink.new
+        (Halt.RecordTooLong len) }
     ensures long { (place : ℕ) (item : SpecRecord) → slice_get records.items place ≡ Some item →
         2 ^ 28 < length (group_form (item ∷ [])) → IsErr result }
     ensures live { OnOk result (IsTrue (K.is_live sink.new)) }

@@ -1,6 +1,6 @@
 //! Messages that were read, and commits that are followed.
 
-ghost use Rattle.std.specs.Prelude.{◌≡◌, ◌≢◌, ◌⊎◌, ◌+◌, ◌^◌, ◌<◌, ◌≤◌, ◌++◌, All, Some, None, List, IfErr, IfOk, IfSome, IsErr, IsTrue, OnErr, OnOk, is_ok, is_some};
+ghost use Rattle.std.specs.Prelude.{◌≡◌, ◌≢◌, ◌⊎◌, ◌+◌, ◌^◌, ◌<◌, ◌≤◌, ◌++◌, ℕ, All, Some, None, List, IfErr, IfOk, IfSome, IsErr, IsTrue, OnErr, OnOk, is_ok, is_some};
 ghost use Rattle.dbl_base.specs.declared.lsn.Lsn.{Lsn as SpecLsn};
 ghost use Rattle.dbl_base.specs.Streams.{Rose};
 ghost use Rattle.dbl_pgmsg.specs.declared.messages.Message.{Message as SpecMessage};
@@ -13,7 +13,7 @@ ghost use Rattle.dbl_commit.specs.declared.txn_error.TxnError.{TxnError as SpecT
 ghost use Rattle.dbl_commit.specs.Stated.{transaction_fault};
 ghost use Rattle.dbl_txn.specs.Stands.{StandsWhole, Taken};
 ghost use Rattle.dbl_follow.specs.Steps.{clash_by, mark_of, records_by};
-ghost use Rattle.dbl_work.specs.Causes.{IsLongRecord};
+ghost use Rattle.dbl_work.specs.Causes.{HasPutBefore, IsLongRecord};
 ghost use Rattle.dbl_work.specs.Groups.{HoldsPut, WasTorn};
 ghost use Rattle.dbl_work.specs.Takes.{IsClashIn, IsLeftByStep, IsMessageHalt, IsTxnHalt, ReportsStep, WasStepped, WasTaken, closes};
 ghost use Rattle.dbl_work.specs.Works.{AreShort, IsReady, IsWork};
@@ -113,6 +113,11 @@ pub fn follow<K: Sink>(
         result ≡ Err Halt.Sink → WasTorn K.may_leave groups
         (is_some (mark_of commit.now)) (records_by work.old.follower commit.now work.old.now_ms)
         report.old report.new sink.new }
+    // Where a record is too long, those before it were put, and are counted.
+    ensures before { (groups : List (List SpecRecord)) → K.holds sink.old groups →
+        (len : ℕ) → result ≡ Err (Halt.RecordTooLong len) → HasPutBefore K.holds groups
+        (is_some (mark_of commit.now)) (records_by work.old.follower commit.now work.old.now_ms)
+        report.old report.new sink.new (Halt.RecordTooLong len) }
     ensures stepped { OnOk result (WasStepped commit.now work.old work.new) }
     ensures closes { IfOk result (λ closed. closed ≡ closes work.old commit.now) }
     ensures noted { ReportsStep commit.now work.old report.old report.new (is_ok result) }

@@ -10,7 +10,7 @@ use Rattle.dbl_work.specs.declared.report.Report.{Report}
 use Rattle.dbl_work.specs.Groups.{WerePut}
 use Rattle.dbl_work.proofs.Exits.{later_on, rose_behind}
 use Rattle.dbl_work.proofs.Puts.{left_cut, next_handful}
-use Rattle.dbl_work.proofs.Putting.{IsPut, all_counted, all_held, all_put, all_short, gather_on, holds_put, last_group, left_still, long_group, next_begins, none_holds, none_left_over, none_long, none_put, put_at, put_begins, put_kept, put_more, put_on, torn_put, were_put}
+use Rattle.dbl_work.proofs.Putting.{IsGroupHalt, IsPut, all_counted, all_held, all_put, all_short, gather_on, holds_put, last_group, left_still, long_group, long_put, next_begins, none_holds, none_left_over, none_long, none_put, put_at, put_begins, put_kept, put_more, put_on, torn_put, were_put}
 use Rattle.dbl_work.proofs.groups.put_all.Goals as goal
 
 pub returns-in_err-gathered-clause-left : goal.returns-in_err-gathered-clause-left
@@ -85,6 +85,17 @@ returns-in_err-put_group-clause-torn g c groups held lasts is =
     let here = put_at _ _ _ _ _ _ _ _ _ _ c.in-Some-item.ensures.steps.0 c.records.invariant.put in
     torn_put _ _ g.K.Sink.may_leave groups _ _ _ _ _ _ c.put_group.new.sink _ _ c.put_group.new.report here (next_begins _ _ _ _ _ _ _ _ _ _ (sym c.begins.ensures ∙ c.if-begins.true) here) lasts c.in_err-put_group.ensures.unnoted
     (λ found may. c.put_group.ensures.left (groups ++ here.put) found (here.held groups held) may)
+
+pub returns-in_err-put_group-clause-before : goal.returns-in_err-put_group-clause-before
+returns-in_err-put_group-clause-before g c groups held lasts len is =
+    let p = err_from_is_err_and c.from_residual-in_err-put_group.result c.from_residual-in_err-put_group.ensures.1 in
+    let both : Err p.0 ≡ Err (halt.RecordTooLong len) = sym p.1 ∙ is in
+    let halted : p.0 ≡ halt.RecordTooLong len = cc in
+    let same : c.in_err-put_group.field-0.0 ≡ halt.RecordTooLong len = sym p.2 ∙ halted in
+    let here = put_at _ _ _ _ _ _ _ _ _ _ c.in-Some-item.ensures.steps.0 c.records.invariant.put in
+    long_put _ _ groups _ _ _ _ _ _ c.put_group.new.sink _ _ c.put_group.new.report len here (next_begins _ _ _ _ _ _ _ _ _ _ (sym c.begins.ensures ∙ c.if-begins.true) here) lasts c.in_err-put_group.ensures.unnoted
+    (c.in_err-put_group.ensures.kept (groups ++ here.put) (here.held groups held) (λ failed. let wrong : halt.RecordTooLong len ≡ halt.Sink = cc in cc))
+    (subst (IsGroupHalt c.records.gathered.items.items) same c.in_err-put_group.ensures.halt)
 
 pub returns-in_err-put_group-clause-halt : goal.returns-in_err-put_group-clause-halt
 returns-in_err-put_group-clause-halt g c =
@@ -226,6 +237,18 @@ returns-in_err-put_group-2-clause-torn g c groups held lasts is =
     let here = put_at _ _ _ _ _ _ _ _ _ _ none c.records.invariant.put in
     torn_put _ _ g.K.Sink.may_leave groups _ _ _ _ _ _ c.put_group-2.new.sink _ _ c.put_group-2.new.report here (last_group _ _ _ _ _ _ _ _ here) lasts c.in_err-put_group-2.ensures.unnoted
     (λ found may. c.put_group-2.ensures.left (groups ++ here.put) found (here.held groups held) may)
+
+pub returns-in_err-put_group-2-clause-before : goal.returns-in_err-put_group-2-clause-before
+returns-in_err-put_group-2-clause-before g c groups held lasts len is =
+    let p = err_from_is_err_and c.from_residual-in_err-put_group-2.result c.from_residual-in_err-put_group-2.ensures.1 in
+    let both : Err p.0 ≡ Err (halt.RecordTooLong len) = sym p.1 ∙ is in
+    let halted : p.0 ≡ halt.RecordTooLong len = cc in
+    let same : c.in_err-put_group-2.field-0.0 ≡ halt.RecordTooLong len = sym p.2 ∙ halted in
+    let none : into_iter_items c.records.item-iterator ≡ [] = no_items (into_iter_items c.records.item-iterator) (omega (arith, c.in-None.ensures.steps.0, c.records.item-iterator.rest.ok)) in
+    let here = put_at _ _ _ _ _ _ _ _ _ _ none c.records.invariant.put in
+    long_put _ _ groups _ _ _ _ _ _ c.put_group-2.new.sink _ _ c.put_group-2.new.report len here (last_group _ _ _ _ _ _ _ _ here) lasts c.in_err-put_group-2.ensures.unnoted
+    (c.in_err-put_group-2.ensures.kept (groups ++ here.put) (here.held groups held) (λ failed. let wrong : halt.RecordTooLong len ≡ halt.Sink = cc in cc))
+    (subst (IsGroupHalt c.records.gathered.items.items) same c.in_err-put_group-2.ensures.halt)
 
 pub returns-in_err-put_group-2-clause-halt : goal.returns-in_err-put_group-2-clause-halt
 returns-in_err-put_group-2-clause-halt g c =

@@ -8,11 +8,11 @@ use Rattle.dbl_follow.specs.Steps.{clash_by, mark_of, records_by}
 use Rattle.dbl_work.specs.declared.halt.Halt.{Halt}
 use Rattle.dbl_work.specs.declared.halt.Halt.TheVariants as halt
 use Rattle.dbl_work.specs.declared.report.Report.{Report}
-use Rattle.dbl_work.specs.Causes.{IsLongRecord}
+use Rattle.dbl_work.specs.Causes.{HasPutBefore, IsLongRecord}
 use Rattle.dbl_work.specs.Groups.{HasLastsAtItsEnd, HoldsPut, WasTorn}
 use Rattle.dbl_work.specs.Halts.{follow_halt}
 use Rattle.dbl_work.specs.Works.{AreShort}
-use Rattle.dbl_work.proofs.Following.{clash_halt, clash_kinds, follow_not_sink, put_halt}
+use Rattle.dbl_work.proofs.Following.{clash_halt, clash_kinds, follow_not_long, follow_not_sink, put_halt}
 use Rattle.dbl_work.proofs.Putting.{none_holds}
 use Rattle.dbl_work.proofs.Taking.{closes_mark, lasts_by, none_by_changes, reports_all, reports_none, reports_some, short_by_place, step_are, step_left, step_listed}
 use Rattle.dbl_work.proofs.messages.follow.Goals as goal
@@ -45,6 +45,13 @@ returns-in_err-records-clause-torn g c groups held is =
     let both : Err p.0 ≡ Err halt.Sink = sym p.1 ∙ is in
     let halted : p.0 ≡ halt.Sink = cc in
     absurd (follow_not_sink c.in_err-records.field-0.0 (sym p.2 ∙ halted))
+
+pub returns-in_err-records-clause-before : goal.returns-in_err-records-clause-before
+returns-in_err-records-clause-before g c groups held len is =
+    let p = err_from_is_err_and c.from_residual.result c.from_residual.ensures.1 in
+    let both : Err p.0 ≡ Err (halt.RecordTooLong len) = sym p.1 ∙ is in
+    let halted : p.0 ≡ halt.RecordTooLong len = cc in
+    absurd (follow_not_long c.in_err-records.field-0.0 len (sym p.2 ∙ halted))
 
 pub returns-in_err-records-clause-sink : goal.returns-in_err-records-clause-sink
 returns-in_err-records-clause-sink g c is =
@@ -98,6 +105,21 @@ returns-in_err-put_all-clause-torn g c groups held is =
     subst (λ (l : List Record). WasTorn g.K.Sink.may_leave groups (is_some (mark_of commit)) l c.args.report.now c.put_all.new.report c.put_all.new.sink) are
     (subst (λ (b : Bool). WasTorn g.K.Sink.may_leave groups b items c.args.report.now c.put_all.new.report c.put_all.new.sink) c.is_mark-snapshot.ensures
     (c.in_err-put_all.ensures.torn groups held lasts (ap (λ (x : Halt). Err x) (sym p.2 ∙ halted))))
+
+pub returns-in_err-put_all-clause-before : goal.returns-in_err-put_all-clause-before
+returns-in_err-put_all-clause-before g c groups held len is =
+    let p = err_from_is_err_and c.from_residual-in_err-put_all.result c.from_residual-in_err-put_all.ensures.1 in
+    let both : Err p.0 ≡ Err (halt.RecordTooLong len) = sym p.1 ∙ is in
+    let halted : p.0 ≡ halt.RecordTooLong len = cc in
+    let work = c.args.work.now in
+    let commit = c.args.commit.now in
+    let items = c.in_ok-records.records.items in
+    let time : to_z w64 (of_z w64 work.now_ms) ≡ work.now_ms = to_z-of_z {w = w64} {z = work.now_ms} (search rules) in
+    let are = step_are work commit items _ time c.in_ok-records.ensures.records in
+    let lasts = subst HasLastsAtItsEnd (sym are) (lasts_by work.follower commit work.now_ms) in
+    subst (λ (l : List Record). HasPutBefore g.K.Sink.holds groups (is_some (mark_of commit)) l c.args.report.now c.put_all.new.report c.put_all.new.sink (halt.RecordTooLong len)) are
+    (subst (λ (b : Bool). HasPutBefore g.K.Sink.holds groups b items c.args.report.now c.put_all.new.report c.put_all.new.sink (halt.RecordTooLong len)) c.is_mark-snapshot.ensures
+    (c.in_err-put_all.ensures.before groups held lasts len (ap (λ (x : Halt). Err x) (sym p.2 ∙ halted))))
 
 pub returns-in_err-put_all-clause-noted : goal.returns-in_err-put_all-clause-noted
 returns-in_err-put_all-clause-noted g c =

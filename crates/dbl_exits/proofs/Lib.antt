@@ -1,0 +1,12 @@
+pub mod Rising
+pub mod Fewer
+pub mod Keeping
+pub mod Marks
+pub mod Arms
+pub mod Turning
+pub mod Settles
+pub mod Taken
+pub mod Nexts
+pub mod Beginnings
+pub mod Openings
+pub mod Endings

@@ -1,0 +1,5 @@
+pub mod Sessions
+pub mod Turns
+pub mod Found
+pub mod Ends
+pub mod Laws

@@ -29,7 +29,7 @@ pub record IsNextOf (old new : Work) : Type 0 where
   pub every_is : new.every ≡ old.every
   pub now_is : new.now_ms ≡ old.now_ms
 
--- The offset is due to be stored where the commit closed a window, or where so many were followed since the last store.
+-- Where the offset isn't due, fewer commits were followed since the last store than is asked for; where it is, no more than that.
 abbrev pub IsDue : Work → Work → Option Bool → Type 0
 IsDue old new None = new ≡ old
 IsDue old new (Some due) =

@@ -1,6 +1,6 @@
 //! What each step of a session keeps, and what it may leave: definitions and lemmas over
-//! sources, sinks and stores, which are met by what they stand for alone. Its laws say that
-//! behind each step a session is ready for the next one.
+//! sources, sinks and stores, which are met by what they stand for alone. Its laws say
+//! behind which steps what a session has in hand is ready for the next one.
 #![tactic(auto)]
 
 mod laws;

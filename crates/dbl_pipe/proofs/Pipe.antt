@@ -7,6 +7,7 @@ use Rattle.dbl_record.specs.Line.{line_of}
 use Rattle.dbl_record.specs.Acts.{Reading, reading_of}
 use Rattle.dbl_record.specs.Reading.{as_line}
 use Rattle.dbl_record.specs.Consumers.{consumer_of}
+use Rattle.dbl_consume.proofs.StandLemmas.{rows_stand}
 use Rattle.dbl_table.specs.declared.change.Commit.{Commit}
 use Rattle.dbl_table.specs.Rows.{no_rows, all_changes}
 use Rattle.dbl_history.specs.History.{History}
@@ -69,9 +70,10 @@ last_rows_applied options now log lines history whole =
     let told = told_whole options now log lines history whole in
     let held : (topic text : List ℕ) → consumer_of placeholder (readings_of (lines_of (lines_text lines))) topic text ≡ held_of options.identity infos (λ commit. now) history topic text =
     λ topic text. ap (λ (rs : List Reading). consumer_of placeholder rs topic text) read in
+    let rows = rows_stand placeholder (readings_of (lines_of (lines_text lines))) in
     record {
-      clean = ap (λ (ls : List (List ℕ)). first_fault placeholder ls) back ∙ lines_clean 1 placeholder items piped;
+      applied = (rows.0, (ap (λ (ls : List (List ℕ)). first_fault placeholder ls) back ∙ lines_clean 1 placeholder items piped, rows.1));
       held = λ topic text image is. subst (λ h. Holds h image) (sym (held topic text)) (hold_images history infos options.identity (λ commit. now) told topic text image is);
-      printed = λ rows are. source_rows history infos options.identity (λ commit. now) told rows (record { ordered = are.ordered; exact = λ topic key. are.exact topic key ∙ held topic key });
+      printed = λ rows is. source_rows history infos options.identity (λ commit. now) told rows (record { ordered = is.1.ordered; exact = λ topic key. is.1.exact topic key ∙ held topic key });
       stands = λ topic text. images_stand history infos options.identity (λ commit. now) told topic text;
     }

@@ -1,6 +1,6 @@
 -- What `replay | apply --lines` comes to: where `replay` takes a source's whole log without a fault, `apply --lines` finds none in
 -- what was written, and prints exactly the source's last rows.
-use Rattle.std.specs.Prelude.{◌≡◌, ℕ, ℤ, List, [], ◌++◌, Option, Some, None, map, slice_get, codes}
+use Rattle.std.specs.Prelude.{◌≡◌, ℕ, ℤ, List, [], ◌++◌, Option, Some, None, Ok, map, slice_get, codes}
 use Rattle.std.specs.List.{AllByRecursion}
 use Rattle.std.specs.Map.{lookup, keys_of}
 use Rattle.std.specs.BTreeMap.{is_at}
@@ -10,7 +10,7 @@ use Rattle.serde_json.specs.Written.{compact_text}
 use Rattle.dbl_base.specs.Lines.{lines_of, lines_text}
 use Rattle.dbl_value.specs.declared.value.Val.{Val}
 use Rattle.dbl_record.specs.Consumers.{consumer_of}
-use Rattle.dbl_consume.specs.Printing.{HeldRow, spot_cmp, AreRowsOf, row_line}
+use Rattle.dbl_consume.specs.Printing.{HeldRow, spot_cmp, row_line}
 use Rattle.dbl_table.specs.declared.identity.Identity.{Identity}
 use Rattle.dbl_table.specs.declared.row.Key.{Key}
 use Rattle.dbl_table.specs.declared.table.TableInfo.{TableInfo}
@@ -27,7 +27,8 @@ use Rattle.dbl_commit.specs.Blocks.{onto}
 use Rattle.dbl_agreement.specs.Laws.{Holds, last_rows}
 use Rattle.dbl_replay.specs.declared.options.ReplayOptions.{ReplayOptions}
 use Rattle.dbl_replay.specs.Replay.{IsReplayed}
-use Rattle.dbl_replay.specs.Apply.{readings_of, first_fault}
+use Rattle.dbl_replay.specs.Apply.{readings_of}
+use Rattle.dbl_replay.specs.Applied.{IsApplied}
 
 -- the names by which a connector goes are UTF-8, as each word is that the program takes
 pub record AreNamesUtf8 (identity : Identity) : Type 0 where
@@ -70,9 +71,9 @@ pub record AreSourceRows (identity : Identity) (infos : List TableInfo) (source 
 -- What `apply --lines` makes of these bytes: it takes each of their lines, its consumer holds at each topic and key text exactly
 -- the source's row, and the rows that it prints are the source's. At each topic and key text the source has a row or none.
 pub record AppliesTo (identity : Identity) (infos : List TableInfo) (source : Rows) (bytes : List ℕ) : Type 0 where
-  pub clean : first_fault identity.placeholder (lines_of bytes) ≡ None
+  pub applied : (rows : List HeldRow) × IsApplied identity.placeholder (lines_of bytes) (Ok rows)
   pub held : (topic text : List ℕ) (image : Option (List ℕ → Option (List ℕ))) → IsImage identity infos source topic text image → Holds (consumer_of identity.placeholder (readings_of (lines_of bytes)) topic text) image
-  pub printed : (rows : List HeldRow) → AreRowsOf (consumer_of identity.placeholder (readings_of (lines_of bytes))) rows → AreSourceRows identity infos source rows
+  pub printed : (rows : List HeldRow) → IsApplied identity.placeholder (lines_of bytes) (Ok rows) → AreSourceRows identity infos source rows
   pub stands : (topic text : List ℕ) → (image : Option (List ℕ → Option (List ℕ))) × IsImage identity infos source topic text image
 
 -- what `replay` writes of a whole log, byte for byte, `apply --lines` with the same placeholder applies to the source's last rows

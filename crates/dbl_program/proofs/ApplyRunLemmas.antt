@@ -88,7 +88,7 @@ fault_applies placeholder bytes at status before after within found ends says = 
 -- a run whose rows were to be printed
 pub rows_apply : (placeholder : List ℕ) (bytes : List ℕ) (status : ℕ) (before after : Option (List ℕ)) → length bytes ≤ input_limit → first_fault placeholder (lines_of bytes) ≡ None
     → PrintedAs (consumer_of placeholder (readings_of (lines_of bytes))) status before after → RunsApplying placeholder bytes status before after
-rows_apply placeholder bytes status before after within none printed = answered placeholder bytes (done (map row_line printed.rows)) status before after (applied printed.rows within none printed.are refl) printed.ends
+rows_apply placeholder bytes status before after within none printed = answered placeholder bytes (done (map row_line printed.rows)) status before after (applied printed.rows within (none, printed.are) refl) printed.ends
 
 -- ---- the lines of the rows
 

@@ -48,7 +48,7 @@ replay_refuses options now bytes answer (replayed lines end within good writes i
 lines_refuse : (placeholder bytes : List ℕ) (answer : Answer) → Applies placeholder bytes answer → Refuses answer.status → ⊥
 lines_refuse placeholder bytes answer (long_input long is) refuses = other_status 13 (λ e. cc) (λ e. cc) answer.status (status_is answer (fault InputTooLong) is) refuses
 lines_refuse placeholder bytes answer (refused at within found is) refuses = other_status 13 (λ e. cc) (λ e. cc) answer.status (status_is answer (line_fault at) is) refuses
-lines_refuse placeholder bytes answer (applied rows within none are is) refuses = other_status 0 (λ e. cc) (λ e. cc) answer.status (status_is answer (done (map row_line rows)) is) refuses
+lines_refuse placeholder bytes answer (applied rows within (none, are) is) refuses = other_status 0 (λ e. cc) (λ e. cc) answer.status (status_is answer (done (map row_line rows)) is) refuses
 
 abbrev IsRefused : List (List ℕ) → Given → Answer → Type 0
 IsRefused words given answer = (e : RunError) × AreRefused words given e answer

@@ -176,7 +176,7 @@ apply_stands placeholder bytes = by_length (within_or_not (length bytes))
     by_lines within (Some at) is = (line_fault at, refused at within is refl)
     by_lines within None is =
         let rows = rows_stand placeholder (readings_of (lines_of bytes)) in
-        (done (map row_line rows.0), applied rows.0 within is rows.1 refl)
+        (done (map row_line rows.0), applied rows.0 within (is, rows.1) refl)
 
     by_length : (length bytes ≤ input_limit) ⊎ (input_limit < length bytes) → (answer : Answer) × Applies placeholder bytes answer
     by_length (inl within) = by_lines within _ refl

@@ -1,14 +1,15 @@
 -- What a run of the program writes and answers.
-use Rattle.std.specs.Prelude.{◌≡◌, ◌⊎◌, ℕ, ℤ, ◌<◌, ◌≤◌, Option, Some, None, List, [], ◌∷◌, ◌++◌, take, length, map}
+use Rattle.std.specs.Prelude.{◌≡◌, ◌⊎◌, ℕ, ℤ, ◌<◌, ◌≤◌, Option, Some, None, Result, Ok, Err, List, [], ◌∷◌, ◌++◌, take, length, map}
 use Rattle.dbl_base.specs.Lines.{lines_of, lines_text}
 use Rattle.dbl_base.specs.Streams.{Rose, input_limit}
 use Rattle.dbl_program.specs.declared.halt.Halt.{Halt}
 use Rattle.dbl_program.specs.declared.halt.Halt.TheVariants.{Usage, BadLine, InputTooLong, InputFailed, Memory}
 use Rattle.dbl_program.specs.Faults.{status_of, fault_line, output_failed_status}
-use Rattle.dbl_record.specs.Consumers.{HeldCells, consumer_of}
+use Rattle.dbl_record.specs.Consumers.{HeldCells}
 use Rattle.dbl_consume.specs.Printing.{HeldRow, AreRowsOf, row_line, Wrote, WroteFront}
 use Rattle.dbl_replay.specs.declared.apply.FaultAt.{FaultAt}
-use Rattle.dbl_replay.specs.Apply.{first_fault, fault_text, readings_of}
+use Rattle.dbl_replay.specs.Apply.{fault_text}
+use Rattle.dbl_replay.specs.Applied.{IsApplied}
 use Rattle.dbl_replay.specs.Lines.{messages_in, first_bad}
 use Rattle.dbl_replay.specs.declared.log_fault.LogFault.{LogFault}
 use Rattle.dbl_replay.specs.declared.options.ReplayOptions.{ReplayOptions}
@@ -45,9 +46,8 @@ line_fault at = record { status = 13; lines = fault_text at ∷ []; one_by_one =
 -- that isn't applied
 pub data Applies (placeholder bytes : List ℕ) (answer : Answer) : Type 0 where
   long_input : input_limit < length bytes → answer ≡ fault InputTooLong → Applies placeholder bytes answer
-  refused : (at : FaultAt) → length bytes ≤ input_limit → first_fault placeholder (lines_of bytes) ≡ Some at → answer ≡ line_fault at → Applies placeholder bytes answer
-  applied : (rows : List HeldRow) → length bytes ≤ input_limit → first_fault placeholder (lines_of bytes) ≡ None
-      → AreRowsOf (consumer_of placeholder (readings_of (lines_of bytes))) rows → answer ≡ done (map row_line rows) → Applies placeholder bytes answer
+  refused : (at : FaultAt) → length bytes ≤ input_limit → IsApplied placeholder (lines_of bytes) (Err at) → answer ≡ line_fault at → Applies placeholder bytes answer
+  applied : (rows : List HeldRow) → length bytes ≤ input_limit → IsApplied placeholder (lines_of bytes) (Ok rows) → answer ≡ done (map row_line rows) → Applies placeholder bytes answer
 
 -- a run of this answer may be about to write this text and answer this status: the answer's own, or where memory runs out
 -- that fault's, behind some first ones of the lines that come one by one

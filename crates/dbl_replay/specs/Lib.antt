@@ -1,3 +1,4 @@
+pub mod Applied
 pub mod Apply
 pub mod Captures
 pub mod Following

@@ -1,5 +1,5 @@
 -- The rows of tables whose topics and keys ascend are the rows that are held, in order.
-use Rattle.std.proofs.Common.{◌≡◌, ◌∙◌, ℕ, List, [], ◌∷◌, ◌++◌, Bool, true, false, Option, Some, None, option_map, option_and_then, map, cond, Ordering, Less, Equal, Greater, is_eq, refl, sym, ap, subst, append_assoc}
+use Rattle.std.proofs.Common.{◌≡◌, ◌∙◌, ℕ, List, [], ◌∷◌, ◌++◌, Bool, true, false, Option, Some, None, option_map, option_and_then, map, cond, Ordering, Less, Equal, Greater, is_eq, refl, sym, ap, subst}
 use Rattle.std.specs.List.{AllByRecursion}
 use Rattle.std.specs.List.Sorted.{IsStrictlySortedBy}
 use Rattle.std.specs.Ordering.{ordering_then, ordering_reverse}
@@ -15,7 +15,7 @@ use Rattle.dbl_base.specs.Texts.{text_cmp}
 use Rattle.dbl_record.specs.Consumers.{HeldCells}
 use Rattle.dbl_consume.specs.Rows.{Row, Table, Tables, row_in, row_at}
 use Rattle.dbl_consume.specs.Printing.{Spot, HeldRow, spot_cmp, AreRowsOf, RowsAreOne, row_line}
-use Rattle.dbl_consume.specs.Gathering.{rows_in, all_rows, AreInOrder}
+use Rattle.dbl_consume.specs.RowTexts.{rows_in, all_rows, AreInOrder}
 
 abbrev Entries : Type 0
 Entries = List (List ℕ × Table)
@@ -205,5 +205,5 @@ rows_of_tables held tables outer inner is = record {
 }
 
 -- the lines of a topic's rows, and those behind them
-pub lines_split : (topic : List ℕ) (table : Table) (ts : Entries) (rest : List (List ℕ)) → map row_line (all_rows ((topic, table) ∷ ts)) ++ rest ≡ map row_line (rows_in topic table.entries) ++ (map row_line (all_rows ts) ++ rest)
-lines_split topic table ts rest = ap (λ lines. lines ++ rest) (map-append row_line (rows_in topic table.entries) (all_rows ts)) ∙ append_assoc (map row_line (rows_in topic table.entries)) (map row_line (all_rows ts)) rest
+pub lines_split : (topic : List ℕ) (table : Table) (ts : Entries) → map row_line (all_rows ((topic, table) ∷ ts)) ≡ map row_line (rows_in topic table.entries) ++ map row_line (all_rows ts)
+lines_split topic table ts = map-append row_line (rows_in topic table.entries) (all_rows ts)

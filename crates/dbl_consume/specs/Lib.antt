@@ -1,5 +1,5 @@
 pub mod Answers
-pub mod Gathering
+pub mod RowTexts
 pub mod Holdings
 pub mod Printing
 pub mod Rows

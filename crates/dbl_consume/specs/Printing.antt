@@ -1,19 +1,18 @@
 -- The text of the rows that a consumer holds, and how it is written. Source: own.
-use Rattle.std.specs.Prelude.{◌≡◌, ℕ, List, ◌++◌, Option, Some, Result, Ok, Err, map, take, codes}
+use Rattle.std.specs.Prelude.{◌≡◌, ℕ, List, ◌++◌, Option, Result, map, codes}
 use Rattle.std.specs.declared.cmp.Ordering.{Ordering}
 use Rattle.std.specs.Ordering.{on, then_cmp}
 use Rattle.std.specs.Map.{lookup, keys_of}
 use Rattle.std.specs.BTreeMap.{is_at}
 use Rattle.std.specs.List.Sorted.{IsStrictlySortedBy}
-use Rattle.dbl_base.specs.Lines.{lines_text}
 use Rattle.dbl_base.specs.Texts.{text_cmp}
 use Rattle.dbl_record.specs.declared.acts.HeldCell.{HeldCell}
 use Rattle.dbl_record.specs.declared.acts.HeldCell.TheVariants.{Known, Unknown}
 use Rattle.dbl_record.specs.Acts.{Reading}
 use Rattle.dbl_record.specs.Consumers.{HeldCells, consumer_of}
 use Rattle.dbl_record.specs.Line.{Part, object_text}
-use Rattle.dbl_consume.specs.declared.error.PrintError.{PrintError}
-use Rattle.dbl_consume.specs.declared.error.PrintError.TheVariants.{Failed, Memory}
+use Rattle.dbl_lines.specs.declared.error.PrintError.{PrintError}
+use Rattle.dbl_lines.specs.Writing.{Prints}
 
 -- where a row is held: its topic and its key's text
 abbrev pub Spot : Type 0
@@ -51,24 +50,6 @@ cell_part cell = (cell.0, cell_text cell.1)
 -- the topic, the key's text and the row as a JSON object, with a space between
 abbrev pub row_line : HeldRow → List ℕ
 row_line row = row.0.0 ++ codes " " ++ row.0.1 ++ codes " " ++ object_text (map cell_part row.1)
-
--- the text was appended
-abbrev pub Wrote : Option (List ℕ) → Option (List ℕ) → List ℕ → Type 0
-Wrote before after text = (bytes : List ℕ) → before ≡ Some bytes → after ≡ Some (bytes ++ text)
-
--- a prefix of the text was appended
-abbrev pub WroteFront : Option (List ℕ) → Option (List ℕ) → List ℕ → Type 0
-WroteFront before after text = (bytes : List ℕ) → before ≡ Some bytes → (n : ℕ) × (after ≡ Some (bytes ++ take n text))
-
--- where lines aren't written, or not all, a prefix of their text was, and where memory runs out some first lines
-abbrev pub PrintFails : List (List ℕ) → PrintError → Option (List ℕ) → Option (List ℕ) → Type 0
-PrintFails lines Failed before after = WroteFront before after (lines_text lines)
-PrintFails lines Memory before after = (n : ℕ) × Wrote before after (lines_text (take n lines))
-
--- the lines were written, or why not
-abbrev pub Prints : {A : Type 0} → List (List ℕ) → Result A PrintError → Option (List ℕ) → Option (List ℕ) → Type 0
-Prints lines (Ok done) before after = Wrote before after (lines_text lines)
-Prints lines (Err error) before after = PrintFails lines error before after
 
 -- the lines of the rows that are held
 abbrev pub PrintsRows : {A : Type 0} → (List ℕ → List ℕ → Option HeldCells) → Result A PrintError → Option (List ℕ) → Option (List ℕ) → Type 0

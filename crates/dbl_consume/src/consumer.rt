@@ -6,15 +6,15 @@ ghost use Rattle.dbl_record.specs.Acts.{Reading, reading_of};
 ghost use Rattle.dbl_record.specs.Consumers.{consumer_of};
 ghost use Rattle.dbl_consume.specs.Holdings.{Took, placeholder_of, tables_of};
 ghost use Rattle.dbl_base.specs.Streams.{Rose};
-ghost use Rattle.dbl_consume.specs.declared.error.PrintError.TheVariants.{Failed};
+ghost use Rattle.dbl_lines.specs.declared.error.PrintError.TheVariants.{OutputFailed};
 ghost use Rattle.dbl_consume.specs.Printing.{PrintsRows};
 ghost use Rattle.dbl_consume.specs.Rows.{row_at};
 
 use crate::acting::{act, act_of_values};
-use crate::error::PrintError;
 use crate::printing::{look_at_order, print};
 use crate::tables::{Tables, perform};
 use dbl_base::{Output, Text};
+use dbl_lines::PrintError;
 use dbl_record::ConsumeError;
 use serde_json::Value;
 use std::alloc::Global;
@@ -117,7 +117,7 @@ impl Consumer {
         ensures prints { (taken : List Reading) → Took taken self.now →
             PrintsRows (consumer_of (placeholder_of self.now) taken) result
             (O.written output.old) (O.written output.new) }
-        ensures cause { result ≡ Err Failed → Rose (O.faults output.old) (O.faults output.new) }
+        ensures cause { result ≡ Err OutputFailed → Rose (O.faults output.old) (O.faults output.new) }
         ensures later { O.faults output.old ≤ O.faults output.new }
     {
         look_at_order(&self.tables);

@@ -3,13 +3,12 @@
 
 mod acting;
 mod consumer;
-mod error;
 mod laws;
 mod printing;
 mod tables;
 
 pub use consumer::Consumer;
+pub use dbl_lines::PrintError;
 pub use dbl_record::{ConsumeError, HeldCell};
-pub use error::PrintError;
 pub use laws::{rows_are_one, rows_stand};
 pub use tables::{Row, Table, Tables};

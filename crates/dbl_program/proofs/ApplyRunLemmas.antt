@@ -6,9 +6,10 @@ use Rattle.dbl_record.specs.declared.acts.ConsumeError.{ConsumeError}
 use Rattle.dbl_record.specs.Acts.{Reading}
 use Rattle.dbl_record.specs.Consumers.{HeldCells, consumer_of}
 use Rattle.dbl_consume.specs.declared.consumer.Consumer.{Consumer}
-use Rattle.dbl_consume.specs.declared.error.PrintError.TheVariants as print_error
+use Rattle.dbl_lines.specs.declared.error.PrintError.TheVariants as print_error
+use Rattle.dbl_lines.specs.Writing.{Wrote, WroteFront}
 use Rattle.dbl_consume.specs.Holdings.{Took, placeholder_of}
-use Rattle.dbl_consume.specs.Printing.{row_line, PrintsRows, Wrote, WroteFront}
+use Rattle.dbl_consume.specs.Printing.{row_line, PrintsRows}
 use Rattle.dbl_replay.specs.declared.apply.FaultAt.{FaultAt}
 use Rattle.dbl_replay.specs.declared.apply.LineFault.{LineFault}
 use Rattle.dbl_replay.specs.declared.apply.LineFault.TheVariants as line
@@ -114,7 +115,7 @@ rows_printed held before after prints = record {
   ends = lines_printed (map row_line prints.0) before after prints.2;
 }
 
-pub rows_cut : (held : List ℕ → List ℕ → Option HeldCells) (status : ℕ) (before after : Option (List ℕ)) → status ≡ output_failed_status → PrintsRows {A = Unit {0}} held (Err print_error.Failed) before after → PrintedAs held status before after
+pub rows_cut : (held : List ℕ → List ℕ → Option HeldCells) (status : ℕ) (before after : Option (List ℕ)) → status ≡ output_failed_status → PrintsRows {A = Unit {0}} held (Err print_error.OutputFailed) before after → PrintedAs held status before after
 rows_cut held status before after is prints = record {
   rows = prints.0;
   are = prints.1;

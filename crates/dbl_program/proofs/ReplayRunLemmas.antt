@@ -9,7 +9,7 @@ use Rattle.dbl_program.specs.declared.halt.Halt.TheVariants.{Usage, BadLine, Inp
 use Rattle.dbl_replay.specs.declared.log_fault.LogFault.{LogFault}
 use Rattle.dbl_replay.specs.declared.log_fault.LogFault.TheVariants as log
 use Rattle.dbl_replay.specs.declared.options.ReplayOptions.{ReplayOptions}
-use Rattle.dbl_replay.specs.declared.printing.PrintError.TheVariants as print_error
+use Rattle.dbl_lines.specs.declared.error.PrintError.TheVariants as print_error
 use Rattle.dbl_program.specs.Faults.{status_of, fault_line, output_failed_status}
 use Rattle.dbl_replay.specs.Lines.{messages_in, first_bad}
 use Rattle.dbl_replay.specs.Log.{LogWrites, end_status, end_lines}

@@ -6,8 +6,8 @@ use Rattle.dbl_program.specs.declared.halt.Halt.TheVariants.{BadLine, Memory}
 use Rattle.dbl_replay.specs.declared.log_fault.LogFault.{LogFault}
 use Rattle.dbl_replay.specs.declared.options.ReplayOptions.{ReplayOptions}
 use Rattle.dbl_program.specs.Faults.{status_of, fault_line}
-use Rattle.dbl_consume.specs.Printing.{Wrote}
-use Rattle.dbl_consume.proofs.PrintingLemmas.{wrote_then, front_then}
+use Rattle.dbl_lines.specs.Writing.{Wrote}
+use Rattle.dbl_lines.proofs.WritingLemmas.{wrote_then, front_then}
 use Rattle.dbl_program.specs.Run.{Answer, fault, log_answer, Replays, too_long, bad_line, replayed, whole, out_of_memory, Writes, Ends, IsOutside, Says}
 use Rattle.dbl_replay.specs.Lines.{messages_in}
 use Rattle.dbl_replay.proofs.CommitLaws.{replayed_written}

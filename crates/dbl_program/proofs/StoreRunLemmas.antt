@@ -1,7 +1,7 @@
 -- How a run of a command over the stores ends, from how the command ended and what was written behind it.
 use Rattle.std.proofs.Common.{◌≡◌, ◌⊎◌, inl, inr, ℕ, Option, Ok, Err, IfErr, List, [], ◌∷◌, ◌++◌, take, refl, sym, ap, subst}
 use Rattle.dbl_base.specs.Lines.{lines_text}
-use Rattle.dbl_consume.specs.Printing.{Wrote, WroteFront}
+use Rattle.dbl_lines.specs.Writing.{Wrote, WroteFront}
 use Rattle.dbl_runs.specs.declared.error.RunError.{RunError}
 use Rattle.dbl_runs.specs.declared.error.RunError.TheVariants as error
 use Rattle.dbl_runs.specs.declared.error.Store.{Store}

@@ -6,7 +6,8 @@ use Rattle.dbl_program.specs.declared.halt.Halt.{Halt}
 use Rattle.dbl_program.specs.declared.halt.Halt.TheVariants.{Usage, BadLine, InputTooLong, InputFailed, Memory}
 use Rattle.dbl_program.specs.Faults.{status_of, fault_line, output_failed_status}
 use Rattle.dbl_record.specs.Consumers.{HeldCells}
-use Rattle.dbl_consume.specs.Printing.{HeldRow, AreRowsOf, row_line, Wrote, WroteFront}
+use Rattle.dbl_lines.specs.Writing.{Wrote, WroteFront}
+use Rattle.dbl_consume.specs.Printing.{HeldRow, AreRowsOf, row_line}
 use Rattle.dbl_replay.specs.declared.apply.FaultAt.{FaultAt}
 use Rattle.dbl_replay.specs.Apply.{fault_text}
 use Rattle.dbl_replay.specs.Applied.{IsApplied}

@@ -434,8 +434,8 @@ fn print_rows<O: Output>(alloc: Global, held: &Consumer, output: &mut O) -> u8
 {
     match held.print(output) {
         Ok(_) => 0,
-        Err(dbl_consume::PrintError::Failed) => OUTPUT_FAILED,
-        Err(dbl_consume::PrintError::Memory) => say(alloc, Halt::Memory, output),
+        Err(PrintError::OutputFailed) => OUTPUT_FAILED,
+        Err(PrintError::Memory) => say(alloc, Halt::Memory, output),
     }
 }
 

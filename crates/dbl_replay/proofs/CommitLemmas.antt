@@ -1,7 +1,10 @@
 -- What became of a commit whose records were to be put.
-use Rattle.std.proofs.Common.{◌≡◌, ◌≢◌, ℕ, ℤ, Option, Some, None, List, [], ◌∷◌, map, sym, ap, subst, append-nil}
-use Rattle.std.specs.Prelude.{option_map, Result}
+use Rattle.std.proofs.Common.{◌≡◌, ◌≢◌, ℕ, ℤ, Option, Some, None, List, [], ◌∷◌, map, refl, sym, ap, subst, append-nil}
+use Rattle.std.specs.Prelude.{option_map, Result, Ok}
 use Rattle.std.specs.Option.{option_and_then}
+use Rattle.dbl_lines.specs.declared.error.PrintError.{PrintError}
+use Rattle.dbl_lines.specs.Gathering.{Puts, PutFails}
+use Rattle.dbl_lines.proofs.PutLemmas.{no_lines}
 use Rattle.dbl_record.specs.declared.record.Record.{Record}
 use Rattle.dbl_record.specs.Line.{line_of}
 use Rattle.dbl_table.specs.declared.identity.Identity.{Identity}
@@ -16,10 +19,8 @@ use Rattle.dbl_envelope.specs.declared.error.EnvelopeError.TheVariants.{Placehol
 use Rattle.dbl_envelope.specs.declared.error.EnvelopeError.TheVariants as envelope
 use Rattle.dbl_envelope.specs.Clashing.{clash_error, IsClash}
 use Rattle.dbl_replay.specs.declared.log_fault.LogFault.TheVariants as log
-use Rattle.dbl_replay.specs.declared.printing.PrintError.{PrintError}
-use Rattle.dbl_replay.specs.declared.log.Step.{Step}
+use Rattle.dbl_replay.specs.declared.log_fault.LogFault.{LogFault}
 use Rattle.dbl_replay.specs.Log.{lines_in, placeholder_fault, commit_fault}
-use Rattle.dbl_replay.specs.Printing.{Puts, LinesFail}
 use Rattle.dbl_replay.specs.LogPrinting.{PutsCommit}
 
 -- the fault of a clash
@@ -45,16 +46,22 @@ no_clash_is identity infos commit none = ap (option_map placeholder_fault) none
 pub records_put : (records all : List Record) (gathered later : List ℕ) (before after : Option (List ℕ)) → records ≡ all → Puts (map line_of records) gathered later before after → Puts (map line_of all) gathered later before after
 records_put records all gathered later before after is puts = subst (λ (rs : List Record). Puts (map line_of rs) gathered later before after) is puts
 
-pub records_cut : (records all : List Record) (gathered : List ℕ) (error : PrintError) (before after : Option (List ℕ)) → records ≡ all → LinesFail (map line_of records) gathered error before after → LinesFail (map line_of all) gathered error before after
-records_cut records all gathered error before after is fails = subst (λ (rs : List Record). LinesFail (map line_of rs) gathered error before after) is fails
+pub records_cut : (records all : List Record) (gathered : List ℕ) (error : PrintError) (before after : Option (List ℕ)) → records ≡ all → PutFails (map line_of records) gathered error before after → PutFails (map line_of all) gathered error before after
+records_cut records all gathered error before after is fails = subst (λ (rs : List Record). PutFails (map line_of rs) gathered error before after) is fails
 
 -- the lines of one commit
 one_commit : (identity : Identity) (infos : List TableInfo) (commit : Commit) (now : ℤ) → map line_of (envelopes identity infos commit now) ≡ lines_in identity infos (commit ∷ []) now
 one_commit identity infos commit now = ap (map line_of) (sym (append-nil (envelopes identity infos commit now)))
 
-pub one_put : (identity : Identity) (infos : List TableInfo) (ended : Option Commit) (commit : Commit) (now : ℤ) (gathered : List ℕ) (result : Result Step PrintError) (before after : Option (List ℕ)) → ended ≡ Some commit
-    → PutsCommit (commit_fault identity infos commit) (map line_of (envelopes identity infos commit now)) gathered result before after
-    → PutsCommit (option_and_then (commit_fault identity infos) ended) (lines_in identity infos (list_of ended) now) gathered result before after
-one_put identity infos ended commit now gathered result before after is puts =
-    subst (λ (o : Option Commit). PutsCommit (option_and_then (commit_fault identity infos) o) (lines_in identity infos (list_of o) now) gathered result before after) (sym is)
-    (subst (λ (l : List (List ℕ)). PutsCommit (commit_fault identity infos commit) l gathered result before after) (one_commit identity infos commit now) puts)
+pub one_put : (identity : Identity) (infos : List TableInfo) (ended : Option Commit) (commit : Commit) (now : ℤ) (gathered later : List ℕ) (result : Result (Option LogFault) PrintError) (before after : Option (List ℕ)) → ended ≡ Some commit
+    → PutsCommit (commit_fault identity infos commit) (map line_of (envelopes identity infos commit now)) gathered later result before after
+    → PutsCommit (option_and_then (commit_fault identity infos) ended) (lines_in identity infos (list_of ended) now) gathered later result before after
+one_put identity infos ended commit now gathered later result before after is puts =
+    subst (λ (o : Option Commit). PutsCommit (option_and_then (commit_fault identity infos) o) (lines_in identity infos (list_of o) now) gathered later result before after) (sym is)
+    (subst (λ (l : List (List ℕ)). PutsCommit (commit_fault identity infos commit) l gathered later result before after) (one_commit identity infos commit now) puts)
+
+-- and where there is none
+pub none_to_put : (identity : Identity) (infos : List TableInfo) (ended : Option Commit) (now : ℤ) (gathered : List ℕ) (before : Option (List ℕ)) → ended ≡ None
+    → PutsCommit (option_and_then (commit_fault identity infos) ended) (lines_in identity infos (list_of ended) now) gathered gathered (Ok None) before before
+none_to_put identity infos ended now gathered before is =
+    subst (λ (o : Option Commit). PutsCommit (option_and_then (commit_fault identity infos) o) (lines_in identity infos (list_of o) now) gathered gathered (Ok None) before before) (sym is) (refl, no_lines gathered before)

@@ -1,8 +1,12 @@
 -- The messages that were taken, one by one, and what their bytes write.
-use Rattle.std.proofs.Common.{◌≡◌, ◌≢◌, ◌⊎◌, inl, inr, ◌∙◌, ℕ, ℤ, ◌+◌, Option, Some, None, Result, Ok, Err, List, [], ◌∷◌, ◌++◌, length, refl, sym, ap, ap₂, subst, append_assoc, append-nil, arith}
+use Rattle.std.proofs.Common.{◌≡◌, ◌≢◌, ◌⊎◌, inl, inr, ◌∙◌, ℕ, ℤ, ◌+◌, Option, Some, None, Result, Ok, Err, OnOk, IfOk, IfErr, List, [], ◌∷◌, ◌++◌, length, refl, sym, ap, ap₂, subst, append_assoc, append-nil, arith}
 use Rattle.std.specs.Prelude.{option_map, is_some, Bool, true, false, not, ◌||◌}
 use Rattle.std.specs.Option.{option_and_then, option_or}
 use Rattle.std.specs.List.{AllByRecursion, list_any}
+use Rattle.dbl_lines.specs.declared.error.PrintError.{PrintError}
+use Rattle.dbl_lines.specs.declared.error.PrintError.TheVariants.{Memory}
+use Rattle.dbl_lines.specs.Gathering.{Puts, PutFails}
+use Rattle.dbl_lines.proofs.PutLemmas.{no_lines, puts_then, putting_fails, putting_starves}
 use Rattle.dbl_pgmsg.specs.declared.messages.Message.{Message}
 use Rattle.dbl_pgmsg.specs.declared.messages.Message.TheVariants as says
 use Rattle.dbl_pgmsg.specs.declared.messages.RelationColumn.{RelationColumn}
@@ -21,21 +25,13 @@ use Rattle.dbl_commit.specs.Stated.{list_of, ended, transaction_fault}
 use Rattle.dbl_replay.specs.declared.log_fault.LogFault.{LogFault}
 use Rattle.dbl_replay.specs.declared.log_fault.LogFault.TheVariants as log
 use Rattle.dbl_replay.specs.declared.options.ReplayOptions.{ReplayOptions}
-use Rattle.dbl_replay.specs.declared.log.LogPut.{LogPut}
-use Rattle.dbl_replay.specs.declared.log.Step.{Step}
-use Rattle.dbl_replay.specs.declared.log.Step.TheVariants as step
-use Rattle.dbl_replay.specs.declared.printing.PrintError.{PrintError}
-use Rattle.dbl_replay.specs.declared.printing.PrintError.TheVariants.{Memory}
 use Rattle.dbl_replay.specs.declared.replay.Replayer.{Replayer}
 use Rattle.dbl_replay.specs.Captures.{entry_of, capture_fault, tables_in, told_fault}
 use Rattle.dbl_replay.specs.Log.{log_start, lines_in, commit_fault, IsRead, read_fault, IsLogFault, no_message, no_table, no_place, IsTaken, end_fault, LogWrites}
 use Rattle.dbl_replay.specs.Following.{IsBehind, Follows, ReadFails, IsReady, IsAppended, Appends, IsNext, Takes}
-use Rattle.dbl_replay.specs.Printing as printing
-use Rattle.dbl_replay.specs.Printing.{LinesFail}
 use Rattle.dbl_replay.specs.LogPrinting.{IsHalted, starved, cut, PutsCommit, IsStepped, StepFails, step_starved, step_cut, Steps, IsLogPut}
 use Rattle.dbl_replay.proofs.CaptureLemmas.{count_is, captured_still, captured_more, is_known, is_new, new_has_none}
 use Rattle.dbl_replay.proofs.LogLemmas.{goes}
-use Rattle.dbl_replay.proofs.PrintLemmas.{putting_more, putting_ends, putting_fails, putting_starves}
 
 -- ---- the table of a Relation
 
@@ -167,31 +163,39 @@ next_follows : (options : ReplayOptions) (ms : List Message) (b : List ℕ) (r :
 next_follows options ms b r o is = record { infos = is.infos; behind = is.behind; captured = is.read.captured; fields = is.fields }
 
 -- what became of the commit is what became of the message
-pub steps : (options : ReplayOptions) (now : ℤ) (ms : List Message) (b gathered : List ℕ) (r : Replayer) (o : Option Commit) (result : Result Step PrintError) (before after : Option (List ℕ)) → IsNext options ms b r o
-    → PutsCommit (WriterFault r o) (WriterLines r o now) gathered result before after → Steps options now ms b gathered r result before after
-steps options now ms b gathered r o (Ok (step.Put filled)) before after is puts = record {
+pub steps : (options : ReplayOptions) (now : ℤ) (ms : List Message) (b gathered later : List ℕ) (r : Replayer) (o : Option Commit) (result : Result (Option LogFault) PrintError) (before after : Option (List ℕ)) → IsNext options ms b r o
+    → PutsCommit (WriterFault r o) (WriterLines r o now) gathered later result before after → Steps options now ms b gathered later r result before after
+steps options now ms b gathered later r o (Ok None) before after is puts = record {
   m = is.m;
   infos = is.infos;
   taken = next_taken options ms b r o is puts.0;
   follows = next_follows options ms b r o is;
-  puts = subst (λ (l : List (List ℕ)). printing.Puts l gathered filled.items before after) (writer_lines options ms b r o now is) puts.1;
+  puts = subst (λ (l : List (List ℕ)). Puts l gathered later before after) (writer_lines options ms b r o now is) puts.1;
 }
-steps options now ms b gathered r o (Ok (step.Stopped put)) before after is (fault, told, halted) =
-    (fault, no_place is.m is.infos is.read (sym (writer_fault options ms b r o is) ∙ told), halted)
-steps options now ms b gathered r o (Err error) before after is (starved memory same) = step_starved memory same
-steps options now ms b gathered r o (Err error) before after is (cut none fails) =
-    step_cut is.m is.infos (next_taken options ms b r o is none) (subst (λ (l : List (List ℕ)). LinesFail l gathered error before after) (writer_lines options ms b r o now is) fails)
+steps options now ms b gathered later r o (Ok (Some fault)) before after is (told, halted) = (no_place is.m is.infos is.read (sym (writer_fault options ms b r o is) ∙ told), halted)
+steps options now ms b gathered later r o (Err error) before after is (starved memory same) = step_starved memory same
+steps options now ms b gathered later r o (Err error) before after is (cut none fails) =
+    step_cut is.m is.infos (next_taken options ms b r o is none) (subst (λ (l : List (List ℕ)). PutFails l gathered error before after) (writer_lines options ms b r o now is) fails)
+
+same_fault : (x y : LogFault) → Some x ≡ Some y → x ≡ y
+same_fault x y same = cc
+
+no_fault : (x : LogFault) → None ≡ Some x → ⊥
+no_fault x same = cc
 
 -- bytes with a fault
-pub steps_stopped : (options : ReplayOptions) (now : ℤ) (ms : List Message) (b gathered : List ℕ) (r : Replayer) (fault : LogFault) (put : LogPut) (before : Option (List ℕ)) → (fault ≡ log.Memory) ⊎ IsLogFault options ms b fault → fault ≢ log.Memory
-    → put.fault ≡ Some fault → put.filled.items ≡ gathered → Steps options now ms b gathered r (Ok (step.Stopped put)) before before
-steps_stopped options now ms b gathered r fault put before (inl memory) other told filled = absurd (other memory)
-steps_stopped options now ms b gathered r fault put before (inr is) other told filled = (fault, is, record { told = told; filled = filled; same = refl })
+pub steps_stopped : (options : ReplayOptions) (now : ℤ) (ms : List Message) (b gathered : List ℕ) (r : Replayer) (fault : LogFault) (result : Result (Option LogFault) PrintError) (before : Option (List ℕ)) → (fault ≡ log.Memory) ⊎ IsLogFault options ms b fault
+    → IfOk result (λ found. found ≡ Some fault) → OnOk result (fault ≢ log.Memory) → IfErr result (λ e. e ≡ Memory) → Steps options now ms b gathered gathered r result before before
+steps_stopped options now ms b gathered r fault (Ok None) before cause told other memory = absurd (no_fault fault told)
+steps_stopped options now ms b gathered r fault (Ok (Some found)) before (inl memory) told other err = absurd (other memory)
+steps_stopped options now ms b gathered r fault (Ok (Some found)) before (inr is) told other err =
+    (subst (IsLogFault options ms b) (sym (same_fault found fault told)) is, record { kept = refl; same = refl })
+steps_stopped options now ms b gathered r fault (Err error) before cause told other memory = step_starved memory refl
 
-pub steps_same : (options : ReplayOptions) (now : ℤ) (ms : List Message) (a b gathered : List ℕ) (r : Replayer) (one other : Step) (before after : Option (List ℕ)) → Steps options now ms a gathered r (Ok one) before after → a ≡ b → one ≡ other
-    → Steps options now ms b gathered r (Ok other) before after
-steps_same options now ms a b gathered r one other before after is bytes same =
-    subst (λ (s : Step). Steps options now ms b gathered r (Ok s) before after) same (subst (λ (x : List ℕ). Steps options now ms x gathered r (Ok one) before after) bytes is)
+pub steps_same : (options : ReplayOptions) (now : ℤ) (ms : List Message) (a b gathered later : List ℕ) (r : Replayer) (one other : Option LogFault) (before after : Option (List ℕ)) → Steps options now ms a gathered later r (Ok one) before after → a ≡ b → one ≡ other
+    → Steps options now ms b gathered later r (Ok other) before after
+steps_same options now ms a b gathered later r one other before after is bytes same =
+    subst (λ (f : Option LogFault). Steps options now ms b gathered later r (Ok f) before after) same (subst (λ (x : List ℕ). Steps options now ms x gathered later r (Ok one) before after) bytes is)
 
 -- ---- the messages so far
 
@@ -202,7 +206,7 @@ pub record IsLogging (options : ReplayOptions) (now : ℤ) (all left : List (Lis
   pub count : number ≡ length ms
   pub size : number + length left ≡ length all
   pub first : List (List ℕ)
-  pub puts : printing.Puts first gathered later before after
+  pub puts : Puts first gathered later before after
   pub onto : (lines : List (List ℕ)) (end : Option LogFault) → LogWrites options now [] all lines end → (more : List (List ℕ)) × (lines ≡ first ++ more) × LogWrites options now ms left more end
   pub back : (more : List (List ℕ)) (end : Option LogFault) → LogWrites options now ms left more end → LogWrites options now [] all (first ++ more) end
 
@@ -213,7 +217,7 @@ logging_begins options now all gathered before r follows = record {
   count = refl;
   size = omega arith;
   first = [];
-  puts = printing.kept refl (sym (append-nil gathered));
+  puts = no_lines gathered before;
   onto = λ lines end writes. (lines, refl, writes);
   back = λ more end writes. writes;
 }
@@ -228,7 +232,7 @@ logging_more options now all left next b gathered middle later before between af
       count = omega (arith, so_far.count);
       size = omega (arith, so_far.size, ap length split);
       first = so_far.first ++ printed;
-      puts = (putting_puts so_far.first printed gathered middle later before between after so_far.puts is.puts);
+      puts = puts_then so_far.first printed gathered middle later before between after so_far.puts is.puts;
       onto = λ lines end writes. (
           let told = so_far.onto lines end writes in
           let more = goes options now so_far.ms b next is.m is.infos told.0 end is.taken (subst (λ (l : List (List ℕ)). LogWrites options now so_far.ms l told.0 end) split told.2) in
@@ -238,36 +242,30 @@ logging_more options now all left next b gathered middle later before between af
           (so_far.back (printed ++ more) end (subst (λ (l : List (List ℕ)). LogWrites options now so_far.ms l (printed ++ more) end) (sym split)
           (inr (is.m, is.infos, more, is.taken, refl, writes))));
     }
-  where
-    putting_puts : (xs ys : List (List ℕ)) (g m l : List ℕ) (p q t : Option (List ℕ)) → printing.Puts xs g m p q → printing.Puts ys m l q t → printing.Puts (xs ++ ys) g l p t
-    putting_puts xs ys g m l p q t one two =
-        putting_ends (xs ++ ys) [] g l p t (putting_more (xs ++ ys) ys ys [] g m l p q t (record { first = xs; is = refl; puts = one }) (sym (append-nil ys)) two) refl
 
 -- the next bytes have a fault
-pub logging_stops : (options : ReplayOptions) (now : ℤ) (all left next : List (List ℕ)) (b gathered later : List ℕ) (before between after : Option (List ℕ)) (number : ℕ) (r : Replayer) (put : LogPut) (fault : LogFault)
-    (so_far : IsLogging options now all left gathered later before between number r) → left ≡ b ∷ next → IsLogFault options so_far.ms b fault → IsHalted fault later put between after
-    → IsLogPut options now all gathered put before after
-logging_stops options now all left next b gathered later before between after number r put fault so_far split is halted = record {
+pub logging_stops : (options : ReplayOptions) (now : ℤ) (all left next : List (List ℕ)) (b gathered middle later : List ℕ) (before between after : Option (List ℕ)) (number : ℕ) (r : Replayer) (fault : LogFault)
+    (so_far : IsLogging options now all left gathered middle before between number r) → left ≡ b ∷ next → IsLogFault options so_far.ms b fault → IsHalted middle later between after
+    → IsLogPut options now all gathered later (Some fault) before after
+logging_stops options now all left next b gathered middle later before between after number r fault so_far split is halted = record {
   lines = so_far.first ++ [];
-  writes = so_far.back [] put.fault (subst (λ (l : List (List ℕ)). LogWrites options now so_far.ms l [] put.fault) (sym split) (inl (record { fault = fault; is = is; none = refl; told = halted.told })));
+  writes = so_far.back [] (Some fault) (subst (λ (l : List (List ℕ)). LogWrites options now so_far.ms l [] (Some fault)) (sym split) (inl (record { fault = fault; is = is; none = refl; told = refl })));
   puts =
-      subst (λ (l : List (List ℕ)). printing.Puts l gathered put.filled.items before after) (sym (append-nil so_far.first))
-      (subst (λ (t : List ℕ). printing.Puts so_far.first gathered t before after) (sym halted.filled)
-      (subst (λ (a : Option (List ℕ)). printing.Puts so_far.first gathered later before a) (sym halted.same) so_far.puts));
+      subst (λ (l : List (List ℕ)). Puts l gathered later before after) (sym (append-nil so_far.first))
+      (subst (λ (t : List ℕ). Puts so_far.first gathered t before after) (sym halted.kept) (subst (λ (a : Option (List ℕ)). Puts so_far.first gathered middle before a) (sym halted.same) so_far.puts));
 }
 
 -- nothing is left
-pub logging_ends : (options : ReplayOptions) (now : ℤ) (all left : List (List ℕ)) (gathered later : List ℕ) (before after : Option (List ℕ)) (number : ℕ) (r : Replayer) (put : LogPut) (inside : Bool)
-    (so_far : IsLogging options now all left gathered later before after number r) → left ≡ [] → inside ≡ is_some (begin_of so_far.ms) → put.filled.items ≡ later → put.fault ≡ end_fault inside
-    → IsLogPut options now all gathered put before after
-logging_ends options now all left gathered later before after number r put inside so_far none inside_is filled told = record {
+pub logging_ends : (options : ReplayOptions) (now : ℤ) (all left : List (List ℕ)) (gathered later : List ℕ) (before after : Option (List ℕ)) (number : ℕ) (r : Replayer) (fault : Option LogFault) (inside : Bool)
+    (so_far : IsLogging options now all left gathered later before after number r) → left ≡ [] → inside ≡ is_some (begin_of so_far.ms) → fault ≡ end_fault inside → IsLogPut options now all gathered later fault before after
+logging_ends options now all left gathered later before after number r fault inside so_far none inside_is told = record {
   lines = so_far.first ++ [];
-  writes = so_far.back [] put.fault (subst (λ (l : List (List ℕ)). LogWrites options now so_far.ms l [] put.fault) (sym none) (refl, told ∙ ap end_fault inside_is));
-  puts = subst (λ (l : List (List ℕ)). printing.Puts l gathered put.filled.items before after) (sym (append-nil so_far.first)) (subst (λ (t : List ℕ). printing.Puts so_far.first gathered t before after) (sym filled) so_far.puts);
+  writes = so_far.back [] fault (subst (λ (l : List (List ℕ)). LogWrites options now so_far.ms l [] fault) (sym none) (refl, told ∙ ap end_fault inside_is));
+  puts = subst (λ (l : List (List ℕ)). Puts l gathered later before after) (sym (append-nil so_far.first)) so_far.puts;
 }
 
 pub logging_starves : (options : ReplayOptions) (now : ℤ) (all left : List (List ℕ)) (gathered later : List ℕ) (before after : Option (List ℕ)) (number : ℕ) (r : Replayer)
-    (so_far : IsLogging options now all left gathered later before after number r) (lines : List (List ℕ)) (end : Option LogFault) → LogWrites options now [] all lines end → LinesFail lines gathered Memory before after
+    (so_far : IsLogging options now all left gathered later before after number r) (lines : List (List ℕ)) (end : Option LogFault) → LogWrites options now [] all lines end → PutFails lines gathered Memory before after
 logging_starves options now all left gathered later before after number r so_far lines end writes =
     let told = so_far.onto lines end writes in
     putting_starves lines told.0 gathered later before after (record { first = so_far.first; is = sym told.1; puts = so_far.puts })
@@ -275,10 +273,10 @@ logging_starves options now all left gathered later before after number r so_far
 -- the lines of the next commit weren't all put
 pub logging_fails : (options : ReplayOptions) (now : ℤ) (all left next : List (List ℕ)) (b gathered middle : List ℕ) (before between after : Option (List ℕ)) (number : ℕ) (r : Replayer) (error : PrintError)
     (so_far : IsLogging options now all left gathered middle before between number r) → left ≡ b ∷ next → StepFails options now so_far.ms b middle error between after
-    → (lines : List (List ℕ)) (end : Option LogFault) → LogWrites options now [] all lines end → LinesFail lines gathered error before after
+    → (lines : List (List ℕ)) (end : Option LogFault) → LogWrites options now [] all lines end → PutFails lines gathered error before after
 logging_fails options now all left next b gathered middle before between after number r error so_far split (step_starved memory same) lines end writes =
-    subst (λ (e : PrintError). LinesFail lines gathered e before after) (sym memory)
-    (subst (λ (a : Option (List ℕ)). LinesFail lines gathered Memory before a) (sym same) (logging_starves options now all left gathered middle before between number r so_far lines end writes))
+    subst (λ (e : PrintError). PutFails lines gathered e before after) (sym memory)
+    (subst (λ (a : Option (List ℕ)). PutFails lines gathered Memory before a) (sym same) (logging_starves options now all left gathered middle before between number r so_far lines end writes))
 logging_fails options now all left next b gathered middle before between after number r error so_far split (step_cut m infos taken fails) lines end writes =
     let told = so_far.onto lines end writes in
     let more = goes options now so_far.ms b next m infos told.0 end taken (subst (λ (l : List (List ℕ)). LogWrites options now so_far.ms l told.0 end) split told.2) in

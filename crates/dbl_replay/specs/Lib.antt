@@ -7,5 +7,4 @@ pub mod Lines
 pub mod Log
 pub mod LogFaults
 pub mod LogPrinting
-pub mod Printing
 pub mod Replay

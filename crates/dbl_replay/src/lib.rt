@@ -12,8 +12,8 @@ mod printing;
 mod replay;
 
 pub use apply::{FaultAt, LineFault, consume};
+pub use dbl_lines::PrintError;
 pub use lines::{LineError, messages};
 pub use log::print_log;
 pub use log_fault::LogFault;
 pub use options::ReplayOptions;
-pub use printing::PrintError;

@@ -1,8 +1,8 @@
 //! The loop over the messages of a log: the lines of the commits that they end are put one behind the other, up to the first
 //! fault, and then that fault's line.
-ghost use Rattle.std.specs.Prelude.{◌≡◌, ◌≢◌, Some, ◌≤◌, ◌+◌, ◌++◌, List, [], length, map, None, option_and_then, All, IfSome, IfOk, IfErr, OnOk, Err};
-ghost use Rattle.dbl_base.specs.Lines.{lines_text};
+ghost use Rattle.std.specs.Prelude.{◌≡◌, ◌≢◌, Some, ◌≤◌, ◌+◌, ◌∷◌, List, [], length, map, None, option_and_then, All, IfSome, IfOk, IfErr, OnOk, Err};
 ghost use Rattle.dbl_base.specs.Streams.{Rose};
+ghost use Rattle.dbl_lines.specs.Gathering.{PutsLines};
 ghost use Rattle.dbl_pgmsg.specs.declared.messages.Message.{Message};
 ghost use Rattle.dbl_record.specs.Line.{line_of};
 ghost use Rattle.dbl_event.specs.Clashes.{clash_of};
@@ -14,32 +14,18 @@ ghost use Rattle.dbl_envelope.specs.Suits.{Suits};
 ghost use Rattle.dbl_replay.specs.declared.options.ReplayOptions.{ReplayOptions};
 ghost use Rattle.dbl_replay.specs.Following.{Follows, IsFollowing, Takes};
 ghost use Rattle.dbl_replay.specs.Log.{lines_in, commit_fault, end_fault, end_status, end_lines};
+ghost use Rattle.dbl_replay.specs.LogFaults.{log_status, log_line};
 ghost use Rattle.dbl_replay.specs.LogPrinting.{PutsCommit, Steps, PutsLog, PrintsLog, FinishesLog};
 
 use crate::log_fault::LogFault;
 use crate::options::ReplayOptions;
-use crate::printing::{BUFFER_LENGTH, PrintError, flush_rest, put_left};
+use crate::printing::put_left;
 use crate::replay::Replayer;
-use dbl_base::{Bytes, Output};
+use dbl_base::{Bytes, Output, Text};
 use dbl_envelope::{EnvelopeError, EventWriter, RecordsLeft};
+use dbl_lines::{LineWriter, PrintError};
 use dbl_table::Commit;
-use std::alloc::Global;
-
-/// The lines of a log that aren't written yet, and its fault.
-#[derive(Drop)]
-struct LogPut {
-    filled: Vec<u8>,
-    fault: Option<LogFault>,
-}
-
-/// What became of the next message.
-#[derive(Drop)]
-enum Step {
-    /// It has no fault, and the lines of the commit that it ends, if any, were put.
-    Put { filled: Vec<u8> },
-    /// It has a fault, and no line was put.
-    Stopped { put: LogPut },
-}
+use std::alloc::{AllocError, Global};
 
 fn unfinished_fault(inside: bool) -> Option<LogFault>
     ensures { result ≡ end_fault inside }
@@ -51,19 +37,15 @@ fn unfinished_fault(inside: bool) -> Option<LogFault>
     }
 }
 
-// The lines before a fault, unless memory ran out.
-fn stopped(filled: Vec<u8>, fault: LogFault) -> Result<LogPut, PrintError>
-    ensures filled { IfOk result (λ put. put.filled.items ≡ filled.items) }
-    ensures fault { IfOk result (λ put. put.fault ≡ Some fault) }
+// A fault ends the lines, unless it is that memory ran out.
+fn stop_at(fault: LogFault) -> Result<Option<LogFault>, PrintError>
+    ensures fault { IfOk result (λ found. found ≡ Some fault) }
     ensures other { OnOk result (fault ≢ LogFault.Memory) }
     ensures err { IfErr result (λ e. e ≡ PrintError.Memory) }
 {
     match fault {
         LogFault::Memory => Err(PrintError::Memory),
-        fault => Ok(LogPut {
-            filled,
-            fault: Some(fault),
-        }),
+        fault => Ok(Some(fault)),
     }
 }
 
@@ -85,19 +67,19 @@ fn records_of<'a>(
     writer.records_left(alloc, commit, *now_ms)
 }
 
-// Puts the lines of the records of a commit.
+// Puts the lines of the records of a commit, or tells its fault.
 fn put_commit<O: Output>(
     alloc: Global,
     writer: &EventWriter,
     commit: &Commit,
     now_ms: &i64,
     output: &mut O,
-    buffer: Vec<u8>,
-) -> Result<Step, PrintError>
+    lines: &mut LineWriter,
+) -> Result<Option<LogFault>, PrintError>
     requires { All (Suits writer.now.infos) (changes_of commit.now) }
     ensures puts { PutsCommit (commit_fault writer.now.identity writer.now.infos commit.now)
         (map line_of (envelopes writer.now.identity writer.now.infos commit.now now_ms.now))
-        buffer.items result (O.written output.old) (O.written output.new) }
+        lines.old lines.new result (O.written output.old) (O.written output.new) }
     ensures failed { result ≡ Err PrintError.OutputFailed →
         Rose (O.faults output.old) (O.faults output.new) }
     ensures later { O.faults output.old ≤ O.faults output.new }
@@ -106,41 +88,36 @@ fn put_commit<O: Output>(
         Ok(records) => records,
         Err(EnvelopeError::Memory) => return Err(PrintError::Memory),
         Err(EnvelopeError::PlaceholderClash { table, column }) => {
-            return Ok(Step::Stopped {
-                put: LogPut {
-                    filled: buffer,
-                    fault: Some(LogFault::Placeholder { table, column }),
-                },
-            });
+            return Ok(Some(LogFault::Placeholder { table, column }));
         }
     };
-    match put_left(alloc, records, output, buffer) {
-        Ok(filled) => Ok(Step::Put { filled }),
+    match put_left(alloc, records, output, lines) {
+        Ok(()) => Ok(None),
         Err(error) => Err(error),
     }
 }
 
-// Puts the lines of the records of a commit, if there is one.
+// Puts the lines of the records of a commit, if there is one, or tells its fault.
 fn put_ended<O: Output>(
     alloc: Global,
     writer: &EventWriter,
     ended: &Option<Commit>,
     now_ms: &i64,
     output: &mut O,
-    buffer: Vec<u8>,
-) -> Result<Step, PrintError>
+    lines: &mut LineWriter,
+) -> Result<Option<LogFault>, PrintError>
     requires { IfSome ended.now (λ commit. All (Suits writer.now.infos) (changes_of commit)) }
     ensures puts { PutsCommit
         (option_and_then (commit_fault writer.now.identity writer.now.infos) ended.now)
         (lines_in writer.now.identity writer.now.infos (list_of ended.now) now_ms.now)
-        buffer.items result (O.written output.old) (O.written output.new) }
+        lines.old lines.new result (O.written output.old) (O.written output.new) }
     ensures failed { result ≡ Err PrintError.OutputFailed →
         Rose (O.faults output.old) (O.faults output.new) }
     ensures later { O.faults output.old ≤ O.faults output.new }
 {
     match ended {
-        Some(commit) => put_commit(alloc, writer, commit, now_ms, output, buffer),
-        None => Ok(Step::Put { filled: buffer }),
+        Some(commit) => put_commit(alloc, writer, commit, now_ms, output, lines),
+        None => Ok(None),
     }
 }
 
@@ -157,7 +134,8 @@ fn take_bytes(
     replayer.take(alloc, number, bytes.items().as_slice())
 }
 
-// Takes the bytes of the next message, which has this number, and puts the lines of the records of the commit that it ends.
+// Takes the bytes of the next message, which has this number, and puts the lines of the records of the commit that it ends,
+// or tells its fault.
 fn put_message<O: Output>(
     alloc: Global,
     replayer: &mut Replayer,
@@ -165,70 +143,63 @@ fn put_message<O: Output>(
     bytes: Bytes,
     now_ms: &i64,
     output: &mut O,
-    buffer: Vec<u8>,
-) -> Result<Step, PrintError>
+    lines: &mut LineWriter,
+) -> Result<Option<LogFault>, PrintError>
     requires { IsFollowing replayer.old number.now }
     ensures steps { (options : ReplayOptions) (ms : List Message) →
         Follows options ms replayer.old → number.now ≡ length ms + 1
-        → Steps options now_ms.now ms bytes buffer.items replayer.new result
+        → Steps options now_ms.now ms bytes lines.old lines.new replayer.new result
         (O.written output.old) (O.written output.new) }
     ensures failed { result ≡ Err PrintError.OutputFailed →
         Rose (O.faults output.old) (O.faults output.new) }
     ensures later { O.faults output.old ≤ O.faults output.new }
 {
     match take_bytes(alloc, replayer, number, bytes) {
-        Ok(ended) => put_ended(alloc, &replayer.writer, &ended, now_ms, output, buffer),
-        Err(fault) => match stopped(buffer, fault) {
-            Ok(put) => Ok(Step::Stopped { put }),
-            Err(error) => Err(error),
-        },
+        Ok(ended) => put_ended(alloc, &replayer.writer, &ended, now_ms, output, lines),
+        Err(fault) => stop_at(fault),
     }
 }
 
-// Puts the lines of the records of each commit that the messages state, up to the first fault, where none was taken yet.
+// Puts the lines of the records of each commit that the messages state, up to the first fault, which it tells, where no message
+// was taken yet.
 fn put_messages<O: Output>(
     alloc: Global,
     replayer: &mut Replayer,
     messages: Vec<Bytes>,
     now_ms: &i64,
     output: &mut O,
-) -> Result<LogPut, PrintError>
+    lines: &mut LineWriter,
+) -> Result<Option<LogFault>, PrintError>
     requires { (options : ReplayOptions) × Follows options [] replayer.old }
     ensures puts { (options : ReplayOptions) → Follows options [] replayer.old
-        → PutsLog options now_ms.now messages.items [] result
+        → PutsLog options now_ms.now messages.items lines.old lines.new result
         (O.written output.old) (O.written output.new) }
     ensures failed { result ≡ Err PrintError.OutputFailed
         → Rose (O.faults output.old) (O.faults output.new) }
     ensures later { O.faults output.old ≤ O.faults output.new }
 {
-    let mut filled = match Vec::with_capacity(alloc, BUFFER_LENGTH) {
-        Ok(buffer) => buffer,
-        Err(_) => return Err(PrintError::Memory),
-    };
     let mut number = 0u64;
     'messages: for bytes in messages {
         number += 1;
-        match put_message(alloc, replayer, &number, bytes, now_ms, output, filled) {
-            Ok(Step::Put { filled: next }) => filled = next,
-            Ok(Step::Stopped { put }) => return Ok(put),
+        match put_message(alloc, replayer, &number, bytes, now_ms, output, lines) {
+            Ok(None) => {}
+            Ok(Some(fault)) => return Ok(Some(fault)),
             Err(error) => return Err(error),
         }
     }
-    Ok(LogPut {
-        filled,
-        fault: unfinished_fault(replayer.inside()),
-    })
+    Ok(unfinished_fault(replayer.inside()))
 }
 
-// Puts the lines of the records of each commit that the messages state, up to the first fault.
+// Puts the lines of the records of each commit that the messages state, up to the first fault, which it tells.
 fn put_log<O: Output>(
     alloc: Global,
     options: ReplayOptions,
     messages: Vec<Bytes>,
     now_ms: &i64,
     output: &mut O,
-) -> Result<LogPut, PrintError>
-    ensures puts { PutsLog options now_ms.now messages.items [] result
+    lines: &mut LineWriter,
+) -> Result<Option<LogFault>, PrintError>
+    ensures puts { PutsLog options now_ms.now messages.items lines.old lines.new result
         (O.written output.old) (O.written output.new) }
     ensures failed { result ≡ Err PrintError.OutputFailed
         → Rose (O.faults output.old) (O.faults output.new) }
@@ -238,39 +209,82 @@ fn put_log<O: Output>(
         Ok(replayer) => replayer,
         Err(_) => return Err(PrintError::Memory),
     };
-    put_messages(alloc, &mut replayer, messages, now_ms, output)
+    put_messages(alloc, &mut replayer, messages, now_ms, output, lines)
 }
 
-// Puts the line of a log's fault, if there is one, and answers the status.
-fn put_end(alloc: Global, fault: &Option<LogFault>, filled: &mut Vec<u8>) -> Result<u8, PrintError>
-    ensures status { IfOk result (λ status. status ≡ end_status fault.now) }
-    ensures line { OnOk result
-        (filled.new.items ≡ filled.old.items ++ lines_text (end_lines fault.now)) }
-    ensures err { IfErr result (λ e. e ≡ PrintError.Memory) }
+// The line of a fault, without its newline.
+fn line_of_fault(alloc: Global, fault: &LogFault) -> Result<Text, AllocError>
+    ensures { IfOk result (λ line. line ≡ log_line fault.now) }
 {
-    match fault {
-        None => Ok(0),
-        Some(fault) => {
-            let line = fault.line(alloc)?;
-            filled.extend_from_slice(line.as_bytes())?;
-            filled.push(b'\n')?;
-            Ok(fault.status())
-        }
-    }
+    Ok(Text::make(fault.line(alloc)?))
 }
 
-// Puts the line of a log's fault, if there is one, writes what isn't written yet, and answers the status.
-fn finish_log<O: Output>(alloc: Global, put: &mut LogPut, output: &mut O) -> Result<u8, PrintError>
-    ensures ends { FinishesLog put.old result (O.written output.old) (O.written output.new) }
+// Puts the line of a fault, and answers its status.
+fn put_fault<O: Output>(
+    alloc: Global,
+    fault: &LogFault,
+    output: &mut O,
+    lines: &mut LineWriter,
+) -> Result<u8, PrintError>
+    ensures status { IfOk result (λ status. status ≡ log_status fault.now) }
+    ensures puts { PutsLines (log_line fault.now ∷ []) result lines.old lines.new
+        (O.written output.old) (O.written output.new) }
+    ensures unwritten { result ≡ Err PrintError.Memory →
+        O.written output.new ≡ O.written output.old }
     ensures failed { result ≡ Err PrintError.OutputFailed →
         Rose (O.faults output.old) (O.faults output.new) }
     ensures later { O.faults output.old ≤ O.faults output.new }
 {
-    let status = match put_end(alloc, &put.fault, &mut put.filled) {
+    let line = match line_of_fault(alloc, fault) {
+        Ok(line) => line,
+        Err(_) => return Err(PrintError::Memory),
+    };
+    match lines.put(output, &line) {
+        Ok(()) => Ok(fault.status()),
+        Err(error) => Err(error),
+    }
+}
+
+// Puts the line of a log's fault, if there is one, and answers the status.
+fn put_end<O: Output>(
+    alloc: Global,
+    fault: &Option<LogFault>,
+    output: &mut O,
+    lines: &mut LineWriter,
+) -> Result<u8, PrintError>
+    ensures status { IfOk result (λ status. status ≡ end_status fault.now) }
+    ensures puts { PutsLines (end_lines fault.now) result lines.old lines.new
+        (O.written output.old) (O.written output.new) }
+    ensures unwritten { result ≡ Err PrintError.Memory →
+        O.written output.new ≡ O.written output.old }
+    ensures failed { result ≡ Err PrintError.OutputFailed →
+        Rose (O.faults output.old) (O.faults output.new) }
+    ensures later { O.faults output.old ≤ O.faults output.new }
+{
+    match fault {
+        None => Ok(0),
+        Some(fault) => put_fault(alloc, fault, output, lines),
+    }
+}
+
+// Puts the line of a log's fault, if there is one, writes what isn't written yet, and answers the status.
+fn finish_log<O: Output>(
+    alloc: Global,
+    fault: &Option<LogFault>,
+    output: &mut O,
+    mut lines: LineWriter,
+) -> Result<u8, PrintError>
+    ensures ends { FinishesLog fault.now lines result
+        (O.written output.old) (O.written output.new) }
+    ensures failed { result ≡ Err PrintError.OutputFailed →
+        Rose (O.faults output.old) (O.faults output.new) }
+    ensures later { O.faults output.old ≤ O.faults output.new }
+{
+    let status = match put_end(alloc, fault, output, &mut lines) {
         Ok(status) => status,
         Err(error) => return Err(error),
     };
-    match flush_rest(output, &mut put.filled) {
+    match lines.finish(output) {
         Ok(()) => Ok(status),
         Err(error) => Err(error),
     }
@@ -291,11 +305,12 @@ pub fn print_log<O: Output>(
         Rose (O.faults output.old) (O.faults output.new) }
     ensures later { O.faults output.old ≤ O.faults output.new }
 {
-    match put_log(alloc, options, messages, now_ms, output) {
-        Ok(put) => {
-            let mut put = put;
-            finish_log(alloc, &mut put, output)
-        }
+    let mut lines = match LineWriter::make(alloc) {
+        Ok(lines) => lines,
+        Err(_) => return Err(PrintError::Memory),
+    };
+    match put_log(alloc, options, messages, now_ms, output, &mut lines) {
+        Ok(fault) => finish_log(alloc, &fault, output, lines),
         Err(error) => Err(error),
     }
 }

@@ -8,8 +8,8 @@ use Rattle.dbl_topic.specs.Logs.{HasBadEntry}
 use Rattle.dbl_offset.specs.Stores.{HasBadOffset, IsNoStoreAt}
 use Rattle.dbl_offset.specs.declared.error.OffsetError.{OffsetError}
 use Rattle.dbl_offset.specs.declared.error.OffsetError.TheVariants as offset
-use Rattle.dbl_consume.specs.declared.error.PrintError.{PrintError}
-use Rattle.dbl_consume.specs.declared.error.PrintError.TheVariants as print
+use Rattle.dbl_lines.specs.declared.error.PrintError.{PrintError}
+use Rattle.dbl_lines.specs.declared.error.PrintError.TheVariants as print
 use Rattle.dbl_runs.specs.declared.error.RunError.{RunError}
 use Rattle.dbl_runs.specs.declared.error.RunError.TheVariants.{OutputFailed, Memory, Failed}
 use Rattle.dbl_runs.specs.declared.error.Store.{Store}
@@ -101,15 +101,15 @@ no_offset_told bytes error told is fault bad = subst (λ e. IsOutside e ⊎ HasN
 
 -- ---- of printing
 
-output_failed_of : (error : PrintError) → print_error error ≡ OutputFailed → error ≡ print.Failed
-output_failed_of print.Failed e = refl
+output_failed_of : (error : PrintError) → print_error error ≡ OutputFailed → error ≡ print.OutputFailed
+output_failed_of print.OutputFailed e = refl
 output_failed_of print.Memory e = cc
 
-pub print_failed : (error : PrintError) (told : RunError) → told ≡ print_error error → told ≡ OutputFailed → error ≡ print.Failed
+pub print_failed : (error : PrintError) (told : RunError) → told ≡ print_error error → told ≡ OutputFailed → error ≡ print.OutputFailed
 print_failed error told is e = output_failed_of error (sym is ∙ e)
 
 kind_of_print : (error : PrintError) → (print_error error ≡ OutputFailed) ⊎ (print_error error ≡ Memory)
-kind_of_print print.Failed = inl refl
+kind_of_print print.OutputFailed = inl refl
 kind_of_print print.Memory = inr refl
 
 pub print_kind : (error : PrintError) (told : RunError) → told ≡ print_error error → (told ≡ OutputFailed) ⊎ (told ≡ Memory)

@@ -11,7 +11,7 @@ use Rattle.dbl_table.specs.Infos.{key_types}
 use Rattle.dbl_table.specs.Tables.{full_name}
 use Rattle.dbl_history.specs.declared.cursor.Cursor.{Cursor}
 use Rattle.dbl_history.specs.Fit.{AreOf, IsKeyOf}
-use Rattle.dbl_consume.specs.Printing.{Wrote, WroteFront}
+use Rattle.dbl_lines.specs.Writing.{Wrote, WroteFront}
 use Rattle.dbl_runs.specs.declared.error.RunError.TheVariants.{OutputFailed}
 use Rattle.dbl_runs.specs.Answers.{last_text, state_text, table_line}
 use Rattle.dbl_runs.specs.Ends.{CutsLines, End, Ends}

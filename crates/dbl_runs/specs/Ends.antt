@@ -4,7 +4,7 @@ use Rattle.dbl_base.specs.Lines.{lines_text}
 use Rattle.dbl_base.specs.Streams.{Rose}
 use Rattle.dbl_disk.specs.Disks.{IsOnly}
 use Rattle.dbl_journal.specs.Stored.{IsSteady}
-use Rattle.dbl_consume.specs.Printing.{Wrote, WroteFront}
+use Rattle.dbl_lines.specs.Writing.{Wrote, WroteFront}
 use Rattle.dbl_runs.specs.declared.error.RunError.{RunError}
 use Rattle.dbl_runs.specs.declared.error.RunError.TheVariants.{OutputFailed, Memory, Failed, NotStarted, NotAStore, BadEntry}
 use Rattle.dbl_runs.specs.declared.error.Store.{Store}

@@ -5,8 +5,8 @@ use Rattle.dbl_topic.specs.declared.error.TopicError.{TopicError}
 use Rattle.dbl_topic.specs.declared.error.TopicError.TheVariants as topic
 use Rattle.dbl_offset.specs.declared.error.OffsetError.{OffsetError}
 use Rattle.dbl_offset.specs.declared.error.OffsetError.TheVariants as offset
-use Rattle.dbl_consume.specs.declared.error.PrintError.{PrintError}
-use Rattle.dbl_consume.specs.declared.error.PrintError.TheVariants as print
+use Rattle.dbl_lines.specs.declared.error.PrintError.{PrintError}
+use Rattle.dbl_lines.specs.declared.error.PrintError.TheVariants as print
 use Rattle.dbl_runs.specs.declared.error.RunError.{RunError}
 use Rattle.dbl_runs.specs.declared.error.RunError.TheVariants.{OutputFailed, Memory, Failed, NotStarted, NotAStore, BadEntry}
 use Rattle.dbl_runs.specs.declared.error.Store.{Store}
@@ -39,7 +39,7 @@ error_line (BadEntry store index) = codes "dblog: bad entry " ++ decimal index +
 -- ---- for private clauses: the errors of the parts
 
 abbrev pub print_error : PrintError → RunError
-print_error print.Failed = OutputFailed
+print_error print.OutputFailed = OutputFailed
 print_error print.Memory = Memory
 
 abbrev pub topic_error : TopicError → RunError

@@ -3,8 +3,8 @@ ghost use Rattle.std.specs.String.{string_bytes};
 ghost use Rattle.dbl_base.specs.Lines.{lines_text};
 ghost use Rattle.dbl_runs.specs.Errors.{error_line, error_status};
 
-use dbl_consume::PrintError;
 use dbl_journal::JournalError;
+use dbl_lines::PrintError;
 use dbl_offset::OffsetError;
 use dbl_topic::TopicError;
 use std::alloc::{AllocError, Global};
@@ -112,7 +112,7 @@ impl From<PrintError> for RunError {
 
     fn from(error: PrintError) -> RunError {
         match error {
-            PrintError::Failed => RunError::OutputFailed,
+            PrintError::OutputFailed => RunError::OutputFailed,
             PrintError::Memory => RunError::Memory,
         }
     }

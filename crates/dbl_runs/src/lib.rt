@@ -6,7 +6,6 @@ mod consuming;
 mod ended;
 mod error;
 pub mod laws;
-mod lines;
 mod offsets;
 mod opening;
 mod topics;

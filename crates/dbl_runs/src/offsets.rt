@@ -7,7 +7,7 @@ ghost use Rattle.dbl_base.specs.Streams.{Rose};
 ghost use Rattle.dbl_history.specs.Cursors.{AreCursorsOf, IsCursorOf};
 ghost use Rattle.dbl_offset.specs.Offsets.{IsOffset};
 ghost use Rattle.dbl_runs.specs.Answers.{AnswersOffsets, number_lines, offset_lines, table_line};
-ghost use Rattle.dbl_consume.specs.Printing.{Wrote, WroteFront};
+ghost use Rattle.dbl_lines.specs.Writing.{Wrote, WroteFront};
 ghost use Rattle.dbl_runs.specs.Applying.{TellsOffset};
 ghost use Rattle.dbl_runs.specs.Ends.{Ends, IsErrorOf, IsRefusal, IsSynced, Keeps, Runs};
 

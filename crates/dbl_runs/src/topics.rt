@@ -1,17 +1,17 @@
 //! `topics`: the lines of a topic log's records.
-ghost use Rattle.std.specs.Prelude.{◌≡◌, ◌≢◌, ◌⊎◌, ℕ, ◌≤◌, List, [], Ok, Err, Some, IfErr, MatchResult, IsTrue, false};
+ghost use Rattle.std.specs.Prelude.{◌≡◌, ◌≢◌, ◌⊎◌, ℕ, ◌≤◌, List, [], Option, Ok, Err, Some, IfErr, MatchResult, IsTrue, false};
 ghost use Rattle.dbl_base.specs.Streams.{Rose};
-ghost use Rattle.dbl_consume.specs.Gathering.{IsGathered};
+ghost use Rattle.dbl_lines.specs.Gathering.{IsPut};
 ghost use Rattle.dbl_record.specs.declared.record.Record.{Record};
 ghost use Rattle.dbl_topic.specs.Held.{HoldsGroups};
 ghost use Rattle.dbl_runs.specs.Answers.{AnswersTopics, topic_lines};
 ghost use Rattle.dbl_runs.specs.Ends.{CutsLines, Ends, IsErrorOf, IsRefusal, IsSynced, Keeps, Runs};
 
-use crate::lines::{BUFFER_LENGTH, flush_rest, put_records};
 use crate::opening::{open_topics, read_group};
 use crate::{Ended, RunError, Store};
 use dbl_base::Output;
 use dbl_disk::{Disk, Refused};
+use dbl_lines::LineWriter;
 use dbl_topic::TopicLog;
 use std::alloc::Global;
 
@@ -69,8 +69,12 @@ fn put_groups<D: Disk, O: Output>(
         Rose (O.faults output.old) (O.faults output.new) }
     ensures output_later { O.faults output.old ≤ O.faults output.new }
 {
-    match gather_groups(alloc, log, output) {
-        Ok(filled) => match flush_rest(output, filled) {
+    let mut lines = match LineWriter::make(alloc) {
+        Ok(lines) => lines,
+        Err(_) => return Err(RunError::Memory),
+    };
+    match gather_groups(log, &mut lines, output) {
+        Ok(()) => match lines.finish(output) {
             Ok(()) => Ok(()),
             Err(error) => Err(RunError::from(error)),
         },
@@ -78,19 +82,18 @@ fn put_groups<D: Disk, O: Output>(
     }
 }
 
-// Puts the lines of all groups, of which the last ones may stand in the buffer.
+// Puts the lines of all groups, of which the last ones may not be written yet.
 fn gather_groups<D: Disk, O: Output>(
-    alloc: Global,
     log: &mut TopicLog<D>,
+    lines: &mut LineWriter,
     output: &mut O,
-) -> Result<Vec<u8>, RunError>
+) -> Result<(), RunError>
     requires { IsTrue log.old.live }
     ensures told { (groups : List (List Record)) → HoldsGroups D.seen D.may_leave log.old groups →
+        (start : Option (List ℕ)) → IsPut start (O.written output.old) lines.old [] →
         MatchResult result
-        (λ filled. IsGathered (O.written output.old) (O.written output.new) filled.items []
-        (topic_lines groups))
-        (λ error. CutsLines (topic_lines groups) error
-        (O.written output.old) (O.written output.new)) }
+        (λ done. IsPut start (O.written output.new) lines.new (topic_lines groups))
+        (λ error. CutsLines (topic_lines groups) error start (O.written output.new)) }
     ensures keeps { Keeps D.seen D.may_leave D.faults
         (result ≡ Err (RunError.Failed Store.Topics)) log.old.disk log.new.disk }
     ensures kinds { IfErr result
@@ -99,19 +102,15 @@ fn gather_groups<D: Disk, O: Output>(
         Rose (O.faults output.old) (O.faults output.new) }
     ensures output_later { O.faults output.old ≤ O.faults output.new }
 {
-    let mut filled = match Vec::with_capacity(alloc, BUFFER_LENGTH) {
-        Ok(buffer) => buffer,
-        Err(_) => return Err(RunError::Memory),
-    };
     'each: for number in 0..log.groups() {
         let group = match read_group(log, number) {
             Ok(group) => group,
             Err(error) => return Err(error),
         };
-        filled = match put_records(output, filled, &group) {
-            Ok(more) => more,
+        match lines.put_records(output, &group) {
+            Ok(()) => {}
             Err(error) => return Err(RunError::from(error)),
-        };
+        }
     }
-    Ok(filled)
+    Ok(())
 }

@@ -1,5 +1,5 @@
 use Rattle.std.proofs.Common.{◌≡◌, ◌++◌, false}
-use Rattle.dbl_consume.specs.Gathering.{cells_tail}
+use Rattle.dbl_consume.specs.RowTexts.{cells_tail}
 use Rattle.dbl_consume.proofs.printing.append_cells.Given as goal
 
 abbrev pub invariant-loop-column : goal.invariant-loop-column

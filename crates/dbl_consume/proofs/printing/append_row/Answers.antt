@@ -1,6 +1,6 @@
 use Rattle.std.proofs.Common.{◌∙◌, ◌++◌, ap, append_assoc, codes, false}
 use Rattle.std.proofs.lemmas.Result.{IfOk-weaker}
-use Rattle.dbl_consume.specs.Gathering.{cells_tail}
+use Rattle.dbl_consume.specs.RowTexts.{cells_tail}
 use Rattle.dbl_consume.proofs.PrintingLemmas.{row_is}
 use Rattle.dbl_consume.proofs.printing.append_row.Goals as goal
 

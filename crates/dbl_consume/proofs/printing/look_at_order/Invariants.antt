@@ -1,4 +1,4 @@
-use Rattle.dbl_consume.specs.Gathering.{AreInOrder}
+use Rattle.dbl_consume.specs.RowTexts.{AreInOrder}
 use Rattle.dbl_consume.proofs.printing.look_at_order.Given as goal
 
 abbrev pub invariant-loop-entry : goal.invariant-loop-entry

@@ -1,10 +1,13 @@
-use Rattle.std.proofs.Common.{◌++◌, map, subst}
+use Rattle.std.proofs.Common.{map, ap, arith}
+use Rattle.dbl_lines.proofs.PutLemmas.{putting_more, putting_fails}
 use Rattle.dbl_consume.specs.Printing.{row_line}
-use Rattle.dbl_consume.specs.Gathering.{rows_in, IsGathered}
+use Rattle.dbl_consume.specs.RowTexts.{rows_in}
 use Rattle.dbl_consume.proofs.printing.put_table.Goals as goal
 
-pub returns-in-Err-clause-gathers : goal.returns-in-Err-clause-gathers
-returns-in-Err-clause-gathers g c = λ before rest all h.
-    let topic = c.args.topic.now in
-    let so_far = subst (λ es. IsGathered before (g.O.Output.written c.loop-key.output) c.loop-key.filled.items (map row_line (rows_in topic es) ++ rest) all) c.in-Some.ensures.steps (c.loop-key.invariant.0 before rest all h) in
-    c.in-Err.ensures.gathers before (map row_line (rows_in topic c.next.new.self) ++ rest) all so_far
+pub loop-key-preserved : goal.loop-key-preserved
+loop-key-preserved g c =
+    (putting_more _ _ _ _ _ _ _ _ _ _ c.loop-key.invariant.0 (ap (λ es. map row_line (rows_in c.args.topic.now es)) c.in-Some.ensures.steps) c.in-Ok.ensures.puts, omega arith)
+
+pub returns-in-Err-clause-puts : goal.returns-in-Err-clause-puts
+returns-in-Err-clause-puts g c =
+    putting_fails _ _ _ (map row_line (rows_in c.args.topic.now c.next.new.self)) _ _ _ _ _ _ c.loop-key.invariant.0 (ap (λ es. map row_line (rows_in c.args.topic.now es)) c.in-Some.ensures.steps) c.in-Err.ensures.puts

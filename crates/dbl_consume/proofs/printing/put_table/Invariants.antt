@@ -1,10 +1,10 @@
-use Rattle.std.proofs.Common.{◌≤◌, ◌++◌, ℕ, List, Option, map}
+use Rattle.std.proofs.Common.{◌≤◌, map}
+use Rattle.dbl_lines.proofs.PutLemmas.{IsPutting}
 use Rattle.dbl_consume.specs.Printing.{row_line}
-use Rattle.dbl_consume.specs.Gathering.{rows_in, IsGathered}
+use Rattle.dbl_consume.specs.RowTexts.{rows_in}
 use Rattle.dbl_consume.proofs.printing.put_table.Given as goal
 
 abbrev pub invariant-loop-key : goal.invariant-loop-key
 invariant-loop-key g l =
-    ((before : Option (List ℕ)) (rest all : List (List ℕ)) → IsGathered before (g.O.Output.written l.fn.output) l.fn.buffer.items (map row_line (rows_in l.topic l.table.entries) ++ rest) all
-    → IsGathered before (g.O.Output.written l.output) l.filled.items (map row_line (rows_in l.topic l.key-iterator) ++ rest) all)
+    IsPutting (map row_line (rows_in l.topic l.table.entries)) (map row_line (rows_in l.topic l.key-iterator)) l.fn.lines l.lines (g.O.Output.written l.fn.output) (g.O.Output.written l.output)
     × (g.O.Output.faults l.fn.output ≤ g.O.Output.faults l.output)

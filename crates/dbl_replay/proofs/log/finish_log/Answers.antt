@@ -1,7 +1,16 @@
-use Rattle.std.proofs.Common.{List, ℕ, subst}
-use Rattle.dbl_consume.specs.Printing.{Wrote}
+use Rattle.std.proofs.Common.{Err, ◌++◌, ap}
+use Rattle.dbl_replay.specs.Log.{end_lines}
+use Rattle.dbl_replay.proofs.LogPrintLemmas.{end_cut, finish_cut}
 use Rattle.dbl_replay.proofs.log.finish_log.Goals as goal
 
-pub returns-in-Ok-flush_rest-clause-ends : goal.returns-in-Ok-flush_rest-clause-ends
-returns-in-Ok-flush_rest-clause-ends g c =
-    (c.in-Ok.ensures.status, subst (λ (text : List ℕ). Wrote (g.O.Output.written c.args.output.now) (g.O.Output.written c.flush_rest.new.output) text) c.in-Ok.ensures.line c.in-Ok-flush_rest.ensures.wrote)
+pub returns-in-Ok-finish-clause-ends : goal.returns-in-Ok-finish-clause-ends
+returns-in-Ok-finish-clause-ends g c =
+    (c.in-Ok.ensures.status, λ start earlier begun. c.in-Ok-finish.ensures.prints start (earlier ++ end_lines c.args.fault.now) (c.in-Ok.ensures.puts start earlier begun))
+
+pub returns-in-Err-clause-ends : goal.returns-in-Err-clause-ends
+returns-in-Err-clause-ends g c = end_cut c.args.fault.now c.args.lines c.in-Err.error _ _ c.in-Err.ensures.puts (λ is. c.in-Err.ensures.unwritten (ap Err is))
+
+pub returns-in-Err-finish-clause-ends : goal.returns-in-Err-finish-clause-ends
+returns-in-Err-finish-clause-ends g c =
+    finish_cut c.args.fault.now c.args.lines c.in-Err-finish.error _ _ c.in-Err-finish.ensures.front.0
+    (λ start earlier begun. c.in-Err-finish.ensures.prints start (earlier ++ end_lines c.args.fault.now) (c.in-Ok.ensures.puts start earlier begun))

@@ -1,5 +1,6 @@
-use Rattle.std.proofs.Common.{refl}
+use Rattle.std.proofs.Common.{◌≡◌, Some, refl}
 use Rattle.dbl_replay.specs.declared.log_fault.LogFault.TheVariants as log
+use Rattle.dbl_replay.specs.Log.{commit_fault}
 use Rattle.dbl_replay.specs.LogPrinting.{starved, cut}
 use Rattle.dbl_replay.proofs.CommitLemmas.{clash_told, no_clash_is, records_put, records_cut}
 use Rattle.dbl_replay.proofs.log.put_commit.Goals as goal
@@ -18,4 +19,6 @@ returns-in-Err-PlaceholderClash-clause-puts g c =
     let clash = c.in-Err-PlaceholderClash in
     let table = clash.table-is in
     let column = clash.column-is in
-    (log.Placeholder clash.table clash.column, clash_told c.args.writer.now.identity c.args.writer.now.infos c.args.commit.now clash.field-0 clash.table clash.column clash.ensures.err clash.field-0-is, record { told = cc; filled = refl; same = refl })
+    let told : commit_fault c.args.writer.now.identity c.args.writer.now.infos c.args.commit.now ≡ Some (log.Placeholder clash.table clash.column)
+    = clash_told c.args.writer.now.identity c.args.writer.now.infos c.args.commit.now clash.field-0 clash.table clash.column clash.ensures.err clash.field-0-is in
+    (cc, record { kept = refl; same = refl })

@@ -6,5 +6,5 @@ use Rattle.dbl_replay.proofs.log.put_messages.Given as goal
 
 abbrev pub invariant-messages : goal.invariant-messages
 invariant-messages g l =
-    ((options : ReplayOptions) → Follows options [] l.fn.replayer → IsLogging options l.now_ms l.fn.messages.items l.bytes-iterator.rest.items [] l.filled.items (g.O.Output.written l.fn.output) (g.O.Output.written l.output) l.number l.replayer)
+    ((options : ReplayOptions) → Follows options [] l.fn.replayer → IsLogging options l.now_ms l.fn.messages.items l.bytes-iterator.rest.items l.fn.lines l.lines (g.O.Output.written l.fn.output) (g.O.Output.written l.output) l.number l.replayer)
     × (g.O.Output.faults l.fn.output ≤ g.O.Output.faults l.output)

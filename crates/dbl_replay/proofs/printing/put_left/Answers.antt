@@ -1,8 +1,12 @@
 use Rattle.std.proofs.Common.{◌≡◌, ◌∙◌, ◌++◌, [], map, sym, ap, arith}
 use Rattle.std.proofs.lemmas.List.{map-append}
 use Rattle.dbl_record.specs.Line.{line_of}
-use Rattle.dbl_replay.proofs.PrintLemmas.{putting_more, putting_fails, putting_starves, putting_ends, no_items}
+use Rattle.dbl_lines.proofs.PutLemmas.{putting_begins, putting_more, putting_fails, putting_starves, putting_ends}
+use Rattle.dbl_replay.proofs.PrintLemmas.{no_items}
 use Rattle.dbl_replay.proofs.printing.put_left.Goals as goal
+
+pub left-init : goal.left-init
+left-init g c = (putting_begins _ c.args.lines.now (g.O.Output.written c.args.output.now), omega arith)
 
 pub left-preserved : goal.left-preserved
 left-preserved g c =

@@ -1,10 +1,28 @@
-use Rattle.dbl_consume.proofs.PrintingLemmas.{all_written}
+use Rattle.std.proofs.Common.{refl}
+use Rattle.dbl_lines.proofs.PutLemmas.{none_put}
 use Rattle.dbl_runs.specs.Answers.{topic_lines}
-use Rattle.dbl_runs.proofs.Writing.{rest_cuts}
+use Rattle.dbl_runs.proofs.Kept.{keeps_itself}
+use Rattle.dbl_runs.proofs.Writing.{none_written, print_cuts}
 use Rattle.dbl_runs.proofs.topics.put_groups.Goals as goal
 
-pub returns-in-Ok-flush_rest-clause-told : goal.returns-in-Ok-flush_rest-clause-told
-returns-in-Ok-flush_rest-clause-told g c groups held = all_written _ _ _ c.in-Ok.filled.items (topic_lines groups) c.in-Ok-flush_rest.ensures.wrote (c.in-Ok.ensures.told groups held)
+pub returns-in-Err-clause-told : goal.returns-in-Err-clause-told
+returns-in-Err-clause-told g c groups held = none_written (topic_lines groups) _ _ refl
 
-pub returns-in-Err-flush_rest-clause-told : goal.returns-in-Err-flush_rest-clause-told
-returns-in-Err-flush_rest-clause-told g c groups held = rest_cuts (topic_lines groups) _ _ _ c.in-Ok.filled.items c.in-Err-flush_rest.error c.from.result c.from.ensures c.in-Err-flush_rest.ensures.front (c.in-Ok.ensures.told groups held)
+pub returns-in-Err-clause-keeps : goal.returns-in-Err-clause-keeps
+returns-in-Err-clause-keeps g c = keeps_itself g.D.Disk.seen g.D.Disk.may_leave g.D.Disk.faults _ c.args.log.now.disk (λ e. cc)
+
+pub returns-in-Ok-finish-clause-told : goal.returns-in-Ok-finish-clause-told
+returns-in-Ok-finish-clause-told g c groups held =
+    let start = g.O.Output.written c.args.output.now in
+    c.in-Ok-finish.ensures.prints start (topic_lines groups) (c.in-Ok-gather_groups.ensures.told groups held start (none_put start c.in-Ok.lines c.in-Ok.ensures))
+
+pub returns-in-Err-finish-clause-told : goal.returns-in-Err-finish-clause-told
+returns-in-Err-finish-clause-told g c groups held =
+    let start = g.O.Output.written c.args.output.now in
+    print_cuts (topic_lines groups) c.in-Err-finish.error c.from.result _ _ c.from.ensures
+    (c.in-Err-finish.ensures.prints start (topic_lines groups) (c.in-Ok-gather_groups.ensures.told groups held start (none_put start c.in-Ok.lines c.in-Ok.ensures)))
+
+pub returns-in-Err-gather_groups-clause-told : goal.returns-in-Err-gather_groups-clause-told
+returns-in-Err-gather_groups-clause-told g c groups held =
+    let start = g.O.Output.written c.args.output.now in
+    c.in-Err-gather_groups.ensures.told groups held start (none_put start c.in-Ok.lines c.in-Ok.ensures)

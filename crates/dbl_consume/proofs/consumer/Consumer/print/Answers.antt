@@ -1,5 +1,5 @@
 use Rattle.dbl_record.specs.Consumers.{consumer_of}
-use Rattle.dbl_consume.specs.Gathering.{all_rows}
+use Rattle.dbl_consume.specs.RowTexts.{all_rows}
 use Rattle.dbl_consume.proofs.RowLemmas.{rows_of_tables}
 use Rattle.dbl_consume.proofs.consumer.Consumer.print.Goals as goal
 

@@ -20,8 +20,7 @@ use Rattle.dbl_reading.specs.declared.error.SourceError.{SourceError}
 use Rattle.dbl_reading.specs.declared.error.SourceError.TheVariants.{Failed, Memory}
 use Rattle.dbl_reading.specs.declared.reading.Step.{Step}
 use Rattle.dbl_reading.specs.declared.reading.Missing.{Missing}
-use Rattle.dbl_reading.specs.Readings.{Describes}
-use Rattle.dbl_reading.specs.Readings.{IsMissing, LeadsTo, Steps}
+use Rattle.dbl_reading.specs.Readings.{Describes, IsMissing, LeadsTo, Steps}
 
 -- the step to the place behind a message reads the next one, where the reader has read the message there
 pub leads_steps : (tables : List LogTable) (log : List Logged) (place next : Place) (m : Message) (r : Result Step SourceError) → IfOk r (LeadsTo m next)

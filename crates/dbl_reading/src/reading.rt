@@ -42,7 +42,7 @@ fn described_by(message: &Message) -> Option<u32>
     }
 }
 
-// A message that has no spelling is a fault of the script.
+// Fails where the message has no spelling.
 fn step_to(alloc: Global, message: &Message, place: Place) -> Result<Step, SourceError>
     ensures leads { IfOk result (LeadsTo message.now place) }
     ensures fault { IfErr result (λ e. (e ≡ SourceError.Memory)

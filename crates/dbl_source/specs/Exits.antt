@@ -18,7 +18,7 @@ use Rattle.dbl_source.specs.Played.{Played, entry_at, inside_of, past_move, rele
 use Rattle.dbl_source.specs.Steps.{IsKept, AddedFirst, IsReadBy, IsUnmoved}
 
 -- A call with so many commits of its own, which is to add these, and may have more that it can't do: it fails as planned; where
--- memory is wanting first ones of the commits stand; and else this is made of its answer and of the source.
+-- memory runs out first ones of the commits stand; and else this is made of its answer and of the source.
 pub record Plays {T : Type 0} (own : ℕ) (more : Type 0) (commits : List (List Message)) (done : T → Played → Type 0) (old new : Played) (result : Result T SourceError) : Type 0 where
   pub kept : IsKept old
   pub later : old.plan.faults ≤ new.plan.faults

@@ -30,7 +30,7 @@ NewSourcesAreFair = (raws : List RawTable) (moves : List Move) (rows : List (Lis
 abbrev pub HaveReturned : Played → Type 0
 HaveReturned s = (n : ℕ) (question : Asked) → slice_get s.asked n ≡ Some question → question.upto ≤ length s.log
 
--- Where memory was wanting: a source that would be honest with all the commits that a call was to add is honest with the first ones
+-- Where memory ran out: a source that would be honest with all the commits that a call was to add is honest with the first ones
 -- of them, as long as each select so far returned before them.
 abbrev pub FirstCommitsAreFair : Type 0
 FirstCommitsAreFair = (commits : List (List Message)) (old new : Played) → HaveReturned old → AddedFirst commits old new → WasFair (committed commits old) → WasFair new

@@ -38,7 +38,7 @@ pub(crate) fn no_move(alloc: Global) -> Move
     }
 }
 
-/// Each list as one commit behind the log, in order; some first ones of them where memory is wanting.
+/// Each list as one commit behind the log, in order; some first ones of them where memory runs out.
 pub(crate) fn append(log: &mut Vec<Logged>, commits: Vec<Seq<Message>>) -> Result<(), AllocError>
     ensures ok { OnOk result (log.new.items ≡ log.old.items ++ map Changes commits.items) }
     ensures err { OnErr result (IsBehind commits.items log.old.items log.new.items) }

@@ -45,7 +45,7 @@ pub trait Source {
     /// Whether the last start answered that reading begins.
     ghost is_reading: { Self → Bool };
 
-    /// Whether the last read since the last start answered that nothing is left. A call that fails is none of them.
+    /// Where a start was answered: whether the last read that was answered since then said that nothing is left.
     ghost has_ended: { Self → Bool };
 
     /// How often the source has failed. A count that stands at 2^64 - 1 stays there.

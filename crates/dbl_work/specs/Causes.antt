@@ -1,4 +1,5 @@
--- Why a session halts. Each cause is said of what the source told, where it tells it, and of the stored offset; want of memory is free.
+-- Why a window isn't read, and which record is too long. A window's cause is said of what the source told, where it tells it; memory may run out at
+-- any time.
 use Rattle.std.specs.Prelude.{◌≡◌, ◌⊎◌, ℕ, ◌<◌, ◌≤◌, ◌^◌, take, Option, Some, Err, List, [], ◌∷◌, ◌++◌, Bool, length, slice_get}
 use Rattle.std.specs.List.{AllByRecursion}
 use Rattle.dbl_record.specs.declared.record.Record.{Record}
@@ -33,7 +34,7 @@ IsHonestFault plan stands infos (window.Cell name error) = (t : Standing) × sta
 IsHonestFault plan stands infos window.Failed = Unit {0}
 IsHonestFault plan stands infos window.Memory = Unit {0}
 
--- its halt, unless memory was wanting
+-- its halt, unless memory ran out
 abbrev pub IsHonestChunkHalt : Plan → (Standing → Type 0) → List TableInfo → Halt → Type 0
 IsHonestChunkHalt plan stands infos h =
     (h ≡ halt.Memory) ⊎ ((error : WindowError) × (h ≡ window_halt plan.info.name error) × IsHonestFault plan stands infos error)

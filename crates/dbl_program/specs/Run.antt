@@ -1,5 +1,5 @@
 -- What a run of the program writes and answers.
-use Rattle.std.specs.Prelude.{◌≡◌, ◌⊎◌, ℕ, ℤ, ◌<◌, ◌≤◌, Option, Some, None, Result, Ok, Err, List, [], ◌∷◌, ◌++◌, take, length, map}
+use Rattle.std.specs.Prelude.{◌≡◌, ◌⊎◌, ℕ, ℤ, ◌<◌, ◌≤◌, Option, Some, None, Ok, Err, List, [], ◌∷◌, ◌++◌, take, length, map}
 use Rattle.dbl_base.specs.Lines.{lines_of, lines_text}
 use Rattle.dbl_base.specs.Streams.{Rose, input_limit}
 use Rattle.dbl_program.specs.declared.halt.Halt.{Halt}

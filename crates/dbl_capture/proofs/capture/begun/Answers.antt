@@ -1,0 +1,95 @@
+use Rattle.std.proofs.Common.{◌≡◌, ◌⊎◌, Some, refl, subst}
+use Rattle.dbl_history.specs.Fit.{IsFitHistory}
+use Rattle.dbl_honest.specs.Standings.{left_of}
+use Rattle.dbl_offset.specs.declared.offset.Offset.{Offset}
+use Rattle.dbl_offset.specs.Stores.{Holds, LeavesOffset, disk_of}
+use Rattle.dbl_work.specs.declared.halt.Halt.TheVariants as halt
+use Rattle.dbl_capture.proofs.Causes.{OfNone, OfStore, err_at, residual_is, residual_of, store_of}
+use Rattle.dbl_exits.proofs.Keeping.{on_err}
+use Rattle.dbl_exits.proofs.Openings.{began_at, rest_left, store_left}
+use Rattle.dbl_capture.proofs.capture.begun.Goals as goal
+
+-- before the store
+pub returns-in_err-offset-clause-left : goal.returns-in_err-offset-clause-left
+returns-in_err-offset-clause-left g c tell entry asked f honest had =
+    on_err _ _
+    (rest_left f _ _ (g.met.K.Sink.only _) (g.met.K.Sink.may _)
+    (subst IsFitHistory f.history (g.met.S.Source.fit _ (left_of f.standing) (g.met.S.Source.may _ f.standing f.source_is) (c.offset_of.ensures.honest honest)))
+    c.offset_of.new.src (λ left is. g.met.S.Source.fit _ left is honest) (g.met.S.Source.rising _ f.standing f.source_is)
+    (λ left is. c.offset_of.ensures.left f.standing left f.source_is is) (c.offset_of.ensures.some f.standing f.source_is))
+
+pub returns-in_err-stored-clause-left : goal.returns-in_err-stored-clause-left
+returns-in_err-stored-clause-left g c tell entry asked f honest had =
+    on_err _ _
+    (rest_left f _ _ (g.met.K.Sink.only _) (g.met.K.Sink.may _)
+    (subst IsFitHistory f.history (g.met.S.Source.fit _ (left_of f.standing) (g.met.S.Source.may _ f.standing f.source_is) (c.offset_of.ensures.honest honest)))
+    c.offset_of.new.src (λ left is. g.met.S.Source.fit _ left is honest) (g.met.S.Source.rising _ f.standing f.source_is)
+    (λ left is. c.offset_of.ensures.left f.standing left f.source_is is) (c.offset_of.ensures.some f.standing f.source_is))
+
+-- in it
+pub returns-in_err-put_offset-clause-left : goal.returns-in_err-put_offset-clause-left
+returns-in_err-put_offset-clause-left g c tell entry asked f honest had =
+    let stood = c.in_ok-offset.ensures.begins entry asked f.offset_is had f.standing f.source_is f.history in
+    on_err _ _
+    (store_left f _ _ (g.met.K.Sink.only _) (g.met.K.Sink.may _)
+    (subst IsFitHistory f.history (g.met.S.Source.fit _ (left_of f.standing) (g.met.S.Source.may _ f.standing f.source_is) (c.offset_of.ensures.honest honest)))
+    c.offset_of.new.src (λ left is. g.met.S.Source.fit _ left is honest) stood.standing c.in_ok-offset.offset c.put_offset.new.store stood.is (g.met.S.Source.rising _ stood.standing stood.is)
+    (λ left is. g.met.S.Source.only _ stood.standing left stood.is is) (g.met.S.Source.may _ stood.standing stood.is) stood.holds
+    (λ t. subst (λ (o : Offset). LeavesOffset g.D.Disk.may_leave (disk_of c.put_offset.new.store) (λ left. (left ≡ entry.offset) ⊎ (left ≡ Some o))) c.in_ok-stored.ensures (c.put_offset.ensures.left entry.offset (f.store_is t))))
+
+-- behind it
+pub returns-clause-begun : goal.returns-clause-begun
+returns-clause-begun g c tell entry asked f honest had =
+    let stood = c.in_ok-offset.ensures.begins entry asked f.offset_is had f.standing f.source_is f.history in
+    began_at f c.offset_of.new.src c.put_offset.new.store stood.standing c.in_ok-offset.offset stood.is stood.holds
+    (λ t. subst (λ (o : Offset). Holds g.D.Disk.seen g.D.Disk.may_leave c.put_offset.new.store (Some o)) c.in_ok-stored.ensures (c.in_ok-put_offset.ensures.stored entry.offset (f.store_is t)))
+
+-- ---- counts, and what no call undoes
+
+pub returns-in_err-offset-clause-source : goal.returns-in_err-offset-clause-source
+returns-in_err-offset-clause-source g c is = c.offset_of.ensures.failed (residual_is c.from_residual.result c.offset_of.result _ _ c.in_err-offset.was c.from_residual.ensures.1 is)
+
+pub returns-in_err-offset-clause-sink : goal.returns-in_err-offset-clause-sink
+returns-in_err-offset-clause-sink g c is = c.offset_of.ensures.others.0 (residual_is c.from_residual.result c.offset_of.result _ _ c.in_err-offset.was c.from_residual.ensures.1 is)
+
+pub returns-in_err-offset-clause-offsets : goal.returns-in_err-offset-clause-offsets
+returns-in_err-offset-clause-offsets g c is = absurd (c.offset_of.ensures.others.1 (residual_is c.from_residual.result c.offset_of.result _ _ c.in_err-offset.was c.from_residual.ensures.1 is))
+
+pub returns-in_err-stored-clause-source : goal.returns-in_err-stored-clause-source
+returns-in_err-stored-clause-source g c is = absurd (err_at c.from_residual-in_err-stored.result _ OfNone (residual_of c.from_residual-in_err-stored.result halt.Memory OfNone c.from_residual-in_err-stored.ensures.1 tt) is)
+
+pub returns-in_err-stored-clause-sink : goal.returns-in_err-stored-clause-sink
+returns-in_err-stored-clause-sink g c is = err_at c.from_residual-in_err-stored.result _ OfNone (residual_of c.from_residual-in_err-stored.result halt.Memory OfNone c.from_residual-in_err-stored.ensures.1 tt) is
+
+pub returns-in_err-stored-clause-offsets : goal.returns-in_err-stored-clause-offsets
+returns-in_err-stored-clause-offsets g c is = absurd (err_at c.from_residual-in_err-stored.result _ OfNone (residual_of c.from_residual-in_err-stored.result halt.Memory OfNone c.from_residual-in_err-stored.ensures.1 tt) is)
+
+pub returns-in_err-put_offset-clause-source : goal.returns-in_err-put_offset-clause-source
+returns-in_err-put_offset-clause-source g c is = absurd (err_at c.from_residual-in_err-put_offset.result _ OfStore (residual_of c.from_residual-in_err-put_offset.result _ OfStore c.from_residual-in_err-put_offset.ensures.1 (store_of _ _ c.in_err-put_offset.ensures.halt)) is)
+
+pub returns-in_err-put_offset-clause-sink : goal.returns-in_err-put_offset-clause-sink
+returns-in_err-put_offset-clause-sink g c is = err_at c.from_residual-in_err-put_offset.result _ OfStore (residual_of c.from_residual-in_err-put_offset.result _ OfStore c.from_residual-in_err-put_offset.ensures.1 (store_of _ _ c.in_err-put_offset.ensures.halt)) is
+
+pub returns-in_err-put_offset-clause-offsets : goal.returns-in_err-put_offset-clause-offsets
+returns-in_err-put_offset-clause-offsets g c is = c.put_offset.ensures.failed (residual_is c.from_residual-in_err-put_offset.result c.put_offset.result _ _ c.in_err-put_offset.was c.from_residual-in_err-put_offset.ensures.1 is)
+
+pub returns-in_err-offset-clause-never : goal.returns-in_err-offset-clause-never
+returns-in_err-offset-clause-never g c value at is = c.offset_of.ensures.never value at (residual_is c.from_residual.result c.offset_of.result _ _ c.in_err-offset.was c.from_residual.ensures.1 is)
+
+pub returns-in_err-stored-clause-never : goal.returns-in_err-stored-clause-never
+returns-in_err-stored-clause-never g c value at is = err_at c.from_residual-in_err-stored.result _ OfNone (residual_of c.from_residual-in_err-stored.result halt.Memory OfNone c.from_residual-in_err-stored.ensures.1 tt) is
+
+pub returns-in_err-put_offset-clause-never : goal.returns-in_err-put_offset-clause-never
+returns-in_err-put_offset-clause-never g c value at is = err_at c.from_residual-in_err-put_offset.result _ OfStore (residual_of c.from_residual-in_err-put_offset.result _ OfStore c.from_residual-in_err-put_offset.ensures.1 (store_of _ _ c.in_err-put_offset.ensures.halt)) is
+
+pub returns-clause-never : goal.returns-clause-never
+returns-clause-never g c value at is = cc
+
+pub returns-in_err-offset-clause-keeps : goal.returns-in_err-offset-clause-keeps
+returns-in_err-offset-clause-keeps g c = on_err _ _ refl
+
+pub returns-in_err-stored-clause-keeps : goal.returns-in_err-stored-clause-keeps
+returns-in_err-stored-clause-keeps g c = on_err _ _ refl
+
+pub returns-in_err-put_offset-clause-keeps : goal.returns-in_err-put_offset-clause-keeps
+returns-in_err-put_offset-clause-keeps g c = on_err _ _ c.in_err-put_offset.ensures.keeps

@@ -1,0 +1,81 @@
+use Rattle.std.proofs.Common.{◌∙◌, inl, Option, sym, subst}
+use Rattle.std.specs.Prelude.{IfOk}
+use Rattle.dbl_honest.specs.Standings.{left_of}
+use Rattle.dbl_offset.specs.declared.offset.Offset.{Offset}
+use Rattle.dbl_work.specs.Begins.{IsAgain, IsOffsetFor}
+use Rattle.dbl_exits.proofs.Beginnings.{again_for, begins_again, begins_first, none_again}
+use Rattle.dbl_capture.proofs.Causes.{OfNone, OfSource, again_of, err_at, err_then, first_of, residual_of}
+use Rattle.dbl_exits.proofs.Keeping.{answer_then}
+use Rattle.dbl_capture.proofs.capture.offset_of.Goals as goal
+
+-- nothing was asked of the source yet
+pub returns-in_err-offset-clause-left : goal.returns-in_err-offset-clause-left
+returns-in_err-offset-clause-left g c s l is may = inl (g.met.S.Source.only _ s l is may)
+
+pub returns-in_err-offset-clause-some : goal.returns-in_err-offset-clause-some
+returns-in_err-offset-clause-some g c s is = (left_of s, g.met.S.Source.may _ s is)
+
+pub returns-in_err-offset-clause-failed : goal.returns-in_err-offset-clause-failed
+returns-in_err-offset-clause-failed g c is =
+    absurd (err_at c.from_residual.result _ OfNone (residual_of c.from_residual.result _ OfNone c.from_residual.ensures.1 (again_of c.args.store.now.offset _ c.in_err-offset.ensures.halt)) is)
+
+pub returns-in_err-offset-clause-others : goal.returns-in_err-offset-clause-others
+returns-in_err-offset-clause-others g c =
+    let of = residual_of c.from_residual.result _ OfNone c.from_residual.ensures.1 (again_of c.args.store.now.offset _ c.in_err-offset.ensures.halt) in (
+      λ is. err_at c.from_residual.result _ OfNone of is,
+      λ is. err_at c.from_residual.result _ OfNone of is,
+    )
+
+-- the stored offset
+pub returns-in-Some-clause-begins : goal.returns-in-Some-clause-begins
+returns-in-Some-clause-begins g c entry asked same had s is history = record {
+  standing = s;
+  is = is;
+  holds = begins_again entry c.args.store.now.offset c.in-Some.offset s same (subst (IsAgain c.args.store.now.offset) c.in-Some.is c.in_ok-offset.ensures.again) had history (g.met.S.Source.rising _ s is);
+}
+
+pub returns-in-Some-clause-of : goal.returns-in-Some-clause-of
+returns-in-Some-clause-of g c = again_for c.args.config.now c.args.store.now.offset c.in-Some.offset (subst (IsAgain c.args.store.now.offset) c.in-Some.is c.in_ok-offset.ensures.again)
+
+pub returns-in-Some-clause-left : goal.returns-in-Some-clause-left
+returns-in-Some-clause-left g c s l is may = inl (g.met.S.Source.only _ s l is may)
+
+pub returns-in-Some-clause-some : goal.returns-in-Some-clause-some
+returns-in-Some-clause-some g c s is = (left_of s, g.met.S.Source.may _ s is)
+
+-- a first one
+pub returns-in-None-clause-begins : goal.returns-in-None-clause-begins
+returns-in-None-clause-begins g c entry asked same had s is history =
+    answer_then c.first_offset.result _ _ (c.first_offset.ensures.first s is)
+    (λ offset stood. record {
+      standing = stood.standing;
+      is = stood.is;
+      holds = begins_first entry c.args.config.now offset s stood.standing asked (same ∙ none_again c.args.store.now.offset (subst (IsAgain c.args.store.now.offset) c.in-None.is c.in_ok-offset.ensures.again)) history (g.met.S.Source.rising _ stood.standing stood.is) stood.holds.0 stood.holds.1.0 stood.holds.1.1 stood.holds.1.2 stood.holds.1.3 stood.holds.1.4 stood.holds.1.5;
+    })
+
+pub returns-in-None-clause-of : goal.returns-in-None-clause-of
+returns-in-None-clause-of g c = subst (λ (o : Option Offset). IfOk c.first_offset.result (IsOffsetFor c.args.config.now o)) (sym (none_again c.args.store.now.offset (subst (IsAgain c.args.store.now.offset) c.in-None.is c.in_ok-offset.ensures.again))) c.first_offset.ensures.of
+
+pub returns-in-None-clause-others : goal.returns-in-None-clause-others
+returns-in-None-clause-others g c =
+    let of = err_then c.first_offset.result _ OfSource c.first_offset.ensures.fault (λ h is. first_of _ _ h is) in (
+      λ is. err_at c.first_offset.result _ OfSource of is,
+      λ is. err_at c.first_offset.result _ OfSource of is,
+    )
+
+-- ---- counts, and what no call undoes
+
+pub returns-in_err-offset-clause-comes : goal.returns-in_err-offset-clause-comes
+returns-in_err-offset-clause-comes g c = g.met.S.Source.comes_self _
+
+pub returns-in-Some-clause-comes : goal.returns-in-Some-clause-comes
+returns-in-Some-clause-comes g c = g.met.S.Source.comes_self _
+
+pub returns-in_err-offset-clause-never : goal.returns-in_err-offset-clause-never
+returns-in_err-offset-clause-never g c value at is = err_at c.from_residual.result _ OfNone (residual_of c.from_residual.result _ OfNone c.from_residual.ensures.1 (again_of c.args.store.now.offset _ c.in_err-offset.ensures.halt)) is
+
+pub returns-in-Some-clause-never : goal.returns-in-Some-clause-never
+returns-in-Some-clause-never g c value at is = cc
+
+pub returns-in-None-clause-never : goal.returns-in-None-clause-never
+returns-in-None-clause-never g c value at is = err_at c.first_offset.result _ OfSource (err_then c.first_offset.result _ OfSource c.first_offset.ensures.fault (λ h is. first_of _ _ h is)) is

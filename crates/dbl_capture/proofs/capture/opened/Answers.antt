@@ -1,0 +1,153 @@
+use Rattle.std.proofs.Common.{◌∙◌, ◌≤◌, ◌<◌, ◌^◌, inl, inr, ℕ, ℤ, Option, refl, sym, subst, arith}
+use Rattle.std.proofs.Math.Facts.{to_z-of_z}
+use Rattle.dbl_table.specs.declared.config.Config.{Config}
+use Rattle.dbl_history.specs.Fit.{IsFitHistory}
+use Rattle.dbl_honest.specs.Standings.{left_of}
+use Rattle.dbl_offset.specs.declared.offset.Offset.{Offset}
+use Rattle.dbl_work.specs.Works.{IsBegun}
+use Rattle.dbl_work.proofs.Exits.{later_on, rose_behind}
+use Rattle.dbl_capture.proofs.Causes.{OfNone, OfSource, err_at, err_then, residual_is, residual_of, start_of}
+use Rattle.dbl_exits.specs.Ends.{IsAtPosition}
+use Rattle.dbl_exits.proofs.Beginnings.{begun_session}
+use Rattle.dbl_exits.proofs.Endings.{has_stored, own_first, position_is, position_none}
+use Rattle.dbl_exits.proofs.Keeping.{answer_then, on_err, on_ok}
+use Rattle.dbl_exits.proofs.Openings.{start_left}
+use Rattle.dbl_capture.proofs.capture.opened.Goals as goal
+
+pub returns-in_err-offset-clause-left : goal.returns-in_err-offset-clause-left
+returns-in_err-offset-clause-left g c tell entry asked f honest had = on_err _ _ (c.in_err-offset.ensures.left tell entry asked f honest had)
+
+pub returns-in_err-offset-clause-stored : goal.returns-in_err-offset-clause-stored
+returns-in_err-offset-clause-stored g c = on_err _ _ (inl c.in_err-offset.ensures.keeps)
+
+pub returns-in_err-offset-clause-position : goal.returns-in_err-offset-clause-position
+returns-in_err-offset-clause-position g c none = on_err _ _ (position_none c.args.store.now.offset c.begun.new.store.offset c.args.report.now c.in_err-offset.ensures.keeps none)
+
+-- reading doesn't begin
+pub returns-in_err-start-clause-left : goal.returns-in_err-start-clause-left
+returns-in_err-start-clause-left g c tell entry asked f honest had =
+    let before = c.start.ensures.honest honest in
+    let b = c.in_ok-offset.ensures.begun tell entry asked f before had in
+    on_err _ _
+    (start_left b _ _ (g.met.K.Sink.only _) (g.met.K.Sink.may _)
+    (subst IsFitHistory f.history (g.met.S.Source.fit _ (left_of f.standing) (g.met.S.Source.may _ f.standing f.source_is) (c.begun.ensures.honest before)))
+    c.start.new.src (λ left is. g.met.S.Source.fit _ left is honest) (λ left is. c.start.ensures.left b.standing left b.source_is is) (c.start.ensures.some b.standing b.source_is))
+
+pub returns-in_err-start-clause-stored : goal.returns-in_err-start-clause-stored
+returns-in_err-start-clause-stored g c =
+    on_err _ _ (inr (has_stored c.args.config.now c.args.store.now.offset c.begun.new.store.offset c.in_ok-offset.offset c.in_ok-offset.ensures.of (own_first c.in_ok-offset.offset c.begun.new.store.offset c.in_ok-offset.ensures.loads)))
+
+pub returns-in_err-start-clause-position : goal.returns-in_err-start-clause-position
+returns-in_err-start-clause-position g c none =
+    on_err _ _
+    (position_is c.args.config.now c.args.store.now.offset c.begun.new.store.offset (record c.args.report.now { position = c.in_ok-offset.offset.lsn.0 })
+    (has_stored c.args.config.now c.args.store.now.offset c.begun.new.store.offset c.in_ok-offset.offset c.in_ok-offset.ensures.of (own_first c.in_ok-offset.offset c.begun.new.store.offset c.in_ok-offset.ensures.loads))
+    (subst (λ (o : Option Offset). IsAtPosition o (record c.args.report.now { position = c.in_ok-offset.offset.lsn.0 })) (sym c.in_ok-offset.ensures.loads) refl))
+
+-- it began
+pub returns-clause-left : goal.returns-clause-left
+returns-clause-left g c tell entry asked f honest had =
+    let before = c.start.ensures.honest honest in
+    let b = c.in_ok-offset.ensures.begun tell entry asked f before had in
+    on_err _ _
+    (start_left b _ _ (g.met.K.Sink.only _) (g.met.K.Sink.may _)
+    (subst IsFitHistory f.history (g.met.S.Source.fit _ (left_of f.standing) (g.met.S.Source.may _ f.standing f.source_is) (c.begun.ensures.honest before)))
+    c.start.new.src (λ left is. g.met.S.Source.fit _ left is honest) (λ left is. c.start.ensures.left b.standing left b.source_is is) (c.start.ensures.some b.standing b.source_is))
+
+pub returns-clause-stored : goal.returns-clause-stored
+returns-clause-stored g c =
+    on_err _ _ (inr (has_stored c.args.config.now c.args.store.now.offset c.begun.new.store.offset c.in_ok-offset.offset c.in_ok-offset.ensures.of (own_first c.in_ok-offset.offset c.begun.new.store.offset c.in_ok-offset.ensures.loads)))
+
+pub returns-clause-position : goal.returns-clause-position
+returns-clause-position g c none =
+    on_err _ _
+    (position_is c.args.config.now c.args.store.now.offset c.begun.new.store.offset (record c.args.report.now { position = c.in_ok-offset.offset.lsn.0 })
+    (has_stored c.args.config.now c.args.store.now.offset c.begun.new.store.offset c.in_ok-offset.offset c.in_ok-offset.ensures.of (own_first c.in_ok-offset.offset c.begun.new.store.offset c.in_ok-offset.ensures.loads))
+    (subst (λ (o : Option Offset). IsAtPosition o (record c.args.report.now { position = c.in_ok-offset.offset.lsn.0 })) (sym c.in_ok-offset.ensures.loads) refl))
+
+pub returns-clause-at : goal.returns-clause-at
+returns-clause-at g c = on_ok _ _ (subst (λ (o : Option Offset). IsAtPosition o (record c.args.report.now { position = c.in_ok-offset.offset.lsn.0 })) (sym c.in_ok-offset.ensures.loads) refl)
+
+pub returns-clause-begun : goal.returns-clause-begun
+returns-clause-begun g c = answer_then c.make.result _ _ c.make.ensures.made (λ work made. (c.in_ok-offset.offset, c.in_ok-offset.ensures.loads, subst (λ (n : ℤ). IsBegun c.in_ok-offset.offset n c.args.config.now.chunk c.args.config.now.every work) (to_z-of_z c.ranges.now_ms) made, c.in_ok-offset.ensures.of))
+
+small : (n : ℕ) → n ≤ 2 ^ 63 → n < 2 ^ 64
+small n le = omega (arith, le)
+
+pub returns-clause-opened : goal.returns-clause-opened
+returns-clause-opened g c tell entry asked time f honest had =
+    let before = c.start.ensures.honest honest in
+    let b = c.in_ok-offset.ensures.begun tell entry asked f before had in
+    let started = c.in_ok-start.ensures.started b.standing b.source_is in
+    answer_then c.make.result _ _ c.make.ensures.made
+    (λ work made. (
+    begun_session b
+    (subst IsFitHistory f.history (g.met.S.Source.fit _ (left_of f.standing) (g.met.S.Source.may _ f.standing f.source_is) (c.begun.ensures.honest before)))
+    c.start.new.src started.standing work started.is started.holds (g.met.S.Source.fit _ (left_of started.standing) (g.met.S.Source.may _ started.standing started.is) honest)
+    (subst (λ (k : Config). 1 ≤ k.every) (sym asked) c.requires.config.every.0) (small c.in_ok-offset.offset.incarnation c.in_ok-offset.ensures.offset.incarnation)
+    (subst (λ (k : Config). IsBegun c.in_ok-offset.offset entry.now k.chunk k.every work) (sym asked) (subst (λ (n : ℤ). IsBegun c.in_ok-offset.offset n c.args.config.now.chunk c.args.config.now.every work) (to_z-of_z c.ranges.now_ms ∙ sym time) made))))
+
+-- ---- counts, and what no call undoes
+
+pub returns-in_err-offset-clause-source : goal.returns-in_err-offset-clause-source
+returns-in_err-offset-clause-source g c is = c.begun.ensures.source (residual_is c.from_residual.result c.begun.result _ _ c.in_err-offset.was c.from_residual.ensures.1 is)
+
+pub returns-in_err-offset-clause-sink : goal.returns-in_err-offset-clause-sink
+returns-in_err-offset-clause-sink g c is = c.begun.ensures.sink (residual_is c.from_residual.result c.begun.result _ _ c.in_err-offset.was c.from_residual.ensures.1 is)
+
+pub returns-in_err-offset-clause-offsets : goal.returns-in_err-offset-clause-offsets
+returns-in_err-offset-clause-offsets g c is = c.begun.ensures.offsets (residual_is c.from_residual.result c.begun.result _ _ c.in_err-offset.was c.from_residual.ensures.1 is)
+
+pub returns-in_err-start-clause-source : goal.returns-in_err-start-clause-source
+returns-in_err-start-clause-source g c is = rose_behind (g.S.Source.faults c.args.src.now) (g.S.Source.faults c.begun.new.src) (g.S.Source.faults c.start.new.src) c.begun.ensures.source_later (c.start.ensures.failed (residual_is c.from_residual-in_err-start.result c.start.result _ _ c.in_err-start.was c.from_residual-in_err-start.ensures.1 is))
+
+pub returns-in_err-start-clause-sink : goal.returns-in_err-start-clause-sink
+returns-in_err-start-clause-sink g c is = err_at c.from_residual-in_err-start.result _ OfSource (residual_of c.from_residual-in_err-start.result _ OfSource c.from_residual-in_err-start.ensures.1 (start_of _ _ c.in_err-start.ensures.halt)) is
+
+pub returns-in_err-start-clause-offsets : goal.returns-in_err-start-clause-offsets
+returns-in_err-start-clause-offsets g c is = absurd (err_at c.from_residual-in_err-start.result _ OfSource (residual_of c.from_residual-in_err-start.result _ OfSource c.from_residual-in_err-start.ensures.1 (start_of _ _ c.in_err-start.ensures.halt)) is)
+
+pub returns-in_err-start-clause-source_comes : goal.returns-in_err-start-clause-source_comes
+returns-in_err-start-clause-source_comes g c = g.met.S.Source.comes_on c.args.src.now c.begun.new.src c.start.new.src c.begun.ensures.source_comes c.start.ensures.comes
+
+pub returns-clause-source_comes : goal.returns-clause-source_comes
+returns-clause-source_comes g c = g.met.S.Source.comes_on c.args.src.now c.begun.new.src c.start.new.src c.begun.ensures.source_comes c.start.ensures.comes
+
+pub returns-clause-source : goal.returns-clause-source
+returns-clause-source g c is = absurd (err_at c.make.result _ OfNone (err_then c.make.result _ OfNone c.make.ensures.memory (λ h is. subst OfNone (sym is) tt)) is)
+
+pub returns-clause-sink : goal.returns-clause-sink
+returns-clause-sink g c is = err_at c.make.result _ OfNone (err_then c.make.result _ OfNone c.make.ensures.memory (λ h is. subst OfNone (sym is) tt)) is
+
+pub returns-clause-offsets : goal.returns-clause-offsets
+returns-clause-offsets g c is = absurd (err_at c.make.result _ OfNone (err_then c.make.result _ OfNone c.make.ensures.memory (λ h is. subst OfNone (sym is) tt)) is)
+
+pub returns-in_err-offset-clause-never : goal.returns-in_err-offset-clause-never
+returns-in_err-offset-clause-never g c value at is = c.begun.ensures.never value at (residual_is c.from_residual.result c.begun.result _ _ c.in_err-offset.was c.from_residual.ensures.1 is)
+
+pub returns-in_err-start-clause-never : goal.returns-in_err-start-clause-never
+returns-in_err-start-clause-never g c value at is = err_at c.from_residual-in_err-start.result _ OfSource (residual_of c.from_residual-in_err-start.result _ OfSource c.from_residual-in_err-start.ensures.1 (start_of _ _ c.in_err-start.ensures.halt)) is
+
+pub returns-clause-never : goal.returns-clause-never
+returns-clause-never g c value at is = err_at c.make.result _ OfNone (err_then c.make.result _ OfNone c.make.ensures.memory (λ h is. subst OfNone (sym is) tt)) is
+
+pub returns-in_err-start-clause-honest : goal.returns-in_err-start-clause-honest
+returns-in_err-start-clause-honest g c honest = c.begun.ensures.honest (c.start.ensures.honest honest)
+
+pub returns-in_err-start-clause-source_later : goal.returns-in_err-start-clause-source_later
+returns-in_err-start-clause-source_later g c = later_on (g.S.Source.faults c.args.src.now) (g.S.Source.faults c.begun.new.src) (g.S.Source.faults c.start.new.src) c.begun.ensures.source_later c.start.ensures.later
+
+pub returns-clause-honest : goal.returns-clause-honest
+returns-clause-honest g c honest = c.begun.ensures.honest (c.start.ensures.honest honest)
+
+pub returns-clause-source_later : goal.returns-clause-source_later
+returns-clause-source_later g c = later_on (g.S.Source.faults c.args.src.now) (g.S.Source.faults c.begun.new.src) (g.S.Source.faults c.start.new.src) c.begun.ensures.source_later c.start.ensures.later
+
+pub returns-in_err-offset-clause-report : goal.returns-in_err-offset-clause-report
+returns-in_err-offset-clause-report g c = (refl, refl)
+
+pub returns-in_err-start-clause-report : goal.returns-in_err-start-clause-report
+returns-in_err-start-clause-report g c = (refl, refl)
+
+pub returns-clause-report : goal.returns-clause-report
+returns-clause-report g c = (refl, refl)

@@ -1,0 +1,136 @@
+use Rattle.std.proofs.Common.{◌≡◌, ◌∙◌, arith, inr, true, false, [], refl, sym, subst}
+use Rattle.std.proofs.Math.Facts.{to_z-of_z}
+use Rattle.dbl_history.specs.Ranges.{IsMomentInRange}
+use Rattle.dbl_offset.specs.declared.offset.Offset.{Offset}
+use Rattle.dbl_offset.specs.Stores.{disk_of}
+use Rattle.dbl_work.specs.Begins.{IsOffsetFor}
+use Rattle.dbl_work.specs.Works.{next_of}
+use Rattle.dbl_work.proofs.Exits.{later_on, rose_behind}
+use Rattle.dbl_capture.proofs.Causes.{residual_is}
+use Rattle.dbl_exits.specs.Ends.{HasOwnStored}
+use Rattle.dbl_exits.specs.Found.{entry_at}
+use Rattle.dbl_exits.proofs.Endings.{complete_left, has_stored, own_first, position_is}
+use Rattle.dbl_exits.proofs.Keeping.{either_answer, rests, some_chunk}
+use Rattle.dbl_exits.proofs.Openings.{going_left, source_found, told_found}
+use Rattle.dbl_capture.proofs.capture.session.Goals as goal
+
+-- it didn't begin
+pub returns-in_err-work-clause-faithful : goal.returns-in_err-work-clause-faithful
+returns-in_err-work-clause-faithful g c entry asked f honest had = going_left (c.in_err-work.ensures.left true entry asked.config_is (told_found f) honest had)
+
+pub returns-in_err-work-clause-marks : goal.returns-in_err-work-clause-marks
+returns-in_err-work-clause-marks g c s is honest had left may =
+    (c.in_err-work.ensures.left false (entry_at c.args.config.now c.args.now_ms s c.args.offsets.now.offset) refl (source_found _ _ _ _ c.args.config.now c.args.now_ms s _ _ c.args.offsets.now is) honest had).few left may
+
+pub returns-in_err-work-clause-stores : goal.returns-in_err-work-clause-stores
+returns-in_err-work-clause-stores g c = c.in_err-work.ensures.stored
+
+pub returns-in_err-work-clause-position : goal.returns-in_err-work-clause-position
+returns-in_err-work-clause-position g c = c.in_err-work.ensures.position refl
+
+-- it ran
+pub run-requires-clause-time : goal.run-requires-clause-time
+run-requires-clause-time g c = subst IsMomentInRange (sym (c.in_ok-work.ensures.begun.2.now_is ∙ to_z-of_z c.ranges.now_ms)) c.ranges.now_ms
+
+pub run-requires-clause-since : goal.run-requires-clause-since
+run-requires-clause-since g c = omega (arith, c.in_ok-work.ensures.begun.2.none, c.in_ok-work.ensures.begun.2.every_is, c.requires.config.every.0)
+
+pub run-requires-clause-ready : goal.run-requires-clause-ready
+run-requires-clause-ready g c = record { after = c.in_ok-work.ensures.begun.0.lsn; messages = []; is = c.in_ok-work.ensures.begun.2.is }
+
+pub returns-clause-faithful : goal.returns-clause-faithful
+returns-clause-faithful g c entry asked f honest had =
+    let s = c.in_ok-work.ensures.opened true entry asked.config_is (asked.now_is ∙ sym (to_z-of_z c.ranges.now_ms)) (told_found f) (c.run.ensures.honest honest) had in
+    going_left
+    (either_answer c.run.result _ _ (c.run.ensures.ran true entry s honest) (c.run.ensures.left true entry s honest)
+    (λ t. rests t _ _ _ (g.met.S.Source.only _) (g.met.S.Source.may _) (g.met.K.Sink.only _) (g.met.K.Sink.may _) honest (λ h l is. g.met.S.Source.fit _ l is h) (some_chunk t)))
+
+pub returns-clause-complete : goal.returns-clause-complete
+returns-clause-complete g c entry asked f honest had is =
+    let s = c.in_ok-work.ensures.opened true entry asked.config_is (asked.now_is ∙ sym (to_z-of_z c.ranges.now_ms)) (told_found f) (c.run.ensures.honest honest) had in
+    complete_left (c.run.ensures.complete true entry s honest is) refl g.S.Source.may_leave g.K.Sink.may_leave _ (g.met.S.Source.only _) (g.met.K.Sink.only _) honest (λ h l is. g.met.S.Source.fit _ l is h) (c.run.ensures.done is).0
+
+pub returns-clause-marks : goal.returns-clause-marks
+returns-clause-marks g c s is honest had left may =
+    let entry = entry_at c.args.config.now c.args.now_ms s c.args.offsets.now.offset in
+    let in_session = c.in_ok-work.ensures.opened false entry refl (sym (to_z-of_z c.ranges.now_ms)) (source_found _ _ _ _ c.args.config.now c.args.now_ms s _ _ c.args.offsets.now is) (c.run.ensures.honest honest) had in
+    (either_answer c.run.result _ _ (c.run.ensures.ran false entry in_session honest) (c.run.ensures.left false entry in_session honest)
+    (λ t. rests t _ _ _ (g.met.S.Source.only _) (g.met.S.Source.may _) (g.met.K.Sink.only _) (g.met.K.Sink.may _) honest (λ h l is. g.met.S.Source.fit _ l is h) (some_chunk t))).few left may
+
+pub returns-clause-stores : goal.returns-clause-stores
+returns-clause-stores g c =
+    let b = c.in_ok-work.ensures.begun in
+    inr (has_stored c.args.config.now c.args.offsets.now.offset c.run.new.store.offset c.in_ok-work.work.offset (subst (IsOffsetFor c.args.config.now c.args.offsets.now.offset) (sym b.2.offset_is) b.3)
+    (c.run.ensures.stored (subst (λ (o : Offset). HasOwnStored o c.opened.new.store.offset) (sym b.2.offset_is) (own_first b.0 c.opened.new.store.offset b.1))))
+
+pub returns-clause-position : goal.returns-clause-position
+returns-clause-position g c =
+    let b = c.in_ok-work.ensures.begun in
+    position_is c.args.config.now c.args.offsets.now.offset c.run.new.store.offset c.run.new.report
+    (has_stored c.args.config.now c.args.offsets.now.offset c.run.new.store.offset c.in_ok-work.work.offset (subst (IsOffsetFor c.args.config.now c.args.offsets.now.offset) (sym b.2.offset_is) b.3)
+    (c.run.ensures.stored (subst (λ (o : Offset). HasOwnStored o c.opened.new.store.offset) (sym b.2.offset_is) (own_first b.0 c.opened.new.store.offset b.1))))
+    (c.run.ensures.position c.in_ok-work.ensures.at)
+
+pub returns-clause-done : goal.returns-clause-done
+returns-clause-done g c is = let done = c.run.ensures.done is in (next_of c.run.new.work, done.1, done.0, done.2)
+
+-- ---- counts, and what no call undoes
+
+pub returns-in_err-work-clause-source : goal.returns-in_err-work-clause-source
+returns-in_err-work-clause-source g c is = c.opened.ensures.source (residual_is c.from_residual.result c.opened.result _ _ c.in_err-work.was c.from_residual.ensures.1 is)
+
+pub returns-in_err-work-clause-sink : goal.returns-in_err-work-clause-sink
+returns-in_err-work-clause-sink g c is = absurd (c.opened.ensures.sink (residual_is c.from_residual.result c.opened.result _ _ c.in_err-work.was c.from_residual.ensures.1 is))
+
+pub returns-in_err-work-clause-offsets : goal.returns-in_err-work-clause-offsets
+returns-in_err-work-clause-offsets g c is = c.opened.ensures.offsets (residual_is c.from_residual.result c.opened.result _ _ c.in_err-work.was c.from_residual.ensures.1 is)
+
+pub returns-in_err-work-clause-sink_comes : goal.returns-in_err-work-clause-sink_comes
+returns-in_err-work-clause-sink_comes g c = g.met.K.Sink.comes_self _
+
+pub returns-clause-source : goal.returns-clause-source
+returns-clause-source g c is = rose_behind (g.S.Source.faults c.args.src.now) (g.S.Source.faults c.opened.new.src) (g.S.Source.faults c.run.new.src) c.opened.ensures.source_later (c.run.ensures.source is)
+
+pub returns-clause-offsets : goal.returns-clause-offsets
+returns-clause-offsets g c is = rose_behind _ _ _ c.opened.ensures.store_later (c.run.ensures.offsets is)
+
+pub returns-clause-source_comes : goal.returns-clause-source_comes
+returns-clause-source_comes g c = g.met.S.Source.comes_on c.args.src.now c.opened.new.src c.run.new.src c.opened.ensures.source_comes c.run.ensures.source_comes
+
+pub returns-in_err-work-clause-missed : goal.returns-in_err-work-clause-missed
+returns-in_err-work-clause-missed g c value at is = absurd (c.opened.ensures.never value at (residual_is c.from_residual.result c.opened.result _ _ c.in_err-work.was c.from_residual.ensures.1 is))
+
+pub returns-clause-missed : goal.returns-clause-missed
+returns-clause-missed g c = c.run.ensures.missed
+
+pub returns-clause-honest : goal.returns-clause-honest
+returns-clause-honest g c honest = c.opened.ensures.honest (c.run.ensures.honest honest)
+
+pub returns-clause-source_later : goal.returns-clause-source_later
+returns-clause-source_later g c = later_on (g.S.Source.faults c.args.src.now) (g.S.Source.faults c.opened.new.src) (g.S.Source.faults c.run.new.src) c.opened.ensures.source_later c.run.ensures.source_later
+
+pub returns-clause-store_later : goal.returns-clause-store_later
+returns-clause-store_later g c = later_on (g.D.Disk.faults (disk_of c.args.offsets.now)) (g.D.Disk.faults (disk_of c.opened.new.store)) (g.D.Disk.faults (disk_of c.run.new.store)) c.opened.ensures.store_later c.run.ensures.store_later
+
+pub returns-clause-store_comes : goal.returns-clause-store_comes
+returns-clause-store_comes g c gate most come = c.run.ensures.store_comes gate most (c.opened.ensures.store_comes gate most come)
+
+pub run-requires-clause-report : goal.run-requires-clause-report
+run-requires-clause-report g c = (c.opened.ensures.report.0, c.opened.ensures.report.1)
+
+pub run-requires-clause-number : goal.run-requires-clause-number
+run-requires-clause-number g c = c.in_ok-work.ensures.begun.2.unread
+
+pub run-requires-clause-budget : goal.run-requires-clause-budget
+run-requires-clause-budget g c = c.requires.config.messages.1
+
+pub returns-in_err-work-clause-commits : goal.returns-in_err-work-clause-commits
+returns-in_err-work-clause-commits g c =
+    let messages : c.opened.new.report.messages ≡ 0 = c.opened.ensures.report.0 in
+    let commits : c.opened.new.report.commits ≡ 0 = c.opened.ensures.report.1 in
+    omega (arith, messages, commits)
+
+pub returns-in_err-work-clause-bounded : goal.returns-in_err-work-clause-bounded
+returns-in_err-work-clause-bounded g c =
+    let messages : c.opened.new.report.messages ≡ 0 = c.opened.ensures.report.0 in
+    omega (arith, messages)

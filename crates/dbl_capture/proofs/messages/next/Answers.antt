@@ -1,0 +1,164 @@
+use Rattle.std.proofs.Common.{◌∙◌, ◌<◌, inl, Some, None, Option, refl, sym, ap, subst, arith}
+use Rattle.std.specs.Prelude.{IfSome, All, is_none}
+use Rattle.std.proofs.lemmas.Result.{err_from_is_err_and}
+use Rattle.dbl_table.specs.declared.change.Commit.{Commit}
+use Rattle.dbl_table.specs.Rows.{changes_of}
+use Rattle.dbl_history.specs.FitsInfos.{FitsInfos}
+use Rattle.dbl_work.specs.declared.work.Work.{Work}
+use Rattle.dbl_work.specs.Takes.{WasTaken}
+use Rattle.dbl_exits.specs.Sessions.{standing_at}
+use Rattle.dbl_capture.proofs.Causes.{OfNone, OfSink, OfSource, err_at, follow_of, residual_of, source_of, taken_of, residual_is, residual_source}
+use Rattle.dbl_exits.proofs.Keeping.{moved_on, on_err}
+use Rattle.dbl_exits.proofs.Nexts.{none_read, read_whole, some_read, step_fails, stepped_on, taken_on}
+use Rattle.dbl_capture.proofs.Reporting.{counted_fault, counted_none, counted_put, counted_torn}
+use Rattle.dbl_exits.proofs.Settles.{follow_fails}
+use Rattle.dbl_exits.proofs.Taken.{stepped_next, stepped_ready, stepped_since, taken_next, taken_ready}
+use Rattle.dbl_capture.proofs.messages.next.Goals as goal
+
+pub returns-in_err-bytes-clause-left : goal.returns-in_err-bytes-clause-left
+returns-in_err-bytes-clause-left g c tell entry s honest = on_err _ _ (follow_fails s _ _ c.read.new.self (λ left is. c.read.ensures.left (standing_at s.stage) left s.source_is is) (λ left is. g.met.S.Source.fit _ left is honest) (λ t groups is. g.met.K.Sink.only _ s.stage.groups groups (s.sink_is t) is) (c.read.ensures.some (standing_at s.stage) s.source_is) (λ t. (s.stage.groups, g.met.K.Sink.may _ s.stage.groups (s.sink_is t))))
+
+pub returns-in_err-commit-in-Some-clause-left : goal.returns-in_err-commit-in-Some-clause-left
+returns-in_err-commit-in-Some-clause-left g c tell entry s honest = on_err _ _ (follow_fails s _ _ c.read.new.self (λ left is. c.read.ensures.left (standing_at s.stage) left s.source_is is) (λ left is. g.met.S.Source.fit _ left is honest) (λ t groups is. g.met.K.Sink.only _ s.stage.groups groups (s.sink_is t) is) (c.read.ensures.some (standing_at s.stage) s.source_is) (λ t. (s.stage.groups, g.met.K.Sink.may _ s.stage.groups (s.sink_is t))))
+
+pub returns-clause-next : goal.returns-clause-next
+returns-clause-next g c tell entry s honest =
+    let T = none_read _ _ _ c.in-None.is (c.in_ok-bytes.ensures.took (standing_at s.stage) s.source_is) in
+    moved_on s c.read.new.self T.standing T.is T.holds.0 (g.met.S.Source.fit _ _ (g.met.S.Source.may _ T.standing T.is) honest)
+
+pub returns-clause-whole : goal.returns-clause-whole
+returns-clause-whole g c tell entry s honest is =
+    let T = none_read _ _ _ c.in-None.is (c.in_ok-bytes.ensures.took (standing_at s.stage) s.source_is) in
+    read_whole s T.standing T.holds.0 (T.holds.1 honest) (λ r at. g.met.S.Source.right _ T.standing r T.is honest at) (g.met.S.Source.fit _ _ (g.met.S.Source.may _ T.standing T.is) honest) c.read.new.self T.is
+
+pub returns-in_err-closed-in-Some-2-clause-left : goal.returns-in_err-closed-in-Some-2-clause-left
+returns-in_err-closed-in-Some-2-clause-left g c tell entry s honest =
+    let T = some_read _ _ _ _ c.in-Some.is (c.in_ok-bytes.ensures.took (standing_at s.stage) s.source_is) in
+    on_err _ _
+    (step_fails s T.0 T.2.standing T.2.holds (g.met.S.Source.fit _ _ (g.met.S.Source.may _ T.2.standing T.2.is) honest) (λ r at. g.met.S.Source.right _ T.2.standing r T.2.is honest at) c.in-Some.bytes T.1 c.taken.new.work (Some c.in-Some-2.commit) (subst (WasTaken s.stage.first.lsn s.stage.messages c.in-Some.bytes c.args.work.now c.taken.new.work) c.in-Some-2.is (c.in_ok-commit-in-Some.ensures.taken s.stage.first.lsn s.stage.messages s.work_is.is)) c.in-Some-2.commit refl c.requires.time c.requires.since _ _ c.read.new.self c.follow.new.sink
+    (λ left is. g.met.S.Source.only _ T.2.standing left T.2.is is) (λ left is. c.read.ensures.left (standing_at s.stage) left s.source_is is) (λ left is. g.met.S.Source.fit _ left is honest)
+    (λ t groups is. c.follow.ensures.left s.stage.groups groups (s.sink_is t) is) (c.read.ensures.some (standing_at s.stage) s.source_is) (λ t. c.follow.ensures.some s.stage.groups (s.sink_is t)))
+
+pub returns-in-Some-2-clause-next : goal.returns-in-Some-2-clause-next
+returns-in-Some-2-clause-next g c tell entry s honest =
+    let T = some_read _ _ _ _ c.in-Some.is (c.in_ok-bytes.ensures.took (standing_at s.stage) s.source_is) in
+    stepped_on s T.0 T.2.standing T.2.holds (g.met.S.Source.fit _ _ (g.met.S.Source.may _ T.2.standing T.2.is) honest) (λ r at. g.met.S.Source.right _ T.2.standing r T.2.is honest at) c.in-Some.bytes T.1 c.taken.new.work (Some c.in-Some-2.commit) (subst (WasTaken s.stage.first.lsn s.stage.messages c.in-Some.bytes c.args.work.now c.taken.new.work) c.in-Some-2.is (c.in_ok-commit-in-Some.ensures.taken s.stage.first.lsn s.stage.messages s.work_is.is)) c.in-Some-2.commit refl c.requires.time c.requires.since c.follow.new.work c.in_ok-closed-in-Some-2.ensures.stepped c.in_ok-closed-in-Some-2.ensures.long c.read.new.self c.follow.new.sink T.2.is
+    (λ t. c.in_ok-closed-in-Some-2.ensures.put s.stage.groups (s.sink_is t))
+
+pub returns-in-Some-clause-next : goal.returns-in-Some-clause-next
+returns-in-Some-clause-next g c tell entry s honest =
+    let T = some_read _ _ _ _ c.in-Some.is (c.in_ok-bytes.ensures.took (standing_at s.stage) s.source_is) in
+    taken_on s T.0 T.2.standing T.2.holds (g.met.S.Source.fit _ _ (g.met.S.Source.may _ T.2.standing T.2.is) honest) (λ r at. g.met.S.Source.right _ T.2.standing r T.2.is honest at) c.in-Some.bytes T.1 c.taken.new.work None (subst (WasTaken s.stage.first.lsn s.stage.messages c.in-Some.bytes c.args.work.now c.taken.new.work) c.in-None-2.is (c.in_ok-commit-in-Some.ensures.taken s.stage.first.lsn s.stage.messages s.work_is.is)) refl c.read.new.self T.2.is
+
+pub returns-in-Some-2-clause-ready : goal.returns-in-Some-2-clause-ready
+returns-in-Some-2-clause-ready g c = stepped_ready c.requires.ready.after c.requires.ready.messages c.in-Some.bytes c.in-Some-2.commit c.args.work.now c.taken.new.work c.follow.new.work c.requires.ready.is (subst (WasTaken c.requires.ready.after c.requires.ready.messages c.in-Some.bytes c.args.work.now c.taken.new.work) c.in-Some-2.is (c.in_ok-commit-in-Some.ensures.taken c.requires.ready.after c.requires.ready.messages c.requires.ready.is)) c.in_ok-closed-in-Some-2.ensures.stepped c.in_ok-closed-in-Some-2.ensures.long
+
+pub returns-in-Some-clause-ready : goal.returns-in-Some-clause-ready
+returns-in-Some-clause-ready g c = taken_ready c.requires.ready.after c.requires.ready.messages c.in-Some.bytes c.args.work.now c.taken.new.work c.requires.ready.is (subst (WasTaken c.requires.ready.after c.requires.ready.messages c.in-Some.bytes c.args.work.now c.taken.new.work) c.in-None-2.is (c.in_ok-commit-in-Some.ensures.taken c.requires.ready.after c.requires.ready.messages c.requires.ready.is))
+
+pub returns-clause-is_next : goal.returns-clause-is_next
+returns-clause-is_next g c = record { offset_is = refl; number_is = refl; every_is = refl; now_is = refl }
+
+pub returns-in-Some-clause-is_next : goal.returns-in-Some-clause-is_next
+returns-in-Some-clause-is_next g c = taken_next c.args.work.now c.taken.new.work c.taken.ensures.same
+
+pub returns-in-Some-2-clause-is_next : goal.returns-in-Some-2-clause-is_next
+returns-in-Some-2-clause-is_next g c = stepped_next c.in-Some-2.commit c.args.work.now c.taken.new.work c.follow.new.work c.taken.ensures.same c.in_ok-closed-in-Some-2.ensures.stepped
+
+pub returns-in-Some-2-clause-due : goal.returns-in-Some-2-clause-due
+returns-in-Some-2-clause-due g c = c.is_due.ensures
+
+pub returns-in-Some-clause-due : goal.returns-in-Some-clause-due
+returns-in-Some-clause-due g c = inl (refl, subst (λ (w : Work). w.since < w.every) (sym c.taken.ensures.same) c.requires.since)
+
+pub is_due-requires : goal.is_due-requires
+is_due-requires g c = stepped_since c.in-Some-2.commit c.args.work.now c.taken.new.work c.follow.new.work c.taken.ensures.same c.in_ok-closed-in-Some-2.ensures.stepped c.requires.since
+
+pub follow-requires-clause-since : goal.follow-requires-clause-since
+follow-requires-clause-since g c = subst (λ (w : Work). w.since < w.every) (sym c.taken.ensures.same) c.requires.since
+
+pub follow-requires-clause-fits : goal.follow-requires-clause-fits
+follow-requires-clause-fits g c = subst (λ (o : Option Commit). IfSome o (λ x. All (FitsInfos c.taken.new.work.follower.infos) (changes_of x))) c.in-Some-2.is c.in_ok-commit-in-Some.ensures.fits
+
+pub returns-in_err-bytes-clause-sink : goal.returns-in_err-bytes-clause-sink
+returns-in_err-bytes-clause-sink g c is = absurd (err_at c.from_residual.result _ OfSource (residual_of c.from_residual.result _ OfSource c.from_residual.ensures.1 (source_of c.in_err-bytes.field-0.0)) is)
+
+pub returns-in_err-bytes-clause-offsets : goal.returns-in_err-bytes-clause-offsets
+returns-in_err-bytes-clause-offsets g c is = err_at c.from_residual.result _ OfSource (residual_of c.from_residual.result _ OfSource c.from_residual.ensures.1 (source_of c.in_err-bytes.field-0.0)) is
+
+pub returns-in_err-commit-in-Some-clause-source : goal.returns-in_err-commit-in-Some-clause-source
+returns-in_err-commit-in-Some-clause-source g c is = absurd (err_at c.from_residual-in_err-commit-in-Some.result _ OfNone (residual_of c.from_residual-in_err-commit-in-Some.result _ OfNone c.from_residual-in_err-commit-in-Some.ensures.1 (taken_of _ c.requires.ready.after c.requires.ready.messages c.in-Some.bytes c.args.work.now _ (c.in_err-commit-in-Some.ensures.halt c.requires.ready.after c.requires.ready.messages c.requires.ready.is))) is)
+
+pub returns-in_err-commit-in-Some-clause-sink : goal.returns-in_err-commit-in-Some-clause-sink
+returns-in_err-commit-in-Some-clause-sink g c is = absurd (err_at c.from_residual-in_err-commit-in-Some.result _ OfNone (residual_of c.from_residual-in_err-commit-in-Some.result _ OfNone c.from_residual-in_err-commit-in-Some.ensures.1 (taken_of _ c.requires.ready.after c.requires.ready.messages c.in-Some.bytes c.args.work.now _ (c.in_err-commit-in-Some.ensures.halt c.requires.ready.after c.requires.ready.messages c.requires.ready.is))) is)
+
+pub returns-in_err-commit-in-Some-clause-offsets : goal.returns-in_err-commit-in-Some-clause-offsets
+returns-in_err-commit-in-Some-clause-offsets g c is = err_at c.from_residual-in_err-commit-in-Some.result _ OfNone (residual_of c.from_residual-in_err-commit-in-Some.result _ OfNone c.from_residual-in_err-commit-in-Some.ensures.1 (taken_of _ c.requires.ready.after c.requires.ready.messages c.in-Some.bytes c.args.work.now _ (c.in_err-commit-in-Some.ensures.halt c.requires.ready.after c.requires.ready.messages c.requires.ready.is))) is
+
+pub returns-in_err-closed-in-Some-2-clause-source : goal.returns-in_err-closed-in-Some-2-clause-source
+returns-in_err-closed-in-Some-2-clause-source g c is = absurd (err_at c.from_residual-in_err-closed-in-Some-2.result _ OfSink (residual_of c.from_residual-in_err-closed-in-Some-2.result _ OfSink c.from_residual-in_err-closed-in-Some-2.ensures.1 (follow_of _ _ _ c.in_err-closed-in-Some-2.ensures.halt)) is)
+
+pub returns-in_err-closed-in-Some-2-clause-offsets : goal.returns-in_err-closed-in-Some-2-clause-offsets
+returns-in_err-closed-in-Some-2-clause-offsets g c is = err_at c.from_residual-in_err-closed-in-Some-2.result _ OfSink (residual_of c.from_residual-in_err-closed-in-Some-2.result _ OfSink c.from_residual-in_err-closed-in-Some-2.ensures.1 (follow_of _ _ _ c.in_err-closed-in-Some-2.ensures.halt)) is
+
+-- ---- counts, and what no call undoes
+
+pub returns-in_err-bytes-clause-source : goal.returns-in_err-bytes-clause-source
+returns-in_err-bytes-clause-source g c is = c.read.ensures.failed (residual_source c.from_residual.result c.read.result _ c.in_err-bytes.was c.from_residual.ensures.1 is)
+
+pub returns-in_err-bytes-clause-sink_comes : goal.returns-in_err-bytes-clause-sink_comes
+returns-in_err-bytes-clause-sink_comes g c = g.met.K.Sink.comes_self _
+
+pub returns-clause-sink_comes : goal.returns-clause-sink_comes
+returns-clause-sink_comes g c = g.met.K.Sink.comes_self _
+
+pub returns-in_err-commit-in-Some-clause-sink_comes : goal.returns-in_err-commit-in-Some-clause-sink_comes
+returns-in_err-commit-in-Some-clause-sink_comes g c = g.met.K.Sink.comes_self _
+
+pub returns-in-Some-clause-sink_comes : goal.returns-in-Some-clause-sink_comes
+returns-in-Some-clause-sink_comes g c = g.met.K.Sink.comes_self _
+
+pub returns-in_err-closed-in-Some-2-clause-sink : goal.returns-in_err-closed-in-Some-2-clause-sink
+returns-in_err-closed-in-Some-2-clause-sink g c is = c.follow.ensures.failed (residual_is c.from_residual-in_err-closed-in-Some-2.result c.follow.result _ _ c.in_err-closed-in-Some-2.was c.from_residual-in_err-closed-in-Some-2.ensures.1 is)
+
+pub returns-clause-ended : goal.returns-clause-ended
+returns-clause-ended g c is = c.in_ok-bytes.ensures.ended ∙ ap is_none c.in-None.is
+
+pub returns-in_err-bytes-clause-counts : goal.returns-in_err-bytes-clause-counts
+returns-in_err-bytes-clause-counts g c =
+    let p = err_from_is_err_and c.from_residual.result c.from_residual.ensures.1 in
+    counted_none c.from_residual.result p.0 c.args.report.now p.1
+
+pub returns-in_err-commit-in-Some-clause-counts : goal.returns-in_err-commit-in-Some-clause-counts
+returns-in_err-commit-in-Some-clause-counts g c =
+    let p = err_from_is_err_and c.from_residual-in_err-commit-in-Some.result c.from_residual-in_err-commit-in-Some.ensures.1 in
+    counted_fault c.from_residual-in_err-commit-in-Some.result p.0 c.args.report.now p.1
+
+pub returns-in_err-closed-in-Some-2-clause-counts : goal.returns-in_err-closed-in-Some-2-clause-counts
+returns-in_err-closed-in-Some-2-clause-counts g c =
+    let p = err_from_is_err_and c.from_residual-in_err-closed-in-Some-2.result c.from_residual-in_err-closed-in-Some-2.ensures.1 in
+    counted_torn c.from_residual-in_err-closed-in-Some-2.result p.0 c.in-Some-2.commit c.taken.new.work c.args.report.now c.follow.new.report p.1 c.in_err-closed-in-Some-2.ensures.noted
+
+pub returns-in-Some-2-clause-counts : goal.returns-in-Some-2-clause-counts
+returns-in-Some-2-clause-counts g c = counted_put c.is_due.result c.in-Some-2.commit c.taken.new.work c.args.report.now c.follow.new.report c.in_ok-closed-in-Some-2.ensures.noted
+
+pub returns-in_err-bytes-clause-never : goal.returns-in_err-bytes-clause-never
+returns-in_err-bytes-clause-never g c value at is = err_at c.from_residual.result _ OfSource (residual_of c.from_residual.result _ OfSource c.from_residual.ensures.1 (source_of c.in_err-bytes.field-0.0)) is
+
+pub returns-in_err-commit-in-Some-clause-never : goal.returns-in_err-commit-in-Some-clause-never
+returns-in_err-commit-in-Some-clause-never g c value at is = err_at c.from_residual-in_err-commit-in-Some.result _ OfNone (residual_of c.from_residual-in_err-commit-in-Some.result _ OfNone c.from_residual-in_err-commit-in-Some.ensures.1 (taken_of _ c.requires.ready.after c.requires.ready.messages c.in-Some.bytes c.args.work.now _ (c.in_err-commit-in-Some.ensures.halt c.requires.ready.after c.requires.ready.messages c.requires.ready.is))) is
+
+pub returns-in_err-closed-in-Some-2-clause-never : goal.returns-in_err-closed-in-Some-2-clause-never
+returns-in_err-closed-in-Some-2-clause-never g c value at is = err_at c.from_residual-in_err-closed-in-Some-2.result _ OfSink (residual_of c.from_residual-in_err-closed-in-Some-2.result _ OfSink c.from_residual-in_err-closed-in-Some-2.ensures.1 (follow_of _ _ _ c.in_err-closed-in-Some-2.ensures.halt)) is
+
+pub returns-in-Some-2-clause-never : goal.returns-in-Some-2-clause-never
+returns-in-Some-2-clause-never g c value at is = cc
+
+pub returns-in-Some-clause-never : goal.returns-in-Some-clause-never
+returns-in-Some-clause-never g c value at is = cc
+
+pub returns-clause-never : goal.returns-clause-never
+returns-clause-never g c value at is = cc
+
+pub follow-requires-clause-commits : goal.follow-requires-clause-commits
+follow-requires-clause-commits g c = omega (arith, c.requires.commits, c.requires.messages)

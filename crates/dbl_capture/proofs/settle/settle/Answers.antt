@@ -1,0 +1,120 @@
+use Rattle.std.proofs.Common.{◌≡◌, ◌∙◌, ◌⊎◌, Some, subst, inl, inr, refl, ap}
+use Rattle.dbl_honest.specs.Calls.{IsConfirmed}
+use Rattle.dbl_honest.specs.Leaves.{MayFollowConfirm}
+use Rattle.dbl_offset.specs.declared.offset.Offset.{Offset}
+use Rattle.dbl_offset.specs.Stores.{Holds, LeavesOffset, disk_of}
+use Rattle.std.proofs.lemmas.Result.{err_from_is_err_and}
+use Rattle.dbl_work.specs.declared.halt.Halt.TheVariants as halt
+use Rattle.dbl_capture.proofs.Reporting.{report_err}
+use Rattle.dbl_capture.proofs.Causes.{OfNone, OfSource, OfStore, err_at, residual_is, residual_of, residual_source, source_of, store_of}
+use Rattle.dbl_exits.specs.Sessions.{standing_at}
+use Rattle.dbl_exits.proofs.Keeping.{on_err, rests, some_chunk}
+use Rattle.dbl_exits.proofs.Settles.{settled_on, settled_whole, settle_fails, store_fails}
+use Rattle.dbl_capture.proofs.settle.settle.Goals as goal
+
+-- nothing was asked of the three yet
+pub returns-in_err-offset-clause-left : goal.returns-in_err-offset-clause-left
+returns-in_err-offset-clause-left g c tell entry s honest =
+    on_err _ _ (rests s _ _ _ (g.met.S.Source.only _) (g.met.S.Source.may _) (g.met.K.Sink.only _) (g.met.K.Sink.may _) honest (λ h l is. g.met.S.Source.fit _ l is h) (some_chunk s))
+
+-- the store failed
+pub returns-in_err-put_offset-clause-left : goal.returns-in_err-put_offset-clause-left
+returns-in_err-put_offset-clause-left g c tell entry s honest =
+    on_err _ _
+    (store_fails s _ _ c.put_offset.new.store _
+    (λ t. subst (λ (o : Offset). LeavesOffset g.D.Disk.may_leave (disk_of c.put_offset.new.store) (λ left. (left ≡ Some s.stage.stored) ⊎ (left ≡ Some o))) c.in_ok-offset.ensures.next (c.put_offset.ensures.left (Some s.stage.stored) (s.store_is t)))
+    (g.met.S.Source.only _) (g.met.S.Source.may _) honest (λ h l is. g.met.S.Source.fit _ l is h)
+    (λ t groups is. g.met.K.Sink.only _ s.stage.groups groups (s.sink_is t) is) (λ t. (s.stage.groups, g.met.K.Sink.may _ s.stage.groups (s.sink_is t))))
+
+-- the confirm behind it failed
+pub returns-in_err-confirm-clause-left : goal.returns-in_err-confirm-clause-left
+returns-in_err-confirm-clause-left g c tell entry s honest =
+    on_err _ _
+    (settle_fails s _ _ c.confirm.new.self c.put_offset.new.store
+    (λ t. subst (λ (o : Offset). Holds g.D.Disk.seen g.D.Disk.may_leave c.put_offset.new.store (Some o)) c.in_ok-offset.ensures.next (c.in_ok-put_offset.ensures.stored (Some s.stage.stored) (s.store_is t)))
+    (λ left is. subst (λ (o : Offset). MayFollowConfirm o.lsn (standing_at s.stage) left) c.in_ok-offset.ensures.next (c.confirm.ensures.left (standing_at s.stage) left s.source_is is))
+    (λ left is. g.met.S.Source.fit _ left is honest)
+    (λ t groups is. g.met.K.Sink.only _ s.stage.groups groups (s.sink_is t) is)
+    (c.confirm.ensures.some (standing_at s.stage) s.source_is) (λ t. (s.stage.groups, g.met.K.Sink.may _ s.stage.groups (s.sink_is t))))
+
+-- both were answered
+pub returns-clause-settled : goal.returns-clause-settled
+returns-clause-settled g c tell entry s honest =
+    let stood = c.in_ok-confirm.ensures.confirmed (standing_at s.stage) s.source_is in
+    settled_on s c.confirm.new.self c.put_offset.new.store stood.standing
+    (λ t. subst (λ (o : Offset). Holds g.D.Disk.seen g.D.Disk.may_leave c.put_offset.new.store (Some o)) c.in_ok-offset.ensures.next (c.in_ok-put_offset.ensures.stored (Some s.stage.stored) (s.store_is t)))
+    stood.is (subst (λ (o : Offset). IsConfirmed o.lsn (standing_at s.stage) stood.standing) c.in_ok-offset.ensures.next stood.holds)
+    (g.met.S.Source.fit _ _ (g.met.S.Source.may _ stood.standing stood.is) honest)
+
+pub returns-clause-whole : goal.returns-clause-whole
+returns-clause-whole g c tell entry h honest =
+    let stood = c.in_ok-confirm.ensures.confirmed (standing_at h.is.stage) h.is.source_is in
+    settled_whole h c.confirm.new.self c.put_offset.new.store stood.standing
+    (λ t. subst (λ (o : Offset). Holds g.D.Disk.seen g.D.Disk.may_leave c.put_offset.new.store (Some o)) c.in_ok-offset.ensures.next (c.in_ok-put_offset.ensures.stored (Some h.is.stage.stored) (h.is.store_is t)))
+    stood.is (subst (λ (o : Offset). IsConfirmed o.lsn (standing_at h.is.stage) stood.standing) c.in_ok-offset.ensures.next stood.holds)
+    (g.met.S.Source.fit _ _ (g.met.S.Source.may _ stood.standing stood.is) honest)
+
+-- ---- counts, and what no call undoes
+
+pub returns-in_err-offset-clause-source_comes : goal.returns-in_err-offset-clause-source_comes
+returns-in_err-offset-clause-source_comes g c = g.met.S.Source.comes_self _
+
+pub returns-in_err-put_offset-clause-source_comes : goal.returns-in_err-put_offset-clause-source_comes
+returns-in_err-put_offset-clause-source_comes g c = g.met.S.Source.comes_self _
+
+pub returns-in_err-offset-clause-source : goal.returns-in_err-offset-clause-source
+returns-in_err-offset-clause-source g c is = absurd (err_at c.from_residual.result _ OfNone (residual_of c.from_residual.result halt.Memory OfNone c.from_residual.ensures.1 tt) is)
+
+pub returns-in_err-offset-clause-sink : goal.returns-in_err-offset-clause-sink
+returns-in_err-offset-clause-sink g c is = err_at c.from_residual.result _ OfNone (residual_of c.from_residual.result halt.Memory OfNone c.from_residual.ensures.1 tt) is
+
+pub returns-in_err-offset-clause-offsets : goal.returns-in_err-offset-clause-offsets
+returns-in_err-offset-clause-offsets g c is = absurd (err_at c.from_residual.result _ OfNone (residual_of c.from_residual.result halt.Memory OfNone c.from_residual.ensures.1 tt) is)
+
+pub returns-in_err-offset-clause-report : goal.returns-in_err-offset-clause-report
+returns-in_err-offset-clause-report g c =
+    let p = err_from_is_err_and c.from_residual.result c.from_residual.ensures.1 in
+    report_err c.from_residual.result p.0 c.args.store.now.offset c.args.store.now.offset c.args.work.now c.args.report.now c.args.report.now p.1 (inl (refl, refl))
+
+pub returns-in_err-put_offset-clause-source : goal.returns-in_err-put_offset-clause-source
+returns-in_err-put_offset-clause-source g c is = absurd (err_at c.from_residual-in_err-put_offset.result _ OfStore (residual_of c.from_residual-in_err-put_offset.result _ OfStore c.from_residual-in_err-put_offset.ensures.1 (store_of _ _ c.in_err-put_offset.ensures.halt)) is)
+
+pub returns-in_err-put_offset-clause-sink : goal.returns-in_err-put_offset-clause-sink
+returns-in_err-put_offset-clause-sink g c is = err_at c.from_residual-in_err-put_offset.result _ OfStore (residual_of c.from_residual-in_err-put_offset.result _ OfStore c.from_residual-in_err-put_offset.ensures.1 (store_of _ _ c.in_err-put_offset.ensures.halt)) is
+
+pub returns-in_err-put_offset-clause-offsets : goal.returns-in_err-put_offset-clause-offsets
+returns-in_err-put_offset-clause-offsets g c is = c.put_offset.ensures.failed (residual_is c.from_residual-in_err-put_offset.result c.put_offset.result _ _ c.in_err-put_offset.was c.from_residual-in_err-put_offset.ensures.1 is)
+
+pub returns-in_err-put_offset-clause-report : goal.returns-in_err-put_offset-clause-report
+returns-in_err-put_offset-clause-report g c =
+    let p = err_from_is_err_and c.from_residual-in_err-put_offset.result c.from_residual-in_err-put_offset.ensures.1 in
+    report_err c.from_residual-in_err-put_offset.result p.0 c.args.store.now.offset c.put_offset.new.store.offset c.args.work.now c.args.report.now c.args.report.now p.1 (inl (c.in_err-put_offset.ensures.keeps, refl))
+
+pub returns-in_err-confirm-clause-source : goal.returns-in_err-confirm-clause-source
+returns-in_err-confirm-clause-source g c is = c.confirm.ensures.failed (residual_source c.from_residual-in_err-confirm.result c.confirm.result _ c.in_err-confirm.was c.from_residual-in_err-confirm.ensures.1 is)
+
+pub returns-in_err-confirm-clause-sink : goal.returns-in_err-confirm-clause-sink
+returns-in_err-confirm-clause-sink g c is = err_at c.from_residual-in_err-confirm.result _ OfSource (residual_of c.from_residual-in_err-confirm.result _ OfSource c.from_residual-in_err-confirm.ensures.1 (source_of c.in_err-confirm.field-0.0)) is
+
+pub returns-in_err-confirm-clause-offsets : goal.returns-in_err-confirm-clause-offsets
+returns-in_err-confirm-clause-offsets g c is = absurd (err_at c.from_residual-in_err-confirm.result _ OfSource (residual_of c.from_residual-in_err-confirm.result _ OfSource c.from_residual-in_err-confirm.ensures.1 (source_of c.in_err-confirm.field-0.0)) is)
+
+pub returns-in_err-confirm-clause-report : goal.returns-in_err-confirm-clause-report
+returns-in_err-confirm-clause-report g c =
+    let p = err_from_is_err_and c.from_residual-in_err-confirm.result c.from_residual-in_err-confirm.ensures.1 in
+    report_err c.from_residual-in_err-confirm.result p.0 c.args.store.now.offset c.put_offset.new.store.offset c.args.work.now c.args.report.now (record c.args.report.now { position = c.in_ok-offset.offset.lsn.0 }) p.1 (inr (c.in_ok-put_offset.ensures.loads ∙ ap (λ (o : Offset). Some o) c.in_ok-offset.ensures.next, ap (λ (o : Offset). record c.args.report.now { position = o.lsn.0 }) c.in_ok-offset.ensures.next))
+
+pub returns-clause-report : goal.returns-clause-report
+returns-clause-report g c = (c.in_ok-put_offset.ensures.loads ∙ ap (λ (o : Offset). Some o) c.in_ok-offset.ensures.next, ap (λ (o : Offset). record c.args.report.now { position = o.lsn.0 }) c.in_ok-offset.ensures.next)
+
+pub returns-in_err-offset-clause-never : goal.returns-in_err-offset-clause-never
+returns-in_err-offset-clause-never g c value at is = err_at c.from_residual.result _ OfNone (residual_of c.from_residual.result halt.Memory OfNone c.from_residual.ensures.1 tt) is
+
+pub returns-in_err-put_offset-clause-never : goal.returns-in_err-put_offset-clause-never
+returns-in_err-put_offset-clause-never g c value at is = err_at c.from_residual-in_err-put_offset.result _ OfStore (residual_of c.from_residual-in_err-put_offset.result _ OfStore c.from_residual-in_err-put_offset.ensures.1 (store_of _ _ c.in_err-put_offset.ensures.halt)) is
+
+pub returns-in_err-confirm-clause-never : goal.returns-in_err-confirm-clause-never
+returns-in_err-confirm-clause-never g c value at is = err_at c.from_residual-in_err-confirm.result _ OfSource (residual_of c.from_residual-in_err-confirm.result _ OfSource c.from_residual-in_err-confirm.ensures.1 (source_of c.in_err-confirm.field-0.0)) is
+
+pub returns-clause-never : goal.returns-clause-never
+returns-clause-never g c value at is = cc

@@ -1,0 +1,33 @@
+use Rattle.std.proofs.Common.{sym}
+use Rattle.dbl_exits.proofs.Keeping.{ok_then}
+use Rattle.dbl_exits.proofs.Turning.{armed_next, none_waits, open_table, rested_next}
+use Rattle.dbl_capture.proofs.turns.arm_next.Goals as goal
+
+pub arm-requires-clause-absent : goal.arm-requires-clause-absent
+arm-requires-clause-absent g c = none_waits c.args.work.now c.args.work.now.follower.window c.in-Some.table (sym c.in-Some.ensures)
+
+pub arm-requires-clause-table : goal.arm-requires-clause-table
+arm-requires-clause-table g c = open_table c.args.work.now c.in-Some.table (sym c.in-Some.ensures)
+
+pub returns-in-Some-clause-waits : goal.returns-in-Some-clause-waits
+returns-in-Some-clause-waits g c = ok_then c.arm.result _ _ c.arm.ensures.same (λ armed. armed_next c.args.work.now c.arm.new.work c.in-Some.table c.requires.ready (sym c.in-Some.ensures) armed)
+
+pub returns-in-None-clause-waits : goal.returns-in-None-clause-waits
+returns-in-None-clause-waits g c = rested_next c.args.work.now c.requires.ready (sym c.in-None.ensures)
+
+pub returns-in-Some-clause-armed : goal.returns-in-Some-clause-armed
+returns-in-Some-clause-armed g c = c.arm.ensures.armed
+
+pub returns-in-Some-clause-left : goal.returns-in-Some-clause-left
+returns-in-Some-clause-left g c = c.arm.ensures.left
+
+-- ---- counts, and what no call undoes
+
+pub returns-in-None-clause-comes : goal.returns-in-None-clause-comes
+returns-in-None-clause-comes g c = g.met.S.Source.comes_self _
+
+pub returns-in-Some-clause-never : goal.returns-in-Some-clause-never
+returns-in-Some-clause-never g c = c.arm.ensures.never
+
+pub returns-in-None-clause-never : goal.returns-in-None-clause-never
+returns-in-None-clause-never g c value at is = cc

@@ -1,0 +1,48 @@
+use Rattle.std.proofs.Common.{inl, refl}
+use Rattle.std.proofs.lemmas.Result.{err_from_is_err_and}
+use Rattle.dbl_work.specs.declared.halt.Halt.TheVariants as halt
+use Rattle.dbl_capture.proofs.Reporting.{report_err}
+use Rattle.dbl_capture.proofs.Causes.{OfNone, err_at, residual_of}
+use Rattle.dbl_exits.proofs.Keeping.{on_err, on_ok, rests, some_chunk}
+use Rattle.dbl_exits.proofs.Turning.{not_awaited}
+use Rattle.dbl_capture.proofs.turns.end.Goals as goal
+
+pub returns-in_err-copy-in-Some-clause-left : goal.returns-in_err-copy-in-Some-clause-left
+returns-in_err-copy-in-Some-clause-left g c tell entry s honest = on_err _ _ (rests s _ _ _ (g.met.S.Source.only _) (g.met.S.Source.may _) (g.met.K.Sink.only _) (g.met.K.Sink.may _) honest (λ h l is. g.met.S.Source.fit _ l is h) (some_chunk s))
+
+pub returns-in_ok-copy-in-Some-clause-left : goal.returns-in_ok-copy-in-Some-clause-left
+returns-in_ok-copy-in-Some-clause-left g c tell entry s honest = rests s _ _ _ (g.met.S.Source.only _) (g.met.S.Source.may _) (g.met.K.Sink.only _) (g.met.K.Sink.may _) honest (λ h l is. g.met.S.Source.fit _ l is h) (some_chunk s)
+
+pub returns-in_ok-copy-in-Some-clause-report : goal.returns-in_ok-copy-in-Some-clause-report
+returns-in_ok-copy-in-Some-clause-report g c = inl (refl, refl)
+
+pub returns-in-None-clause-waited : goal.returns-in-None-clause-waited
+returns-in-None-clause-waited g c = on_ok _ _ (not_awaited c.args.work.now.follower.window c.in-None.ensures.text)
+
+pub returns-in-None-clause-ended : goal.returns-in-None-clause-ended
+returns-in-None-clause-ended g c = c.settle.ensures.whole
+
+pub returns-in-None-clause-left : goal.returns-in-None-clause-left
+returns-in-None-clause-left g c = c.settle.ensures.left
+
+-- ---- counts, and what no call undoes
+
+pub returns-in_err-copy-in-Some-clause-source_comes : goal.returns-in_err-copy-in-Some-clause-source_comes
+returns-in_err-copy-in-Some-clause-source_comes g c = g.met.S.Source.comes_self _
+
+pub returns-in_ok-copy-in-Some-clause-source_comes : goal.returns-in_ok-copy-in-Some-clause-source_comes
+returns-in_ok-copy-in-Some-clause-source_comes g c = g.met.S.Source.comes_self _
+
+pub returns-in_err-copy-in-Some-clause-source : goal.returns-in_err-copy-in-Some-clause-source
+returns-in_err-copy-in-Some-clause-source g c is = absurd (err_at c.from_residual.result _ OfNone (residual_of c.from_residual.result halt.Memory OfNone c.from_residual.ensures.1 tt) is)
+
+pub returns-in_err-copy-in-Some-clause-sink : goal.returns-in_err-copy-in-Some-clause-sink
+returns-in_err-copy-in-Some-clause-sink g c is = err_at c.from_residual.result _ OfNone (residual_of c.from_residual.result halt.Memory OfNone c.from_residual.ensures.1 tt) is
+
+pub returns-in_err-copy-in-Some-clause-offsets : goal.returns-in_err-copy-in-Some-clause-offsets
+returns-in_err-copy-in-Some-clause-offsets g c is = absurd (err_at c.from_residual.result _ OfNone (residual_of c.from_residual.result halt.Memory OfNone c.from_residual.ensures.1 tt) is)
+
+pub returns-in_err-copy-in-Some-clause-report : goal.returns-in_err-copy-in-Some-clause-report
+returns-in_err-copy-in-Some-clause-report g c =
+    let p = err_from_is_err_and c.from_residual.result c.from_residual.ensures.1 in
+    report_err c.from_residual.result p.0 c.args.store.now.offset c.args.store.now.offset c.args.work.now c.args.report.now c.args.report.now p.1 (inl (refl, refl))

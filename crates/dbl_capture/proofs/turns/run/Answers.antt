@@ -1,0 +1,363 @@
+use Rattle.std.proofs.Common.{◌≡◌, ◌∙◌, ◌+◌, ℕ, Bool, Ok, IsTrue, le_refl, refl, sym, ap, subst, arith}
+use Rattle.dbl_history.specs.Ranges.{IsMomentInRange}
+use Rattle.dbl_offset.specs.Stores.{disk_of}
+use Rattle.dbl_work.proofs.Exits.{rose_behind, later_on}
+use Rattle.dbl_capture.proofs.Causes.{residual_is}
+use Rattle.std.specs.Prelude.{MatchBool}
+use Rattle.dbl_exits.proofs.Keeping.{on_err}
+use Rattle.dbl_capture.proofs.Reporting.{at_stored, counts_stored, own_stored, placed_next, placed_on}
+use Rattle.dbl_capture.proofs.turns.run.Goals as goal
+
+pub turns-init : goal.turns-init
+turns-init g c = record {
+  kept = λ tell entry s honest. s;
+  ready = c.requires.ready;
+  offset_is = refl;
+  stored = λ own. own;
+  position = λ at. at;
+  now_is = refl;
+  since = c.requires.since;
+  number = omega (arith, c.requires.number);
+  messages = c.requires.report.0;
+  commits = omega (arith, c.requires.report.0, c.requires.report.1);
+  source_live = c.requires.source_live;
+  reading = c.requires.reading;
+  sink_live = c.requires.sink_live;
+  store_live = c.requires.store_live;
+  honest = λ honest. honest;
+  source_comes = g.met.S.Source.comes_self _;
+  sink_comes = g.met.K.Sink.comes_self _;
+  store_comes = λ gate most come. come;
+  source_later = le_refl _;
+  sink_later = le_refl _;
+  store_later = le_refl _;
+}
+
+pub turns-preserved : goal.turns-preserved
+turns-preserved g c = record {
+  kept = λ tell entry s honest. c.in_ok-turn.ensures.turned tell entry (c.turns.invariant.kept tell entry s (c.turn.ensures.honest honest)) honest;
+  ready = c.in_ok-turn.ensures.ready;
+  offset_is = placed_on c.args.work.now.offset c.turns.work.offset c.turn.new.work.offset c.turns.invariant.offset_is c.in_ok-turn.ensures.offset_is;
+  stored = λ own. c.turn.ensures.stored c.args.work.now.offset c.turns.invariant.offset_is (c.turns.invariant.stored own);
+  position = λ at. c.turn.ensures.position (c.turns.invariant.position at);
+  now_is = c.in_ok-turn.ensures.time ∙ c.turns.invariant.now_is;
+  since = c.in_ok-turn.ensures.since;
+  number = omega (arith, c.in_ok-turn.ensures.number, c.turns.invariant.number);
+  messages = subst (λ (b : Bool). MatchBool b (c.turn.new.report.messages ≡ c.turns.report.messages) (c.turn.new.report.messages ≡ c.turns.report.messages + 1)) c.if-branch.false c.in_ok-turn.ensures.counts ∙ ap (λ (n : ℕ). n + 1) c.turns.invariant.messages;
+  commits = c.turn.ensures.commits;
+  source_live = c.in_ok-turn.ensures.source_live;
+  reading = subst IsTrue (sym c.turn.ensures.reading) c.turns.invariant.reading;
+  sink_live = c.in_ok-turn.ensures.sink_live;
+  store_live = c.in_ok-turn.ensures.store_live;
+  honest = λ honest. c.turns.invariant.honest (c.turn.ensures.honest honest);
+  source_comes = g.met.S.Source.comes_on c.args.src.now c.turns.src c.turn.new.src c.turns.invariant.source_comes c.turn.ensures.source_comes;
+  sink_comes = g.met.K.Sink.comes_on c.args.sink.now c.turns.sink c.turn.new.sink c.turns.invariant.sink_comes c.turn.ensures.sink_comes;
+  store_comes = λ gate most come. c.turn.ensures.store_comes gate most (c.turns.invariant.store_comes gate most come);
+  source_later = later_on _ _ _ c.turns.invariant.source_later c.turn.ensures.source_later;
+  sink_later = later_on _ _ _ c.turns.invariant.sink_later c.turn.ensures.sink_later;
+  store_later = later_on _ _ _ c.turns.invariant.store_later c.turn.ensures.store_later;
+}
+
+pub returns-in_err-turn-clause-left : goal.returns-in_err-turn-clause-left
+returns-in_err-turn-clause-left g c tell entry s honest = on_err _ _ (c.in_err-turn.ensures.left tell entry (c.turns.invariant.kept tell entry s (c.turn.ensures.honest honest)) honest)
+
+pub returns-in_err-arm_next-clause-left : goal.returns-in_err-arm_next-clause-left
+returns-in_err-arm_next-clause-left g c tell entry s honest = on_err _ _ (c.in_err-arm_next.ensures.left tell entry (c.turns.invariant.kept tell entry s (c.arm_next.ensures.honest honest)) honest)
+
+pub returns-in_err-settle-clause-left : goal.returns-in_err-settle-clause-left
+returns-in_err-settle-clause-left g c tell entry s honest =
+    let before = c.settle.ensures.honest honest in
+    on_err _ _ (c.in_err-settle.ensures.left tell entry (c.in_ok-arm_next.ensures.armed tell entry (c.turns.invariant.kept tell entry s (c.arm_next.ensures.honest before)) before) honest)
+
+-- ---- counts, and what no call undoes
+
+pub returns-in_err-turn-clause-source : goal.returns-in_err-turn-clause-source
+returns-in_err-turn-clause-source g c is = rose_behind (g.S.Source.faults c.args.src.now) (g.S.Source.faults c.turns.src) (g.S.Source.faults c.turn.new.src) c.turns.invariant.source_later (c.turn.ensures.source (residual_is c.from_residual.result c.turn.result _ _ c.in_err-turn.was c.from_residual.ensures.1 is))
+
+pub returns-in_err-turn-clause-sink : goal.returns-in_err-turn-clause-sink
+returns-in_err-turn-clause-sink g c is = rose_behind _ _ _ c.turns.invariant.sink_later (c.turn.ensures.sink (residual_is c.from_residual.result c.turn.result _ _ c.in_err-turn.was c.from_residual.ensures.1 is))
+
+pub returns-in_err-turn-clause-offsets : goal.returns-in_err-turn-clause-offsets
+returns-in_err-turn-clause-offsets g c is = rose_behind _ _ _ c.turns.invariant.store_later (c.turn.ensures.offsets (residual_is c.from_residual.result c.turn.result _ _ c.in_err-turn.was c.from_residual.ensures.1 is))
+
+pub returns-in_err-turn-clause-source_comes : goal.returns-in_err-turn-clause-source_comes
+returns-in_err-turn-clause-source_comes g c = g.met.S.Source.comes_on c.args.src.now c.turns.src c.turn.new.src c.turns.invariant.source_comes c.turn.ensures.source_comes
+
+pub returns-in_err-turn-clause-sink_comes : goal.returns-in_err-turn-clause-sink_comes
+returns-in_err-turn-clause-sink_comes g c = g.met.K.Sink.comes_on _ _ _ c.turns.invariant.sink_comes c.turn.ensures.sink_comes
+
+pub returns-in_err-turn-clause-stored : goal.returns-in_err-turn-clause-stored
+returns-in_err-turn-clause-stored g c own = c.turn.ensures.stored c.args.work.now.offset c.turns.invariant.offset_is (c.turns.invariant.stored own)
+
+pub returns-in_err-turn-clause-position : goal.returns-in_err-turn-clause-position
+returns-in_err-turn-clause-position g c at = c.turn.ensures.position (c.turns.invariant.position at)
+
+pub returns-in_err-turn-clause-bounded : goal.returns-in_err-turn-clause-bounded
+returns-in_err-turn-clause-bounded g c = omega (arith, c.turn.ensures.messages, c.turns.invariant.messages, c.turns-test.true)
+
+pub returns-in_err-arm_next-clause-source : goal.returns-in_err-arm_next-clause-source
+returns-in_err-arm_next-clause-source g c is = rose_behind (g.S.Source.faults c.args.src.now) (g.S.Source.faults c.turns.src) (g.S.Source.faults c.arm_next.new.src) c.turns.invariant.source_later (c.arm_next.ensures.failed (residual_is c.from_residual-in_err-arm_next.result c.arm_next.result _ _ c.in_err-arm_next.was c.from_residual-in_err-arm_next.ensures.1 is))
+
+pub returns-in_err-arm_next-clause-sink : goal.returns-in_err-arm_next-clause-sink
+returns-in_err-arm_next-clause-sink g c is = absurd (c.arm_next.ensures.others.0 (residual_is c.from_residual-in_err-arm_next.result c.arm_next.result _ _ c.in_err-arm_next.was c.from_residual-in_err-arm_next.ensures.1 is))
+
+pub returns-in_err-arm_next-clause-offsets : goal.returns-in_err-arm_next-clause-offsets
+returns-in_err-arm_next-clause-offsets g c is = absurd (c.arm_next.ensures.others.1 (residual_is c.from_residual-in_err-arm_next.result c.arm_next.result _ _ c.in_err-arm_next.was c.from_residual-in_err-arm_next.ensures.1 is))
+
+pub returns-in_err-arm_next-clause-source_comes : goal.returns-in_err-arm_next-clause-source_comes
+returns-in_err-arm_next-clause-source_comes g c = g.met.S.Source.comes_on c.args.src.now c.turns.src c.arm_next.new.src c.turns.invariant.source_comes c.arm_next.ensures.comes
+
+pub returns-in_err-settle-clause-source : goal.returns-in_err-settle-clause-source
+returns-in_err-settle-clause-source g c is = rose_behind (g.S.Source.faults c.args.src.now) (g.S.Source.faults c.arm_next.new.src) (g.S.Source.faults c.settle.new.src) (later_on (g.S.Source.faults c.args.src.now) (g.S.Source.faults c.turns.src) (g.S.Source.faults c.arm_next.new.src) c.turns.invariant.source_later c.arm_next.ensures.later) (c.settle.ensures.source (residual_is c.from_residual-in_err-settle.result c.settle.result _ _ c.in_err-settle.was c.from_residual-in_err-settle.ensures.1 is))
+
+pub returns-in_err-settle-clause-sink : goal.returns-in_err-settle-clause-sink
+returns-in_err-settle-clause-sink g c is = absurd (c.settle.ensures.sink (residual_is c.from_residual-in_err-settle.result c.settle.result _ _ c.in_err-settle.was c.from_residual-in_err-settle.ensures.1 is))
+
+pub returns-in_err-settle-clause-offsets : goal.returns-in_err-settle-clause-offsets
+returns-in_err-settle-clause-offsets g c is = rose_behind _ _ _ c.turns.invariant.store_later (c.settle.ensures.offsets (residual_is c.from_residual-in_err-settle.result c.settle.result _ _ c.in_err-settle.was c.from_residual-in_err-settle.ensures.1 is))
+
+pub returns-in_err-settle-clause-source_comes : goal.returns-in_err-settle-clause-source_comes
+returns-in_err-settle-clause-source_comes g c = g.met.S.Source.comes_on c.args.src.now c.arm_next.new.src c.settle.new.src (g.met.S.Source.comes_on c.args.src.now c.turns.src c.arm_next.new.src c.turns.invariant.source_comes c.arm_next.ensures.comes) c.settle.ensures.source_comes
+
+pub returns-in_err-settle-clause-stored : goal.returns-in_err-settle-clause-stored
+returns-in_err-settle-clause-stored g c own = own_stored _ _ _ c.arm_next.new.work _ _ c.args.work.now.offset c.settle.ensures.report (placed_next c.args.work.now.offset c.turns.work.offset c.arm_next.new.work.offset c.turns.invariant.offset_is c.in_ok-arm_next.ensures.waits.offset_is) (c.turns.invariant.stored own)
+
+pub returns-in_err-settle-clause-position : goal.returns-in_err-settle-clause-position
+returns-in_err-settle-clause-position g c at = at_stored _ _ _ c.arm_next.new.work _ _ c.settle.ensures.report (c.turns.invariant.position at)
+
+pub returns-in_err-settle-clause-bounded : goal.returns-in_err-settle-clause-bounded
+returns-in_err-settle-clause-bounded g c =
+    let same = counts_stored _ _ _ c.arm_next.new.work _ _ c.settle.ensures.report in
+    omega (arith, same.messages, c.turns.invariant.messages, c.turns.auto._count-end)
+
+pub returns-in_err-settle-clause-commits : goal.returns-in_err-settle-clause-commits
+returns-in_err-settle-clause-commits g c =
+    let same = counts_stored _ _ _ c.arm_next.new.work _ _ c.settle.ensures.report in
+    omega (arith, same.messages, same.commits, c.turns.invariant.commits)
+
+pub returns-clause-source_comes : goal.returns-clause-source_comes
+returns-clause-source_comes g c = g.met.S.Source.comes_on c.args.src.now c.arm_next.new.src c.settle.new.src (g.met.S.Source.comes_on c.args.src.now c.turns.src c.arm_next.new.src c.turns.invariant.source_comes c.arm_next.ensures.comes) c.settle.ensures.source_comes
+
+pub returns-clause-stored : goal.returns-clause-stored
+returns-clause-stored g c own = own_stored _ _ _ c.arm_next.new.work _ _ c.args.work.now.offset c.settle.ensures.report (placed_next c.args.work.now.offset c.turns.work.offset c.arm_next.new.work.offset c.turns.invariant.offset_is c.in_ok-arm_next.ensures.waits.offset_is) (c.turns.invariant.stored own)
+
+pub returns-clause-position : goal.returns-clause-position
+returns-clause-position g c at = at_stored _ _ _ c.arm_next.new.work _ _ c.settle.ensures.report (c.turns.invariant.position at)
+
+pub returns-clause-bounded : goal.returns-clause-bounded
+returns-clause-bounded g c =
+    let same = counts_stored _ _ _ c.arm_next.new.work _ _ c.settle.ensures.report in
+    omega (arith, same.messages, c.turns.invariant.messages, c.turns.auto._count-end)
+
+pub returns-clause-commits : goal.returns-clause-commits
+returns-clause-commits g c =
+    let same = counts_stored _ _ _ c.arm_next.new.work _ _ c.settle.ensures.report in
+    omega (arith, same.messages, same.commits, c.turns.invariant.commits)
+
+pub arm_next-requires-clause-ready : goal.arm_next-requires-clause-ready
+arm_next-requires-clause-ready g c = c.turns.invariant.ready
+
+pub settle-requires-clause-ready : goal.settle-requires-clause-ready
+settle-requires-clause-ready g c = c.in_ok-arm_next.ensures.waits.ready
+
+pub returns-clause-ran : goal.returns-clause-ran
+returns-clause-ran g c tell entry s honest =
+    let before = c.settle.ensures.honest honest in
+    (c.in_ok-settle.ensures.settled tell entry (c.in_ok-arm_next.ensures.armed tell entry (c.turns.invariant.kept tell entry s (c.arm_next.ensures.honest before)) before) honest).is
+
+pub returns-clause-spent : goal.returns-clause-spent
+returns-clause-spent g c is =
+    let same = counts_stored _ _ _ c.arm_next.new.work _ _ c.settle.ensures.report in
+    omega (arith, same.messages, c.turns.invariant.messages, c.turns.auto._count-end, c.turns-test.false)
+
+pub turn-requires-clause-number : goal.turn-requires-clause-number
+turn-requires-clause-number g c = omega (arith, c.turns.invariant.number, c.turns-test.true, c.requires.budget)
+
+pub turn-requires-clause-messages : goal.turn-requires-clause-messages
+turn-requires-clause-messages g c = omega (arith, c.turns.invariant.messages, c.turns-test.true, c.requires.budget)
+
+pub turn-requires-clause-time : goal.turn-requires-clause-time
+turn-requires-clause-time g c = subst IsMomentInRange (sym c.turns.invariant.now_is) c.requires.time
+
+pub arm_next-requires-clause-number : goal.arm_next-requires-clause-number
+arm_next-requires-clause-number g c = omega (arith, c.turns.invariant.number, c.turns.auto._count-end, c.requires.budget)
+
+-- ---- everything was read
+
+pub returns-then-branch-clause-ran : goal.returns-then-branch-clause-ran
+returns-then-branch-clause-ran g c tell entry s honest = c.in_ok-turn.ensures.turned tell entry (c.turns.invariant.kept tell entry s (c.turn.ensures.honest honest)) honest
+
+pub returns-then-branch-clause-complete : goal.returns-then-branch-clause-complete
+returns-then-branch-clause-complete g c tell entry s honest is = c.turn.ensures.complete tell entry (c.turns.invariant.kept tell entry s (c.turn.ensures.honest honest)) honest (c.in_ok-turn.was ∙ ap (λ (b : Bool). Ok b) c.if-branch.true)
+
+pub returns-then-branch-clause-done : goal.returns-then-branch-clause-done
+returns-then-branch-clause-done g c is = (
+  c.turn.ensures.done (c.in_ok-turn.was ∙ ap (λ (b : Bool). Ok b) c.if-branch.true),
+  c.turn.ensures.loads (c.in_ok-turn.was ∙ ap (λ (b : Bool). Ok b) c.if-branch.true),
+  omega (arith, (subst (λ (b : Bool). MatchBool b (c.turn.new.report.messages ≡ c.turns.report.messages) (c.turn.new.report.messages ≡ c.turns.report.messages + 1)) c.if-branch.true c.in_ok-turn.ensures.counts), c.turns.invariant.messages, c.turns-test.true),
+)
+
+pub returns-then-branch-clause-ended : goal.returns-then-branch-clause-ended
+returns-then-branch-clause-ended g c is = c.turn.ensures.ended (c.in_ok-turn.was ∙ ap (λ (b : Bool). Ok b) c.if-branch.true)
+
+pub returns-then-branch-clause-stored : goal.returns-then-branch-clause-stored
+returns-then-branch-clause-stored g c own = c.turn.ensures.stored c.args.work.now.offset c.turns.invariant.offset_is (c.turns.invariant.stored own)
+
+pub returns-then-branch-clause-position : goal.returns-then-branch-clause-position
+returns-then-branch-clause-position g c at = c.turn.ensures.position (c.turns.invariant.position at)
+
+pub returns-then-branch-clause-bounded : goal.returns-then-branch-clause-bounded
+returns-then-branch-clause-bounded g c = omega (arith, (subst (λ (b : Bool). MatchBool b (c.turn.new.report.messages ≡ c.turns.report.messages) (c.turn.new.report.messages ≡ c.turns.report.messages + 1)) c.if-branch.true c.in_ok-turn.ensures.counts), c.turns.invariant.messages, c.turns-test.true)
+
+pub returns-then-branch-clause-source_comes : goal.returns-then-branch-clause-source_comes
+returns-then-branch-clause-source_comes g c = g.met.S.Source.comes_on c.args.src.now c.turns.src c.turn.new.src c.turns.invariant.source_comes c.turn.ensures.source_comes
+
+pub returns-then-branch-clause-sink_comes : goal.returns-then-branch-clause-sink_comes
+returns-then-branch-clause-sink_comes g c = g.met.K.Sink.comes_on _ _ _ c.turns.invariant.sink_comes c.turn.ensures.sink_comes
+
+pub returns-in_err-turn-clause-missed : goal.returns-in_err-turn-clause-missed
+returns-in_err-turn-clause-missed g c value at is = c.turn.ensures.missed value at (residual_is c.from_residual.result c.turn.result _ _ c.in_err-turn.was c.from_residual.ensures.1 is)
+
+pub returns-in_err-arm_next-clause-missed : goal.returns-in_err-arm_next-clause-missed
+returns-in_err-arm_next-clause-missed g c value at is = absurd (c.arm_next.ensures.never value at (residual_is c.from_residual-in_err-arm_next.result c.arm_next.result _ _ c.in_err-arm_next.was c.from_residual-in_err-arm_next.ensures.1 is))
+
+pub returns-in_err-settle-clause-missed : goal.returns-in_err-settle-clause-missed
+returns-in_err-settle-clause-missed g c value at is = absurd (c.settle.ensures.never value at (residual_is c.from_residual-in_err-settle.result c.settle.result _ _ c.in_err-settle.was c.from_residual-in_err-settle.ensures.1 is))
+
+pub returns-clause-missed : goal.returns-clause-missed
+returns-clause-missed g c value at is = cc
+
+pub returns-then-branch-clause-missed : goal.returns-then-branch-clause-missed
+returns-then-branch-clause-missed g c value at is = cc
+
+pub turn-requires-clause-ready : goal.turn-requires-clause-ready
+turn-requires-clause-ready g c = c.turns.invariant.ready
+
+pub turn-requires-clause-source_live : goal.turn-requires-clause-source_live
+turn-requires-clause-source_live g c = c.turns.invariant.source_live
+
+pub turn-requires-clause-reading : goal.turn-requires-clause-reading
+turn-requires-clause-reading g c = c.turns.invariant.reading
+
+pub turn-requires-clause-sink_live : goal.turn-requires-clause-sink_live
+turn-requires-clause-sink_live g c = c.turns.invariant.sink_live
+
+pub turn-requires-clause-store_live : goal.turn-requires-clause-store_live
+turn-requires-clause-store_live g c = c.turns.invariant.store_live
+
+pub turn-requires-clause-since : goal.turn-requires-clause-since
+turn-requires-clause-since g c = c.turns.invariant.since
+
+pub turn-requires-clause-commits : goal.turn-requires-clause-commits
+turn-requires-clause-commits g c = c.turns.invariant.commits
+
+pub arm_next-requires-clause-live : goal.arm_next-requires-clause-live
+arm_next-requires-clause-live g c = c.turns.invariant.source_live
+
+pub settle-requires-clause-source_live : goal.settle-requires-clause-source_live
+settle-requires-clause-source_live g c = c.in_ok-arm_next.ensures.live
+
+pub settle-requires-clause-store_live : goal.settle-requires-clause-store_live
+settle-requires-clause-store_live g c = c.turns.invariant.store_live
+
+pub returns-in_err-turn-clause-honest : goal.returns-in_err-turn-clause-honest
+returns-in_err-turn-clause-honest g c honest = c.turns.invariant.honest (c.turn.ensures.honest honest)
+
+pub returns-in_err-turn-clause-source_later : goal.returns-in_err-turn-clause-source_later
+returns-in_err-turn-clause-source_later g c = later_on (g.S.Source.faults c.args.src.now) (g.S.Source.faults c.turns.src) (g.S.Source.faults c.turn.new.src) c.turns.invariant.source_later c.turn.ensures.source_later
+
+pub returns-in_err-turn-clause-sink_later : goal.returns-in_err-turn-clause-sink_later
+returns-in_err-turn-clause-sink_later g c = later_on (g.K.Sink.faults c.args.sink.now) (g.K.Sink.faults c.turns.sink) (g.K.Sink.faults c.turn.new.sink) c.turns.invariant.sink_later c.turn.ensures.sink_later
+
+pub returns-in_err-turn-clause-store_later : goal.returns-in_err-turn-clause-store_later
+returns-in_err-turn-clause-store_later g c = later_on (g.D.Disk.faults (disk_of c.args.store.now)) (g.D.Disk.faults (disk_of c.turns.store)) (g.D.Disk.faults (disk_of c.turn.new.store)) c.turns.invariant.store_later c.turn.ensures.store_later
+
+pub returns-in_err-turn-clause-store_comes : goal.returns-in_err-turn-clause-store_comes
+returns-in_err-turn-clause-store_comes g c gate most come = c.turn.ensures.store_comes gate most (c.turns.invariant.store_comes gate most come)
+
+pub returns-then-branch-clause-honest : goal.returns-then-branch-clause-honest
+returns-then-branch-clause-honest g c honest = c.turns.invariant.honest (c.turn.ensures.honest honest)
+
+pub returns-then-branch-clause-source_later : goal.returns-then-branch-clause-source_later
+returns-then-branch-clause-source_later g c = later_on (g.S.Source.faults c.args.src.now) (g.S.Source.faults c.turns.src) (g.S.Source.faults c.turn.new.src) c.turns.invariant.source_later c.turn.ensures.source_later
+
+pub returns-then-branch-clause-sink_later : goal.returns-then-branch-clause-sink_later
+returns-then-branch-clause-sink_later g c = later_on (g.K.Sink.faults c.args.sink.now) (g.K.Sink.faults c.turns.sink) (g.K.Sink.faults c.turn.new.sink) c.turns.invariant.sink_later c.turn.ensures.sink_later
+
+pub returns-then-branch-clause-store_later : goal.returns-then-branch-clause-store_later
+returns-then-branch-clause-store_later g c = later_on (g.D.Disk.faults (disk_of c.args.store.now)) (g.D.Disk.faults (disk_of c.turns.store)) (g.D.Disk.faults (disk_of c.turn.new.store)) c.turns.invariant.store_later c.turn.ensures.store_later
+
+pub returns-then-branch-clause-store_comes : goal.returns-then-branch-clause-store_comes
+returns-then-branch-clause-store_comes g c gate most come = c.turn.ensures.store_comes gate most (c.turns.invariant.store_comes gate most come)
+
+pub returns-in_err-arm_next-clause-honest : goal.returns-in_err-arm_next-clause-honest
+returns-in_err-arm_next-clause-honest g c honest = c.turns.invariant.honest (c.arm_next.ensures.honest honest)
+
+pub returns-in_err-arm_next-clause-source_later : goal.returns-in_err-arm_next-clause-source_later
+returns-in_err-arm_next-clause-source_later g c = later_on (g.S.Source.faults c.args.src.now) (g.S.Source.faults c.turns.src) (g.S.Source.faults c.arm_next.new.src) c.turns.invariant.source_later c.arm_next.ensures.later
+
+pub returns-in_err-arm_next-clause-bounded : goal.returns-in_err-arm_next-clause-bounded
+returns-in_err-arm_next-clause-bounded g c = omega (arith, c.turns.invariant.messages, c.turns.auto._count-end)
+
+pub returns-in_err-arm_next-clause-sink_later : goal.returns-in_err-arm_next-clause-sink_later
+returns-in_err-arm_next-clause-sink_later g c = c.turns.invariant.sink_later
+
+pub returns-in_err-arm_next-clause-store_later : goal.returns-in_err-arm_next-clause-store_later
+returns-in_err-arm_next-clause-store_later g c = c.turns.invariant.store_later
+
+pub returns-in_err-arm_next-clause-sink_comes : goal.returns-in_err-arm_next-clause-sink_comes
+returns-in_err-arm_next-clause-sink_comes g c = c.turns.invariant.sink_comes
+
+pub returns-in_err-arm_next-clause-store_comes : goal.returns-in_err-arm_next-clause-store_comes
+returns-in_err-arm_next-clause-store_comes g c = c.turns.invariant.store_comes
+
+pub returns-in_err-arm_next-clause-stored : goal.returns-in_err-arm_next-clause-stored
+returns-in_err-arm_next-clause-stored g c = c.turns.invariant.stored
+
+pub returns-in_err-arm_next-clause-position : goal.returns-in_err-arm_next-clause-position
+returns-in_err-arm_next-clause-position g c = c.turns.invariant.position
+
+pub returns-in_err-arm_next-clause-commits : goal.returns-in_err-arm_next-clause-commits
+returns-in_err-arm_next-clause-commits g c = c.turns.invariant.commits
+
+pub returns-in_err-settle-clause-honest : goal.returns-in_err-settle-clause-honest
+returns-in_err-settle-clause-honest g c honest = c.turns.invariant.honest (c.arm_next.ensures.honest (c.settle.ensures.honest honest))
+
+pub returns-in_err-settle-clause-source_later : goal.returns-in_err-settle-clause-source_later
+returns-in_err-settle-clause-source_later g c = later_on (g.S.Source.faults c.args.src.now) (g.S.Source.faults c.arm_next.new.src) (g.S.Source.faults c.settle.new.src) (later_on (g.S.Source.faults c.args.src.now) (g.S.Source.faults c.turns.src) (g.S.Source.faults c.arm_next.new.src) c.turns.invariant.source_later c.arm_next.ensures.later) c.settle.ensures.source_later
+
+pub returns-in_err-settle-clause-sink_later : goal.returns-in_err-settle-clause-sink_later
+returns-in_err-settle-clause-sink_later g c = c.turns.invariant.sink_later
+
+pub returns-in_err-settle-clause-sink_comes : goal.returns-in_err-settle-clause-sink_comes
+returns-in_err-settle-clause-sink_comes g c = c.turns.invariant.sink_comes
+
+pub returns-in_err-settle-clause-store_later : goal.returns-in_err-settle-clause-store_later
+returns-in_err-settle-clause-store_later g c = later_on (g.D.Disk.faults (disk_of c.args.store.now)) (g.D.Disk.faults (disk_of c.turns.store)) (g.D.Disk.faults (disk_of c.settle.new.store)) c.turns.invariant.store_later c.settle.ensures.store_later
+
+pub returns-in_err-settle-clause-store_comes : goal.returns-in_err-settle-clause-store_comes
+returns-in_err-settle-clause-store_comes g c gate most come = c.settle.ensures.store_comes gate most (c.turns.invariant.store_comes gate most come)
+
+pub returns-clause-honest : goal.returns-clause-honest
+returns-clause-honest g c honest = c.turns.invariant.honest (c.arm_next.ensures.honest (c.settle.ensures.honest honest))
+
+pub returns-clause-source_later : goal.returns-clause-source_later
+returns-clause-source_later g c = later_on (g.S.Source.faults c.args.src.now) (g.S.Source.faults c.arm_next.new.src) (g.S.Source.faults c.settle.new.src) (later_on (g.S.Source.faults c.args.src.now) (g.S.Source.faults c.turns.src) (g.S.Source.faults c.arm_next.new.src) c.turns.invariant.source_later c.arm_next.ensures.later) c.settle.ensures.source_later
+
+pub returns-clause-sink_later : goal.returns-clause-sink_later
+returns-clause-sink_later g c = c.turns.invariant.sink_later
+
+pub returns-clause-sink_comes : goal.returns-clause-sink_comes
+returns-clause-sink_comes g c = c.turns.invariant.sink_comes
+
+pub returns-clause-store_later : goal.returns-clause-store_later
+returns-clause-store_later g c = later_on (g.D.Disk.faults (disk_of c.args.store.now)) (g.D.Disk.faults (disk_of c.turns.store)) (g.D.Disk.faults (disk_of c.settle.new.store)) c.turns.invariant.store_later c.settle.ensures.store_later
+
+pub returns-clause-store_comes : goal.returns-clause-store_comes
+returns-clause-store_comes g c gate most come = c.settle.ensures.store_comes gate most (c.turns.invariant.store_comes gate most come)
+
+pub returns-then-branch-clause-commits : goal.returns-then-branch-clause-commits
+returns-then-branch-clause-commits g c = c.turn.ensures.commits
+
+pub returns-in_err-turn-clause-commits : goal.returns-in_err-turn-clause-commits
+returns-in_err-turn-clause-commits g c = c.turn.ensures.commits

@@ -1,0 +1,33 @@
+use Rattle.std.proofs.Common.{◌≡◌, ◌≤◌, ◌<◌, Bool, IsTrue}
+use Rattle.dbl_offset.specs.Stores.{ComesOf, IsLive, disk_of}
+use Rattle.dbl_session.specs.Entries.{Entry}
+use Rattle.dbl_work.specs.Works.{IsReady}
+use Rattle.dbl_exits.specs.Ends.{HasOwnStored, IsAtPosition}
+use Rattle.dbl_exits.specs.Sessions.{InSession}
+use Rattle.dbl_capture.proofs.turns.run.Given as goal
+
+abbrev pub invariant-turns : goal.invariant-turns
+invariant-turns g l = record {
+  kept : (tell : Bool) (entry : Entry) → InSession tell g.S.Source.stands g.K.Sink.holds g.D.Disk.seen g.D.Disk.may_leave entry l.fn.work l.fn.src l.fn.sink l.fn.store → g.S.Source.honest l.src →
+      InSession tell g.S.Source.stands g.K.Sink.holds g.D.Disk.seen g.D.Disk.may_leave entry l.work l.src l.sink l.store;
+  ready : IsReady l.work;
+  offset_is : l.work.offset ≡ record l.fn.work.offset { lsn = l.work.offset.lsn; end_lsn = l.work.offset.end_lsn };
+  stored : HasOwnStored l.fn.work.offset l.fn.store.offset → HasOwnStored l.fn.work.offset l.store.offset;
+  position : IsAtPosition l.fn.store.offset l.fn.report → IsAtPosition l.store.offset l.report;
+  now_is : l.work.now_ms ≡ l.fn.work.now_ms;
+  since : l.work.since < l.work.every;
+  number : l.work.number ≤ l._count;
+  messages : l.report.messages ≡ l._count;
+  commits : l.report.commits ≤ l.report.messages;
+  source_live : IsTrue (g.S.Source.is_live l.src);
+  reading : IsTrue (g.S.Source.is_reading l.src);
+  sink_live : IsTrue (g.K.Sink.is_live l.sink);
+  store_live : IsLive l.store;
+  honest : g.S.Source.honest l.src → g.S.Source.honest l.fn.src;
+  source_comes : g.S.Source.comes_of l.fn.src l.src;
+  sink_comes : g.K.Sink.comes_of l.fn.sink l.sink;
+  store_comes : ComesOf g.D.Disk.seen g.D.Disk.may_leave l.fn.store l.store;
+  source_later : g.S.Source.faults l.fn.src ≤ g.S.Source.faults l.src;
+  sink_later : g.K.Sink.faults l.fn.sink ≤ g.K.Sink.faults l.sink;
+  store_later : g.D.Disk.faults (disk_of l.fn.store) ≤ g.D.Disk.faults (disk_of l.store);
+}

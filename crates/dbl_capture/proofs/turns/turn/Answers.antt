@@ -1,0 +1,358 @@
+use Rattle.std.proofs.Common.{◌∙◌, Bool, IsTrue, Ok, Option, Some, sym, ap, subst, arith}
+use Rattle.dbl_history.specs.Ranges.{IsMomentInRange}
+use Rattle.dbl_work.specs.declared.report.Report.{Report}
+use Rattle.dbl_work.specs.declared.work.Work.{Work}
+use Rattle.dbl_work.specs.Works.{next_of}
+use Rattle.dbl_work.proofs.Exits.{rose_behind, later_on}
+use Rattle.dbl_capture.proofs.Causes.{residual_is}
+use Rattle.dbl_exits.specs.Turns.{IsCountedNext, IsDue}
+use Rattle.dbl_exits.proofs.Endings.{done_at}
+use Rattle.dbl_exits.proofs.Keeping.{on_err, settled_ready, settled_since}
+use Rattle.dbl_capture.proofs.Reporting.{IsPlacedOf, at_same, at_stored, counts_stored, not_due, own_stored, placed_on, placed_same}
+use Rattle.dbl_capture.proofs.turns.turn.Goals as goal
+
+pub next-requires-clause-ready : goal.next-requires-clause-ready
+next-requires-clause-ready g c = c.in_ok-arm_next.ensures.waits.ready
+
+pub next-requires-clause-since : goal.next-requires-clause-since
+next-requires-clause-since g c = omega (arith, c.in_ok-arm_next.ensures.waits.since_is, c.in_ok-arm_next.ensures.waits.every_is, c.requires.since)
+
+pub next-requires-clause-time : goal.next-requires-clause-time
+next-requires-clause-time g c = subst IsMomentInRange (sym c.in_ok-arm_next.ensures.waits.now_is) c.requires.time
+
+pub returns-in_err-arm_next-clause-left : goal.returns-in_err-arm_next-clause-left
+returns-in_err-arm_next-clause-left g c tell entry s honest = on_err _ _ (c.in_err-arm_next.ensures.left tell entry s honest)
+
+pub returns-in_err-next-clause-left : goal.returns-in_err-next-clause-left
+returns-in_err-next-clause-left g c tell entry s honest = on_err _ _ (c.in_err-next.ensures.left tell entry (c.in_ok-arm_next.ensures.armed tell entry s (c.next.ensures.honest honest)) honest)
+
+pub returns-in_err-next-clause-position : goal.returns-in_err-next-clause-position
+returns-in_err-next-clause-position g c at = at_same c.args.store.now.offset c.args.report.now c.next.new.report c.in_err-next.ensures.counts.3 at
+
+pub returns-in_err-next-clause-messages : goal.returns-in_err-next-clause-messages
+returns-in_err-next-clause-messages g c = c.in_err-next.ensures.counts.1
+
+pub returns-in_err-next-clause-commits : goal.returns-in_err-next-clause-commits
+returns-in_err-next-clause-commits g c = omega (arith, c.in_err-next.ensures.counts.0, c.in_err-next.ensures.counts.2, c.requires.commits)
+
+pub returns-in_err-settle-in-Some-true-clause-left : goal.returns-in_err-settle-in-Some-true-clause-left
+returns-in_err-settle-in-Some-true-clause-left g c tell entry s honest =
+    let before = c.settle.ensures.honest honest in
+    on_err _ _ (c.in_err-settle-in-Some-true.ensures.left tell entry (c.in_ok-next.ensures.next tell entry (c.in_ok-arm_next.ensures.armed tell entry s (c.next.ensures.honest before)) before) honest)
+
+pub returns-in_ok-settle-in-Some-true-clause-turned : goal.returns-in_ok-settle-in-Some-true-clause-turned
+returns-in_ok-settle-in-Some-true-clause-turned g c tell entry s honest =
+    let before = c.settle.ensures.honest honest in
+    (c.in_ok-settle-in-Some-true.ensures.settled tell entry (c.in_ok-next.ensures.next tell entry (c.in_ok-arm_next.ensures.armed tell entry s (c.next.ensures.honest before)) before) honest).is
+
+pub returns-in_ok-settle-in-Some-true-clause-ready : goal.returns-in_ok-settle-in-Some-true-clause-ready
+returns-in_ok-settle-in-Some-true-clause-ready g c = settled_ready c.next.new.work c.settle.new.work c.in_ok-settle-in-Some-true.ensures.same c.in_ok-next.ensures.ready
+
+pub returns-in_ok-settle-in-Some-true-clause-since : goal.returns-in_ok-settle-in-Some-true-clause-since
+returns-in_ok-settle-in-Some-true-clause-since g c = settled_since c.next.new.work c.settle.new.work c.in_ok-settle-in-Some-true.ensures.same c.in_ok-next.ensures.ready
+
+pub returns-in_ok-settle-in-Some-true-clause-time : goal.returns-in_ok-settle-in-Some-true-clause-time
+returns-in_ok-settle-in-Some-true-clause-time g c = ap (λ (w : Work). w.now_ms) c.in_ok-settle-in-Some-true.ensures.same ∙ (c.in_ok-next.ensures.is_next.now_is ∙ c.in_ok-arm_next.ensures.waits.now_is)
+
+pub returns-in_ok-settle-in-Some-true-clause-number : goal.returns-in_ok-settle-in-Some-true-clause-number
+returns-in_ok-settle-in-Some-true-clause-number g c = omega (arith, ap (λ (w : Work). w.number) c.in_ok-settle-in-Some-true.ensures.same, c.in_ok-next.ensures.is_next.number_is, c.in_ok-arm_next.ensures.waits.number)
+
+pub returns-in_ok-settle-in-Some-true-clause-offset_is : goal.returns-in_ok-settle-in-Some-true-clause-offset_is
+returns-in_ok-settle-in-Some-true-clause-offset_is g c = subst (λ (w : Work). IsPlacedOf c.args.work.now.offset w.offset) (sym c.in_ok-settle-in-Some-true.ensures.same) (placed_same c.args.work.now.offset c.arm_next.new.work.offset c.next.new.work.offset c.in_ok-arm_next.ensures.waits.offset_is c.in_ok-next.ensures.is_next.offset_is)
+
+pub returns-in_err-settle-in-Some-true-clause-stored : goal.returns-in_err-settle-in-Some-true-clause-stored
+returns-in_err-settle-in-Some-true-clause-stored g c first placed own = own_stored _ _ _ c.next.new.work _ _ first c.settle.ensures.report (placed_on first c.args.work.now.offset c.next.new.work.offset placed (placed_same c.args.work.now.offset c.arm_next.new.work.offset c.next.new.work.offset c.in_ok-arm_next.ensures.waits.offset_is c.in_ok-next.ensures.is_next.offset_is)) own
+
+pub returns-in_err-settle-in-Some-true-clause-position : goal.returns-in_err-settle-in-Some-true-clause-position
+returns-in_err-settle-in-Some-true-clause-position g c at = at_stored _ _ _ c.next.new.work _ _ c.settle.ensures.report (at_same c.args.store.now.offset c.args.report.now c.next.new.report (subst (λ (o : Option Bool). IsCountedNext (Ok o) c.args.report.now c.next.new.report) c.in-Some-true.is c.in_ok-next.ensures.counts).2 at)
+
+pub returns-in_err-settle-in-Some-true-clause-messages : goal.returns-in_err-settle-in-Some-true-clause-messages
+returns-in_err-settle-in-Some-true-clause-messages g c =
+    let same = counts_stored _ _ _ c.next.new.work _ _ c.settle.ensures.report in
+    omega (arith, same.messages, (subst (λ (o : Option Bool). IsCountedNext (Ok o) c.args.report.now c.next.new.report) c.in-Some-true.is c.in_ok-next.ensures.counts).0)
+
+pub returns-in_err-settle-in-Some-true-clause-commits : goal.returns-in_err-settle-in-Some-true-clause-commits
+returns-in_err-settle-in-Some-true-clause-commits g c =
+    let same = counts_stored _ _ _ c.next.new.work _ _ c.settle.ensures.report in
+    omega (arith, same.messages, same.commits, (subst (λ (o : Option Bool). IsCountedNext (Ok o) c.args.report.now c.next.new.report) c.in-Some-true.is c.in_ok-next.ensures.counts).0, (subst (λ (o : Option Bool). IsCountedNext (Ok o) c.args.report.now c.next.new.report) c.in-Some-true.is c.in_ok-next.ensures.counts).1, c.requires.commits)
+
+pub returns-in_ok-settle-in-Some-true-clause-stored : goal.returns-in_ok-settle-in-Some-true-clause-stored
+returns-in_ok-settle-in-Some-true-clause-stored g c first placed own = own_stored _ _ _ c.next.new.work _ _ first c.settle.ensures.report (placed_on first c.args.work.now.offset c.next.new.work.offset placed (placed_same c.args.work.now.offset c.arm_next.new.work.offset c.next.new.work.offset c.in_ok-arm_next.ensures.waits.offset_is c.in_ok-next.ensures.is_next.offset_is)) own
+
+pub returns-in_ok-settle-in-Some-true-clause-position : goal.returns-in_ok-settle-in-Some-true-clause-position
+returns-in_ok-settle-in-Some-true-clause-position g c at = at_stored _ _ _ c.next.new.work _ _ c.settle.ensures.report (at_same c.args.store.now.offset c.args.report.now c.next.new.report (subst (λ (o : Option Bool). IsCountedNext (Ok o) c.args.report.now c.next.new.report) c.in-Some-true.is c.in_ok-next.ensures.counts).2 at)
+
+pub returns-in_ok-settle-in-Some-true-clause-messages : goal.returns-in_ok-settle-in-Some-true-clause-messages
+returns-in_ok-settle-in-Some-true-clause-messages g c =
+    let same = counts_stored _ _ _ c.next.new.work _ _ c.settle.ensures.report in
+    omega (arith, same.messages, (subst (λ (o : Option Bool). IsCountedNext (Ok o) c.args.report.now c.next.new.report) c.in-Some-true.is c.in_ok-next.ensures.counts).0)
+
+pub returns-in_ok-settle-in-Some-true-clause-commits : goal.returns-in_ok-settle-in-Some-true-clause-commits
+returns-in_ok-settle-in-Some-true-clause-commits g c =
+    let same = counts_stored _ _ _ c.next.new.work _ _ c.settle.ensures.report in
+    omega (arith, same.messages, same.commits, (subst (λ (o : Option Bool). IsCountedNext (Ok o) c.args.report.now c.next.new.report) c.in-Some-true.is c.in_ok-next.ensures.counts).0, (subst (λ (o : Option Bool). IsCountedNext (Ok o) c.args.report.now c.next.new.report) c.in-Some-true.is c.in_ok-next.ensures.counts).1, c.requires.commits)
+
+pub returns-in_ok-settle-in-Some-true-clause-counts : goal.returns-in_ok-settle-in-Some-true-clause-counts
+returns-in_ok-settle-in-Some-true-clause-counts g c =
+    let same = counts_stored _ _ _ c.next.new.work _ _ c.settle.ensures.report in
+    same.messages ∙ (subst (λ (o : Option Bool). IsCountedNext (Ok o) c.args.report.now c.next.new.report) c.in-Some-true.is c.in_ok-next.ensures.counts).0
+
+pub returns-in_err-end-in-None-clause-left : goal.returns-in_err-end-in-None-clause-left
+returns-in_err-end-in-None-clause-left g c tell entry s honest =
+    let before = c.end.ensures.honest honest in
+    on_err _ _ (c.in_err-end-in-None.ensures.left tell entry (c.in_ok-next.ensures.next tell entry (c.in_ok-arm_next.ensures.armed tell entry s (c.next.ensures.honest before)) before) honest)
+
+pub returns-in_ok-end-in-None-clause-turned : goal.returns-in_ok-end-in-None-clause-turned
+returns-in_ok-end-in-None-clause-turned g c tell entry s honest =
+    let before = c.end.ensures.honest honest in
+    (c.in_ok-end-in-None.ensures.ended tell entry (c.next.ensures.whole tell entry (c.in_ok-arm_next.ensures.armed tell entry s (c.next.ensures.honest before)) before (c.in_ok-next.was ∙ ap (λ o. Ok o) c.in-None.is)) honest).settled.is
+
+pub returns-in_ok-end-in-None-clause-complete : goal.returns-in_ok-end-in-None-clause-complete
+returns-in_ok-end-in-None-clause-complete g c tell entry s honest is =
+    let before = c.end.ensures.honest honest in
+    c.in_ok-end-in-None.ensures.ended tell entry (c.next.ensures.whole tell entry (c.in_ok-arm_next.ensures.armed tell entry s (c.next.ensures.honest before)) before (c.in_ok-next.was ∙ ap (λ o. Ok o) c.in-None.is)) honest
+
+pub returns-in_ok-end-in-None-clause-done : goal.returns-in_ok-end-in-None-clause-done
+returns-in_ok-end-in-None-clause-done g c is = done_at c.arm_next.new.work c.next.new.work c.end.new.work c.in_ok-arm_next.ensures.waits.none (subst (IsDue c.arm_next.new.work c.next.new.work) c.in-None.is c.in_ok-next.ensures.due) c.in_ok-end-in-None.ensures.waited c.in_ok-end-in-None.ensures.same
+
+pub returns-in_ok-end-in-None-clause-loads : goal.returns-in_ok-end-in-None-clause-loads
+returns-in_ok-end-in-None-clause-loads g c is = c.in_ok-end-in-None.ensures.report.0 ∙ ap (λ (w : Work). Some (next_of w)) (sym c.in_ok-end-in-None.ensures.same)
+
+pub returns-in_ok-end-in-None-clause-ready : goal.returns-in_ok-end-in-None-clause-ready
+returns-in_ok-end-in-None-clause-ready g c = settled_ready c.next.new.work c.end.new.work c.in_ok-end-in-None.ensures.same c.in_ok-next.ensures.ready
+
+pub returns-in_ok-end-in-None-clause-since : goal.returns-in_ok-end-in-None-clause-since
+returns-in_ok-end-in-None-clause-since g c = settled_since c.next.new.work c.end.new.work c.in_ok-end-in-None.ensures.same c.in_ok-next.ensures.ready
+
+pub returns-in_ok-end-in-None-clause-time : goal.returns-in_ok-end-in-None-clause-time
+returns-in_ok-end-in-None-clause-time g c = ap (λ (w : Work). w.now_ms) c.in_ok-end-in-None.ensures.same ∙ (c.in_ok-next.ensures.is_next.now_is ∙ c.in_ok-arm_next.ensures.waits.now_is)
+
+pub returns-in_ok-end-in-None-clause-number : goal.returns-in_ok-end-in-None-clause-number
+returns-in_ok-end-in-None-clause-number g c = omega (arith, ap (λ (w : Work). w.number) c.in_ok-end-in-None.ensures.same, c.in_ok-next.ensures.is_next.number_is, c.in_ok-arm_next.ensures.waits.number)
+
+pub returns-in_ok-end-in-None-clause-offset_is : goal.returns-in_ok-end-in-None-clause-offset_is
+returns-in_ok-end-in-None-clause-offset_is g c = subst (λ (w : Work). IsPlacedOf c.args.work.now.offset w.offset) (sym c.in_ok-end-in-None.ensures.same) (placed_same c.args.work.now.offset c.arm_next.new.work.offset c.next.new.work.offset c.in_ok-arm_next.ensures.waits.offset_is c.in_ok-next.ensures.is_next.offset_is)
+
+pub returns-in_err-end-in-None-clause-stored : goal.returns-in_err-end-in-None-clause-stored
+returns-in_err-end-in-None-clause-stored g c first placed own = own_stored _ _ _ c.next.new.work _ _ first c.end.ensures.report (placed_on first c.args.work.now.offset c.next.new.work.offset placed (placed_same c.args.work.now.offset c.arm_next.new.work.offset c.next.new.work.offset c.in_ok-arm_next.ensures.waits.offset_is c.in_ok-next.ensures.is_next.offset_is)) own
+
+pub returns-in_err-end-in-None-clause-position : goal.returns-in_err-end-in-None-clause-position
+returns-in_err-end-in-None-clause-position g c at = at_stored _ _ _ c.next.new.work _ _ c.end.ensures.report (at_same c.args.store.now.offset c.args.report.now c.next.new.report (ap (λ (r : Report). r.position) (subst (λ (o : Option Bool). IsCountedNext (Ok o) c.args.report.now c.next.new.report) c.in-None.is c.in_ok-next.ensures.counts)) at)
+
+pub returns-in_err-end-in-None-clause-messages : goal.returns-in_err-end-in-None-clause-messages
+returns-in_err-end-in-None-clause-messages g c =
+    let same = counts_stored _ _ _ c.next.new.work _ _ c.end.ensures.report in
+    omega (arith, same.messages, ap (λ (r : Report). r.messages) (subst (λ (o : Option Bool). IsCountedNext (Ok o) c.args.report.now c.next.new.report) c.in-None.is c.in_ok-next.ensures.counts))
+
+pub returns-in_err-end-in-None-clause-commits : goal.returns-in_err-end-in-None-clause-commits
+returns-in_err-end-in-None-clause-commits g c =
+    let same = counts_stored _ _ _ c.next.new.work _ _ c.end.ensures.report in
+    omega (arith, same.messages, same.commits, ap (λ (r : Report). r.messages) (subst (λ (o : Option Bool). IsCountedNext (Ok o) c.args.report.now c.next.new.report) c.in-None.is c.in_ok-next.ensures.counts), ap (λ (r : Report). r.commits) (subst (λ (o : Option Bool). IsCountedNext (Ok o) c.args.report.now c.next.new.report) c.in-None.is c.in_ok-next.ensures.counts), c.requires.commits)
+
+pub returns-in_ok-end-in-None-clause-stored : goal.returns-in_ok-end-in-None-clause-stored
+returns-in_ok-end-in-None-clause-stored g c first placed own = own_stored _ _ _ c.next.new.work _ _ first c.end.ensures.report (placed_on first c.args.work.now.offset c.next.new.work.offset placed (placed_same c.args.work.now.offset c.arm_next.new.work.offset c.next.new.work.offset c.in_ok-arm_next.ensures.waits.offset_is c.in_ok-next.ensures.is_next.offset_is)) own
+
+pub returns-in_ok-end-in-None-clause-position : goal.returns-in_ok-end-in-None-clause-position
+returns-in_ok-end-in-None-clause-position g c at = at_stored _ _ _ c.next.new.work _ _ c.end.ensures.report (at_same c.args.store.now.offset c.args.report.now c.next.new.report (ap (λ (r : Report). r.position) (subst (λ (o : Option Bool). IsCountedNext (Ok o) c.args.report.now c.next.new.report) c.in-None.is c.in_ok-next.ensures.counts)) at)
+
+pub returns-in_ok-end-in-None-clause-messages : goal.returns-in_ok-end-in-None-clause-messages
+returns-in_ok-end-in-None-clause-messages g c =
+    let same = counts_stored _ _ _ c.next.new.work _ _ c.end.ensures.report in
+    omega (arith, same.messages, ap (λ (r : Report). r.messages) (subst (λ (o : Option Bool). IsCountedNext (Ok o) c.args.report.now c.next.new.report) c.in-None.is c.in_ok-next.ensures.counts))
+
+pub returns-in_ok-end-in-None-clause-commits : goal.returns-in_ok-end-in-None-clause-commits
+returns-in_ok-end-in-None-clause-commits g c =
+    let same = counts_stored _ _ _ c.next.new.work _ _ c.end.ensures.report in
+    omega (arith, same.messages, same.commits, ap (λ (r : Report). r.messages) (subst (λ (o : Option Bool). IsCountedNext (Ok o) c.args.report.now c.next.new.report) c.in-None.is c.in_ok-next.ensures.counts), ap (λ (r : Report). r.commits) (subst (λ (o : Option Bool). IsCountedNext (Ok o) c.args.report.now c.next.new.report) c.in-None.is c.in_ok-next.ensures.counts), c.requires.commits)
+
+pub returns-in_ok-end-in-None-clause-counts : goal.returns-in_ok-end-in-None-clause-counts
+returns-in_ok-end-in-None-clause-counts g c =
+    let same = counts_stored _ _ _ c.next.new.work _ _ c.end.ensures.report in
+    same.messages ∙ ap (λ (r : Report). r.messages) (subst (λ (o : Option Bool). IsCountedNext (Ok o) c.args.report.now c.next.new.report) c.in-None.is c.in_ok-next.ensures.counts)
+
+pub returns-in-Some-false-clause-time : goal.returns-in-Some-false-clause-time
+returns-in-Some-false-clause-time g c = c.in_ok-next.ensures.is_next.now_is ∙ c.in_ok-arm_next.ensures.waits.now_is
+
+pub returns-in-Some-false-clause-turned : goal.returns-in-Some-false-clause-turned
+returns-in-Some-false-clause-turned g c tell entry s honest = c.in_ok-next.ensures.next tell entry (c.in_ok-arm_next.ensures.armed tell entry s (c.next.ensures.honest honest)) honest
+
+pub returns-in-Some-false-clause-number : goal.returns-in-Some-false-clause-number
+returns-in-Some-false-clause-number g c = omega (arith, c.in_ok-next.ensures.is_next.number_is, c.in_ok-arm_next.ensures.waits.number)
+
+pub returns-in-Some-false-clause-offset_is : goal.returns-in-Some-false-clause-offset_is
+returns-in-Some-false-clause-offset_is g c = placed_same c.args.work.now.offset c.arm_next.new.work.offset c.next.new.work.offset c.in_ok-arm_next.ensures.waits.offset_is c.in_ok-next.ensures.is_next.offset_is
+
+pub returns-in-Some-false-clause-position : goal.returns-in-Some-false-clause-position
+returns-in-Some-false-clause-position g c at = at_same c.args.store.now.offset c.args.report.now c.next.new.report (subst (λ (o : Option Bool). IsCountedNext (Ok o) c.args.report.now c.next.new.report) c.in-Some-false.is c.in_ok-next.ensures.counts).2 at
+
+pub returns-in-Some-false-clause-commits : goal.returns-in-Some-false-clause-commits
+returns-in-Some-false-clause-commits g c = omega (arith, (subst (λ (o : Option Bool). IsCountedNext (Ok o) c.args.report.now c.next.new.report) c.in-Some-false.is c.in_ok-next.ensures.counts).0, (subst (λ (o : Option Bool). IsCountedNext (Ok o) c.args.report.now c.next.new.report) c.in-Some-false.is c.in_ok-next.ensures.counts).1, c.requires.commits)
+
+pub returns-in-Some-false-clause-counts : goal.returns-in-Some-false-clause-counts
+returns-in-Some-false-clause-counts g c = (subst (λ (o : Option Bool). IsCountedNext (Ok o) c.args.report.now c.next.new.report) c.in-Some-false.is c.in_ok-next.ensures.counts).0
+
+pub returns-in-Some-false-clause-messages : goal.returns-in-Some-false-clause-messages
+returns-in-Some-false-clause-messages g c = omega (arith, (subst (λ (o : Option Bool). IsCountedNext (Ok o) c.args.report.now c.next.new.report) c.in-Some-false.is c.in_ok-next.ensures.counts).0)
+
+-- ---- counts, and what no call undoes
+
+pub returns-in_err-arm_next-clause-source : goal.returns-in_err-arm_next-clause-source
+returns-in_err-arm_next-clause-source g c is = c.arm_next.ensures.failed (residual_is c.from_residual.result c.arm_next.result _ _ c.in_err-arm_next.was c.from_residual.ensures.1 is)
+
+pub returns-in_err-arm_next-clause-sink : goal.returns-in_err-arm_next-clause-sink
+returns-in_err-arm_next-clause-sink g c is = absurd (c.arm_next.ensures.others.0 (residual_is c.from_residual.result c.arm_next.result _ _ c.in_err-arm_next.was c.from_residual.ensures.1 is))
+
+pub returns-in_err-arm_next-clause-offsets : goal.returns-in_err-arm_next-clause-offsets
+returns-in_err-arm_next-clause-offsets g c is = absurd (c.arm_next.ensures.others.1 (residual_is c.from_residual.result c.arm_next.result _ _ c.in_err-arm_next.was c.from_residual.ensures.1 is))
+
+pub returns-in_err-arm_next-clause-sink_comes : goal.returns-in_err-arm_next-clause-sink_comes
+returns-in_err-arm_next-clause-sink_comes g c = g.met.K.Sink.comes_self _
+
+pub returns-in_err-next-clause-source : goal.returns-in_err-next-clause-source
+returns-in_err-next-clause-source g c is = rose_behind (g.S.Source.faults c.args.src.now) (g.S.Source.faults c.arm_next.new.src) (g.S.Source.faults c.next.new.src) c.arm_next.ensures.later (c.next.ensures.source (residual_is c.from_residual-in_err-next.result c.next.result _ _ c.in_err-next.was c.from_residual-in_err-next.ensures.1 is))
+
+pub returns-in_err-next-clause-sink : goal.returns-in_err-next-clause-sink
+returns-in_err-next-clause-sink g c is = c.next.ensures.sink (residual_is c.from_residual-in_err-next.result c.next.result _ _ c.in_err-next.was c.from_residual-in_err-next.ensures.1 is)
+
+pub returns-in_err-next-clause-offsets : goal.returns-in_err-next-clause-offsets
+returns-in_err-next-clause-offsets g c is = absurd (c.next.ensures.offsets (residual_is c.from_residual-in_err-next.result c.next.result _ _ c.in_err-next.was c.from_residual-in_err-next.ensures.1 is))
+
+pub returns-in_err-next-clause-source_comes : goal.returns-in_err-next-clause-source_comes
+returns-in_err-next-clause-source_comes g c = g.met.S.Source.comes_on c.args.src.now c.arm_next.new.src c.next.new.src c.arm_next.ensures.comes c.next.ensures.source_comes
+
+pub returns-in_err-settle-in-Some-true-clause-source : goal.returns-in_err-settle-in-Some-true-clause-source
+returns-in_err-settle-in-Some-true-clause-source g c is = rose_behind (g.S.Source.faults c.args.src.now) (g.S.Source.faults c.next.new.src) (g.S.Source.faults c.settle.new.src) (later_on (g.S.Source.faults c.args.src.now) (g.S.Source.faults c.arm_next.new.src) (g.S.Source.faults c.next.new.src) c.arm_next.ensures.later c.next.ensures.source_later) (c.settle.ensures.source (residual_is c.from_residual-in_err-settle-in-Some-true.result c.settle.result _ _ c.in_err-settle-in-Some-true.was c.from_residual-in_err-settle-in-Some-true.ensures.1 is))
+
+pub returns-in_err-settle-in-Some-true-clause-sink : goal.returns-in_err-settle-in-Some-true-clause-sink
+returns-in_err-settle-in-Some-true-clause-sink g c is = absurd (c.settle.ensures.sink (residual_is c.from_residual-in_err-settle-in-Some-true.result c.settle.result _ _ c.in_err-settle-in-Some-true.was c.from_residual-in_err-settle-in-Some-true.ensures.1 is))
+
+pub returns-in_err-settle-in-Some-true-clause-offsets : goal.returns-in_err-settle-in-Some-true-clause-offsets
+returns-in_err-settle-in-Some-true-clause-offsets g c is = c.settle.ensures.offsets (residual_is c.from_residual-in_err-settle-in-Some-true.result c.settle.result _ _ c.in_err-settle-in-Some-true.was c.from_residual-in_err-settle-in-Some-true.ensures.1 is)
+
+pub returns-in_err-settle-in-Some-true-clause-source_comes : goal.returns-in_err-settle-in-Some-true-clause-source_comes
+returns-in_err-settle-in-Some-true-clause-source_comes g c = g.met.S.Source.comes_on c.args.src.now c.next.new.src c.settle.new.src (g.met.S.Source.comes_on c.args.src.now c.arm_next.new.src c.next.new.src c.arm_next.ensures.comes c.next.ensures.source_comes) c.settle.ensures.source_comes
+
+pub returns-in_ok-settle-in-Some-true-clause-source_comes : goal.returns-in_ok-settle-in-Some-true-clause-source_comes
+returns-in_ok-settle-in-Some-true-clause-source_comes g c = g.met.S.Source.comes_on c.args.src.now c.next.new.src c.settle.new.src (g.met.S.Source.comes_on c.args.src.now c.arm_next.new.src c.next.new.src c.arm_next.ensures.comes c.next.ensures.source_comes) c.settle.ensures.source_comes
+
+pub returns-in_err-end-in-None-clause-source : goal.returns-in_err-end-in-None-clause-source
+returns-in_err-end-in-None-clause-source g c is = rose_behind (g.S.Source.faults c.args.src.now) (g.S.Source.faults c.next.new.src) (g.S.Source.faults c.end.new.src) (later_on (g.S.Source.faults c.args.src.now) (g.S.Source.faults c.arm_next.new.src) (g.S.Source.faults c.next.new.src) c.arm_next.ensures.later c.next.ensures.source_later) (c.end.ensures.source (residual_is c.from_residual-in_err-end-in-None.result c.end.result _ _ c.in_err-end-in-None.was c.from_residual-in_err-end-in-None.ensures.1 is))
+
+pub returns-in_err-end-in-None-clause-sink : goal.returns-in_err-end-in-None-clause-sink
+returns-in_err-end-in-None-clause-sink g c is = absurd (c.end.ensures.sink (residual_is c.from_residual-in_err-end-in-None.result c.end.result _ _ c.in_err-end-in-None.was c.from_residual-in_err-end-in-None.ensures.1 is))
+
+pub returns-in_err-end-in-None-clause-offsets : goal.returns-in_err-end-in-None-clause-offsets
+returns-in_err-end-in-None-clause-offsets g c is = c.end.ensures.offsets (residual_is c.from_residual-in_err-end-in-None.result c.end.result _ _ c.in_err-end-in-None.was c.from_residual-in_err-end-in-None.ensures.1 is)
+
+pub returns-in_err-end-in-None-clause-source_comes : goal.returns-in_err-end-in-None-clause-source_comes
+returns-in_err-end-in-None-clause-source_comes g c = g.met.S.Source.comes_on c.args.src.now c.next.new.src c.end.new.src (g.met.S.Source.comes_on c.args.src.now c.arm_next.new.src c.next.new.src c.arm_next.ensures.comes c.next.ensures.source_comes) c.end.ensures.source_comes
+
+pub returns-in_ok-end-in-None-clause-source_comes : goal.returns-in_ok-end-in-None-clause-source_comes
+returns-in_ok-end-in-None-clause-source_comes g c = g.met.S.Source.comes_on c.args.src.now c.next.new.src c.end.new.src (g.met.S.Source.comes_on c.args.src.now c.arm_next.new.src c.next.new.src c.arm_next.ensures.comes c.next.ensures.source_comes) c.end.ensures.source_comes
+
+pub returns-in-Some-false-clause-source_comes : goal.returns-in-Some-false-clause-source_comes
+returns-in-Some-false-clause-source_comes g c = g.met.S.Source.comes_on c.args.src.now c.arm_next.new.src c.next.new.src c.arm_next.ensures.comes c.next.ensures.source_comes
+
+pub returns-in_ok-end-in-None-clause-ended : goal.returns-in_ok-end-in-None-clause-ended
+returns-in_ok-end-in-None-clause-ended g c is = subst IsTrue (sym c.end.ensures.still) (c.next.ensures.ended (c.in_ok-next.was ∙ ap (λ o. Ok o) c.in-None.is))
+
+pub returns-in-Some-false-clause-since : goal.returns-in-Some-false-clause-since
+returns-in-Some-false-clause-since g c =
+    not_due c.arm_next.new.work c.next.new.work c.in-Some-false.field-0 c.in-Some-false.field-0-test
+    (subst (IsDue c.arm_next.new.work c.next.new.work) c.in-Some-false.is c.in_ok-next.ensures.due)
+
+pub returns-in_err-arm_next-clause-missed : goal.returns-in_err-arm_next-clause-missed
+returns-in_err-arm_next-clause-missed g c value at is = absurd (c.arm_next.ensures.never value at (residual_is c.from_residual.result c.arm_next.result _ _ c.in_err-arm_next.was c.from_residual.ensures.1 is))
+
+pub returns-in_err-next-clause-missed : goal.returns-in_err-next-clause-missed
+returns-in_err-next-clause-missed g c value at is = absurd (c.next.ensures.never value at (residual_is c.from_residual-in_err-next.result c.next.result _ _ c.in_err-next.was c.from_residual-in_err-next.ensures.1 is))
+
+pub returns-in_err-settle-in-Some-true-clause-missed : goal.returns-in_err-settle-in-Some-true-clause-missed
+returns-in_err-settle-in-Some-true-clause-missed g c value at is = absurd (c.settle.ensures.never value at (residual_is c.from_residual-in_err-settle-in-Some-true.result c.settle.result _ _ c.in_err-settle-in-Some-true.was c.from_residual-in_err-settle-in-Some-true.ensures.1 is))
+
+pub returns-in_err-end-in-None-clause-missed : goal.returns-in_err-end-in-None-clause-missed
+returns-in_err-end-in-None-clause-missed g c value at is = subst IsTrue (sym c.end.ensures.still) (c.next.ensures.ended (c.in_ok-next.was ∙ ap (λ o. Ok o) c.in-None.is))
+
+pub returns-in_ok-settle-in-Some-true-clause-missed : goal.returns-in_ok-settle-in-Some-true-clause-missed
+returns-in_ok-settle-in-Some-true-clause-missed g c value at is = cc
+
+pub returns-in-Some-false-clause-missed : goal.returns-in-Some-false-clause-missed
+returns-in-Some-false-clause-missed g c value at is = cc
+
+pub returns-in_ok-end-in-None-clause-missed : goal.returns-in_ok-end-in-None-clause-missed
+returns-in_ok-end-in-None-clause-missed g c value at is = cc
+
+pub next-requires-clause-reading : goal.next-requires-clause-reading
+next-requires-clause-reading g c = subst IsTrue (sym c.arm_next.ensures.reading) c.requires.reading
+
+pub returns-in_err-next-clause-honest : goal.returns-in_err-next-clause-honest
+returns-in_err-next-clause-honest g c honest = c.arm_next.ensures.honest (c.next.ensures.honest honest)
+
+pub returns-in_err-next-clause-source_later : goal.returns-in_err-next-clause-source_later
+returns-in_err-next-clause-source_later g c = later_on (g.S.Source.faults c.args.src.now) (g.S.Source.faults c.arm_next.new.src) (g.S.Source.faults c.next.new.src) c.arm_next.ensures.later c.next.ensures.source_later
+
+pub returns-in_err-next-clause-reading : goal.returns-in_err-next-clause-reading
+returns-in_err-next-clause-reading g c = c.next.ensures.reading ∙ c.arm_next.ensures.reading
+
+pub returns-in-Some-false-clause-honest : goal.returns-in-Some-false-clause-honest
+returns-in-Some-false-clause-honest g c honest = c.arm_next.ensures.honest (c.next.ensures.honest honest)
+
+pub returns-in-Some-false-clause-source_later : goal.returns-in-Some-false-clause-source_later
+returns-in-Some-false-clause-source_later g c = later_on (g.S.Source.faults c.args.src.now) (g.S.Source.faults c.arm_next.new.src) (g.S.Source.faults c.next.new.src) c.arm_next.ensures.later c.next.ensures.source_later
+
+pub returns-in-Some-false-clause-reading : goal.returns-in-Some-false-clause-reading
+returns-in-Some-false-clause-reading g c = c.next.ensures.reading ∙ c.arm_next.ensures.reading
+
+pub returns-in_err-settle-in-Some-true-clause-honest : goal.returns-in_err-settle-in-Some-true-clause-honest
+returns-in_err-settle-in-Some-true-clause-honest g c honest = c.arm_next.ensures.honest (c.next.ensures.honest (c.settle.ensures.honest honest))
+
+pub returns-in_err-settle-in-Some-true-clause-source_later : goal.returns-in_err-settle-in-Some-true-clause-source_later
+returns-in_err-settle-in-Some-true-clause-source_later g c = later_on (g.S.Source.faults c.args.src.now) (g.S.Source.faults c.next.new.src) (g.S.Source.faults c.settle.new.src) (later_on (g.S.Source.faults c.args.src.now) (g.S.Source.faults c.arm_next.new.src) (g.S.Source.faults c.next.new.src) c.arm_next.ensures.later c.next.ensures.source_later) c.settle.ensures.source_later
+
+pub returns-in_err-settle-in-Some-true-clause-reading : goal.returns-in_err-settle-in-Some-true-clause-reading
+returns-in_err-settle-in-Some-true-clause-reading g c = c.settle.ensures.reading ∙ (c.next.ensures.reading ∙ c.arm_next.ensures.reading)
+
+pub returns-in_ok-settle-in-Some-true-clause-honest : goal.returns-in_ok-settle-in-Some-true-clause-honest
+returns-in_ok-settle-in-Some-true-clause-honest g c honest = c.arm_next.ensures.honest (c.next.ensures.honest (c.settle.ensures.honest honest))
+
+pub returns-in_ok-settle-in-Some-true-clause-source_later : goal.returns-in_ok-settle-in-Some-true-clause-source_later
+returns-in_ok-settle-in-Some-true-clause-source_later g c = later_on (g.S.Source.faults c.args.src.now) (g.S.Source.faults c.next.new.src) (g.S.Source.faults c.settle.new.src) (later_on (g.S.Source.faults c.args.src.now) (g.S.Source.faults c.arm_next.new.src) (g.S.Source.faults c.next.new.src) c.arm_next.ensures.later c.next.ensures.source_later) c.settle.ensures.source_later
+
+pub returns-in_ok-settle-in-Some-true-clause-reading : goal.returns-in_ok-settle-in-Some-true-clause-reading
+returns-in_ok-settle-in-Some-true-clause-reading g c = c.settle.ensures.reading ∙ (c.next.ensures.reading ∙ c.arm_next.ensures.reading)
+
+pub returns-in_err-end-in-None-clause-honest : goal.returns-in_err-end-in-None-clause-honest
+returns-in_err-end-in-None-clause-honest g c honest = c.arm_next.ensures.honest (c.next.ensures.honest (c.end.ensures.honest honest))
+
+pub returns-in_err-end-in-None-clause-source_later : goal.returns-in_err-end-in-None-clause-source_later
+returns-in_err-end-in-None-clause-source_later g c = later_on (g.S.Source.faults c.args.src.now) (g.S.Source.faults c.next.new.src) (g.S.Source.faults c.end.new.src) (later_on (g.S.Source.faults c.args.src.now) (g.S.Source.faults c.arm_next.new.src) (g.S.Source.faults c.next.new.src) c.arm_next.ensures.later c.next.ensures.source_later) c.end.ensures.source_later
+
+pub returns-in_err-end-in-None-clause-reading : goal.returns-in_err-end-in-None-clause-reading
+returns-in_err-end-in-None-clause-reading g c = c.end.ensures.reading ∙ (c.next.ensures.reading ∙ c.arm_next.ensures.reading)
+
+pub returns-in_ok-end-in-None-clause-honest : goal.returns-in_ok-end-in-None-clause-honest
+returns-in_ok-end-in-None-clause-honest g c honest = c.arm_next.ensures.honest (c.next.ensures.honest (c.end.ensures.honest honest))
+
+pub returns-in_ok-end-in-None-clause-source_later : goal.returns-in_ok-end-in-None-clause-source_later
+returns-in_ok-end-in-None-clause-source_later g c = later_on (g.S.Source.faults c.args.src.now) (g.S.Source.faults c.next.new.src) (g.S.Source.faults c.end.new.src) (later_on (g.S.Source.faults c.args.src.now) (g.S.Source.faults c.arm_next.new.src) (g.S.Source.faults c.next.new.src) c.arm_next.ensures.later c.next.ensures.source_later) c.end.ensures.source_later
+
+pub returns-in_ok-end-in-None-clause-reading : goal.returns-in_ok-end-in-None-clause-reading
+returns-in_ok-end-in-None-clause-reading g c = c.end.ensures.reading ∙ (c.next.ensures.reading ∙ c.arm_next.ensures.reading)
+
+pub returns-in_err-arm_next-clause-stored : goal.returns-in_err-arm_next-clause-stored
+returns-in_err-arm_next-clause-stored g c first placed own = own
+
+pub returns-in_err-next-clause-stored : goal.returns-in_err-next-clause-stored
+returns-in_err-next-clause-stored g c first placed own = own
+
+pub returns-in-Some-false-clause-stored : goal.returns-in-Some-false-clause-stored
+returns-in-Some-false-clause-stored g c first placed own = own
+
+pub returns-in_err-arm_next-clause-position : goal.returns-in_err-arm_next-clause-position
+returns-in_err-arm_next-clause-position g c at = at
+
+pub returns-in_err-arm_next-clause-messages : goal.returns-in_err-arm_next-clause-messages
+returns-in_err-arm_next-clause-messages g c = omega arith
+
+pub returns-in_err-arm_next-clause-commits : goal.returns-in_err-arm_next-clause-commits
+returns-in_err-arm_next-clause-commits g c = c.requires.commits

@@ -1,0 +1,32 @@
+use Rattle.dbl_exits.specs.Sessions.{standing_at}
+use Rattle.dbl_exits.proofs.Arms.{arm_left, plan_here, plan_parts, window_on}
+use Rattle.dbl_capture.proofs.Causes.{OfSource, chunk_of, err_at, err_then}
+use Rattle.dbl_exits.proofs.Keeping.{ok_then, on_err}
+use Rattle.dbl_capture.proofs.windows.arm.Goals as goal
+
+pub returns-clause-armed : goal.returns-clause-armed
+returns-clause-armed g c tell entry s honest =
+    ok_then c.read_window.result _ _ (c.read_window.ensures.windowed (standing_at s.stage) s.source_is)
+    (λ w. window_on s c.args.table c.read_window.new.work (g.S.Source.honest c.read_window.new.src) honest c.read_window.new.src w c.requires.table c.requires.number c.requires.absent
+    (λ t is. g.met.S.Source.fit _ _ (g.met.S.Source.may _ t is) honest))
+
+pub returns-clause-left : goal.returns-clause-left
+returns-clause-left g c tell entry s honest =
+    let planned = plan_here c.args.work.now c.args.table c.requires.ready c.requires.table in
+    on_err _ _
+    (arm_left s c.args.table planned.0 (plan_parts c.args.work.now c.args.table planned.0 planned.1) c.requires.table c.requires.number _ _ c.read_window.new.src c.requires.absent
+    (λ left is. c.read_window.ensures.left planned.0 planned.1 (standing_at s.stage) left s.source_is is)
+    (λ left is. g.met.S.Source.fit _ left is honest)
+    (λ t groups is. g.met.K.Sink.only _ s.stage.groups groups (s.sink_is t) is)
+    (c.read_window.ensures.some (standing_at s.stage) s.source_is)
+    (λ t. (s.stage.groups, g.met.K.Sink.may _ s.stage.groups (s.sink_is t))))
+
+pub returns-clause-others : goal.returns-clause-others
+returns-clause-others g c =
+    let of = err_then c.read_window.result _ OfSource c.read_window.ensures.halt (λ h is. chunk_of c.args.work.now c.args.table _ h is) in (
+      λ is. err_at c.read_window.result _ OfSource of is,
+      λ is. err_at c.read_window.result _ OfSource of is,
+    )
+
+pub returns-clause-never : goal.returns-clause-never
+returns-clause-never g c value at is = err_at c.read_window.result _ OfSource (err_then c.read_window.result _ OfSource c.read_window.ensures.halt (λ h is. chunk_of c.args.work.now c.args.table _ h is)) is

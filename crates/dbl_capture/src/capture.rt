@@ -1,0 +1,248 @@
+//! The session.
+
+ghost use Rattle.std.specs.Prelude.{◌≡◌, ◌≢◌, ◌⊎◌, ◌<◌, ◌≤◌, Some, Bool, IfOk, IsTrue, OnErr, OnOk};
+ghost use Rattle.dbl_base.specs.Streams.{Rose};
+ghost use Rattle.dbl_table.specs.Configs.{IsGoodConfig};
+ghost use Rattle.dbl_honest.specs.Leaves.{Leaves, LeavesSome};
+ghost use Rattle.dbl_honest.specs.Standings.{Left, Standing, Stood};
+ghost use Rattle.dbl_offset.specs.declared.offset.Offset.{Offset as SpecOffset};
+ghost use Rattle.dbl_offset.specs.Offsets.{IsOffset};
+ghost use Rattle.dbl_offset.specs.Stores.{ComesOf, IsLive, disk_of};
+ghost use Rattle.dbl_session.specs.Entries.{Entry as SpecEntry, HadOwnTables};
+ghost use Rattle.dbl_work.specs.Begins.{IsOffsetFor, MayRest};
+ghost use Rattle.dbl_work.specs.Works.{IsBegun};
+ghost use Rattle.dbl_exits.specs.Ends.{AreAllDone, IsAtPosition, LeavesComplete};
+ghost use Rattle.dbl_exits.specs.Found.{BeganAt, BeginsAt, Found, HasStored, IsAsked, IsEntryOf, IsFound, entry_at, position_of};
+ghost use Rattle.dbl_exits.specs.Sessions.{AddsFew, InSession, LeavesBy, LeavesGoing};
+
+use crate::turns::run;
+use dbl_disk::Disk;
+use dbl_offset::{Offset, OffsetStore};
+use dbl_source::Source;
+use dbl_table::Config;
+use dbl_topic::Sink;
+use dbl_work::{Ending, Halt, Report, Work, again, first_offset, put_offset, start};
+use std::alloc::Global;
+
+// The offset that is stored first: the stored one of the next incarnation, or a connector's first
+// one.
+fn offset_of<S: Source, D: Disk>(
+    alloc: Global,
+    config: &Config,
+    src: &mut S,
+    store: &OffsetStore<D>,
+) -> Result<Offset, Halt>
+    requires source_live { IsTrue (S.is_live src.old) }
+    requires store_live { IsLive store.now }
+    requires config { IsGoodConfig config.now }
+    ensures begins { (entry : SpecEntry) → entry.config ≡ config.now →
+        entry.offset ≡ store.now.offset →
+        HadOwnTables entry → (s : Standing) → S.stands src.old s → s.history ≡ entry.history →
+        IfOk result (λ offset. Stood S.stands src.new (BeginsAt entry offset s)) }
+    ensures offset { IfOk result IsOffset }
+    ensures of { IfOk result (IsOffsetFor config.now store.now.offset) }
+    ensures left { Leaves S.stands S.may_leave src.old src.new MayRest }
+    ensures some { LeavesSome S.stands S.may_leave src.old src.new }
+    ensures live { OnOk result (IsTrue (S.is_live src.new)) }
+    ensures honest { S.honest src.new → S.honest src.old }
+    ensures comes { S.comes_of src.old src.new }
+    ensures later { S.faults src.old ≤ S.faults src.new }
+    ensures failed { result ≡ Err Halt.Source → Rose (S.faults src.old) (S.faults src.new) }
+    ensures others { (result ≢ Err Halt.Sink) × (result ≢ Err Halt.Offsets) }
+    ensures never { (value at : _) → result ≢ Err (Halt.WatermarkMissing value at) }
+{
+    match again(alloc, store)? {
+        Some(offset) => Ok(offset),
+        None => first_offset(alloc, config, src),
+    }
+}
+
+// That offset, stored.
+fn begun<S: Source, K: Sink, D: Disk>(
+    alloc: Global,
+    config: &Config,
+    src: &mut S,
+    sink: &K,
+    store: &mut OffsetStore<D>,
+) -> Result<Offset, Halt>
+    requires source_live { IsTrue (S.is_live src.old) }
+    requires store_live { IsLive store.old }
+    requires config { IsGoodConfig config.now }
+    ensures begun { (tell : Bool) (entry : SpecEntry) → entry.config ≡ config.now →
+        IsFound tell S.stands K.holds D.seen D.may_leave entry src.old sink.now store.old →
+        S.honest src.new →
+        HadOwnTables entry →
+        IfOk result (λ offset. BeganAt tell S.stands K.holds D.seen D.may_leave entry
+        offset src.new sink.now store.new) }
+    ensures left { (tell : Bool) (entry : SpecEntry) → entry.config ≡ config.now →
+        IsFound tell S.stands K.holds D.seen D.may_leave entry src.old sink.now store.old →
+        S.honest src.new →
+        HadOwnTables entry →
+        OnErr result (LeavesBy tell S.may_leave K.may_leave D.may_leave entry
+        src.new sink.now store.new) }
+    ensures loads { IfOk result (λ offset. store.new.offset ≡ Some offset) }
+    ensures offset { IfOk result IsOffset }
+    ensures of { IfOk result (IsOffsetFor config.now store.old.offset) }
+    ensures keeps { OnErr result (store.new.offset ≡ store.old.offset) }
+    ensures source_live { OnOk result (IsTrue (S.is_live src.new)) }
+    ensures store_live { OnOk result (IsLive store.new) }
+    ensures honest { S.honest src.new → S.honest src.old }
+    ensures source_comes { S.comes_of src.old src.new }
+    ensures store_comes { ComesOf D.seen D.may_leave store.old store.new }
+    ensures source_later { S.faults src.old ≤ S.faults src.new }
+    ensures store_later { D.faults (disk_of store.old) ≤ D.faults (disk_of store.new) }
+    ensures source { result ≡ Err Halt.Source → Rose (S.faults src.old) (S.faults src.new) }
+    ensures sink { result ≢ Err Halt.Sink }
+    ensures never { (value at : _) → result ≢ Err (Halt.WatermarkMissing value at) }
+    ensures offsets { result ≡ Err Halt.Offsets →
+        Rose (D.faults (disk_of store.old)) (D.faults (disk_of store.new)) }
+{
+    let offset = offset_of(alloc, config, src, store)?;
+    let stored = offset.copy(alloc)?;
+    put_offset(alloc, store, stored)?;
+    Ok(offset)
+}
+
+// The same, with reading begun behind its LSN.
+fn opened<S: Source, K: Sink, D: Disk>(
+    alloc: Global,
+    config: &Config,
+    now_ms: i64,
+    src: &mut S,
+    sink: &K,
+    store: &mut OffsetStore<D>,
+    report: &mut Report,
+) -> Result<Work, Halt>
+    requires source_live { IsTrue (S.is_live src.old) }
+    requires store_live { IsLive store.old }
+    requires config { IsGoodConfig config.now }
+    ensures opened { (tell : Bool) (entry : SpecEntry) → entry.config ≡ config.now →
+        entry.now ≡ now_ms →
+        IsFound tell S.stands K.holds D.seen D.may_leave entry src.old sink.now store.old →
+        S.honest src.new →
+        HadOwnTables entry →
+        IfOk result (λ work. InSession tell S.stands K.holds D.seen D.may_leave entry
+        work src.new sink.now store.new) }
+    ensures left { (tell : Bool) (entry : SpecEntry) → entry.config ≡ config.now →
+        IsFound tell S.stands K.holds D.seen D.may_leave entry src.old sink.now store.old →
+        S.honest src.new →
+        HadOwnTables entry →
+        OnErr result (LeavesBy tell S.may_leave K.may_leave D.may_leave entry
+        src.new sink.now store.new) }
+    ensures begun { IfOk result (λ work. (offset : SpecOffset) × (store.new.offset ≡ Some offset)
+        × IsBegun offset now_ms config.now.chunk config.now.every work
+        × IsOffsetFor config.now store.old.offset offset) }
+    ensures at { OnOk result (IsAtPosition store.new.offset report.new) }
+    ensures stored { OnErr result ((store.new.offset ≡ store.old.offset)
+        ⊎ HasStored config.now store.old.offset store.new.offset) }
+    ensures position { report.old.position ≡ 0 →
+        OnErr result (report.new.position ≡ position_of store.old.offset store.new.offset) }
+    ensures report { (report.new.messages ≡ report.old.messages) ×
+        (report.new.commits ≡ report.old.commits) }
+    ensures reading { OnOk result (IsTrue (S.is_reading src.new)) }
+    ensures source_live { OnOk result (IsTrue (S.is_live src.new)) }
+    ensures store_live { OnOk result (IsLive store.new) }
+    ensures honest { S.honest src.new → S.honest src.old }
+    ensures source_comes { S.comes_of src.old src.new }
+    ensures store_comes { ComesOf D.seen D.may_leave store.old store.new }
+    ensures source_later { S.faults src.old ≤ S.faults src.new }
+    ensures store_later { D.faults (disk_of store.old) ≤ D.faults (disk_of store.new) }
+    ensures source { result ≡ Err Halt.Source → Rose (S.faults src.old) (S.faults src.new) }
+    ensures sink { result ≢ Err Halt.Sink }
+    ensures never { (value at : _) → result ≢ Err (Halt.WatermarkMissing value at) }
+    ensures offsets { result ≡ Err Halt.Offsets →
+        Rose (D.faults (disk_of store.old)) (D.faults (disk_of store.new)) }
+{
+    let offset = begun(alloc, config, src, sink, store)?;
+    report.position = offset.lsn.0;
+    start(src, offset.lsn)?;
+    Work::make(alloc, offset, now_ms, config.chunk, config.every)
+}
+
+/// Captures tables: reads them in windows, while it follows their log from the stored offset on,
+/// or from a first one. Each record goes to the sink, in groups, before the offset behind it is
+/// stored, and that is stored before it is confirmed. It ends where everything is read, or with
+/// its budget; and it may halt at any call, behind which another session goes on.
+///
+/// `now_ms`, in milliseconds since 1970-01-01 UTC, is when its records are made. All fields of
+/// the report are set anew.
+pub fn session<S: Source, K: Sink, D: Disk>(
+    alloc: Global,
+    config: &Config,
+    now_ms: i64,
+    src: &mut S,
+    sink: &mut K,
+    offsets: &mut OffsetStore<D>,
+    report: &mut Report,
+) -> Result<Ending, Halt>
+    requires source_live { IsTrue (S.is_live src.old) }
+    requires sink_live { IsTrue (K.is_live sink.old) }
+    requires store_live { IsLive offsets.old }
+    requires config { IsGoodConfig config.now }
+    requires asked { IsAsked config.now offsets.old.offset }
+
+    // Faithful at every exit, whatever the source, the sink and the disk may leave.
+    ensures faithful { (entry : SpecEntry) → IsEntryOf config.now now_ms entry →
+        Found S.stands K.holds D.seen D.may_leave entry src.old sink.old offsets.old →
+        S.honest src.new →
+        HadOwnTables entry →
+        LeavesGoing S.may_leave K.may_leave D.may_leave entry src.new sink.new offsets.new }
+    ensures complete { (entry : SpecEntry) → IsEntryOf config.now now_ms entry →
+        Found S.stands K.holds D.seen D.may_leave entry src.old sink.old offsets.old →
+        S.honest src.new →
+        HadOwnTables entry → result ≡ Ok Ending.Complete →
+        LeavesComplete S.may_leave K.may_leave D.may_leave entry src.new sink.new offsets.new }
+
+    // The marks that it adds, by what the source stands for and the stored offset alone.
+    ensures marks { (s : Standing) → S.stands src.old s → S.honest src.new →
+        HadOwnTables (entry_at config.now now_ms s offsets.old.offset) → (left : Left) →
+        S.may_leave src.new left →
+        AddsFew (entry_at config.now now_ms s offsets.old.offset) left }
+
+    // What it stores, and where it ends, of every source, sink and disk.
+    ensures stores { (offsets.new.offset ≡ offsets.old.offset)
+        ⊎ HasStored config.now offsets.old.offset offsets.new.offset }
+    ensures done { result ≡ Ok Ending.Complete → (offset : SpecOffset) ×
+        (offsets.new.offset ≡ Some offset)
+        × AreAllDone offset.cursors × (report.new.messages < config.now.messages) }
+    ensures ended { result ≡ Ok Ending.Complete → IsTrue (S.has_ended src.new) }
+    ensures spent { result ≡ Ok Ending.Budget → report.new.messages ≡ config.now.messages }
+
+    // What its report tells.
+    ensures commits { report.new.commits ≤ report.new.messages }
+    ensures bounded { report.new.messages ≤ config.now.messages }
+    ensures position { report.new.position ≡ position_of offsets.old.offset offsets.new.offset }
+
+    // Where it halts by a watermark that is missing, or by a count.
+    ensures missed { (value at : _) → result ≡ Err (Halt.WatermarkMissing value at) →
+        IsTrue (S.has_ended src.new) }
+    ensures source { result ≡ Err Halt.Source → Rose (S.faults src.old) (S.faults src.new) }
+    ensures sink { result ≡ Err Halt.Sink → Rose (K.faults sink.old) (K.faults sink.new) }
+    ensures offsets { result ≡ Err Halt.Offsets →
+        Rose (D.faults (disk_of offsets.old)) (D.faults (disk_of offsets.new)) }
+
+    // Behind an ending another session may follow, over the same three.
+    ensures source_live { OnOk result (IsTrue (S.is_live src.new)) }
+    ensures sink_live { OnOk result (IsTrue (K.is_live sink.new)) }
+    ensures store_live { OnOk result (IsLive offsets.new) }
+
+    // What else no call undoes.
+    ensures honest { S.honest src.new → S.honest src.old }
+    ensures source_comes { S.comes_of src.old src.new }
+    ensures sink_comes { K.comes_of sink.old sink.new }
+    ensures store_comes { ComesOf D.seen D.may_leave offsets.old offsets.new }
+    ensures source_later { S.faults src.old ≤ S.faults src.new }
+    ensures sink_later { K.faults sink.old ≤ K.faults sink.new }
+    ensures store_later { D.faults (disk_of offsets.old) ≤ D.faults (disk_of offsets.new) }
+{
+    *report = Report {
+        messages: 0,
+        commits: 0,
+        records: 0,
+        chunks: 0,
+        snapshot_rows: 0,
+        position: 0,
+    };
+    let mut work = opened(alloc, config, now_ms, src, sink, offsets, report)?;
+    run(config.messages, &mut work, src, sink, offsets, report)
+}

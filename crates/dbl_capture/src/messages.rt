@@ -1,0 +1,96 @@
+//! The next message of a session.
+
+ghost use Rattle.std.specs.Prelude.{◌≡◌, ◌≢◌, ◌⊎◌, ◌^◌, ◌<◌, ◌≤◌, None, Ok, Bool, false, true, IfOk, IsTrue, OnErr, OnOk};
+ghost use Rattle.dbl_base.specs.Streams.{Rose};
+ghost use Rattle.dbl_history.specs.Ranges.{IsMomentInRange};
+ghost use Rattle.dbl_session.specs.Entries.{Entry as SpecEntry};
+ghost use Rattle.dbl_work.specs.Works.{IsReady};
+ghost use Rattle.dbl_exits.specs.Sessions.{InSession, LeavesBy};
+ghost use Rattle.dbl_exits.specs.Turns.{HasReadAllAt, IsCountedNext, IsDue, IsNextOf};
+
+use dbl_disk::Disk;
+use dbl_offset::OffsetStore;
+use dbl_source::Source;
+use dbl_topic::Sink;
+use dbl_work::{Halt, Report, Work, follow, taken};
+
+// Whether the offset is to be stored.
+fn is_due(work: &Work, closed: bool) -> bool
+    requires { work.now.since ≤ work.now.every }
+    ensures { ((result ≡ false) × (work.now.since < work.now.every))
+        ⊎ ((result ≡ true) × (work.now.since ≤ work.now.every)) }
+{
+    closed || work.since >= work.every
+}
+
+/// Reads the next message, and follows the commit that it ends. None where nothing is left; else
+/// whether the offset is due to be stored.
+pub(crate) fn next<S: Source, K: Sink, D: Disk>(
+    work: &mut Work,
+    src: &mut S,
+    sink: &mut K,
+    store: &OffsetStore<D>,
+    report: &mut Report,
+) -> Result<Option<bool>, Halt>
+    requires source_live { IsTrue (S.is_live src.old) }
+    requires reading { IsTrue (S.is_reading src.old) }
+    requires sink_live { IsTrue (K.is_live sink.old) }
+    requires ready { IsReady work.old }
+    requires since { work.old.since < work.old.every }
+    requires time { IsMomentInRange work.old.now_ms }
+    requires messages { report.old.messages < 2 ^ 63 }
+    requires commits { report.old.commits ≤ report.old.messages }
+
+    // What goes on, and what may be left.
+    ensures next { (tell : Bool) (entry : SpecEntry) →
+        InSession tell S.stands K.holds D.seen D.may_leave entry
+        work.old src.old sink.old store.now →
+        S.honest src.new →
+        OnOk result (InSession tell S.stands K.holds D.seen D.may_leave entry
+        work.new src.new sink.new store.now) }
+    ensures left { (tell : Bool) (entry : SpecEntry) →
+        InSession tell S.stands K.holds D.seen D.may_leave entry
+        work.old src.old sink.old store.now →
+        S.honest src.new →
+        OnErr result (LeavesBy tell S.may_leave K.may_leave D.may_leave entry
+        src.new sink.new store.now) }
+    ensures whole { (tell : Bool) (entry : SpecEntry) →
+        InSession tell S.stands K.holds D.seen D.may_leave entry
+        work.old src.old sink.old store.now →
+        S.honest src.new → result ≡ Ok None →
+        HasReadAllAt tell S.stands K.holds D.seen D.may_leave entry
+        work.new src.new sink.new store.now }
+
+    // What it has in hand.
+    ensures ready { OnOk result (IsReady work.new) }
+    ensures is_next { OnOk result (IsNextOf work.old work.new) }
+    ensures due { IfOk result (IsDue work.old work.new) }
+    ensures counts { IsCountedNext result report.old report.new }
+    ensures ended { result ≡ Ok None → IsTrue (S.has_ended src.new) }
+    ensures reading { S.is_reading src.new ≡ S.is_reading src.old }
+    ensures source_live { OnOk result (IsTrue (S.is_live src.new)) }
+    ensures sink_live { OnOk result (IsTrue (K.is_live sink.new)) }
+    ensures honest { S.honest src.new → S.honest src.old }
+    ensures source_comes { S.comes_of src.old src.new }
+    ensures sink_comes { K.comes_of sink.old sink.new }
+    ensures source_later { S.faults src.old ≤ S.faults src.new }
+    ensures sink_later { K.faults sink.old ≤ K.faults sink.new }
+    ensures source { result ≡ Err Halt.Source → Rose (S.faults src.old) (S.faults src.new) }
+    ensures sink { result ≡ Err Halt.Sink → Rose (K.faults sink.old) (K.faults sink.new) }
+    ensures offsets { result ≢ Err Halt.Offsets }
+    ensures never { (value at : _) → result ≢ Err (Halt.WatermarkMissing value at) }
+{
+    match src.read()? {
+        Some(bytes) => {
+            report.messages += 1;
+            match taken(work, report.messages, &bytes)? {
+                Some(commit) => {
+                    let closed = follow(work, &commit, sink, report)?;
+                    Ok(Some(is_due(work, closed)))
+                }
+                None => Ok(Some(false)),
+            }
+        }
+        None => Ok(None),
+    }
+}

@@ -1,0 +1,77 @@
+//! The offset is stored, and then confirmed.
+
+ghost use Rattle.std.specs.Prelude.{◌≡◌, ◌≢◌, ◌≤◌, Bool, IsTrue, OnErr, OnOk, is_ok};
+ghost use Rattle.dbl_base.specs.Streams.{Rose};
+ghost use Rattle.dbl_offset.specs.Stores.{ComesOf, IsLive, disk_of};
+ghost use Rattle.dbl_session.specs.Entries.{Entry as SpecEntry};
+ghost use Rattle.dbl_work.specs.Works.{IsReady};
+ghost use Rattle.dbl_exits.specs.Ends.{IsReportAt};
+ghost use Rattle.dbl_exits.specs.Sessions.{InSession, LeavesBy};
+ghost use Rattle.dbl_exits.specs.Turns.{HasReadAllAt, IsSettled, IsSettledWhole};
+
+use dbl_disk::Disk;
+use dbl_offset::OffsetStore;
+use dbl_source::Source;
+use dbl_topic::Sink;
+use dbl_work::{Halt, Report, Work, put_offset};
+
+/// Stores the offset of the last commit that was followed, with the cursors as they are, and then
+/// confirms its LSN.
+pub(crate) fn settle<S: Source, K: Sink, D: Disk>(
+    work: &mut Work,
+    src: &mut S,
+    sink: &K,
+    store: &mut OffsetStore<D>,
+    report: &mut Report,
+) -> Result<(), Halt>
+    requires source_live { IsTrue (S.is_live src.old) }
+    requires store_live { IsLive store.old }
+    requires ready { IsReady work.old }
+
+    // What goes on, and what may be left.
+    ensures settled { (tell : Bool) (entry : SpecEntry) →
+        InSession tell S.stands K.holds D.seen D.may_leave entry
+        work.old src.old sink.now store.old →
+        S.honest src.new →
+        OnOk result (IsSettled tell S.stands K.holds D.seen D.may_leave entry
+        work.new src.new sink.now store.new) }
+    ensures whole { (tell : Bool) (entry : SpecEntry) →
+        HasReadAllAt tell S.stands K.holds D.seen D.may_leave entry
+        work.old src.old sink.now store.old →
+        S.honest src.new →
+        OnOk result (IsSettledWhole tell S.stands K.holds D.seen D.may_leave entry
+        work.new src.new sink.now store.new) }
+    ensures left { (tell : Bool) (entry : SpecEntry) →
+        InSession tell S.stands K.holds D.seen D.may_leave entry
+        work.old src.old sink.now store.old →
+        S.honest src.new →
+        OnErr result (LeavesBy tell S.may_leave K.may_leave D.may_leave entry
+        src.new sink.now store.new) }
+
+    // What it has in hand.
+    ensures same { OnOk result (work.new ≡ record work.old { since = 0 }) }
+    ensures report { IsReportAt (is_ok result) store.old.offset store.new.offset
+        work.old report.old report.new }
+    ensures still { S.has_ended src.new ≡ S.has_ended src.old }
+    ensures reading { S.is_reading src.new ≡ S.is_reading src.old }
+    ensures source_live { OnOk result (IsTrue (S.is_live src.new)) }
+    ensures store_live { OnOk result (IsLive store.new) }
+    ensures honest { S.honest src.new → S.honest src.old }
+    ensures source_comes { S.comes_of src.old src.new }
+    ensures store_comes { ComesOf D.seen D.may_leave store.old store.new }
+    ensures source_later { S.faults src.old ≤ S.faults src.new }
+    ensures store_later { D.faults (disk_of store.old) ≤ D.faults (disk_of store.new) }
+    ensures source { result ≡ Err Halt.Source → Rose (S.faults src.old) (S.faults src.new) }
+    ensures sink { result ≢ Err Halt.Sink }
+    ensures never { (value at : _) → result ≢ Err (Halt.WatermarkMissing value at) }
+    ensures offsets { result ≡ Err Halt.Offsets →
+        Rose (D.faults (disk_of store.old)) (D.faults (disk_of store.new)) }
+{
+    let offset = work.next_offset()?;
+    let lsn = offset.lsn;
+    put_offset(work.alloc, store, offset)?;
+    work.since = 0;
+    report.position = lsn.0;
+    src.confirm(lsn)?;
+    Ok(())
+}

@@ -1,0 +1,291 @@
+//! The turns of a session, each of which reads one message.
+
+ghost use Rattle.std.specs.Prelude.{◌≡◌, ◌≢◌, ◌+◌, ◌^◌, ◌≤◌, ◌<◌, true, Option, Some, Ok, Bool, IfOk, IsTrue, MatchBool, OnErr, OnOk, is_ok};
+ghost use Rattle.dbl_base.specs.Streams.{Rose};
+ghost use Rattle.dbl_history.specs.Ranges.{IsMomentInRange};
+ghost use Rattle.dbl_offset.specs.declared.offset.Offset.{Offset as SpecOffset};
+ghost use Rattle.dbl_offset.specs.Stores.{ComesOf, IsLive, disk_of};
+ghost use Rattle.dbl_follow.specs.declared.window.Window.TheVariants as windows;
+ghost use Rattle.dbl_session.specs.Entries.{Entry as SpecEntry};
+ghost use Rattle.dbl_work.specs.Works.{IsReady, next_of};
+ghost use Rattle.dbl_exits.specs.Ends.{AreAllDone, HasOwnStored, IsArmedNext, IsAtPosition, IsReportAt, IsTableOf};
+ghost use Rattle.dbl_exits.specs.Sessions.{InSession, LeavesBy};
+ghost use Rattle.dbl_exits.specs.Turns.{HasReadAllAt, IsSettledWhole};
+
+use crate::messages::next;
+use crate::settle::settle;
+use crate::windows::arm;
+use dbl_disk::Disk;
+use dbl_offset::OffsetStore;
+use dbl_source::Source;
+use dbl_topic::Sink;
+use dbl_work::{Ending, Halt, Report, Work};
+
+// The table whose next window is to be read: none while a window waits, and none where every
+// table is done.
+fn table_of(work: &Work) -> Option<u32>
+    requires { IsReady work.now }
+    ensures { IsTableOf work.now result }
+{
+    match work.follower.waits_for() {
+        Some(_) => None,
+        None => work.follower.next_table(),
+    }
+}
+
+// Reads the next window, where none waits and a table isn't done.
+fn arm_next<S: Source, K: Sink, D: Disk>(
+    work: &mut Work,
+    src: &mut S,
+    sink: &K,
+    store: &OffsetStore<D>,
+) -> Result<(), Halt>
+    requires live { IsTrue (S.is_live src.old) }
+    requires ready { IsReady work.old }
+    requires number { work.old.number + 1 < 2 ^ 64 }
+    ensures armed { (tell : Bool) (entry : SpecEntry) →
+        InSession tell S.stands K.holds D.seen D.may_leave entry
+        work.old src.old sink.now store.now →
+        S.honest src.new →
+        OnOk result (InSession tell S.stands K.holds D.seen D.may_leave entry
+        work.new src.new sink.now store.now) }
+    ensures left { (tell : Bool) (entry : SpecEntry) →
+        InSession tell S.stands K.holds D.seen D.may_leave entry
+        work.old src.old sink.now store.now →
+        S.honest src.new →
+        OnErr result (LeavesBy tell S.may_leave K.may_leave D.may_leave entry
+        src.new sink.now store.now) }
+    ensures waits { OnOk result (IsArmedNext work.old work.new) }
+    ensures reading { S.is_reading src.new ≡ S.is_reading src.old }
+    ensures live { OnOk result (IsTrue (S.is_live src.new)) }
+    ensures honest { S.honest src.new → S.honest src.old }
+    ensures comes { S.comes_of src.old src.new }
+    ensures later { S.faults src.old ≤ S.faults src.new }
+    ensures failed { result ≡ Err Halt.Source → Rose (S.faults src.old) (S.faults src.new) }
+    ensures others { (result ≢ Err Halt.Sink) × (result ≢ Err Halt.Offsets) }
+    ensures never { (value at : _) → result ≢ Err (Halt.WatermarkMissing value at) }
+{
+    match table_of(work) {
+        Some(table) => arm(work, table, src, sink, store),
+        None => Ok(()),
+    }
+}
+
+// Everything was read: the session is complete, unless a window waits.
+fn end<S: Source, K: Sink, D: Disk>(
+    work: &mut Work,
+    src: &mut S,
+    sink: &K,
+    store: &mut OffsetStore<D>,
+    report: &mut Report,
+) -> Result<(), Halt>
+    requires source_live { IsTrue (S.is_live src.old) }
+    requires store_live { IsLive store.old }
+    requires ready { IsReady work.old }
+    ensures ended { (tell : Bool) (entry : SpecEntry) →
+        HasReadAllAt tell S.stands K.holds D.seen D.may_leave entry
+        work.old src.old sink.now store.old →
+        S.honest src.new →
+        OnOk result (IsSettledWhole tell S.stands K.holds D.seen D.may_leave entry
+        work.new src.new sink.now store.new) }
+    ensures left { (tell : Bool) (entry : SpecEntry) →
+        InSession tell S.stands K.holds D.seen D.may_leave entry
+        work.old src.old sink.now store.old →
+        S.honest src.new →
+        OnErr result (LeavesBy tell S.may_leave K.may_leave D.may_leave entry
+        src.new sink.now store.new) }
+    ensures waited { OnOk result (work.old.follower.window ≡ windows.Absent) }
+    ensures same { OnOk result (work.new ≡ record work.old { since = 0 }) }
+    ensures report { IsReportAt (is_ok result) store.old.offset store.new.offset
+        work.old report.old report.new }
+    ensures still { S.has_ended src.new ≡ S.has_ended src.old }
+    ensures reading { S.is_reading src.new ≡ S.is_reading src.old }
+    ensures source_live { OnOk result (IsTrue (S.is_live src.new)) }
+    ensures store_live { OnOk result (IsLive store.new) }
+    ensures honest { S.honest src.new → S.honest src.old }
+    ensures source_comes { S.comes_of src.old src.new }
+    ensures store_comes { ComesOf D.seen D.may_leave store.old store.new }
+    ensures source_later { S.faults src.old ≤ S.faults src.new }
+    ensures store_later { D.faults (disk_of store.old) ≤ D.faults (disk_of store.new) }
+    ensures source { result ≡ Err Halt.Source → Rose (S.faults src.old) (S.faults src.new) }
+    ensures sink { result ≢ Err Halt.Sink }
+    ensures offsets { result ≡ Err Halt.Offsets →
+        Rose (D.faults (disk_of store.old)) (D.faults (disk_of store.new)) }
+{
+    match work.follower.waits_for() {
+        Some(value) => Err(Halt::WatermarkMissing {
+            value: value.copy(work.alloc)?,
+            position: work.offset.lsn,
+        }),
+        None => settle(work, src, sink, store, report),
+    }
+}
+
+// One message more. True where everything was read.
+fn turn<S: Source, K: Sink, D: Disk>(
+    work: &mut Work,
+    src: &mut S,
+    sink: &mut K,
+    store: &mut OffsetStore<D>,
+    report: &mut Report,
+) -> Result<bool, Halt>
+    requires source_live { IsTrue (S.is_live src.old) }
+    requires reading { IsTrue (S.is_reading src.old) }
+    requires sink_live { IsTrue (K.is_live sink.old) }
+    requires store_live { IsLive store.old }
+    requires ready { IsReady work.old }
+    requires since { work.old.since < work.old.every }
+    requires time { IsMomentInRange work.old.now_ms }
+    requires number { work.old.number + 1 < 2 ^ 64 }
+    requires messages { report.old.messages < 2 ^ 63 }
+    requires commits { report.old.commits ≤ report.old.messages }
+
+    // What goes on, and what may be left.
+    ensures turned { (tell : Bool) (entry : SpecEntry) →
+        InSession tell S.stands K.holds D.seen D.may_leave entry
+        work.old src.old sink.old store.old →
+        S.honest src.new →
+        OnOk result (InSession tell S.stands K.holds D.seen D.may_leave entry
+        work.new src.new sink.new store.new) }
+    ensures left { (tell : Bool) (entry : SpecEntry) →
+        InSession tell S.stands K.holds D.seen D.may_leave entry
+        work.old src.old sink.old store.old →
+        S.honest src.new →
+        OnErr result (LeavesBy tell S.may_leave K.may_leave D.may_leave entry
+        src.new sink.new store.new) }
+    ensures complete { (tell : Bool) (entry : SpecEntry) →
+        InSession tell S.stands K.holds D.seen D.may_leave entry
+        work.old src.old sink.old store.old →
+        S.honest src.new → result ≡ Ok true →
+        IsSettledWhole tell S.stands K.holds D.seen D.may_leave entry
+        work.new src.new sink.new store.new }
+
+    // What it has in hand.
+    ensures done { result ≡ Ok true → AreAllDone work.new.follower.cursors }
+    ensures ended { result ≡ Ok true → IsTrue (S.has_ended src.new) }
+    ensures missed { (value at : _) → result ≡ Err (Halt.WatermarkMissing value at) →
+        IsTrue (S.has_ended src.new) }
+    ensures loads { result ≡ Ok true → store.new.offset ≡ Some (next_of work.new) }
+    ensures ready { OnOk result (IsReady work.new) }
+    ensures since { OnOk result (work.new.since < work.new.every) }
+    ensures number { OnOk result (work.new.number ≤ work.old.number + 1) }
+    ensures time { OnOk result (work.new.now_ms ≡ work.old.now_ms) }
+    ensures offset_is { OnOk result (work.new.offset ≡ record work.old.offset
+        { lsn = work.new.offset.lsn; end_lsn = work.new.offset.end_lsn }) }
+    ensures stored { (first : SpecOffset) → work.old.offset ≡ record first
+        { lsn = work.old.offset.lsn; end_lsn = work.old.offset.end_lsn } →
+        HasOwnStored first store.old.offset → HasOwnStored first store.new.offset }
+    ensures position { IsAtPosition store.old.offset report.old →
+        IsAtPosition store.new.offset report.new }
+    ensures counts { IfOk result (λ ended. MatchBool ended
+        (report.new.messages ≡ report.old.messages)
+        (report.new.messages ≡ report.old.messages + 1)) }
+    ensures messages { report.new.messages ≤ report.old.messages + 1 }
+    ensures commits { report.new.commits ≤ report.new.messages }
+    ensures reading { S.is_reading src.new ≡ S.is_reading src.old }
+    ensures source_live { OnOk result (IsTrue (S.is_live src.new)) }
+    ensures sink_live { OnOk result (IsTrue (K.is_live sink.new)) }
+    ensures store_live { OnOk result (IsLive store.new) }
+    ensures honest { S.honest src.new → S.honest src.old }
+    ensures source_comes { S.comes_of src.old src.new }
+    ensures sink_comes { K.comes_of sink.old sink.new }
+    ensures store_comes { ComesOf D.seen D.may_leave store.old store.new }
+    ensures source_later { S.faults src.old ≤ S.faults src.new }
+    ensures sink_later { K.faults sink.old ≤ K.faults sink.new }
+    ensures store_later { D.faults (disk_of store.old) ≤ D.faults (disk_of store.new) }
+    ensures source { result ≡ Err Halt.Source → Rose (S.faults src.old) (S.faults src.new) }
+    ensures sink { result ≡ Err Halt.Sink → Rose (K.faults sink.old) (K.faults sink.new) }
+    ensures offsets { result ≡ Err Halt.Offsets →
+        Rose (D.faults (disk_of store.old)) (D.faults (disk_of store.new)) }
+{
+    arm_next(work, src, sink, store)?;
+    match next(work, src, sink, store, report)? {
+        Some(true) => {
+            settle(work, src, sink, store, report)?;
+            Ok(false)
+        }
+        Some(false) => Ok(false),
+        None => {
+            end(work, src, sink, store, report)?;
+            Ok(true)
+        }
+    }
+}
+
+/// Turns until everything is read, or as many messages were as the budget allows.
+pub(crate) fn run<S: Source, K: Sink, D: Disk>(
+    budget: u64,
+    work: &mut Work,
+    src: &mut S,
+    sink: &mut K,
+    store: &mut OffsetStore<D>,
+    report: &mut Report,
+) -> Result<Ending, Halt>
+    requires source_live { IsTrue (S.is_live src.old) }
+    requires reading { IsTrue (S.is_reading src.old) }
+    requires sink_live { IsTrue (K.is_live sink.old) }
+    requires store_live { IsLive store.old }
+    requires ready { IsReady work.old }
+    requires since { work.old.since < work.old.every }
+    requires time { IsMomentInRange work.old.now_ms }
+    requires number { work.old.number ≡ 0 }
+    requires report { (report.old.messages ≡ 0) × (report.old.commits ≡ 0) }
+    requires budget { budget ≤ 999999999 }
+
+    // What it leaves.
+    ensures ran { (tell : Bool) (entry : SpecEntry) →
+        InSession tell S.stands K.holds D.seen D.may_leave entry
+        work.old src.old sink.old store.old →
+        S.honest src.new →
+        OnOk result (InSession tell S.stands K.holds D.seen D.may_leave entry
+        work.new src.new sink.new store.new) }
+    ensures left { (tell : Bool) (entry : SpecEntry) →
+        InSession tell S.stands K.holds D.seen D.may_leave entry
+        work.old src.old sink.old store.old →
+        S.honest src.new →
+        OnErr result (LeavesBy tell S.may_leave K.may_leave D.may_leave entry
+        src.new sink.new store.new) }
+    ensures complete { (tell : Bool) (entry : SpecEntry) →
+        InSession tell S.stands K.holds D.seen D.may_leave entry
+        work.old src.old sink.old store.old →
+        S.honest src.new → result ≡ Ok Ending.Complete →
+        IsSettledWhole tell S.stands K.holds D.seen D.may_leave entry
+        work.new src.new sink.new store.new }
+
+    // Where it ends, and what it counts.
+    ensures done { result ≡ Ok Ending.Complete → AreAllDone work.new.follower.cursors
+        × (store.new.offset ≡ Some (next_of work.new)) × (report.new.messages < budget) }
+    ensures ended { result ≡ Ok Ending.Complete → IsTrue (S.has_ended src.new) }
+    ensures missed { (value at : _) → result ≡ Err (Halt.WatermarkMissing value at) →
+        IsTrue (S.has_ended src.new) }
+    ensures spent { result ≡ Ok Ending.Budget → report.new.messages ≡ budget }
+    ensures stored { HasOwnStored work.old.offset store.old.offset →
+        HasOwnStored work.old.offset store.new.offset }
+    ensures position { IsAtPosition store.old.offset report.old →
+        IsAtPosition store.new.offset report.new }
+    ensures bounded { report.new.messages ≤ budget }
+    ensures commits { report.new.commits ≤ report.new.messages }
+    ensures source_live { OnOk result (IsTrue (S.is_live src.new)) }
+    ensures sink_live { OnOk result (IsTrue (K.is_live sink.new)) }
+    ensures store_live { OnOk result (IsLive store.new) }
+    ensures honest { S.honest src.new → S.honest src.old }
+    ensures source_comes { S.comes_of src.old src.new }
+    ensures sink_comes { K.comes_of sink.old sink.new }
+    ensures store_comes { ComesOf D.seen D.may_leave store.old store.new }
+    ensures source_later { S.faults src.old ≤ S.faults src.new }
+    ensures sink_later { K.faults sink.old ≤ K.faults sink.new }
+    ensures store_later { D.faults (disk_of store.old) ≤ D.faults (disk_of store.new) }
+    ensures source { result ≡ Err Halt.Source → Rose (S.faults src.old) (S.faults src.new) }
+    ensures sink { result ≡ Err Halt.Sink → Rose (K.faults sink.old) (K.faults sink.new) }
+    ensures offsets { result ≡ Err Halt.Offsets →
+        Rose (D.faults (disk_of store.old)) (D.faults (disk_of store.new)) }
+{
+    'turns: for _count in 0..budget {
+        if turn(work, src, sink, store, report)? {
+            return Ok(Ending::Complete);
+        }
+    }
+    arm_next(work, src, sink, store)?;
+    settle(work, src, sink, store, report)?;
+    Ok(Ending::Budget)
+}

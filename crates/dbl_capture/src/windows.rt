@@ -1,0 +1,52 @@
+//! Windows of a session: rows that are read between two marks.
+
+ghost use Rattle.std.specs.Prelude.{◌≡◌, ◌≢◌, ◌+◌, ◌^◌, ◌<◌, ◌≤◌, Bool, IsTrue, OnErr, OnOk};
+ghost use Rattle.dbl_base.specs.Streams.{Rose};
+ghost use Rattle.dbl_follow.specs.declared.window.Window.TheVariants as windows;
+ghost use Rattle.dbl_session.specs.Entries.{Entry as SpecEntry};
+ghost use Rattle.dbl_work.specs.Works.{IsArmedWork, IsOpenTable, IsReady};
+ghost use Rattle.dbl_exits.specs.Sessions.{InSession, LeavesBy};
+
+use dbl_disk::Disk;
+use dbl_offset::OffsetStore;
+use dbl_source::Source;
+use dbl_topic::Sink;
+use dbl_work::{Halt, Work, read_window};
+
+/// Reads the next window of a table, and waits for its marks.
+pub(crate) fn arm<S: Source, K: Sink, D: Disk>(
+    work: &mut Work,
+    table: u32,
+    src: &mut S,
+    sink: &K,
+    store: &OffsetStore<D>,
+) -> Result<(), Halt>
+    requires live { IsTrue (S.is_live src.old) }
+    requires ready { IsReady work.old }
+    requires absent { work.old.follower.window ≡ windows.Absent }
+    requires table { IsOpenTable work.old table }
+    requires number { work.old.number + 1 < 2 ^ 64 }
+    ensures armed { (tell : Bool) (entry : SpecEntry) →
+        InSession tell S.stands K.holds D.seen D.may_leave entry
+        work.old src.old sink.now store.now →
+        S.honest src.new →
+        OnOk result (InSession tell S.stands K.holds D.seen D.may_leave entry
+        work.new src.new sink.now store.now) }
+    ensures left { (tell : Bool) (entry : SpecEntry) →
+        InSession tell S.stands K.holds D.seen D.may_leave entry
+        work.old src.old sink.now store.now →
+        S.honest src.new →
+        OnErr result (LeavesBy tell S.may_leave K.may_leave D.may_leave entry
+        src.new sink.now store.now) }
+    ensures same { OnOk result (IsArmedWork table work.old work.new) }
+    ensures reading { S.is_reading src.new ≡ S.is_reading src.old }
+    ensures live { OnOk result (IsTrue (S.is_live src.new)) }
+    ensures honest { S.honest src.new → S.honest src.old }
+    ensures comes { S.comes_of src.old src.new }
+    ensures later { S.faults src.old ≤ S.faults src.new }
+    ensures failed { result ≡ Err Halt.Source → Rose (S.faults src.old) (S.faults src.new) }
+    ensures others { (result ≢ Err Halt.Sink) × (result ≢ Err Halt.Offsets) }
+    ensures never { (value at : _) → result ≢ Err (Halt.WatermarkMissing value at) }
+{
+    read_window(work, table, src)
+}

@@ -1,0 +1,9 @@
+pub mod Stored
+pub mod Written
+pub mod Gained
+pub mod Reported
+pub mod Followed
+pub mod Halted
+pub mod Musts
+pub mod Nevers
+pub mod Underway

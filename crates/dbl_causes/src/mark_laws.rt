@@ -1,0 +1,23 @@
+//! How many marks a session writes. The functions do nothing: their contracts are the laws.
+
+ghost use Rattle.dbl_causes.specs.Written.{FewMarksAreLeft, MarksAreExact, ReadWindowsWait, StepsCloseWindows};
+
+/// A window that was read waits.
+pub fn read_windows_wait()
+    ensures { ReadWindowsWait }
+{}
+
+/// A commit that closes one is counted by a report, and no other is.
+pub fn steps_close_windows()
+    ensures { StepsCloseWindows }
+{}
+
+/// Whatever is left, the marks of no more than one window are there besides.
+pub fn few_marks_are_left()
+    ensures { FewMarksAreLeft }
+{}
+
+/// Where a session ends as it should, they are told exactly by the windows and by the stored cursors.
+pub fn marks_are_exact()
+    ensures { MarksAreExact }
+{}

@@ -1,0 +1,64 @@
+//! What a session's report tells. The functions do nothing: their contracts are the laws.
+
+ghost use Rattle.dbl_causes.specs.Followed.{EndsStandAtLast, HaltsAtMessages, HaltsBetween, MessagesAreTaken, SessionsBeginUnread, SourcesSettle, SourcesStandBehind, SourcesStoodSo, StoodAreFollowed, StopsAreFollowed};
+ghost use Rattle.dbl_causes.specs.Gained.{CommitsAreSent, PutsAreCounted};
+
+/// The records of a commit that is followed are sent behind those of all commits before it, and are cut there.
+pub fn commits_are_sent()
+    ensures { CommitsAreSent }
+{}
+
+/// Those that were put are counted.
+pub fn puts_are_counted()
+    ensures { PutsAreCounted }
+{}
+
+/// A session begins with nothing read.
+pub fn sessions_begin_unread()
+    ensures { SessionsBeginUnread }
+{}
+
+/// One message more is taken.
+pub fn messages_are_taken()
+    ensures { MessagesAreTaken }
+{}
+
+/// A source that stands does so behind it.
+pub fn sources_stand_behind()
+    ensures { SourcesStandBehind }
+{}
+
+/// A session halts between two messages,
+pub fn halts_between()
+    ensures { HaltsBetween }
+{}
+
+/// or at one.
+pub fn halts_at_messages()
+    ensures { HaltsAtMessages }
+{}
+
+/// So it does where its source still stands.
+pub fn sources_stood_so()
+    ensures { SourcesStoodSo }
+{}
+
+/// Where it halts, its report tells what was followed, and how much was read.
+pub fn stops_are_followed()
+    ensures { StopsAreFollowed }
+{}
+
+/// So it does by a source that still stands.
+pub fn stood_are_followed()
+    ensures { StoodAreFollowed }
+{}
+
+/// Where it ends as it should, its stored offset stands at the last commit that was read.
+pub fn ends_stand_at_last()
+    ensures { EndsStandAtLast }
+{}
+
+/// So it does by a source that stands, which has confirmed that.
+pub fn sources_settle()
+    ensures { SourcesSettle }
+{}

@@ -30,10 +30,9 @@ use Rattle.dbl_work.specs.declared.work.Work.{Work}
 use Rattle.dbl_work.specs.Begins.{IsTooLong}
 use Rattle.dbl_work.specs.Takes.{IsClashIn}
 use Rattle.dbl_work.specs.Works.{IsOwnChunk, IsOwnWaiting, IsWork, next_of}
-use Rattle.dbl_causes.specs.Reported.{AreSpelled}
 use Rattle.dbl_causes.specs.Halted.{IsOpenAmong, IsHalt, IsHaltOfStood, IsNextOffset, IsStoodHalt, IsToldHalt, MissesMark, MovesOne}
 use Rattle.dbl_causes.specs.Underway.{BytesHalt, IsBetween, IsNewestHalt, IsOfFirst, IsOpenedBy, MarksAreMissed, MessagesHalt, OffsetsHalt, SourcesStoodAtHalts, SourcesStoodAtOffsets, WindowsHalt}
-use Rattle.dbl_causes.proofs.Reported.{read_behind, read_is, taken_more}
+use Rattle.dbl_causes.proofs.Reported.{read_behind, read_is, same_many, taken_more}
 use Rattle.dbl_causes.proofs.Halting.{accepted_stored, chunk_halts, identity_stored, incarnation_stored, infos_stored, newest_by, was_stood, was_told}
 
 -- ---- halts that the messages tell
@@ -99,12 +98,6 @@ bytes_halt config now held first stored work before report found begun old new b
   where
     many : length (bytes ∷ t.read) ≡ report.messages
     many = one_more (length t.read) before.messages report.messages t.many messages
-
-same_many : (read : List (List ℕ)) (ms : List Message) → AreSpelled read ms → length ms ≡ length read
-same_many [] [] spelled = refl
-same_many [] (m ∷ ms) spelled = absurd spelled
-same_many (x ∷ read) [] spelled = absurd spelled
-same_many (x ∷ read) (m ∷ ms) spelled = ap suc (same_many read ms spelled.1)
 
 pub messages_halt : MessagesHalt
 messages_halt config now held first stored work before report found begun old new bytes h o b anew t taken messages cause =

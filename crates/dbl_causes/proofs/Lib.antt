@@ -6,3 +6,6 @@ pub mod Moving
 pub mod Halting
 pub mod Causes
 pub mod Musts
+pub mod Carried
+pub mod Ended
+pub mod Sources

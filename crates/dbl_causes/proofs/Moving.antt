@@ -7,12 +7,14 @@ use Rattle.dbl_table.specs.declared.change.Body.{Body}
 use Rattle.dbl_table.specs.declared.change.Body.TheVariants.{Changes, Mark}
 use Rattle.dbl_table.specs.declared.change.Change.{Change}
 use Rattle.dbl_table.specs.declared.change.Commit.{Commit}
+use Rattle.dbl_table.specs.declared.table.TableInfo.{TableInfo}
 use Rattle.dbl_history.specs.declared.cursor.Cursor.{Cursor}
 use Rattle.dbl_faithful.proofs.Items.{first_some}
 use Rattle.dbl_window.specs.Plans.{Chunk, low_text, high_text}
 use Rattle.dbl_follow.specs.declared.window.Window.{Window}
 use Rattle.dbl_follow.specs.declared.window.Window.TheVariants.{Absent, Armed, Open}
-use Rattle.dbl_follow.specs.Steps.{Becomes, closing, cursors_behind, has_text, mark_of, seen_by}
+use Rattle.dbl_follow.specs.Followed.{Following}
+use Rattle.dbl_follow.specs.Steps.{Becomes, Steps, closing, cursors_behind, has_text, mark_of, seen_by}
 use Rattle.dbl_work.specs.Works.{IsOwnChunk, IsOwnWaiting}
 use Rattle.dbl_causes.specs.Halted.{IsOpenAmong, MovesOne}
 use Rattle.dbl_causes.specs.Underway.{IsOpenedBy, StepsMoveOneCursor, StepsOpenWindows}
@@ -106,29 +108,33 @@ module _ (cursors : List Cursor) where
     others = λ place apart. ap (λ (l : List Cursor). slice_get l place) is ∙ set_other cursors table place cursor (λ same. apart (first ∙ ap (λ (n : ℕ). Some n) (sym same)));
   }
 
+module _ (incarnation number most : ℕ) (infos : List TableInfo) (commit : Commit) (old new : Following) (own : IsOwnWaiting incarnation number infos old.cursors most old.window) (steps : Steps old commit new) where
+  cursors_are : (o : Option Chunk) → closing old.window (mark_of commit) ≡ o → new.cursors ≡ cursors_behind old.cursors o
+  cursors_are o closes = steps.cursors ∙ ap (cursors_behind old.cursors) closes
+
+  -- the window that is closed is the one that was open
+  opened_is : (chunk closed : Chunk) (b : Bool) → (if b then Some chunk else None) ≡ Some closed → chunk ≡ closed
+  opened_is chunk closed true same = first_some chunk closed same
+  opened_is chunk closed false same = cc
+
+  moves_at : (w : Window) → old.window ≡ w → (o : Option Chunk) → closing old.window (mark_of commit) ≡ o → MovesOne old.cursors new.cursors
+  moves_at w is_window None closes = moved_none old.cursors new.cursors (cursors_are None closes)
+  moves_at Absent is_window (Some closed) closes =
+      let wrong : None ≡ Some closed = ap (λ (x : Window). closing x (mark_of commit)) (sym is_window) ∙ closes in
+      cc
+  moves_at (Armed chunk) is_window (Some closed) closes =
+      let wrong : None ≡ Some closed = ap (λ (x : Window). closing x (mark_of commit)) (sym is_window) ∙ closes in
+      cc
+  moves_at (Open chunk) is_window (Some closed) closes =
+      let is : IsOwnChunk incarnation number infos old.cursors most chunk = subst (λ (x : Window). IsOwnWaiting incarnation number infos old.cursors most x) is_window own in
+      let same : chunk ≡ closed = opened_is chunk closed (has_text (high_text chunk.plan) (mark_of commit)) (ap (λ (x : Window). closing x (mark_of commit)) (sym is_window) ∙ closes) in
+      moved_one old.cursors new.cursors closed.plan.table (record { last = closed.through; done = closed.done })
+      (is.table ∙ ap (λ (c : Chunk). Some c.plan.table) same) (cursors_are (Some closed) closes)
+
+  pub moves_one : MovesOne old.cursors new.cursors
+  moves_one = moves_at old.window refl (closing old.window (mark_of commit)) refl
+
 pub steps_move_one_cursor : StepsMoveOneCursor
 steps_move_one_cursor after ms commit old new stored chunks is b stepped =
-    subst (λ (l : List Cursor). MovesOne l new.follower.cursors) (sym b.cursors) (by old.follower.window refl (closing old.follower.window (mark_of commit)) refl)
-  where
-    cursors_are : (o : Option Chunk) → closing old.follower.window (mark_of commit) ≡ o → new.follower.cursors ≡ cursors_behind old.follower.cursors o
-    cursors_are o closes = stepped.steps.cursors ∙ ap (cursors_behind old.follower.cursors) closes
-
-    -- the window that is closed is the one that was open
-    opened : (chunk closed : Chunk) (b : Bool) → (if b then Some chunk else None) ≡ Some closed → chunk ≡ closed
-    opened chunk closed true same = first_some chunk closed same
-    opened chunk closed false same = cc
-
-    by : (w : Window) → old.follower.window ≡ w → (o : Option Chunk) → closing old.follower.window (mark_of commit) ≡ o → MovesOne old.follower.cursors new.follower.cursors
-    by w is_window None closes = moved_none old.follower.cursors new.follower.cursors (cursors_are None closes)
-    by Absent is_window (Some closed) closes =
-        let wrong : None ≡ Some closed = ap (λ (x : Window). closing x (mark_of commit)) (sym is_window) ∙ closes in
-        cc
-    by (Armed chunk) is_window (Some closed) closes =
-        let wrong : None ≡ Some closed = ap (λ (x : Window). closing x (mark_of commit)) (sym is_window) ∙ closes in
-        cc
-    by (Open chunk) is_window (Some closed) closes =
-        let own : IsOwnChunk old.offset.incarnation old.number old.offset.infos old.follower.cursors old.chunk chunk =
-        subst (λ (x : Window). IsOwnWaiting old.offset.incarnation old.number old.offset.infos old.follower.cursors old.chunk x) is_window is.own in
-        let same : chunk ≡ closed = opened chunk closed (has_text (high_text chunk.plan) (mark_of commit)) (ap (λ (x : Window). closing x (mark_of commit)) (sym is_window) ∙ closes) in
-        moved_one old.follower.cursors new.follower.cursors closed.plan.table (record { last = closed.through; done = closed.done })
-        (own.table ∙ ap (λ (c : Chunk). Some c.plan.table) same) (cursors_are (Some closed) closes)
+    subst (λ (l : List Cursor). MovesOne l new.follower.cursors) (sym b.cursors)
+    (moves_one old.offset.incarnation old.number old.chunk old.offset.infos commit old.follower new.follower is.own stepped.steps)

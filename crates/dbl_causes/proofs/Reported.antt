@@ -16,7 +16,7 @@ use Rattle.dbl_work.specs.declared.work.Work.{Work}
 use Rattle.dbl_work.specs.Begins.{IsOffsetFor}
 use Rattle.dbl_work.specs.Works.{next_of}
 use Rattle.dbl_exits.specs.Found.{HasStored, IsStoredBy}
-use Rattle.dbl_causes.specs.Reported.{AllCouldBeSent, Course, HasFollowed, HasFollowedOf, HasReadBehind, IsBehindOf, IsPlacedOf, began_behind, course_from, end_behind}
+use Rattle.dbl_causes.specs.Reported.{AllCouldBeSent, AreSpelled, Course, HasFollowed, HasFollowedOf, HasReadBehind, IsBehindOf, IsPlacedOf, began_behind, course_from, end_behind}
 use Rattle.dbl_causes.specs.Followed.{EndsStandAtLast, HaltsAtMessages, HaltsBetween, MessagesAreTaken, ReadsOne, SessionsBeginUnread, SourcesSettle, SourcesStandBehind, SourcesStoodSo, StoodAreFollowed, StopsAreFollowed}
 
 -- ---- what was told
@@ -47,6 +47,13 @@ read_is read (Some f) (Some s) (Some n) t is anew taken =
     let same : n ≡ t = cc in
     ap (λ (x : Told). x.read) (sym same) ∙ (taken ∙ (ap (λ (l : List (List ℕ)). read ++ l) anew ∙ append-nil read))
 
+-- as many messages as bytes that spell them
+pub same_many : (read : List (List ℕ)) (ms : List Message) → AreSpelled read ms → length ms ≡ length read
+same_many [] [] spelled = refl
+same_many [] (m ∷ ms) spelled = absurd spelled
+same_many (x ∷ read) [] spelled = absurd spelled
+same_many (x ∷ read) (m ∷ ms) spelled = ap suc (same_many read ms spelled.1)
+
 -- ---- one message more
 
 one_more : (n m k : ℕ) → n ≡ m → k ≡ m + 1 → suc n ≡ k
@@ -58,7 +65,7 @@ none_more n m k one two = omega (arith, one, two)
 some_more : (n a b c d : ℕ) → n ≡ a + b → a ≡ c → d ≡ c + b → n ≡ d
 some_more n a b c d one two three = omega (arith, one, two, three)
 
-ends_on : (end : Lsn) (xs ys : List Commit) → end_behind end (xs ++ ys) ≡ end_behind (end_behind end xs) ys
+pub ends_on : (end : Lsn) (xs ys : List Commit) → end_behind end (xs ++ ys) ≡ end_behind (end_behind end xs) ys
 ends_on end [] ys = refl
 ends_on end (x ∷ xs) ys = ends_on x.end_lsn xs ys
 
@@ -233,7 +240,7 @@ module _ (config : Config) (held : Option Offset) (first : Offset) (work : Work)
   infos_first : work.offset.infos ≡ first.infos
   infos_first = ap (λ (o : Offset). o.infos) placed
 
-  of_session : IsOfSession first (next_of work)
+  pub of_session : IsOfSession first (next_of work)
   of_session = record {
     identity = ap (λ (o : Offset). o.identity) placed;
     infos = ap (λ (o : Offset). o.infos) placed;

@@ -7,3 +7,5 @@ pub mod Halted
 pub mod Musts
 pub mod Nevers
 pub mod Underway
+pub mod Carried
+pub mod Sources

@@ -1,6 +1,7 @@
 //! How many marks a session writes. The functions do nothing: their contracts are the laws.
 
-ghost use Rattle.dbl_causes.specs.Written.{FewMarksAreLeft, MarksAreExact, ReadWindowsWait, StepsCloseWindows};
+ghost use Rattle.dbl_causes.specs.Written.{FewMarksAreLeft, MarksAreExact, ReadWindowsWait};
+ghost use Rattle.dbl_causes.specs.Written.{StepsCloseWindows};
 
 /// A window that was read waits.
 pub fn read_windows_wait()
@@ -12,12 +13,13 @@ pub fn steps_close_windows()
     ensures { StepsCloseWindows }
 {}
 
-/// Whatever is left, the marks of no more than one window are there besides.
+/// Where few marks are left behind a session's last place, few are there in all.
 pub fn few_marks_are_left()
     ensures { FewMarksAreLeft }
 {}
 
-/// Where a session ends as it should, they are told exactly by the windows and by the stored cursors.
+/// Where every table is done unless a window waits, they are told exactly by the windows and by
+/// the stored cursors.
 pub fn marks_are_exact()
     ensures { MarksAreExact }
 {}

@@ -1,14 +1,18 @@
 //! What a session's report tells. The functions do nothing: their contracts are the laws.
 
-ghost use Rattle.dbl_causes.specs.Followed.{EndsStandAtLast, HaltsAtMessages, HaltsBetween, MessagesAreTaken, SessionsBeginUnread, SourcesSettle, SourcesStandBehind, SourcesStoodSo, StoodAreFollowed, StopsAreFollowed};
+ghost use Rattle.dbl_causes.specs.Followed.{EndsStandAtLast, HaltsAtMessages, HaltsBetween};
+ghost use Rattle.dbl_causes.specs.Followed.{MessagesAreTaken, SessionsBeginUnread, SourcesSettle};
+ghost use Rattle.dbl_causes.specs.Followed.{SourcesStandBehind, SourcesStoodSo, StoodAreFollowed};
+ghost use Rattle.dbl_causes.specs.Followed.{StopsAreFollowed};
 ghost use Rattle.dbl_causes.specs.Gained.{CommitsAreSent, PutsAreCounted};
 
-/// The records of a commit that is followed are sent behind those of all commits before it, and are cut there.
+/// The records of a commit that is followed are sent behind those of all commits before it, and
+/// are cut there.
 pub fn commits_are_sent()
     ensures { CommitsAreSent }
 {}
 
-/// Those that were put are counted.
+/// Those that were put are counted, as far as 64 bits tell.
 pub fn puts_are_counted()
     ensures { PutsAreCounted }
 {}

@@ -1,0 +1,258 @@
+-- What a session carries from step to step, by the messages that it has taken.
+use Rattle.std.proofs.Common.{◌≡◌, ◌∙◌, ◌+◌, ◌<◌, ◌^◌, ℕ, ℤ, suc, Bool, true, false, Option, Some, None, List, [], ◌∷◌, ◌++◌, length, refl, sym, ap, subst, arith, append-nil, length-append}
+use Rattle.std.specs.Prelude.{is_some, slice_get}
+use Rattle.dbl_base.specs.declared.lsn.Lsn.{Lsn}
+use Rattle.dbl_pgmsg.specs.declared.messages.Message.{Message}
+use Rattle.dbl_table.specs.declared.change.Commit.{Commit}
+use Rattle.dbl_history.specs.declared.cursor.Cursor.{Cursor}
+use Rattle.dbl_commit.specs.Stated.{commits_of, ended, list_of}
+use Rattle.dbl_offset.specs.declared.offset.Offset.{Offset}
+use Rattle.dbl_window.specs.Plans.{Chunk}
+use Rattle.dbl_follow.specs.declared.window.Window.TheVariants.{Absent, Armed}
+use Rattle.dbl_follow.specs.Followed.{Following}
+use Rattle.dbl_follow.specs.Steps.{closing, cursors_behind, mark_of, records_by}
+use Rattle.dbl_session.specs.Counted.{waiting}
+use Rattle.dbl_session.specs.Stages.{IsOfSession}
+use Rattle.dbl_work.specs.declared.report.Report.{Report}
+use Rattle.dbl_work.specs.declared.work.Work.{Work}
+use Rattle.dbl_work.specs.Takes.{ReportsStep, WasStepped, WasTaken, closes}
+use Rattle.dbl_work.specs.Works.{AreShort, IsArmedWork, IsOpenTable, IsWork, next_of}
+use Rattle.dbl_exits.proofs.Arms.{PlanIs, own_chunk, plan_parts}
+use Rattle.dbl_exits.proofs.Keeping.{settled_work}
+use Rattle.dbl_exits.proofs.Taken.{followed_is, taken_is}
+use Rattle.dbl_causes.specs.Written.{AreClosed}
+use Rattle.dbl_causes.specs.Reported.{IsPlacedOf, end_behind}
+use Rattle.dbl_causes.specs.Halted.{MovesOne}
+use Rattle.dbl_causes.specs.Underway.{IsOfFirst, IsOpenedBy}
+use Rattle.dbl_causes.specs.Carried.{Beginning, CommitsLeaveItBehind, IsBehind, IsResting, MessagesLetItRest, SessionsBeginAtRest, StoresLetItRest, WindowsLetItRest}
+use Rattle.dbl_causes.proofs.Written.{read_windows_wait, steps_close_windows}
+use Rattle.dbl_causes.proofs.Reported.{ends_on, of_session}
+use Rattle.dbl_causes.proofs.Moving.{moves_one, steps_open_windows}
+
+-- ---- it begins
+
+none_yet : (n c : ℕ) → n ≡ 0 → c ≡ 0 → n ≡ c + 0
+none_yet n c one two = omega (arith, one, two)
+
+pub sessions_begin_at_rest : SessionsBeginAtRest
+sessions_begin_at_rest b every work report for begun messages commits chunks = record {
+  is = record {
+    offset = b.first;
+    stored_is = refl;
+    of = record {
+      for = for;
+      of = record { identity = refl; infos = refl; start = refl; incarnation = refl };
+      placed = subst (λ (o : Offset). IsPlacedOf b.first o) (sym begun.offset_is) refl;
+      time = begun.now_is;
+      most = begun.chunk_is;
+    };
+    is = begun.is;
+    end_is = ap (λ (o : Offset). o.end_lsn) begun.offset_is;
+    many = sym messages;
+    followed = commits;
+    opened = subst (λ (f : Following). IsOpenedBy f.window []) (sym begun.follower) tt;
+    windows = subst (λ (f : Following). work.number ≡ report.chunks + waiting f.window) (sym begun.follower) (none_yet work.number report.chunks begun.unread chunks);
+    moves = record { others = λ place apart. ap (λ (f : Following). slice_get f.cursors place) begun.follower };
+  };
+  same = sym (ap (λ (f : Following). f.cursors) begun.follower);
+}
+
+-- ---- a window is read
+
+pub windows_let_it_rest : WindowsLetItRest
+windows_let_it_rest b ms stored old new table report r absent unread armed = subst (λ (x : Work). IsResting b ms stored x report) (sym armed.is) rests
+  where
+    plan : PlanIs old table armed.chunk.plan
+    plan = plan_parts old table armed.chunk.plan armed.plan
+
+    waits : AreClosed (record old { follower = record old.follower { window = Armed armed.chunk }; number = old.number + 1 }) report.chunks
+    waits = subst (λ (x : Work). AreClosed x report.chunks) armed.is (read_windows_wait old new table report.chunks absent armed r.is.windows)
+
+    works : IsWork b.first.lsn ms (record old { follower = record old.follower { window = Armed armed.chunk }; number = old.number + 1 })
+    works = record {
+      asked = r.is.is.asked;
+      identity = r.is.is.identity;
+      infos = r.is.is.infos;
+      cursors = r.is.is.cursors;
+      stands = r.is.is.stands;
+      fields = r.is.is.fields;
+      accepted = r.is.is.accepted;
+      lsn = r.is.is.lsn;
+      end_is = r.is.is.end_is;
+      start = r.is.is.start;
+      sent = r.is.is.sent;
+      own = own_chunk old table armed.chunk plan unread.first armed.few;
+      some_rows = r.is.is.some_rows;
+      few_rows = r.is.is.few_rows;
+      some = r.is.is.some;
+    }
+
+    rests : IsResting b ms stored (record old { follower = record old.follower { window = Armed armed.chunk }; number = old.number + 1 }) report
+    rests = record {
+      is = record {
+        offset = r.is.offset;
+        stored_is = r.is.stored_is;
+        of = record { for = r.is.of.for; of = r.is.of.of; placed = r.is.of.placed; time = r.is.of.time; most = r.is.of.most };
+        is = works;
+        end_is = r.is.end_is;
+        many = r.is.many;
+        followed = r.is.followed;
+        opened = tt;
+        windows = waits;
+        moves = r.is.moves;
+      };
+      same = r.same;
+    }
+
+-- ---- a message is taken
+
+one_longer : (n m : ℕ) → n ≡ m → suc n ≡ m + 1
+one_longer n m is = omega (arith, is)
+
+pub messages_let_it_rest : MessagesLetItRest
+messages_let_it_rest b ms stored old next before report bytes r w counted =
+    subst (λ (x : Work). IsResting b (w.message ∷ ms) stored x report) (sym w.same)
+    (subst (λ (x : Report). IsResting b (w.message ∷ ms) stored (record old { assembler = next.assembler }) x) (sym counted) rests)
+  where
+    -- it states no commit more
+    same_commits : commits_of old.offset.infos ms ≡ commits_of old.offset.infos (w.message ∷ ms)
+    same_commits =
+        sym (append-nil (commits_of old.offset.infos ms))
+        ∙ ap (λ (o : Option Commit). commits_of old.offset.infos ms ++ list_of o) w.commit_is
+
+    rests : IsResting b (w.message ∷ ms) stored (record old { assembler = next.assembler }) (record before { messages = before.messages + 1 })
+    rests = record {
+      is = record {
+        offset = r.is.offset;
+        stored_is = r.is.stored_is;
+        of = record { for = r.is.of.for; of = r.is.of.of; placed = r.is.of.placed; time = r.is.of.time; most = r.is.of.most };
+        is = taken_is b.first.lsn ms old r.is.is w.message w.spells.fits.fields next.assembler w.clean w.stands (sym w.commit_is);
+        end_is = r.is.end_is ∙ ap (end_behind b.first.end_lsn) same_commits;
+        many = one_longer (length ms) before.messages r.is.many;
+        followed = r.is.followed ∙ ap (λ (l : List Commit). length l) same_commits;
+        opened = subst (λ (l : List Commit). IsOpenedBy old.follower.window l) same_commits r.is.opened;
+        windows = r.is.windows;
+        moves = r.is.moves;
+      };
+      same = r.same;
+    }
+
+-- ---- a commit is followed
+
+some_false : (o : Option Chunk) → is_some o ≡ false → o ≡ None
+some_false None is = refl
+some_false (Some chunk) is = cc
+
+module _ (b : Beginning) (ms : List Message) (stored : Option Offset) (old next new : Work) (before report : Report) (bytes : List ℕ) (commit : Commit)
+    (r : IsResting b ms stored old before) (w : WasTaken b.first.lsn ms bytes old next (Some commit)) where
+  abbrev taken : Work
+  taken = record old { assembler = next.assembler }
+
+  abbrev counted : Report
+  counted = record before { messages = before.messages + 1 }
+
+  module _ (st : WasStepped commit taken new) (short : AreShort (records_by old.follower commit old.now_ms)) (small : old.number < 2 ^ 64) (reports : ReportsStep commit taken counted report true) where
+    abbrev followed : Work
+    followed = record taken { offset = record old.offset { lsn = commit.lsn; end_lsn = commit.end_lsn }; follower = new.follower; since = old.since + 1 }
+
+    -- it states one commit more
+    one_commit : commits_of old.offset.infos ms ++ commit ∷ [] ≡ commits_of old.offset.infos (w.message ∷ ms)
+    one_commit = ap (λ (o : Option Commit). commits_of old.offset.infos ms ++ list_of o) w.commit_is
+
+    messages_are : report.messages ≡ before.messages + 1
+    messages_are = ap (λ (x : Report). x.messages) reports.is ∙ ap (λ (x : Report). x.messages) (reports.all refl)
+
+    commits_are : report.commits ≡ before.commits + 1
+    commits_are = ap (λ (x : Report). x.commits) reports.is ∙ ap (λ (x : Report). x.commits + 1) (reports.all refl)
+
+    closed_are : AreClosed followed report.chunks
+    closed_are = subst (λ (x : Work). AreClosed x report.chunks) st.same (steps_close_windows commit taken new counted report small st reports r.is.windows)
+
+    moved : MovesOne r.is.offset.cursors new.follower.cursors
+    moved =
+        subst (λ (l : List Cursor). MovesOne l new.follower.cursors) (sym r.same)
+        (moves_one old.offset.incarnation old.number old.chunk old.offset.infos commit old.follower new.follower r.is.is.own st.steps)
+
+    behind : IsBehind b (w.message ∷ ms) stored followed report
+    behind = record {
+      offset = r.is.offset;
+      stored_is = r.is.stored_is;
+      of = record {
+        for = r.is.of.for;
+        of = r.is.of.of;
+        placed = ap (λ (o : Offset). record o { lsn = commit.lsn; end_lsn = commit.end_lsn }) r.is.of.placed;
+        time = r.is.of.time;
+        most = r.is.of.most;
+      };
+      is = followed_is b.first.lsn ms old r.is.is w.message w.spells.fits.fields next.assembler w.clean w.stands commit (sym w.commit_is) new.follower st.steps st.no_clash short st.listed;
+      end_is = sym (ap (end_behind b.first.end_lsn) (sym one_commit) ∙ ends_on b.first.end_lsn (commits_of old.offset.infos ms) (commit ∷ []));
+      many = one_longer (length ms) before.messages r.is.many ∙ sym messages_are;
+      followed = commits_are
+          ∙ (ap (λ (n : ℕ). n + 1) r.is.followed
+          ∙ (sym (length-append (commits_of old.offset.infos ms) (commit ∷ [])) ∙ ap (λ (l : List Commit). length l) one_commit));
+      opened = subst (λ (l : List Commit). IsOpenedBy new.follower.window l) one_commit (steps_open_windows commit taken new (commits_of old.offset.infos ms) st r.is.opened);
+      windows = closed_are;
+      moves = moved;
+    }
+
+    pub behind_it : IsBehind b (w.message ∷ ms) stored new report
+    behind_it = subst (λ (x : Work). IsBehind b (w.message ∷ ms) stored x report) (sym st.same) behind
+
+    pub at_rest : closing old.follower.window (mark_of commit) ≡ None → IsResting b (w.message ∷ ms) stored new report
+    at_rest none = subst (λ (x : Work). IsResting b (w.message ∷ ms) stored x report) (sym st.same) (record {
+      is = behind;
+      same = r.same ∙ sym (st.steps.cursors ∙ ap (cursors_behind old.follower.cursors) none);
+    })
+
+pub commits_leave_it_behind : CommitsLeaveItBehind
+commits_leave_it_behind b ms stored old next new before report bytes commit r w st short small reports = (
+  behind_it b ms stored old next new before report bytes commit r w stepped now_short small now_reports,
+  λ closed. at_rest b ms stored old next new before report bytes commit r w stepped now_short small now_reports
+      (some_false (closing old.follower.window (mark_of commit)) (subst (λ (x : Work). closes x commit ≡ false) w.same closed)),
+)
+  where
+    stepped : WasStepped commit (record old { assembler = next.assembler }) new
+    stepped = subst (λ (x : Work). WasStepped commit x new) w.same st
+
+    now_short : AreShort (records_by old.follower commit old.now_ms)
+    now_short = subst (λ (x : Work). AreShort (records_by x.follower commit x.now_ms)) w.same short
+
+    now_reports : ReportsStep commit (record old { assembler = next.assembler }) (record before { messages = before.messages + 1 }) report true
+    now_reports = subst (λ (x : Work). ReportsStep commit x (record before { messages = before.messages + 1 }) report true) w.same reports
+
+-- ---- an offset is stored
+
+-- the next offset is of the session
+pub of_next : (b : Beginning) (offset : Offset) (work : Work) → IsOfFirst b.config b.now b.held b.first offset work → IsOfFirst b.config b.now b.held b.first (next_of work) work
+of_next b offset work of = record {
+  for = of.for;
+  of = of_session b.config b.held b.first work of.for of.placed;
+  placed = of.placed;
+  time = of.time;
+  most = of.most;
+}
+
+pub stores_let_it_rest : StoresLetItRest
+stores_let_it_rest b ms stored old new before report is same counted =
+    subst (λ (x : Work). IsResting b ms (Some (next_of old)) x report) (sym same)
+    (subst (λ (x : Report). IsResting b ms (Some (next_of old)) (record old { since = 0 }) x) (sym counted) rests)
+  where
+    next : IsOfFirst b.config b.now b.held b.first (next_of old) old
+    next = of_next b is.offset old is.of
+
+    rests : IsResting b ms (Some (next_of old)) (record old { since = 0 }) (record before { position = report.position })
+    rests = record {
+      is = record {
+        offset = next_of old;
+        stored_is = refl;
+        of = record { for = next.for; of = next.of; placed = next.placed; time = next.time; most = next.most };
+        is = settled_work b.first.lsn ms old is.is;
+        end_is = is.end_is;
+        many = is.many;
+        followed = is.followed;
+        opened = is.opened;
+        windows = is.windows;
+        moves = record { others = λ place apart. refl };
+      };
+      same = refl;
+    }

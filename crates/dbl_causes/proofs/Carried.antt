@@ -199,6 +199,7 @@ module _ (b : Beginning) (ms : List Message) (stored : Option Offset) (old next 
     behind_it = subst (λ (x : Work). IsBehind b (w.message ∷ ms) stored x report) (sym st.same) behind
 
     pub at_rest : closing old.follower.window (mark_of commit) ≡ None → IsResting b (w.message ∷ ms) stored new report
+    unfolding behind
     at_rest none = subst (λ (x : Work). IsResting b (w.message ∷ ms) stored x report) (sym st.same) (record {
       is = behind;
       same = r.same ∙ sym (st.steps.cursors ∙ ap (cursors_behind old.follower.cursors) none);

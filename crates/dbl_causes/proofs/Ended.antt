@@ -92,7 +92,7 @@ course_is b o work of =
     ap (λ (x : Offset). course_with x.identity x.infos work.now_ms b.first.lsn) of.placed
     ∙ ap (λ (k : ℤ). course_with b.first.identity b.first.infos k b.first.lsn) of.time
 
-pub has_taken : (b : Beginning) (ms : List Message) (stored : Option Offset) (work : Work) (report : Report) (found told : Option Told) → IsBehind b ms stored work report → (a : AreTold found told ms)
+abbrev pub has_taken : (b : Beginning) (ms : List Message) (stored : Option Offset) (work : Work) (report : Report) (found told : Option Told) → IsBehind b ms stored work report → (a : AreTold found told ms)
     → HasTaken b.first.lsn b.first.end_lsn a.begun told report work
 has_taken b ms stored work report found told is a = record {
   read = a.read;
@@ -105,7 +105,7 @@ has_taken b ms stored work report found told is a = record {
   followed = is.followed;
 }
 
-pub stands_behind : (b : Beginning) (ms : List Message) (stored : Option Offset) (work : Work) (report : Report) (t : Standing) → IsBehind b ms stored work report → StandsAt b ms t
+abbrev pub stands_behind : (b : Beginning) (ms : List Message) (stored : Option Offset) (work : Work) (report : Report) (t : Standing) → IsBehind b ms stored work report → StandsAt b ms t
     → StandsBehind b.first.lsn b.first.end_lsn report work t
 stands_behind b ms stored work report t is at = record {
   messages = ms;
@@ -115,6 +115,10 @@ stands_behind b ms stored work report t is at = record {
   end_is = is.end_is;
   followed = is.followed;
 }
+
+-- where such a source stood
+abbrev stood_at : Beginning → List Message → Standing → Standing
+stood_at b ms t = record { history = t.history; confirmed = t.confirmed; reading = Some (reading_at b.first.lsn ms) }
 
 -- ---- it halts between two messages
 
@@ -246,14 +250,10 @@ module _ (b : Beginning) (ms : List Message) (stored : Option Offset) (work : Wo
     must = stood_one b is.offset work is.of report t (m ∷ ms) (Err h) stands (newest m spells);
   }
     where
-      -- where it stood before
-      was : Standing
-      was = record { history = t.history; confirmed = t.confirmed; reading = Some (reading_at b.first.lsn ms) }
-
       stood : HasStood (course_from b.first b.now) report t h
       stood =
           subst (λ (c : Course). HasStood c report t h) (course_is b is.offset work is.of)
-          (sources_stood_so b.first.lsn b.first.end_lsn before report work was t (m ∷ []) h (stands_behind b ms stored work before was is refl) stands left messages commits)
+          (sources_stood_so b.first.lsn b.first.end_lsn before report work (stood_at b ms t) t (m ∷ []) h (stands_behind b ms stored work before (stood_at b ms t) is refl) stands left messages commits)
 
 pub halts_at_messages_are_told : HaltsAtMessagesAreTold
 halts_at_messages_are_told b ms stored work before report found old new bytes h is told more cause messages commits =

@@ -1,4 +1,5 @@
 pub mod Written
+pub mod Ranged
 pub mod Gained
 pub mod Reported
 pub mod Unread

@@ -36,13 +36,13 @@ more_open low high commits commit other was = record {
   none = all_more (λ (x : Commit). x.body ≢ Mark high) was.behind commit was.none other;
 }
 
-text_of : Body → List ℕ
+abbrev text_of : Body → List ℕ
 text_of (Changes changes) = []
 text_of (Mark value) = value
 
 differs : (value text : List ℕ) → bytes_eq value text ≡ false → value ≡ text → ⊥
-differs value text no same =
-    let yes : bytes_eq value text ≡ true = (bytes_eq-Decides value text).1 same in
+differs value text other same =
+    let equal : bytes_eq value text ≡ true = (bytes_eq-Decides value text).1 same in
     cc
 
 not_mark : (changes : List Change) (value : List ℕ) → Changes changes ≡ Mark value → ⊥

@@ -1,8 +1,9 @@
 -- What the sink gains, and what a report counts of it.
-use Rattle.std.specs.Prelude.{◌≡◌, ◌⊎◌, ℕ, ℤ, ◌+◌, ◌<◌, ◌≤◌, ◌++◌, is_some, take, Option, Some, None, Result, Ok, Err, List, [], ◌∷◌, length}
+use Rattle.std.specs.Prelude.{◌≡◌, ◌⊎◌, ℕ, ℤ, ◌+◌, ◌<◌, ◌≤◌, ◌^◌, ◌++◌, is_some, take, Option, Some, None, Result, Ok, Err, List, [], ◌∷◌, length}
 use Rattle.std.specs.List.{AllByRecursion, AllZip}
 use Rattle.dbl_base.specs.declared.lsn.Lsn.{Lsn}
 use Rattle.dbl_pgmsg.specs.declared.messages.Message.{Message}
+use Rattle.dbl_pgmsg.specs.Grammar.{FitsFields}
 use Rattle.dbl_record.specs.declared.record.Record.{Record}
 use Rattle.dbl_record.specs.Cuts.{cut, joined}
 use Rattle.dbl_table.specs.declared.change.Body.TheVariants.{Mark}
@@ -145,7 +146,12 @@ CommitsAreSent = (after : Lsn) (ms : List Message) (m : Message) (commit : Commi
     × AllByRecursion (λ item. item.position ≤ commit.lsn.0) (records ++ records_by old.follower commit old.now_ms)
     × AllByRecursion (λ other. other.lsn.0 ≤ commit.lsn.0) (commits_of old.offset.infos (m ∷ ms))
 
--- A report that counts some first records of a commit counts what the sink has gained by them.
+-- A commit that messages state has its numbers and its texts in range, and fewer than 2^62 changes.
+abbrev pub StatedCommitsAreInRange : Type 0
+StatedCommitsAreInRange = (infos : List TableInfo) (m : Message) (ms : List Message) (commit : Commit)
+    → AllByRecursion FitsFields (m ∷ ms) → length ms < 2 ^ 30 → ended infos m ms ≡ Some commit → IsCommitInRange commit
+
+-- A report that counts some first records of a commit counts what the sink has gained by them. Its counts are of 64 bits.
 abbrev pub PutsAreCounted : Type 0
 PutsAreCounted = (commit : Commit) (work : Work) (count : ℕ) (before report : Report) (more : List (List Record))
     → IsCommitInRange commit → IsMomentInRange work.now_ms → IsListed commit work → AreCounted more before

@@ -22,5 +22,5 @@ pub use mark_laws::{few_marks_are_left, marks_are_exact, read_windows_wait, step
 pub use report_laws::{
     commits_are_sent, ends_stand_at_last, halts_at_messages, halts_between, messages_are_taken,
     puts_are_counted, sessions_begin_unread, sources_settle, sources_stand_behind,
-    sources_stood_so, stood_are_followed, stops_are_followed,
+    sources_stood_so, stated_commits_are_in_range, stood_are_followed, stops_are_followed,
 };

@@ -4,12 +4,17 @@ ghost use Rattle.dbl_causes.specs.Followed.{EndsStandAtLast, HaltsAtMessages, Ha
 ghost use Rattle.dbl_causes.specs.Followed.{MessagesAreTaken, SessionsBeginUnread, SourcesSettle};
 ghost use Rattle.dbl_causes.specs.Followed.{SourcesStandBehind, SourcesStoodSo, StoodAreFollowed};
 ghost use Rattle.dbl_causes.specs.Followed.{StopsAreFollowed};
-ghost use Rattle.dbl_causes.specs.Gained.{CommitsAreSent, PutsAreCounted};
+ghost use Rattle.dbl_causes.specs.Gained.{CommitsAreSent, PutsAreCounted, StatedCommitsAreInRange};
 
 /// The records of a commit that is followed are sent behind those of all commits before it, and
 /// are cut there.
 pub fn commits_are_sent()
     ensures { CommitsAreSent }
+{}
+
+/// A commit that messages state is in range.
+pub fn stated_commits_are_in_range()
+    ensures { StatedCommitsAreInRange }
 {}
 
 /// Those that were put are counted, as far as 64 bits tell.

@@ -1,22 +1,20 @@
 -- What a session carries from step to step, by the messages that it has taken.
-use Rattle.std.proofs.Common.{◌≡◌, ◌∙◌, ◌+◌, ◌<◌, ◌^◌, ℕ, ℤ, suc, Bool, true, false, Option, Some, None, List, [], ◌∷◌, ◌++◌, length, refl, sym, ap, subst, arith, append-nil, length-append}
+use Rattle.std.proofs.Common.{◌≡◌, ◌∙◌, ◌+◌, ◌<◌, ◌^◌, ℕ, suc, true, false, Option, Some, None, List, [], ◌∷◌, ◌++◌, length, refl, sym, ap, subst, arith, append-nil, length-append}
 use Rattle.std.specs.Prelude.{is_some, slice_get}
-use Rattle.dbl_base.specs.declared.lsn.Lsn.{Lsn}
 use Rattle.dbl_pgmsg.specs.declared.messages.Message.{Message}
 use Rattle.dbl_table.specs.declared.change.Commit.{Commit}
 use Rattle.dbl_history.specs.declared.cursor.Cursor.{Cursor}
-use Rattle.dbl_commit.specs.Stated.{commits_of, ended, list_of}
+use Rattle.dbl_commit.specs.Stated.{commits_of, list_of}
 use Rattle.dbl_offset.specs.declared.offset.Offset.{Offset}
 use Rattle.dbl_window.specs.Plans.{Chunk}
-use Rattle.dbl_follow.specs.declared.window.Window.TheVariants.{Absent, Armed}
+use Rattle.dbl_follow.specs.declared.window.Window.TheVariants.{Armed}
 use Rattle.dbl_follow.specs.Followed.{Following}
 use Rattle.dbl_follow.specs.Steps.{closing, cursors_behind, mark_of, records_by}
 use Rattle.dbl_session.specs.Counted.{waiting}
-use Rattle.dbl_session.specs.Stages.{IsOfSession}
 use Rattle.dbl_work.specs.declared.report.Report.{Report}
 use Rattle.dbl_work.specs.declared.work.Work.{Work}
 use Rattle.dbl_work.specs.Takes.{ReportsStep, WasStepped, WasTaken, closes}
-use Rattle.dbl_work.specs.Works.{AreShort, IsArmedWork, IsOpenTable, IsWork, next_of}
+use Rattle.dbl_work.specs.Works.{AreShort, IsWork, next_of}
 use Rattle.dbl_exits.proofs.Arms.{PlanIs, own_chunk, plan_parts}
 use Rattle.dbl_exits.proofs.Keeping.{settled_work}
 use Rattle.dbl_exits.proofs.Taken.{followed_is, taken_is}

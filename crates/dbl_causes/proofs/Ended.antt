@@ -1,6 +1,5 @@
 -- What a session tells where it halts or ends, by the messages that it has taken.
-use Rattle.std.proofs.Common.{◌≡◌, ◌∙◌, ◌⊎◌, inl, inr, ◌+◌, ◌≤◌, ℕ, ℤ, suc, Option, Some, None, Result, Ok, Err, List, [], ◌∷◌, ◌++◌, length, refl, sym, ap, ap₂, subst, arith}
-use Rattle.std.specs.Prelude.{Contains, IfSome}
+use Rattle.std.proofs.Common.{◌≡◌, ◌∙◌, ◌⊎◌, inl, inr, ◌+◌, ◌≤◌, ℕ, ℤ, suc, Option, Some, None, Result, Ok, Err, List, [], ◌∷◌, length, refl, sym, ap, ap₂, subst, arith}
 use Rattle.dbl_base.specs.declared.lsn.Lsn.{Lsn}
 use Rattle.dbl_pgmsg.specs.declared.messages.Message.{Message}
 use Rattle.dbl_pgmsg.specs.Grammar.{Spells}
@@ -18,15 +17,13 @@ use Rattle.dbl_honest.specs.Told.{Told, IsTakenAnew, IsTakenBy}
 use Rattle.dbl_faithful.proofs.Items.{first_some}
 use Rattle.dbl_offset.specs.declared.offset.Offset.{Offset}
 use Rattle.dbl_work.specs.declared.halt.Halt.{Halt}
-use Rattle.dbl_work.specs.declared.halt.Halt.TheVariants as halt
 use Rattle.dbl_work.specs.declared.report.Ending.{Ending}
 use Rattle.dbl_work.specs.declared.report.Report.{Report}
 use Rattle.dbl_work.specs.declared.work.Work.{Work}
 use Rattle.dbl_work.specs.Begins.{IsExhausted, IsFaultOf}
 use Rattle.dbl_work.specs.Takes.{IsClashIn}
 use Rattle.dbl_work.specs.Works.{next_of}
-use Rattle.dbl_causes.specs.Reported.{AreSpelled, Course, HasReadMessages, HasReadSo, HasSettled, HasStood, HasStopped, HasTaken, IsBehindOf, IsFollowed, IsLeftOut, StandsBehind, StoodAtLast, TellsSoMany, course_from, course_of}
-use Rattle.dbl_causes.specs.Halted.{WasStood, WasTold}
+use Rattle.dbl_causes.specs.Reported.{AreSpelled, Course, HasReadMessages, HasSettled, HasStood, HasStopped, HasTaken, IsBehindOf, IsFollowed, IsLeftOut, StandsBehind, StoodAtLast, TellsSoMany, course_from, course_of}
 use Rattle.dbl_causes.specs.Musts.{MustHaltBy, MustHaltStood, MustHaltTold}
 use Rattle.dbl_causes.specs.Underway.{IsBeginHalt, IsNewestHalt, IsOfFirst, IsOpenHalt}
 use Rattle.dbl_causes.specs.Carried.{AreTold, Beginning, EndsAreStood, EndsAreTold, HaltsAtMessagesAreStood, HaltsAtMessagesAreTold, HaltsBetweenAreStood, HaltsBetweenAreTold, HaltsUnreadAreStood, HaltsUnreadAreTold, HasHaltedStood, HasHaltedTold, IsBehind, IsNewestCause, StandsAt}

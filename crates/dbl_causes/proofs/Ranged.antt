@@ -1,5 +1,5 @@
 -- Commits that messages state are in range: their numbers and texts, and how many changes they have.
-use Rattle.std.proofs.Common.{◌≡◌, ◌⊎◌, inl, inr, ◌+◌, ◌*◌, ◌≤◌, ◌<◌, ◌^◌, ℕ, ℤ, suc, Bool, true, false, Option, Some, None, Result, Ok, Err, List, [], ◌∷◌, ◌++◌, length, refl, sym, subst, arith, length-append}
+use Rattle.std.proofs.Common.{◌≡◌, inl, inr, ◌+◌, ◌*◌, ◌≤◌, ◌<◌, ◌^◌, ℕ, suc, Bool, true, false, Option, Some, None, Result, Ok, Err, List, [], ◌∷◌, ◌++◌, length, sym, subst, arith, length-append}
 use Rattle.std.specs.Prelude.{◌&&◌, ◌||◌, if◌then◌else◌, not, is_some, option_map, slice_get, FitsSigned, IfSome}
 use Rattle.std.specs.Int.{w64}
 use Rattle.std.specs.List.{AllByRecursion, list_any}
@@ -13,7 +13,6 @@ use Rattle.dbl_pgmsg.specs.Grammar.{FitsCell, FitsFields}
 use Rattle.dbl_value.specs.declared.column_type.PgType.{PgType}
 use Rattle.dbl_value.specs.declared.value.Val.{Val}
 use Rattle.dbl_value.specs.Values.{IsCellOf}
-use Rattle.dbl_table.specs.declared.change.Body.{Body}
 use Rattle.dbl_table.specs.declared.change.Cell.{Cell}
 use Rattle.dbl_table.specs.declared.change.Cell.TheVariants as cell
 use Rattle.dbl_table.specs.declared.change.Change.{Change}
@@ -36,7 +35,7 @@ use Rattle.dbl_commit.specs.declared.message_parts.Target.TheVariants.{Watermark
 use Rattle.dbl_commit.specs.declared.txn_error.TxnError.{TxnError}
 use Rattle.dbl_commit.specs.declared.txn_error.TxnError.TheVariants as errors
 use Rattle.dbl_commit.specs.Past.{Begun, begin_of, mark_by, mark_in, mark_of, relation_of, second_text}
-use Rattle.dbl_commit.specs.Stated.{body_of, clears, commit_of, ended, has_some, in_table, is_the_watermark, ok_or_none, open_changes, row_stated, stated_in, target, targets_at, truncate_stated}
+use Rattle.dbl_commit.specs.Stated.{body_of, clears, commit_of, has_some, in_table, is_the_watermark, ok_or_none, open_changes, row_stated, stated_in, target, targets_at, truncate_stated}
 use Rattle.dbl_commit.specs.Tuples.{◌>>=◌, change_of, refuse_if, some_or}
 use Rattle.dbl_commit.proofs.ChangeFits.{open_fits}
 use Rattle.dbl_causes.specs.Gained.{StatedCommitsAreInRange}

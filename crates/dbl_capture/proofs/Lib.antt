@@ -1,2 +1,3 @@
 pub mod Reporting
 pub mod Causes
+pub mod Telling

@@ -1,10 +1,12 @@
 //! The session.
 
-ghost use Rattle.std.specs.Prelude.{◌≡◌, ◌≢◌, ◌⊎◌, ◌<◌, ◌≤◌, Some, Bool, IfOk, IsTrue, OnErr, OnOk};
+ghost use Rattle.std.specs.Prelude.{◌≡◌, ◌≢◌, ◌⊎◌, ◌<◌, ◌≤◌, Option, Some, Bool, [], IfErr, IfOk, IsTrue, OnErr, OnOk};
 ghost use Rattle.dbl_base.specs.Streams.{Rose};
 ghost use Rattle.dbl_table.specs.Configs.{IsGoodConfig};
+ghost use Rattle.dbl_honest.specs.Calls.{Moved};
 ghost use Rattle.dbl_honest.specs.Leaves.{Leaves, LeavesSome};
-ghost use Rattle.dbl_honest.specs.Standings.{Left, Standing, Stood};
+ghost use Rattle.dbl_honest.specs.Standings.{Leads, Left, Standing, Stood};
+ghost use Rattle.dbl_honest.specs.Told.{IsTakenBy, Told};
 ghost use Rattle.dbl_offset.specs.declared.offset.Offset.{Offset as SpecOffset};
 ghost use Rattle.dbl_offset.specs.Offsets.{IsOffset};
 ghost use Rattle.dbl_offset.specs.Stores.{ComesOf, IsLive, disk_of};
@@ -14,6 +16,11 @@ ghost use Rattle.dbl_work.specs.Works.{IsBegun};
 ghost use Rattle.dbl_exits.specs.Ends.{AreAllDone, IsAtPosition, LeavesComplete};
 ghost use Rattle.dbl_exits.specs.Found.{BeganAt, BeginsAt, Found, HasStored, IsAsked, IsEntryOf, IsFound, entry_at, position_of};
 ghost use Rattle.dbl_exits.specs.Sessions.{AddsFew, InSession, LeavesBy, LeavesGoing};
+ghost use Rattle.dbl_causes.specs.Musts.{MustHaltStood, MustHaltTold};
+ghost use Rattle.dbl_causes.specs.Reported.{HasReadMessages, HasSettled, HasStoodBehind, IsFollowed, StoodAtLast};
+ghost use Rattle.dbl_causes.specs.Sources.{HasHalted, IsUnderWay};
+ghost use Rattle.dbl_causes.specs.Underway.{IsBeginHalt};
+ghost use Rattle.dbl_capture.specs.Begun.{beginning_at};
 
 use crate::turns::run;
 use dbl_disk::Disk;
@@ -50,6 +57,11 @@ fn offset_of<S: Source, D: Disk>(
     ensures failed { result ≡ Err Halt.Source → Rose (S.faults src.old) (S.faults src.new) }
     ensures others { (result ≢ Err Halt.Sink) × (result ≢ Err Halt.Offsets) }
     ensures never { (value at : _) → result ≢ Err (Halt.WatermarkMissing value at) }
+    ensures stood { Leads S.stands src.old src.new result (λ offset. Moved) }
+    ensures halt { IfErr result (IsBeginHalt config.now store.now.offset (S.told src.new)) }
+    ensures still { (s t : Standing) → S.stands src.old s → S.stands src.new t →
+        t.reading ≡ s.reading }
+    ensures taken { IsTakenBy [] (S.told src.old) (S.told src.new) }
 {
     match again(alloc, store)? {
         Some(offset) => Ok(offset),
@@ -94,6 +106,11 @@ fn begun<S: Source, K: Sink, D: Disk>(
     ensures source { result ≡ Err Halt.Source → Rose (S.faults src.old) (S.faults src.new) }
     ensures sink { result ≢ Err Halt.Sink }
     ensures never { (value at : _) → result ≢ Err (Halt.WatermarkMissing value at) }
+    ensures stood { Leads S.stands src.old src.new result (λ offset. Moved) }
+    ensures halt { IfErr result (IsBeginHalt config.now store.old.offset (S.told src.new)) }
+    ensures still { (s t : Standing) → S.stands src.old s → S.stands src.new t →
+        t.reading ≡ s.reading }
+    ensures taken { IsTakenBy [] (S.told src.old) (S.told src.new) }
     ensures offsets { result ≡ Err Halt.Offsets →
         Rose (D.faults (disk_of store.old)) (D.faults (disk_of store.new)) }
 {
@@ -152,6 +169,19 @@ fn opened<S: Source, K: Sink, D: Disk>(
     ensures never { (value at : _) → result ≢ Err (Halt.WatermarkMissing value at) }
     ensures offsets { result ≡ Err Halt.Offsets →
         Rose (D.faults (disk_of store.old)) (D.faults (disk_of store.new)) }
+
+    // What its report tells, by what the source told and stands for.
+    ensures under_way { (at : Option Standing) → ((s : Standing) → at ≡ Some s →
+        S.stands src.old s) → (report.old.messages ≡ 0) × (report.old.commits ≡ 0)
+        × (report.old.chunks ≡ 0) →
+        IfOk result (λ work. (first : SpecOffset) × IsUnderWay S.stands at (S.told src.old)
+        (beginning_at config.now now_ms store.old.offset first) store.new.offset work report.new
+        src.new (S.told src.new)) }
+    ensures halted { (at : Option Standing) → ((s : Standing) → at ≡ Some s →
+        S.stands src.old s) → (report.old.messages ≡ 0) × (report.old.commits ≡ 0)
+        × (report.old.chunks ≡ 0) →
+        IfErr result (HasHalted S.stands at (S.told src.old) config.now now_ms store.old.offset
+        store.new.offset report.new src.new (S.told src.new)) }
 {
     let offset = begun(alloc, config, src, sink, store)?;
     report.position = offset.lsn.0;
@@ -208,10 +238,28 @@ pub fn session<S: Source, K: Sink, D: Disk>(
     ensures ended { result ≡ Ok Ending.Complete → IsTrue (S.has_ended src.new) }
     ensures spent { result ≡ Ok Ending.Budget → report.new.messages ≡ config.now.messages }
 
-    // What its report tells.
+    // What its report tells: what the source told, and what it stands for.
+    ensures read { HasReadMessages result report.new.messages (S.told src.old) (S.told src.new) }
+    ensures last { OnOk result (StoodAtLast config.now now_ms offsets.old.offset
+        offsets.new.offset report.new (S.told src.new)) }
+    ensures settled { (s : Standing) → S.stands src.old s →
+        OnOk result (Stood S.stands src.new (HasSettled config.now now_ms offsets.old.offset
+        offsets.new.offset report.new)) }
+    ensures followed { IfErr result (IsFollowed config.now now_ms offsets.old.offset
+        offsets.new.offset report.new (S.told src.new)) }
+    ensures stood { (s t : Standing) → S.stands src.old s → S.stands src.new t →
+        IfErr result (HasStoodBehind config.now now_ms offsets.old.offset offsets.new.offset
+        report.new s t) }
     ensures commits { report.new.commits ≤ report.new.messages }
     ensures bounded { report.new.messages ≤ config.now.messages }
     ensures position { report.new.position ≡ position_of offsets.old.offset offsets.new.offset }
+
+    // Where it has to halt for the newest message, by what the source told, and stands for.
+    ensures must { (t : Told) → S.told src.new ≡ Some t →
+        MustHaltTold config.now now_ms offsets.old.offset offsets.new.offset report.new t result }
+    ensures must_stood { (s t : Standing) → S.stands src.old s → S.stands src.new t →
+        MustHaltStood config.now now_ms offsets.old.offset offsets.new.offset report.new t
+        result }
 
     // Where it halts by a watermark that is missing, or by a count.
     ensures missed { (value at : _) → result ≡ Err (Halt.WatermarkMissing value at) →

@@ -1,12 +1,16 @@
 //! The next message of a session.
 
-ghost use Rattle.std.specs.Prelude.{◌≡◌, ◌≢◌, ◌⊎◌, ◌^◌, ◌<◌, ◌≤◌, None, Ok, Bool, false, true, IfOk, IsTrue, OnErr, OnOk};
+ghost use Rattle.std.specs.Prelude.{◌≡◌, ◌≢◌, ◌⊎◌, ◌^◌, ◌<◌, ◌≤◌, Option, None, Ok, Bool, false, true, IfErr, IfOk, IsTrue, OnErr, OnOk};
 ghost use Rattle.dbl_base.specs.Streams.{Rose};
 ghost use Rattle.dbl_history.specs.Ranges.{IsMomentInRange};
+ghost use Rattle.dbl_honest.specs.Standings.{Standing};
+ghost use Rattle.dbl_honest.specs.Told.{Told};
 ghost use Rattle.dbl_session.specs.Entries.{Entry as SpecEntry};
 ghost use Rattle.dbl_work.specs.Works.{IsReady};
 ghost use Rattle.dbl_exits.specs.Sessions.{InSession, LeavesBy};
 ghost use Rattle.dbl_exits.specs.Turns.{HasReadAllAt, IsCountedNext, IsDue, IsNextOf};
+ghost use Rattle.dbl_causes.specs.Carried.{Beginning};
+ghost use Rattle.dbl_causes.specs.Sources.{GoesOn, HasHalted, IsUnderWay};
 
 use dbl_disk::Disk;
 use dbl_offset::OffsetStore;
@@ -17,8 +21,9 @@ use dbl_work::{Halt, Report, Work, follow, taken};
 // Whether the offset is to be stored.
 fn is_due(work: &Work, closed: bool) -> bool
     requires { work.now.since ≤ work.now.every }
-    ensures { ((result ≡ false) × (work.now.since < work.now.every))
+    ensures due { ((result ≡ false) × (work.now.since < work.now.every))
         ⊎ ((result ≡ true) × (work.now.since ≤ work.now.every)) }
+    ensures open { result ≡ false → closed ≡ false }
 {
     closed || work.since >= work.every
 }
@@ -37,6 +42,7 @@ pub(crate) fn next<S: Source, K: Sink, D: Disk>(
     requires sink_live { IsTrue (K.is_live sink.old) }
     requires ready { IsReady work.old }
     requires since { work.old.since < work.old.every }
+    requires number { work.old.number < 2 ^ 64 }
     requires time { IsMomentInRange work.old.now_ms }
     requires messages { report.old.messages < 2 ^ 63 }
     requires commits { report.old.commits ≤ report.old.messages }
@@ -79,6 +85,18 @@ pub(crate) fn next<S: Source, K: Sink, D: Disk>(
     ensures sink { result ≡ Err Halt.Sink → Rose (K.faults sink.old) (K.faults sink.new) }
     ensures offsets { result ≢ Err Halt.Offsets }
     ensures never { (value at : _) → result ≢ Err (Halt.WatermarkMissing value at) }
+
+    // What its report tells, by what the source told and stands for.
+    ensures under_way { (at : Option Standing) (found : Option Told) (b : Beginning) →
+        IsUnderWay S.stands at found b store.now.offset work.old report.old src.old
+        (S.told src.old) →
+        IfOk result (GoesOn S.stands at found b store.now.offset work.new report.new src.new
+        (S.told src.new)) }
+    ensures halted { (at : Option Standing) (found : Option Told) (b : Beginning) →
+        IsUnderWay S.stands at found b store.now.offset work.old report.old src.old
+        (S.told src.old) →
+        IfErr result (HasHalted S.stands at found b.config b.now b.held store.now.offset report.new
+        src.new (S.told src.new)) }
 {
     match src.read()? {
         Some(bytes) => {

@@ -1,13 +1,17 @@
 //! The offset is stored, and then confirmed.
 
-ghost use Rattle.std.specs.Prelude.{◌≡◌, ◌≢◌, ◌≤◌, Bool, IsTrue, OnErr, OnOk, is_ok};
+ghost use Rattle.std.specs.Prelude.{◌≡◌, ◌≢◌, ◌≤◌, Option, Bool, IfErr, IsTrue, OnErr, OnOk, is_ok};
 ghost use Rattle.dbl_base.specs.Streams.{Rose};
+ghost use Rattle.dbl_honest.specs.Standings.{Standing};
+ghost use Rattle.dbl_honest.specs.Told.{Told};
 ghost use Rattle.dbl_offset.specs.Stores.{ComesOf, IsLive, disk_of};
 ghost use Rattle.dbl_session.specs.Entries.{Entry as SpecEntry};
 ghost use Rattle.dbl_work.specs.Works.{IsReady};
 ghost use Rattle.dbl_exits.specs.Ends.{IsReportAt};
 ghost use Rattle.dbl_exits.specs.Sessions.{InSession, LeavesBy};
 ghost use Rattle.dbl_exits.specs.Turns.{HasReadAllAt, IsSettled, IsSettledWhole};
+ghost use Rattle.dbl_causes.specs.Carried.{Beginning};
+ghost use Rattle.dbl_causes.specs.Sources.{HasCommitted, HasHalted, HasSettledAll};
 
 use dbl_disk::Disk;
 use dbl_offset::OffsetStore;
@@ -66,6 +70,18 @@ pub(crate) fn settle<S: Source, K: Sink, D: Disk>(
     ensures never { (value at : _) → result ≢ Err (Halt.WatermarkMissing value at) }
     ensures offsets { result ≡ Err Halt.Offsets →
         Rose (D.faults (disk_of store.old)) (D.faults (disk_of store.new)) }
+
+    // What its report tells, by what the source told and stands for.
+    ensures all { (at : Option Standing) (found : Option Told) (b : Beginning) →
+        HasCommitted S.stands at found b store.old.offset work.old report.old src.old
+        (S.told src.old) →
+        OnOk result (HasSettledAll S.stands at found b store.new.offset work.new report.new src.new
+        (S.told src.new)) }
+    ensures halted { (at : Option Standing) (found : Option Told) (b : Beginning) →
+        HasCommitted S.stands at found b store.old.offset work.old report.old src.old
+        (S.told src.old) →
+        IfErr result (HasHalted S.stands at found b.config b.now b.held store.new.offset report.new
+        src.new (S.told src.new)) }
 {
     let offset = work.next_offset()?;
     let lsn = offset.lsn;

@@ -1,16 +1,21 @@
 //! The turns of a session, each of which reads one message.
 
-ghost use Rattle.std.specs.Prelude.{◌≡◌, ◌≢◌, ◌+◌, ◌^◌, ◌≤◌, ◌<◌, true, Option, Some, Ok, Bool, IfOk, IsTrue, MatchBool, OnErr, OnOk, is_ok};
+ghost use Rattle.std.specs.Prelude.{◌≡◌, ◌≢◌, ◌+◌, ◌^◌, ◌≤◌, ◌<◌, true, Option, Some, Ok, Bool, IfErr, IfOk, IsTrue, MatchBool, OnErr, OnOk, is_ok};
 ghost use Rattle.dbl_base.specs.Streams.{Rose};
 ghost use Rattle.dbl_history.specs.Ranges.{IsMomentInRange};
+ghost use Rattle.dbl_honest.specs.Standings.{Standing};
+ghost use Rattle.dbl_honest.specs.Told.{Told};
 ghost use Rattle.dbl_offset.specs.declared.offset.Offset.{Offset as SpecOffset};
 ghost use Rattle.dbl_offset.specs.Stores.{ComesOf, IsLive, disk_of};
 ghost use Rattle.dbl_follow.specs.declared.window.Window.TheVariants as windows;
 ghost use Rattle.dbl_session.specs.Entries.{Entry as SpecEntry};
+ghost use Rattle.dbl_work.specs.declared.report.Report.{Report as SpecReport};
 ghost use Rattle.dbl_work.specs.Works.{IsReady, next_of};
 ghost use Rattle.dbl_exits.specs.Ends.{AreAllDone, HasOwnStored, IsArmedNext, IsAtPosition, IsReportAt, IsTableOf};
 ghost use Rattle.dbl_exits.specs.Sessions.{InSession, LeavesBy};
 ghost use Rattle.dbl_exits.specs.Turns.{HasReadAllAt, IsSettledWhole};
+ghost use Rattle.dbl_causes.specs.Carried.{Beginning};
+ghost use Rattle.dbl_causes.specs.Sources.{HasHalted, HasSettledAll, IsUnderWay};
 
 use crate::messages::next;
 use crate::settle::settle;
@@ -64,6 +69,16 @@ fn arm_next<S: Source, K: Sink, D: Disk>(
     ensures failed { result ≡ Err Halt.Source → Rose (S.faults src.old) (S.faults src.new) }
     ensures others { (result ≢ Err Halt.Sink) × (result ≢ Err Halt.Offsets) }
     ensures never { (value at : _) → result ≢ Err (Halt.WatermarkMissing value at) }
+    ensures under_way { (at : Option Standing) (found : Option Told) (b : Beginning)
+        (report : SpecReport) →
+        IsUnderWay S.stands at found b store.now.offset work.old report src.old (S.told src.old) →
+        OnOk result (IsUnderWay S.stands at found b store.now.offset work.new report src.new
+        (S.told src.new)) }
+    ensures halted { (at : Option Standing) (found : Option Told) (b : Beginning)
+        (report : SpecReport) →
+        IsUnderWay S.stands at found b store.now.offset work.old report src.old (S.told src.old) →
+        IfErr result (HasHalted S.stands at found b.config b.now b.held store.now.offset report
+        src.new (S.told src.new)) }
 {
     match table_of(work) {
         Some(table) => arm(work, table, src, sink, store),
@@ -111,6 +126,18 @@ fn end<S: Source, K: Sink, D: Disk>(
     ensures sink { result ≢ Err Halt.Sink }
     ensures offsets { result ≡ Err Halt.Offsets →
         Rose (D.faults (disk_of store.old)) (D.faults (disk_of store.new)) }
+
+    // What its report tells, by what the source told and stands for.
+    ensures all { (at : Option Standing) (found : Option Told) (b : Beginning) →
+        IsUnderWay S.stands at found b store.old.offset work.old report.old src.old
+        (S.told src.old) →
+        OnOk result (HasSettledAll S.stands at found b store.new.offset work.new report.new src.new
+        (S.told src.new)) }
+    ensures halted { (at : Option Standing) (found : Option Told) (b : Beginning) →
+        IsUnderWay S.stands at found b store.old.offset work.old report.old src.old
+        (S.told src.old) →
+        IfErr result (HasHalted S.stands at found b.config b.now b.held store.new.offset report.new
+        src.new (S.told src.new)) }
 {
     match work.follower.waits_for() {
         Some(value) => Err(Halt::WatermarkMissing {
@@ -197,6 +224,23 @@ fn turn<S: Source, K: Sink, D: Disk>(
     ensures sink { result ≡ Err Halt.Sink → Rose (K.faults sink.old) (K.faults sink.new) }
     ensures offsets { result ≡ Err Halt.Offsets →
         Rose (D.faults (disk_of store.old)) (D.faults (disk_of store.new)) }
+
+    // What its report tells, by what the source told and stands for.
+    ensures under_way { (at : Option Standing) (found : Option Told) (b : Beginning) →
+        IsUnderWay S.stands at found b store.old.offset work.old report.old src.old
+        (S.told src.old) →
+        OnOk result (IsUnderWay S.stands at found b store.new.offset work.new report.new src.new
+        (S.told src.new)) }
+    ensures all { (at : Option Standing) (found : Option Told) (b : Beginning) →
+        IsUnderWay S.stands at found b store.old.offset work.old report.old src.old
+        (S.told src.old) → result ≡ Ok true →
+        HasSettledAll S.stands at found b store.new.offset work.new report.new src.new
+        (S.told src.new) }
+    ensures halted { (at : Option Standing) (found : Option Told) (b : Beginning) →
+        IsUnderWay S.stands at found b store.old.offset work.old report.old src.old
+        (S.told src.old) →
+        IfErr result (HasHalted S.stands at found b.config b.now b.held store.new.offset report.new
+        src.new (S.told src.new)) }
 {
     arm_next(work, src, sink, store)?;
     match next(work, src, sink, store, report)? {
@@ -279,6 +323,18 @@ pub(crate) fn run<S: Source, K: Sink, D: Disk>(
     ensures sink { result ≡ Err Halt.Sink → Rose (K.faults sink.old) (K.faults sink.new) }
     ensures offsets { result ≡ Err Halt.Offsets →
         Rose (D.faults (disk_of store.old)) (D.faults (disk_of store.new)) }
+
+    // What its report tells, by what the source told and stands for.
+    ensures all { (at : Option Standing) (found : Option Told) (b : Beginning) →
+        IsUnderWay S.stands at found b store.old.offset work.old report.old src.old
+        (S.told src.old) →
+        OnOk result (HasSettledAll S.stands at found b store.new.offset work.new report.new src.new
+        (S.told src.new)) }
+    ensures halted { (at : Option Standing) (found : Option Told) (b : Beginning) →
+        IsUnderWay S.stands at found b store.old.offset work.old report.old src.old
+        (S.told src.old) →
+        IfErr result (HasHalted S.stands at found b.config b.now b.held store.new.offset report.new
+        src.new (S.told src.new)) }
 {
     'turns: for _count in 0..budget {
         if turn(work, src, sink, store, report)? {

@@ -1,11 +1,16 @@
 //! Windows of a session: rows that are read between two marks.
 
-ghost use Rattle.std.specs.Prelude.{◌≡◌, ◌≢◌, ◌+◌, ◌^◌, ◌<◌, ◌≤◌, Bool, IsTrue, OnErr, OnOk};
+ghost use Rattle.std.specs.Prelude.{◌≡◌, ◌≢◌, ◌+◌, ◌^◌, ◌<◌, ◌≤◌, Option, Bool, IfErr, IsTrue, OnErr, OnOk};
 ghost use Rattle.dbl_base.specs.Streams.{Rose};
+ghost use Rattle.dbl_honest.specs.Standings.{Standing};
+ghost use Rattle.dbl_honest.specs.Told.{Told};
 ghost use Rattle.dbl_follow.specs.declared.window.Window.TheVariants as windows;
 ghost use Rattle.dbl_session.specs.Entries.{Entry as SpecEntry};
+ghost use Rattle.dbl_work.specs.declared.report.Report.{Report as SpecReport};
 ghost use Rattle.dbl_work.specs.Works.{IsArmedWork, IsOpenTable, IsReady};
 ghost use Rattle.dbl_exits.specs.Sessions.{InSession, LeavesBy};
+ghost use Rattle.dbl_causes.specs.Carried.{Beginning};
+ghost use Rattle.dbl_causes.specs.Sources.{HasHalted, IsUnderWay};
 
 use dbl_disk::Disk;
 use dbl_offset::OffsetStore;
@@ -47,6 +52,16 @@ pub(crate) fn arm<S: Source, K: Sink, D: Disk>(
     ensures failed { result ≡ Err Halt.Source → Rose (S.faults src.old) (S.faults src.new) }
     ensures others { (result ≢ Err Halt.Sink) × (result ≢ Err Halt.Offsets) }
     ensures never { (value at : _) → result ≢ Err (Halt.WatermarkMissing value at) }
+    ensures under_way { (at : Option Standing) (found : Option Told) (b : Beginning)
+        (report : SpecReport) →
+        IsUnderWay S.stands at found b store.now.offset work.old report src.old (S.told src.old) →
+        OnOk result (IsUnderWay S.stands at found b store.now.offset work.new report src.new
+        (S.told src.new)) }
+    ensures halted { (at : Option Standing) (found : Option Told) (b : Beginning)
+        (report : SpecReport) →
+        IsUnderWay S.stands at found b store.now.offset work.old report src.old (S.told src.old) →
+        IfErr result (HasHalted S.stands at found b.config b.now b.held store.now.offset report
+        src.new (S.told src.new)) }
 {
     read_window(work, table, src)
 }

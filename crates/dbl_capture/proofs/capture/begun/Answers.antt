@@ -1,4 +1,4 @@
-use Rattle.std.proofs.Common.{◌≡◌, ◌⊎◌, Some, refl, subst}
+use Rattle.std.proofs.Common.{◌≡◌, ◌⊎◌, inl, Some, refl, sym, subst}
 use Rattle.dbl_history.specs.Fit.{IsFitHistory}
 use Rattle.dbl_honest.specs.Standings.{left_of}
 use Rattle.dbl_offset.specs.declared.offset.Offset.{Offset}
@@ -7,6 +7,10 @@ use Rattle.dbl_work.specs.declared.halt.Halt.TheVariants as halt
 use Rattle.dbl_capture.proofs.Causes.{OfNone, OfStore, err_at, residual_is, residual_of, store_of}
 use Rattle.dbl_exits.proofs.Keeping.{on_err}
 use Rattle.dbl_exits.proofs.Openings.{began_at, rest_left, store_left}
+use Rattle.dbl_offset.specs.Offsets.{IsOffset}
+use Rattle.dbl_work.specs.Begins.{IsOffsetFor}
+use Rattle.dbl_causes.specs.Underway.{IsBeginHalt}
+use Rattle.dbl_capture.proofs.Telling.{store_begins}
 use Rattle.dbl_capture.proofs.capture.begun.Goals as goal
 
 -- before the store
@@ -93,3 +97,17 @@ returns-in_err-stored-clause-keeps g c = on_err _ _ refl
 
 pub returns-in_err-put_offset-clause-keeps : goal.returns-in_err-put_offset-clause-keeps
 returns-in_err-put_offset-clause-keeps g c = on_err _ _ c.in_err-put_offset.ensures.keeps
+
+pub returns-in_err-offset-clause-halt : goal.returns-in_err-offset-clause-halt
+returns-in_err-offset-clause-halt g c = residual_of c.from_residual.result _ (IsBeginHalt c.args.config.now c.args.store.now.offset (g.S.Source.told c.offset_of.new.src)) c.from_residual.ensures.1 c.in_err-offset.ensures.halt
+
+pub returns-in_err-stored-clause-halt : goal.returns-in_err-stored-clause-halt
+returns-in_err-stored-clause-halt g c = residual_of c.from_residual-in_err-stored.result halt.Memory (IsBeginHalt c.args.config.now c.args.store.now.offset (g.S.Source.told c.offset_of.new.src)) c.from_residual-in_err-stored.ensures.1 (inl refl)
+
+pub returns-in_err-put_offset-clause-halt : goal.returns-in_err-put_offset-clause-halt
+returns-in_err-put_offset-clause-halt g c =
+    residual_of c.from_residual-in_err-put_offset.result _ (IsBeginHalt c.args.config.now c.args.store.now.offset (g.S.Source.told c.offset_of.new.src)) c.from_residual-in_err-put_offset.ensures.1
+    (store_begins c.args.config.now c.args.store.now.offset (g.S.Source.told c.offset_of.new.src) c.in_ok-stored.stored _ (subst IsOffset (sym c.in_ok-stored.ensures) c.in_ok-offset.ensures.offset) (subst (IsOffsetFor c.args.config.now c.args.store.now.offset) (sym c.in_ok-stored.ensures) c.in_ok-offset.ensures.of) c.in_err-put_offset.ensures.halt)
+
+pub returns-clause-stood : goal.returns-clause-stood
+returns-clause-stood g c s is = c.in_ok-offset.ensures.stood s is

@@ -1,11 +1,15 @@
-use Rattle.std.proofs.Common.{◌∙◌, inl, Option, sym, subst}
+use Rattle.std.proofs.Common.{◌∙◌, inl, Option, refl, sym, ap, subst}
 use Rattle.std.specs.Prelude.{IfOk}
-use Rattle.dbl_honest.specs.Standings.{left_of}
+use Rattle.dbl_honest.proofs.GrowthLemmas.{grows_none}
+use Rattle.dbl_honest.specs.Standings.{Standing, left_of}
 use Rattle.dbl_offset.specs.declared.offset.Offset.{Offset}
 use Rattle.dbl_work.specs.Begins.{IsAgain, IsOffsetFor}
 use Rattle.dbl_exits.proofs.Beginnings.{again_for, begins_again, begins_first, none_again}
 use Rattle.dbl_capture.proofs.Causes.{OfNone, OfSource, again_of, err_at, err_then, first_of, residual_of}
 use Rattle.dbl_exits.proofs.Keeping.{answer_then}
+use Rattle.dbl_work.proofs.Exits.{none_taken}
+use Rattle.dbl_causes.specs.Underway.{IsBeginHalt}
+use Rattle.dbl_capture.proofs.Telling.{again_begins, first_begins}
 use Rattle.dbl_capture.proofs.capture.offset_of.Goals as goal
 
 -- nothing was asked of the source yet
@@ -79,3 +83,36 @@ returns-in-Some-clause-never g c value at is = cc
 
 pub returns-in-None-clause-never : goal.returns-in-None-clause-never
 returns-in-None-clause-never g c value at is = err_at c.first_offset.result _ OfSource (err_then c.first_offset.result _ OfSource c.first_offset.ensures.fault (λ h is. first_of _ _ h is)) is
+
+pub returns-in-Some-clause-stood : goal.returns-in-Some-clause-stood
+returns-in-Some-clause-stood g c s is = record {
+  standing = s;
+  is = is;
+  holds = record { grows = grows_none s.history (g.met.S.Source.rising _ s is); confirmed = refl; reading = refl };
+}
+
+pub returns-in-None-clause-stood : goal.returns-in-None-clause-stood
+returns-in-None-clause-stood g c s is =
+    answer_then c.first_offset.result _ _ (c.first_offset.ensures.first s is)
+    (λ offset stood. record { standing = stood.standing; is = stood.is; holds = stood.holds.0 })
+
+pub returns-in_err-offset-clause-halt : goal.returns-in_err-offset-clause-halt
+returns-in_err-offset-clause-halt g c =
+    residual_of c.from_residual.result _ (IsBeginHalt c.args.config.now c.args.store.now.offset (g.S.Source.told c.args.src.now)) c.from_residual.ensures.1 (again_begins c.args.config.now c.args.store.now.offset (g.S.Source.told c.args.src.now) _ c.in_err-offset.ensures.halt)
+
+pub returns-in-None-clause-halt : goal.returns-in-None-clause-halt
+returns-in-None-clause-halt g c =
+    err_then c.first_offset.result _ (IsBeginHalt c.args.config.now c.args.store.now.offset (g.S.Source.told c.first_offset.new.src)) c.first_offset.ensures.fault
+    (λ h is. first_begins c.args.config.now c.args.store.now.offset (g.S.Source.told c.first_offset.new.src) h (none_again c.args.store.now.offset (subst (IsAgain c.args.store.now.offset) c.in-None.is c.in_ok-offset.ensures.again)) is)
+
+pub returns-in_err-offset-clause-still : goal.returns-in_err-offset-clause-still
+returns-in_err-offset-clause-still g c s t was now = ap (λ (x : Standing). x.reading) (g.met.S.Source.one c.args.src.now t s now was)
+
+pub returns-in_err-offset-clause-taken : goal.returns-in_err-offset-clause-taken
+returns-in_err-offset-clause-taken g c = none_taken (g.S.Source.told c.args.src.now)
+
+pub returns-in-Some-clause-still : goal.returns-in-Some-clause-still
+returns-in-Some-clause-still g c s t was now = ap (λ (x : Standing). x.reading) (g.met.S.Source.one c.args.src.now t s now was)
+
+pub returns-in-Some-clause-taken : goal.returns-in-Some-clause-taken
+returns-in-Some-clause-taken g c = none_taken (g.S.Source.told c.args.src.now)

@@ -1,8 +1,9 @@
-use Rattle.std.proofs.Common.{◌∙◌, ◌≤◌, ◌<◌, ◌^◌, inl, inr, ℕ, ℤ, Option, refl, sym, subst, arith}
+use Rattle.std.proofs.Common.{◌∙◌, ◌≤◌, ◌<◌, ◌^◌, inl, inr, ℕ, ℤ, Option, Err, refl, sym, ap, subst, arith}
 use Rattle.std.proofs.Math.Facts.{to_z-of_z}
 use Rattle.dbl_table.specs.declared.config.Config.{Config}
 use Rattle.dbl_history.specs.Fit.{IsFitHistory}
 use Rattle.dbl_honest.specs.Standings.{left_of}
+use Rattle.dbl_faithful.proofs.Items.{first_some}
 use Rattle.dbl_offset.specs.declared.offset.Offset.{Offset}
 use Rattle.dbl_work.specs.Works.{IsBegun}
 use Rattle.dbl_work.proofs.Exits.{later_on, rose_behind}
@@ -12,6 +13,11 @@ use Rattle.dbl_exits.proofs.Beginnings.{begun_session}
 use Rattle.dbl_exits.proofs.Endings.{has_stored, own_first, position_is, position_none}
 use Rattle.dbl_exits.proofs.Keeping.{answer_then, on_err, on_ok}
 use Rattle.dbl_exits.proofs.Openings.{start_left}
+use Rattle.dbl_work.specs.declared.halt.Halt.{Halt}
+use Rattle.dbl_causes.specs.Sources.{HasHalted, IsUnderWay}
+use Rattle.dbl_causes.proofs.Sources.{begins, halts_unread}
+use Rattle.dbl_capture.specs.Begun.{beginning_at}
+use Rattle.dbl_capture.proofs.Telling.{anew_on, fell_on, read_none, start_opens}
 use Rattle.dbl_capture.proofs.capture.opened.Goals as goal
 
 pub returns-in_err-offset-clause-left : goal.returns-in_err-offset-clause-left
@@ -151,3 +157,36 @@ returns-in_err-start-clause-report g c = (refl, refl)
 
 pub returns-clause-report : goal.returns-clause-report
 returns-clause-report g c = (refl, refl)
+
+pub returns-in_err-offset-clause-halted : goal.returns-in_err-offset-clause-halted
+returns-in_err-offset-clause-halted g c at stood none =
+    residual_of c.from_residual.result _ (HasHalted g.S.Source.stands at (g.S.Source.told c.args.src.now) c.args.config.now c.args.now_ms c.args.store.now.offset c.begun.new.store.offset c.args.report.now c.begun.new.src (g.S.Source.told c.begun.new.src)) c.from_residual.ensures.1
+    (halts_unread g.S.Source.stands at (g.S.Source.told c.args.src.now) c.args.config.now c.args.now_ms c.args.store.now.offset c.begun.new.store.offset c.args.report.now c.args.src.now c.begun.new.src (g.S.Source.told c.begun.new.src) _ stood (inl (c.in_err-offset.ensures.halt, c.in_err-offset.ensures.keeps)) none.0 none.1 (inl c.begun.ensures.taken) (λ s t was now. inl (c.begun.ensures.still s t was now)))
+
+pub returns-in_err-start-clause-halted : goal.returns-in_err-start-clause-halted
+returns-in_err-start-clause-halted g c at stood none =
+    let stored = has_stored c.args.config.now c.args.store.now.offset c.begun.new.store.offset c.in_ok-offset.offset c.in_ok-offset.ensures.of (own_first c.in_ok-offset.offset c.begun.new.store.offset c.in_ok-offset.ensures.loads) in
+    residual_of c.from_residual-in_err-start.result _ (HasHalted g.S.Source.stands at (g.S.Source.told c.args.src.now) c.args.config.now c.args.now_ms c.args.store.now.offset c.begun.new.store.offset (record c.args.report.now { position = c.in_ok-offset.offset.lsn.0 }) c.start.new.src (g.S.Source.told c.start.new.src)) c.from_residual-in_err-start.ensures.1
+    (halts_unread g.S.Source.stands at (g.S.Source.told c.args.src.now) c.args.config.now c.args.now_ms c.args.store.now.offset c.begun.new.store.offset (record c.args.report.now { position = c.in_ok-offset.offset.lsn.0 }) c.args.src.now c.start.new.src (g.S.Source.told c.start.new.src) _ stood
+    (start_opens c.args.config.now c.args.store.now.offset c.begun.new.store.offset (g.S.Source.told c.start.new.src) c.in_ok-offset.offset.lsn _ stored (ap (λ (o : Offset). o.lsn) (first_some c.in_ok-offset.offset stored.offset (sym c.in_ok-offset.ensures.loads ∙ stored.is))) (λ asked first is. c.in_err-start.ensures.gone asked first (ap (λ (h : Halt). Err h) is)) c.in_err-start.ensures.halt)
+    none.0 none.1 (fell_on (g.S.Source.told c.args.src.now) (g.S.Source.told c.begun.new.src) (g.S.Source.told c.start.new.src) c.begun.ensures.taken c.in_err-start.ensures.fell) (λ s t was now. let mid = c.in_ok-offset.ensures.stood s was in inr (read_none c.in_ok-offset.offset.lsn t.reading (c.start.ensures.unread mid.standing t mid.is now))))
+
+pub returns-clause-halted : goal.returns-clause-halted
+returns-clause-halted g c at stood none =
+    err_then c.make.result _ (HasHalted g.S.Source.stands at (g.S.Source.told c.args.src.now) c.args.config.now c.args.now_ms c.args.store.now.offset c.begun.new.store.offset (record c.args.report.now { position = c.in_ok-offset.offset.lsn.0 }) c.start.new.src (g.S.Source.told c.start.new.src)) c.make.ensures.memory
+    (λ h is. halts_unread g.S.Source.stands at (g.S.Source.told c.args.src.now) c.args.config.now c.args.now_ms c.args.store.now.offset c.begun.new.store.offset (record c.args.report.now { position = c.in_ok-offset.offset.lsn.0 }) c.args.src.now c.start.new.src (g.S.Source.told c.start.new.src) h stood (inr (inr (inl is))) none.0 none.1 (inr (anew_on (g.S.Source.told c.args.src.now) (g.S.Source.told c.begun.new.src) (g.S.Source.told c.start.new.src) c.begun.ensures.taken c.in_ok-start.ensures.taken)) (λ s t was now. let mid = c.in_ok-offset.ensures.stood s was in inr (read_none c.in_ok-offset.offset.lsn t.reading (c.start.ensures.unread mid.standing t mid.is now))))
+
+pub returns-clause-under_way : goal.returns-clause-under_way
+returns-clause-under_way g c at stood none =
+    answer_then c.make.result _ _ c.make.ensures.made
+    (λ work made. (
+      c.in_ok-offset.offset,
+      subst (λ (o : Option Offset). IsUnderWay g.S.Source.stands at (g.S.Source.told c.args.src.now) (beginning_at c.args.config.now c.args.now_ms c.args.store.now.offset c.in_ok-offset.offset) o work (record c.args.report.now { position = c.in_ok-offset.offset.lsn.0 }) c.start.new.src (g.S.Source.told c.start.new.src)) (sym c.in_ok-offset.ensures.loads)
+          (begins g.S.Source.stands at (g.S.Source.told c.args.src.now) (beginning_at c.args.config.now c.args.now_ms c.args.store.now.offset c.in_ok-offset.offset) c.args.config.now.every work (record c.args.report.now { position = c.in_ok-offset.offset.lsn.0 }) c.start.new.src (g.S.Source.told c.start.new.src) c.in_ok-offset.ensures.of
+          (subst (λ (n : ℤ). IsBegun c.in_ok-offset.offset n c.args.config.now.chunk c.args.config.now.every work) (to_z-of_z c.ranges.now_ms) made) none.0 none.1 none.2
+          (anew_on (g.S.Source.told c.args.src.now) (g.S.Source.told c.begun.new.src) (g.S.Source.told c.start.new.src) c.begun.ensures.taken c.in_ok-start.ensures.taken)
+          (λ s first.
+          let mid = c.in_ok-offset.ensures.stood s (stood s first) in
+          let began = c.in_ok-start.ensures.started mid.standing mid.is in
+          record { standing = began.standing; is = began.is; holds = began.holds.reading })),
+    ))

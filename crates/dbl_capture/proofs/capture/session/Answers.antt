@@ -1,4 +1,5 @@
-use Rattle.std.proofs.Common.{◌≡◌, ◌∙◌, arith, inr, true, false, [], refl, sym, subst}
+use Rattle.std.proofs.Common.{◌≡◌, ◌∙◌, arith, inl, inr, ℤ, true, false, Some, None, [], Ok, refl, sym, subst}
+use Rattle.std.specs.Prelude.{OnOk}
 use Rattle.std.proofs.Math.Facts.{to_z-of_z}
 use Rattle.dbl_history.specs.Ranges.{IsMomentInRange}
 use Rattle.dbl_offset.specs.declared.offset.Offset.{Offset}
@@ -6,12 +7,19 @@ use Rattle.dbl_offset.specs.Stores.{disk_of}
 use Rattle.dbl_work.specs.Begins.{IsOffsetFor}
 use Rattle.dbl_work.specs.Works.{next_of}
 use Rattle.dbl_work.proofs.Exits.{later_on, rose_behind}
-use Rattle.dbl_capture.proofs.Causes.{residual_is}
+use Rattle.dbl_capture.proofs.Causes.{err_then, residual_is, residual_of}
 use Rattle.dbl_exits.specs.Ends.{HasOwnStored}
 use Rattle.dbl_exits.specs.Found.{entry_at}
 use Rattle.dbl_exits.proofs.Endings.{complete_left, has_stored, own_first, position_is}
 use Rattle.dbl_exits.proofs.Keeping.{either_answer, rests, some_chunk}
 use Rattle.dbl_exits.proofs.Openings.{going_left, source_found, told_found}
+use Rattle.dbl_honest.specs.Standings.{Standing, Stood}
+use Rattle.dbl_causes.specs.Musts.{MustHaltStood, MustHaltTold}
+use Rattle.dbl_causes.specs.Reported.{HasReadMessages, HasSettled, HasStoodBehind, IsFollowed, StoodAtLast}
+use Rattle.dbl_causes.specs.Sources.{HasHalted, IsUnderWay}
+use Rattle.dbl_causes.proofs.Sources.{ended_stood, ended_told}
+use Rattle.dbl_capture.specs.Begun.{beginning_at}
+use Rattle.dbl_capture.proofs.Telling.{answer_as, at_none, at_some, residual_as}
 use Rattle.dbl_capture.proofs.capture.session.Goals as goal
 
 -- it didn't begin
@@ -134,3 +142,87 @@ pub returns-in_err-work-clause-bounded : goal.returns-in_err-work-clause-bounded
 returns-in_err-work-clause-bounded g c =
     let messages : c.opened.new.report.messages ≡ 0 = c.opened.ensures.report.0 in
     omega (arith, messages)
+
+pub returns-in_err-work-clause-read : goal.returns-in_err-work-clause-read
+returns-in_err-work-clause-read g c = residual_as c.from_residual.result _ (λ x. HasReadMessages x c.opened.new.report.messages (g.S.Source.told c.args.src.now) (g.S.Source.told c.opened.new.src)) c.from_residual.ensures.1 (subst (λ (n : ℤ). HasHalted g.S.Source.stands None (g.S.Source.told c.args.src.now) c.args.config.now n c.args.offsets.now.offset c.opened.new.store.offset c.opened.new.report c.opened.new.src (g.S.Source.told c.opened.new.src) c.in_err-work.field-0.0) (to_z-of_z c.ranges.now_ms) (c.in_err-work.ensures.halted None (at_none g.S.Source.stands c.args.src.now) (refl, refl, refl))).tells.read
+
+pub returns-in_err-work-clause-last : goal.returns-in_err-work-clause-last
+returns-in_err-work-clause-last g c = residual_as c.from_residual.result _ (λ x. OnOk x (StoodAtLast c.args.config.now c.args.now_ms c.args.offsets.now.offset c.opened.new.store.offset c.opened.new.report (g.S.Source.told c.opened.new.src))) c.from_residual.ensures.1 tt
+
+pub returns-in_err-work-clause-settled : goal.returns-in_err-work-clause-settled
+returns-in_err-work-clause-settled g c s was = residual_as c.from_residual.result _ (λ x. OnOk x (Stood g.S.Source.stands c.opened.new.src (HasSettled c.args.config.now c.args.now_ms c.args.offsets.now.offset c.opened.new.store.offset c.opened.new.report))) c.from_residual.ensures.1 tt
+
+pub returns-in_err-work-clause-followed : goal.returns-in_err-work-clause-followed
+returns-in_err-work-clause-followed g c = residual_of c.from_residual.result _ (IsFollowed c.args.config.now c.args.now_ms c.args.offsets.now.offset c.opened.new.store.offset c.opened.new.report (g.S.Source.told c.opened.new.src)) c.from_residual.ensures.1 (subst (λ (n : ℤ). HasHalted g.S.Source.stands None (g.S.Source.told c.args.src.now) c.args.config.now n c.args.offsets.now.offset c.opened.new.store.offset c.opened.new.report c.opened.new.src (g.S.Source.told c.opened.new.src) c.in_err-work.field-0.0) (to_z-of_z c.ranges.now_ms) (c.in_err-work.ensures.halted None (at_none g.S.Source.stands c.args.src.now) (refl, refl, refl))).tells.followed
+
+pub returns-in_err-work-clause-stood : goal.returns-in_err-work-clause-stood
+returns-in_err-work-clause-stood g c s t was now = residual_of c.from_residual.result _ (HasStoodBehind c.args.config.now c.args.now_ms c.args.offsets.now.offset c.opened.new.store.offset c.opened.new.report s t) c.from_residual.ensures.1 ((subst (λ (n : ℤ). HasHalted g.S.Source.stands (Some s) (g.S.Source.told c.args.src.now) c.args.config.now n c.args.offsets.now.offset c.opened.new.store.offset c.opened.new.report c.opened.new.src (g.S.Source.told c.opened.new.src) c.in_err-work.field-0.0) (to_z-of_z c.ranges.now_ms) (c.in_err-work.ensures.halted (Some s) (at_some g.S.Source.stands c.args.src.now s was) (refl, refl, refl))).stood s t refl now).stood
+
+pub returns-in_err-work-clause-must : goal.returns-in_err-work-clause-must
+returns-in_err-work-clause-must g c t is = residual_as c.from_residual.result _ (λ x. MustHaltTold c.args.config.now c.args.now_ms c.args.offsets.now.offset c.opened.new.store.offset c.opened.new.report t x) c.from_residual.ensures.1 ((subst (λ (n : ℤ). HasHalted g.S.Source.stands None (g.S.Source.told c.args.src.now) c.args.config.now n c.args.offsets.now.offset c.opened.new.store.offset c.opened.new.report c.opened.new.src (g.S.Source.told c.opened.new.src) c.in_err-work.field-0.0) (to_z-of_z c.ranges.now_ms) (c.in_err-work.ensures.halted None (at_none g.S.Source.stands c.args.src.now) (refl, refl, refl))).tells.must t is)
+
+pub returns-in_err-work-clause-must_stood : goal.returns-in_err-work-clause-must_stood
+returns-in_err-work-clause-must_stood g c s t was now = residual_as c.from_residual.result _ (λ x. MustHaltStood c.args.config.now c.args.now_ms c.args.offsets.now.offset c.opened.new.store.offset c.opened.new.report t x) c.from_residual.ensures.1 ((subst (λ (n : ℤ). HasHalted g.S.Source.stands (Some s) (g.S.Source.told c.args.src.now) c.args.config.now n c.args.offsets.now.offset c.opened.new.store.offset c.opened.new.report c.opened.new.src (g.S.Source.told c.opened.new.src) c.in_err-work.field-0.0) (to_z-of_z c.ranges.now_ms) (c.in_err-work.ensures.halted (Some s) (at_some g.S.Source.stands c.args.src.now s was) (refl, refl, refl))).stood s t refl now).must
+
+pub returns-clause-read : goal.returns-clause-read
+returns-clause-read g c =
+    let way = c.in_ok-work.ensures.under_way None (at_none g.S.Source.stands c.args.src.now) (refl, refl, refl) in
+    let b = beginning_at c.args.config.now c.args.now_ms c.args.offsets.now.offset way.0 in
+    let u = subst (λ (n : ℤ). IsUnderWay g.S.Source.stands None (g.S.Source.told c.args.src.now) (beginning_at c.args.config.now n c.args.offsets.now.offset way.0) c.opened.new.store.offset c.in_ok-work.work c.opened.new.report c.opened.new.src (g.S.Source.told c.opened.new.src)) (to_z-of_z c.ranges.now_ms) way.1 in
+    let all = c.run.ensures.all None (g.S.Source.told c.args.src.now) b u in
+    let halted = c.run.ensures.halted None (g.S.Source.told c.args.src.now) b u in
+    answer_as c.run.result _ _ (λ r. HasReadMessages r c.run.new.report.messages (g.S.Source.told c.args.src.now) (g.S.Source.told c.run.new.src)) all halted (λ a e. inl (ended_told g.S.Source.stands None (g.S.Source.told c.args.src.now) b c.run.new.store.offset c.run.new.work c.run.new.report c.run.new.src (g.S.Source.told c.run.new.src) e a).1) (λ h x. x.tells.read)
+
+pub returns-clause-last : goal.returns-clause-last
+returns-clause-last g c =
+    let way = c.in_ok-work.ensures.under_way None (at_none g.S.Source.stands c.args.src.now) (refl, refl, refl) in
+    let b = beginning_at c.args.config.now c.args.now_ms c.args.offsets.now.offset way.0 in
+    let u = subst (λ (n : ℤ). IsUnderWay g.S.Source.stands None (g.S.Source.told c.args.src.now) (beginning_at c.args.config.now n c.args.offsets.now.offset way.0) c.opened.new.store.offset c.in_ok-work.work c.opened.new.report c.opened.new.src (g.S.Source.told c.opened.new.src)) (to_z-of_z c.ranges.now_ms) way.1 in
+    let all = c.run.ensures.all None (g.S.Source.told c.args.src.now) b u in
+    let halted = c.run.ensures.halted None (g.S.Source.told c.args.src.now) b u in
+    answer_as c.run.result _ _ (λ r. OnOk r (StoodAtLast c.args.config.now c.args.now_ms c.args.offsets.now.offset c.run.new.store.offset c.run.new.report (g.S.Source.told c.run.new.src))) all halted (λ a e. (ended_told g.S.Source.stands None (g.S.Source.told c.args.src.now) b c.run.new.store.offset c.run.new.work c.run.new.report c.run.new.src (g.S.Source.told c.run.new.src) e a).0) (λ h x. tt)
+
+pub returns-clause-settled : goal.returns-clause-settled
+returns-clause-settled g c s was =
+    let way = c.in_ok-work.ensures.under_way (Some s) (at_some g.S.Source.stands c.args.src.now s was) (refl, refl, refl) in
+    let b = beginning_at c.args.config.now c.args.now_ms c.args.offsets.now.offset way.0 in
+    let u = subst (λ (n : ℤ). IsUnderWay g.S.Source.stands (Some s) (g.S.Source.told c.args.src.now) (beginning_at c.args.config.now n c.args.offsets.now.offset way.0) c.opened.new.store.offset c.in_ok-work.work c.opened.new.report c.opened.new.src (g.S.Source.told c.opened.new.src)) (to_z-of_z c.ranges.now_ms) way.1 in
+    let all = c.run.ensures.all (Some s) (g.S.Source.told c.args.src.now) b u in
+    let halted = c.run.ensures.halted (Some s) (g.S.Source.told c.args.src.now) b u in
+    answer_as c.run.result _ _ (λ r. OnOk r (Stood g.S.Source.stands c.run.new.src (HasSettled c.args.config.now c.args.now_ms c.args.offsets.now.offset c.run.new.store.offset c.run.new.report))) all halted (λ a e. let end = ended_stood g.S.Source.stands (Some s) (g.S.Source.told c.args.src.now) b c.run.new.store.offset c.run.new.work c.run.new.report c.run.new.src (g.S.Source.told c.run.new.src) e a s refl in record { standing = end.standing; is = end.is; holds = end.holds.0 }) (λ h x. tt)
+
+pub returns-clause-followed : goal.returns-clause-followed
+returns-clause-followed g c =
+    let way = c.in_ok-work.ensures.under_way None (at_none g.S.Source.stands c.args.src.now) (refl, refl, refl) in
+    let b = beginning_at c.args.config.now c.args.now_ms c.args.offsets.now.offset way.0 in
+    let u = subst (λ (n : ℤ). IsUnderWay g.S.Source.stands None (g.S.Source.told c.args.src.now) (beginning_at c.args.config.now n c.args.offsets.now.offset way.0) c.opened.new.store.offset c.in_ok-work.work c.opened.new.report c.opened.new.src (g.S.Source.told c.opened.new.src)) (to_z-of_z c.ranges.now_ms) way.1 in
+    let all = c.run.ensures.all None (g.S.Source.told c.args.src.now) b u in
+    let halted = c.run.ensures.halted None (g.S.Source.told c.args.src.now) b u in
+    err_then c.run.result _ _ halted (λ h x. x.tells.followed)
+
+pub returns-clause-stood : goal.returns-clause-stood
+returns-clause-stood g c s t was now =
+    let way = c.in_ok-work.ensures.under_way (Some s) (at_some g.S.Source.stands c.args.src.now s was) (refl, refl, refl) in
+    let b = beginning_at c.args.config.now c.args.now_ms c.args.offsets.now.offset way.0 in
+    let u = subst (λ (n : ℤ). IsUnderWay g.S.Source.stands (Some s) (g.S.Source.told c.args.src.now) (beginning_at c.args.config.now n c.args.offsets.now.offset way.0) c.opened.new.store.offset c.in_ok-work.work c.opened.new.report c.opened.new.src (g.S.Source.told c.opened.new.src)) (to_z-of_z c.ranges.now_ms) way.1 in
+    let all = c.run.ensures.all (Some s) (g.S.Source.told c.args.src.now) b u in
+    let halted = c.run.ensures.halted (Some s) (g.S.Source.told c.args.src.now) b u in
+    err_then c.run.result _ _ halted (λ h x. (x.stood s t refl now).stood)
+
+pub returns-clause-must : goal.returns-clause-must
+returns-clause-must g c t is =
+    let way = c.in_ok-work.ensures.under_way None (at_none g.S.Source.stands c.args.src.now) (refl, refl, refl) in
+    let b = beginning_at c.args.config.now c.args.now_ms c.args.offsets.now.offset way.0 in
+    let u = subst (λ (n : ℤ). IsUnderWay g.S.Source.stands None (g.S.Source.told c.args.src.now) (beginning_at c.args.config.now n c.args.offsets.now.offset way.0) c.opened.new.store.offset c.in_ok-work.work c.opened.new.report c.opened.new.src (g.S.Source.told c.opened.new.src)) (to_z-of_z c.ranges.now_ms) way.1 in
+    let all = c.run.ensures.all None (g.S.Source.told c.args.src.now) b u in
+    let halted = c.run.ensures.halted None (g.S.Source.told c.args.src.now) b u in
+    answer_as c.run.result _ _ (λ r. MustHaltTold c.args.config.now c.args.now_ms c.args.offsets.now.offset c.run.new.store.offset c.run.new.report t r) all halted (λ a e. (ended_told g.S.Source.stands None (g.S.Source.told c.args.src.now) b c.run.new.store.offset c.run.new.work c.run.new.report c.run.new.src (g.S.Source.told c.run.new.src) e a).2 t is) (λ h x. x.tells.must t is)
+
+pub returns-clause-must_stood : goal.returns-clause-must_stood
+returns-clause-must_stood g c s t was now =
+    let way = c.in_ok-work.ensures.under_way (Some s) (at_some g.S.Source.stands c.args.src.now s was) (refl, refl, refl) in
+    let b = beginning_at c.args.config.now c.args.now_ms c.args.offsets.now.offset way.0 in
+    let u = subst (λ (n : ℤ). IsUnderWay g.S.Source.stands (Some s) (g.S.Source.told c.args.src.now) (beginning_at c.args.config.now n c.args.offsets.now.offset way.0) c.opened.new.store.offset c.in_ok-work.work c.opened.new.report c.opened.new.src (g.S.Source.told c.opened.new.src)) (to_z-of_z c.ranges.now_ms) way.1 in
+    let all = c.run.ensures.all (Some s) (g.S.Source.told c.args.src.now) b u in
+    let halted = c.run.ensures.halted (Some s) (g.S.Source.told c.args.src.now) b u in
+    answer_as c.run.result _ _ (λ r. MustHaltStood c.args.config.now c.args.now_ms c.args.offsets.now.offset c.run.new.store.offset c.run.new.report t r) all halted (λ a e. let end = ended_stood g.S.Source.stands (Some s) (g.S.Source.told c.args.src.now) b c.run.new.store.offset c.run.new.work c.run.new.report c.run.new.src (g.S.Source.told c.run.new.src) e a s refl in subst (λ (x : Standing). MustHaltStood c.args.config.now c.args.now_ms c.args.offsets.now.offset c.run.new.store.offset c.run.new.report x (Ok e)) (g.met.S.Source.one c.run.new.src end.standing t end.is now) end.holds.1) (λ h x. (x.stood s t refl now).must)

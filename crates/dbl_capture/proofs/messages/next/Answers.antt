@@ -1,4 +1,4 @@
-use Rattle.std.proofs.Common.{◌∙◌, ◌<◌, inl, Some, None, Option, refl, sym, ap, subst, arith}
+use Rattle.std.proofs.Common.{◌∙◌, ◌+◌, ◌<◌, inl, Some, None, Option, Err, refl, sym, ap, subst, arith}
 use Rattle.std.specs.Prelude.{IfSome, All, is_none}
 use Rattle.std.proofs.lemmas.Result.{err_from_is_err_and}
 use Rattle.dbl_table.specs.declared.change.Commit.{Commit}
@@ -13,6 +13,11 @@ use Rattle.dbl_exits.proofs.Nexts.{none_read, read_whole, some_read, step_fails,
 use Rattle.dbl_capture.proofs.Reporting.{counted_fault, counted_none, counted_put, counted_torn}
 use Rattle.dbl_exits.proofs.Settles.{follow_fails}
 use Rattle.dbl_exits.proofs.Taken.{stepped_next, stepped_ready, stepped_since, taken_next, taken_ready}
+use Rattle.dbl_work.specs.declared.halt.Halt.{Halt}
+use Rattle.dbl_work.proofs.Exits.{dead_source}
+use Rattle.dbl_causes.specs.Sources.{HasHalted}
+use Rattle.dbl_causes.proofs.Sources.{at_rest, follows_at_rest, follows_on, halts_at, halts_between, rests_on, takes_on}
+use Rattle.dbl_capture.proofs.Telling.{follow_cause, goes_due, source_left, taken_cause, torn_counts}
 use Rattle.dbl_capture.proofs.messages.next.Goals as goal
 
 pub returns-in_err-bytes-clause-left : goal.returns-in_err-bytes-clause-left
@@ -66,7 +71,7 @@ pub returns-in-Some-2-clause-is_next : goal.returns-in-Some-2-clause-is_next
 returns-in-Some-2-clause-is_next g c = stepped_next c.in-Some-2.commit c.args.work.now c.taken.new.work c.follow.new.work c.taken.ensures.same c.in_ok-closed-in-Some-2.ensures.stepped
 
 pub returns-in-Some-2-clause-due : goal.returns-in-Some-2-clause-due
-returns-in-Some-2-clause-due g c = c.is_due.ensures
+returns-in-Some-2-clause-due g c = c.is_due.ensures.due
 
 pub returns-in-Some-clause-due : goal.returns-in-Some-clause-due
 returns-in-Some-clause-due g c = inl (refl, subst (λ (w : Work). w.since < w.every) (sym c.taken.ensures.same) c.requires.since)
@@ -162,3 +167,37 @@ returns-clause-never g c value at is = cc
 
 pub follow-requires-clause-commits : goal.follow-requires-clause-commits
 follow-requires-clause-commits g c = omega (arith, c.requires.commits, c.requires.messages)
+
+pub returns-in_err-bytes-clause-halted : goal.returns-in_err-bytes-clause-halted
+returns-in_err-bytes-clause-halted g c at found b u =
+    residual_of c.from_residual.result _ (HasHalted g.S.Source.stands at found b.config b.now b.held c.args.store.now.offset c.args.report.now c.read.new.self (g.S.Source.told c.read.new.self)) c.from_residual.ensures.1
+    (halts_between g.S.Source.stands at found b c.args.store.now.offset c.args.store.now.offset c.args.work.now c.args.report.now c.args.report.now c.args.src.now c.read.new.self (g.S.Source.told c.args.src.now) (g.S.Source.told c.read.new.self) _ (at_rest g.S.Source.stands at found b c.args.store.now.offset c.args.work.now c.args.report.now c.args.src.now (g.S.Source.told c.args.src.now) u) c.in_err-bytes.ensures.untaken
+    (λ s t was now. absurd (dead_source (g.S.Source.is_live c.read.new.self) (g.met.S.Source.lives c.read.new.self t now) c.in_err-bytes.ensures.dead)) (source_left c.in_err-bytes.field-0.0) refl refl (inl refl))
+
+pub returns-in_err-commit-in-Some-clause-halted : goal.returns-in_err-commit-in-Some-clause-halted
+returns-in_err-commit-in-Some-clause-halted g c at found b u =
+    residual_of c.from_residual-in_err-commit-in-Some.result _ (HasHalted g.S.Source.stands at found b.config b.now b.held c.args.store.now.offset (record c.args.report.now { messages = c.args.report.now.messages + 1 }) c.read.new.self (g.S.Source.told c.read.new.self)) c.from_residual-in_err-commit-in-Some.ensures.1
+    (halts_at g.S.Source.stands at found b c.args.store.now.offset c.args.work.now c.args.report.now (record c.args.report.now { messages = c.args.report.now.messages + 1 }) c.args.src.now c.read.new.self (g.S.Source.told c.args.src.now) (g.S.Source.told c.read.new.self) c.in-Some.bytes _ u (some_read _ _ _ _ c.in-Some.is c.in_ok-bytes.ensures.taken) (λ s is. some_read _ _ _ _ c.in-Some.is (c.in_ok-bytes.ensures.took s is)) (g.met.S.Source.one c.read.new.self)
+    (taken_cause (c.args.report.now.messages + 1) b.first.lsn u.messages c.in-Some.bytes c.args.work.now _ (c.in_err-commit-in-Some.ensures.halt b.first.lsn u.messages u.is.is.is)) refl refl)
+
+pub returns-in_err-closed-in-Some-2-clause-halted : goal.returns-in_err-closed-in-Some-2-clause-halted
+returns-in_err-closed-in-Some-2-clause-halted g c at found b u =
+    let counts = torn_counts c.in-Some-2.commit c.taken.new.work c.args.report.now c.follow.new.report c.in_err-closed-in-Some-2.ensures.noted in
+    residual_of c.from_residual-in_err-closed-in-Some-2.result _ (HasHalted g.S.Source.stands at found b.config b.now b.held c.args.store.now.offset c.follow.new.report c.read.new.self (g.S.Source.told c.read.new.self)) c.from_residual-in_err-closed-in-Some-2.ensures.1
+    (halts_at g.S.Source.stands at found b c.args.store.now.offset c.args.work.now c.args.report.now c.follow.new.report c.args.src.now c.read.new.self (g.S.Source.told c.args.src.now) (g.S.Source.told c.read.new.self) c.in-Some.bytes _ u (some_read _ _ _ _ c.in-Some.is c.in_ok-bytes.ensures.taken) (λ s is. some_read _ _ _ _ c.in-Some.is (c.in_ok-bytes.ensures.took s is)) (g.met.S.Source.one c.read.new.self)
+    (follow_cause c.follow.new.report.messages b.first.lsn u.messages c.in-Some.bytes c.args.work.now c.taken.new.work c.in-Some-2.commit _ (subst (WasTaken b.first.lsn u.messages c.in-Some.bytes c.args.work.now c.taken.new.work) c.in-Some-2.is (c.in_ok-commit-in-Some.ensures.taken b.first.lsn u.messages u.is.is.is)) (λ is. c.in_err-closed-in-Some-2.ensures.sink (ap (λ (k : Halt). Err k) is)) c.in_err-closed-in-Some-2.ensures.halt) counts.messages counts.commits)
+
+pub returns-in-Some-2-clause-under_way : goal.returns-in-Some-2-clause-under_way
+returns-in-Some-2-clause-under_way g c at found b u =
+    goes_due g.S.Source.stands at found b c.args.store.now.offset c.follow.new.work c.follow.new.report c.read.new.self (g.S.Source.told c.read.new.self) c.is_due.result
+    (λ due. follows_on g.S.Source.stands at found b c.args.store.now.offset c.args.src.now c.read.new.self (g.S.Source.told c.args.src.now) (g.S.Source.told c.read.new.self) c.args.work.now c.taken.new.work c.follow.new.work c.args.report.now c.follow.new.report u c.in-Some.bytes c.in-Some-2.commit (subst (WasTaken b.first.lsn u.messages c.in-Some.bytes c.args.work.now c.taken.new.work) c.in-Some-2.is (c.in_ok-commit-in-Some.ensures.taken b.first.lsn u.messages u.is.is.is)) c.in_ok-closed-in-Some-2.ensures.stepped c.in_ok-closed-in-Some-2.ensures.long c.requires.number c.in_ok-closed-in-Some-2.ensures.noted (some_read _ _ _ _ c.in-Some.is c.in_ok-bytes.ensures.taken) (λ s is. some_read _ _ _ _ c.in-Some.is (c.in_ok-bytes.ensures.took s is)))
+    (λ due. follows_at_rest g.S.Source.stands at found b c.args.store.now.offset c.args.src.now c.read.new.self (g.S.Source.told c.args.src.now) (g.S.Source.told c.read.new.self) c.args.work.now c.taken.new.work c.follow.new.work c.args.report.now c.follow.new.report u c.in-Some.bytes c.in-Some-2.commit (subst (WasTaken b.first.lsn u.messages c.in-Some.bytes c.args.work.now c.taken.new.work) c.in-Some-2.is (c.in_ok-commit-in-Some.ensures.taken b.first.lsn u.messages u.is.is.is)) c.in_ok-closed-in-Some-2.ensures.stepped c.in_ok-closed-in-Some-2.ensures.long c.requires.number c.in_ok-closed-in-Some-2.ensures.noted (some_read _ _ _ _ c.in-Some.is c.in_ok-bytes.ensures.taken) (λ s is. some_read _ _ _ _ c.in-Some.is (c.in_ok-bytes.ensures.took s is)) (sym c.in_ok-closed-in-Some-2.ensures.closes ∙ c.is_due.ensures.open due))
+
+pub returns-in-Some-clause-under_way : goal.returns-in-Some-clause-under_way
+returns-in-Some-clause-under_way g c at found b u =
+    takes_on g.S.Source.stands at found b c.args.store.now.offset c.args.src.now c.read.new.self (g.S.Source.told c.args.src.now) (g.S.Source.told c.read.new.self) c.args.work.now c.taken.new.work c.args.report.now (record c.args.report.now { messages = c.args.report.now.messages + 1 }) u c.in-Some.bytes (subst (WasTaken b.first.lsn u.messages c.in-Some.bytes c.args.work.now c.taken.new.work) c.in-None-2.is (c.in_ok-commit-in-Some.ensures.taken b.first.lsn u.messages u.is.is.is)) refl (some_read _ _ _ _ c.in-Some.is c.in_ok-bytes.ensures.taken) (λ s is. some_read _ _ _ _ c.in-Some.is (c.in_ok-bytes.ensures.took s is))
+
+pub returns-clause-under_way : goal.returns-clause-under_way
+returns-clause-under_way g c at found b u =
+    rests_on g.S.Source.stands at found b c.args.store.now.offset c.args.src.now c.read.new.self (g.S.Source.told c.args.src.now) (g.S.Source.told c.read.new.self) c.args.work.now c.args.report.now u (none_read _ _ _ c.in-None.is c.in_ok-bytes.ensures.taken)
+    (λ s is. let t = none_read _ _ _ c.in-None.is (c.in_ok-bytes.ensures.took s is) in record { standing = t.standing; is = t.is; holds = t.holds.0.reading })

@@ -31,3 +31,12 @@ returns-in-Some-clause-never g c = c.arm.ensures.never
 
 pub returns-in-None-clause-never : goal.returns-in-None-clause-never
 returns-in-None-clause-never g c value at is = cc
+
+pub returns-in-Some-clause-under_way : goal.returns-in-Some-clause-under_way
+returns-in-Some-clause-under_way g c = c.arm.ensures.under_way
+
+pub returns-in-Some-clause-halted : goal.returns-in-Some-clause-halted
+returns-in-Some-clause-halted g c = c.arm.ensures.halted
+
+pub returns-in-None-clause-under_way : goal.returns-in-None-clause-under_way
+returns-in-None-clause-under_way g c at found b report u = u

@@ -2,15 +2,18 @@ use Rattle.std.proofs.Common.{◌≡◌, ◌∙◌, ◌+◌, ℕ, Bool, Ok, IsTr
 use Rattle.dbl_history.specs.Ranges.{IsMomentInRange}
 use Rattle.dbl_offset.specs.Stores.{disk_of}
 use Rattle.dbl_work.proofs.Exits.{rose_behind, later_on}
-use Rattle.dbl_capture.proofs.Causes.{residual_is}
+use Rattle.dbl_capture.proofs.Causes.{residual_is, residual_of}
 use Rattle.std.specs.Prelude.{MatchBool}
 use Rattle.dbl_exits.proofs.Keeping.{on_err}
 use Rattle.dbl_capture.proofs.Reporting.{at_stored, counts_stored, own_stored, placed_next, placed_on}
+use Rattle.dbl_causes.specs.Sources.{HasHalted}
+use Rattle.dbl_causes.proofs.Sources.{at_rest}
 use Rattle.dbl_capture.proofs.turns.run.Goals as goal
 
 pub turns-init : goal.turns-init
 turns-init g c = record {
   kept = λ tell entry s honest. s;
+  under_way = λ at found b u. u;
   ready = c.requires.ready;
   offset_is = refl;
   stored = λ own. own;
@@ -36,6 +39,7 @@ turns-init g c = record {
 pub turns-preserved : goal.turns-preserved
 turns-preserved g c = record {
   kept = λ tell entry s honest. c.in_ok-turn.ensures.turned tell entry (c.turns.invariant.kept tell entry s (c.turn.ensures.honest honest)) honest;
+  under_way = λ at found b u. c.in_ok-turn.ensures.under_way at found b (c.turns.invariant.under_way at found b u);
   ready = c.in_ok-turn.ensures.ready;
   offset_is = placed_on c.args.work.now.offset c.turns.work.offset c.turn.new.work.offset c.turns.invariant.offset_is c.in_ok-turn.ensures.offset_is;
   stored = λ own. c.turn.ensures.stored c.args.work.now.offset c.turns.invariant.offset_is (c.turns.invariant.stored own);
@@ -361,3 +365,18 @@ returns-then-branch-clause-commits g c = c.turn.ensures.commits
 
 pub returns-in_err-turn-clause-commits : goal.returns-in_err-turn-clause-commits
 returns-in_err-turn-clause-commits g c = c.turn.ensures.commits
+
+pub returns-in_err-turn-clause-halted : goal.returns-in_err-turn-clause-halted
+returns-in_err-turn-clause-halted g c at found b u = residual_of c.from_residual.result _ (HasHalted g.S.Source.stands at found b.config b.now b.held c.turn.new.store.offset c.turn.new.report c.turn.new.src (g.S.Source.told c.turn.new.src)) c.from_residual.ensures.1 (c.in_err-turn.ensures.halted at found b (c.turns.invariant.under_way at found b u))
+
+pub returns-in_err-arm_next-clause-halted : goal.returns-in_err-arm_next-clause-halted
+returns-in_err-arm_next-clause-halted g c at found b u = residual_of c.from_residual-in_err-arm_next.result _ (HasHalted g.S.Source.stands at found b.config b.now b.held c.turns.store.offset c.turns.report c.arm_next.new.src (g.S.Source.told c.arm_next.new.src)) c.from_residual-in_err-arm_next.ensures.1 (c.in_err-arm_next.ensures.halted at found b c.turns.report (c.turns.invariant.under_way at found b u))
+
+pub returns-in_err-settle-clause-halted : goal.returns-in_err-settle-clause-halted
+returns-in_err-settle-clause-halted g c at found b u = residual_of c.from_residual-in_err-settle.result _ (HasHalted g.S.Source.stands at found b.config b.now b.held c.settle.new.store.offset c.settle.new.report c.settle.new.src (g.S.Source.told c.settle.new.src)) c.from_residual-in_err-settle.ensures.1 (c.in_err-settle.ensures.halted at found b (at_rest g.S.Source.stands at found b c.turns.store.offset c.arm_next.new.work c.turns.report c.arm_next.new.src (g.S.Source.told c.arm_next.new.src) (c.in_ok-arm_next.ensures.under_way at found b c.turns.report (c.turns.invariant.under_way at found b u))))
+
+pub returns-clause-all : goal.returns-clause-all
+returns-clause-all g c at found b u = c.in_ok-settle.ensures.all at found b (at_rest g.S.Source.stands at found b c.turns.store.offset c.arm_next.new.work c.turns.report c.arm_next.new.src (g.S.Source.told c.arm_next.new.src) (c.in_ok-arm_next.ensures.under_way at found b c.turns.report (c.turns.invariant.under_way at found b u)))
+
+pub returns-then-branch-clause-all : goal.returns-then-branch-clause-all
+returns-then-branch-clause-all g c at found b u = c.turn.ensures.all at found b (c.turns.invariant.under_way at found b u) (c.in_ok-turn.was ∙ ap (λ (x : Bool). Ok x) c.if-branch.true)

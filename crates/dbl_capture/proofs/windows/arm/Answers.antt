@@ -2,6 +2,10 @@ use Rattle.dbl_exits.specs.Sessions.{standing_at}
 use Rattle.dbl_exits.proofs.Arms.{arm_left, plan_here, plan_parts, window_on}
 use Rattle.dbl_capture.proofs.Causes.{OfSource, chunk_of, err_at, err_then}
 use Rattle.dbl_exits.proofs.Keeping.{ok_then, on_err}
+use Rattle.std.proofs.Common.{inl, refl}
+use Rattle.dbl_causes.specs.Sources.{HasHalted}
+use Rattle.dbl_causes.proofs.Sources.{arms_on, at_rest, halts_between}
+use Rattle.dbl_capture.proofs.Telling.{chunk_left, ok_both}
 use Rattle.dbl_capture.proofs.windows.arm.Goals as goal
 
 pub returns-clause-armed : goal.returns-clause-armed
@@ -30,3 +34,14 @@ returns-clause-others g c =
 
 pub returns-clause-never : goal.returns-clause-never
 returns-clause-never g c value at is = err_at c.read_window.result _ OfSource (err_then c.read_window.result _ OfSource c.read_window.ensures.halt (λ h is. chunk_of c.args.work.now c.args.table _ h is)) is
+
+pub returns-clause-under_way : goal.returns-clause-under_way
+returns-clause-under_way g c at found b report u =
+    ok_both c.read_window.result _ _ (g.S.Source.stands c.args.src.now) _ c.read_window.ensures.same c.read_window.ensures.windowed
+    (λ armed windowed. arms_on g.S.Source.stands at found b c.args.store.now.offset c.args.src.now c.read_window.new.src (g.S.Source.told c.args.src.now) (g.S.Source.told c.read_window.new.src) c.args.work.now c.read_window.new.work c.args.table report u c.requires.absent c.requires.table armed c.read_window.ensures.taken
+    (λ s is. let w = windowed s is in record { standing = w.stood.standing; is = w.stood.is; holds = w.stood.holds.looked.reading }))
+
+pub returns-clause-halted : goal.returns-clause-halted
+returns-clause-halted g c at found b report u =
+    err_then c.read_window.result _ (HasHalted g.S.Source.stands at found b.config b.now b.held c.args.store.now.offset report c.read_window.new.src (g.S.Source.told c.read_window.new.src)) c.read_window.ensures.halt
+    (λ h chunk. halts_between g.S.Source.stands at found b c.args.store.now.offset c.args.store.now.offset c.args.work.now report report c.args.src.now c.read_window.new.src (g.S.Source.told c.args.src.now) (g.S.Source.told c.read_window.new.src) h (at_rest g.S.Source.stands at found b c.args.store.now.offset c.args.work.now report c.args.src.now (g.S.Source.told c.args.src.now) u) c.read_window.ensures.taken c.read_window.ensures.still (chunk_left c.args.work.now c.args.table _ h chunk) refl refl (inl refl))

@@ -1,0 +1,18 @@
+//! What the sink of a session gains, step by step, how many marks may be left where it ends, and what
+//! a source's last answer asks for: laws over lists. No source, sink or store is named.
+#![tactic(auto)]
+
+mod answer_laws;
+mod mark_laws;
+mod put_laws;
+
+pub use answer_laws::{
+    failures_excuse, newest_bytes_ask, quiet_answers_ask_nothing, rows_ask, unread_answers_ask,
+};
+pub use mark_laws::{
+    ends_leave_exact_marks, others_add_no_marks, others_leave_few_marks, windows_leave_few_marks,
+};
+pub use put_laws::{
+    commits_gain, gains_begin, gains_stay, messages_gain_nothing, rests_leave_gains,
+    steps_are_counted, steps_leave_gains,
+};

@@ -1,3 +1,5 @@
 pub mod Reporting
 pub mod Causes
 pub mod Telling
+pub mod Halting
+pub mod Marking

@@ -1,5 +1,5 @@
 -- What a session's report tells where it goes on, and where it halts.
-use Rattle.std.proofs.Common.{◌≡◌, ◌∙◌, ◌⊎◌, inl, inr, ◌+◌, ◌≤◌, ℕ, Bool, true, false, Option, Some, None, List, [], Result, Ok, Err, refl, sym, ap, subst, arith}
+use Rattle.std.proofs.Common.{◌≡◌, ◌∙◌, ◌⊎◌, inl, inr, ◌+◌, ◌≤◌, ◌^◌, ℕ, Bool, true, false, Option, Some, None, List, [], Result, Ok, Err, refl, sym, ap, subst, arith}
 use Rattle.std.specs.Prelude.{Contains, IfErr, IfSome, IsErrAnd, OnOk}
 use Rattle.dbl_base.specs.declared.lsn.Lsn.{Lsn}
 use Rattle.dbl_pgmsg.specs.declared.messages.Message.{Message}
@@ -49,6 +49,17 @@ residual_as (Err h) e Q same q = subst (λ (k : Halt). Q (Err k)) (sym same) q
 pub answer_as : {T : Type 0} (r : Result T Halt) (A : Type 0) (B : Halt → Type 0) (Q : Result T Halt → Type 0) → OnOk r A → IfErr r B → (A → (x : T) → Q (Ok x)) → ((h : Halt) → B h → Q (Err h)) → Q r
 answer_as (Ok x) A B Q a b f g = f a x
 answer_as (Err h) A B Q a b f g = g h b
+
+-- an error of a call is one of what a `?` makes of it
+pub residual_on : {T U : Type 0} (r : Result T Halt) (q : Result U Halt) (e h : Halt) → r ≡ Err h → r ≡ Err e → IsErrAnd q (λ k. k ≡ e) → q ≡ Err h
+residual_on r (Ok x) e h one two none = absurd none
+residual_on r (Err k) e h one two same =
+    let both : Err e ≡ Err h = sym two ∙ one in
+    let own : e ≡ h = cc in
+    ap (λ (x : Halt). Err x) (same ∙ own)
+
+pub not_both : {T : Type 0} (r : Result T Halt) (x : T) (h : Halt) → r ≡ Err h → r ≡ Ok x → ⊥
+not_both r x h one two = let wrong : Err h ≡ Ok x = sym one ∙ two in cc
 
 -- ---- halts between two messages
 
@@ -152,6 +163,20 @@ start_opens config old new told after h stored same says (inr (inr gone)) =
       is = gone.is ∙ ap (λ (l : Lsn). halt.Gone l gone.first) same;
       tells = (says after gone.first gone.is).1;
     }))
+
+-- where the greatest incarnation is stored it halts for that
+abbrev Exhausts : Result (Option Offset) Halt → Option Offset → Type 0
+Exhausts r old = IfSome old (λ stored. 2 ^ 63 ≤ stored.incarnation → r ≡ Err (halt.Exhausted stored.incarnation))
+
+exhausted_as : (r : Result (Option Offset) Halt) (old : Option Offset) (h : Halt) → Exhausts r old → IsExhausted old h → r ≡ Err h
+exhausted_as r None h says is = absurd is
+exhausted_as r (Some stored) h says is = says is.0 ∙ ap (λ (x : Halt). Err x) (sym is.1)
+
+pub again_exhausted : (r : Result (Option Offset) Halt) (q : Result Offset Halt) (old : Option Offset) (e h : Halt) → Exhausts r old → r ≡ Err e → IsErrAnd q (λ k. k ≡ e) → IsExhausted old h → q ≡ Err h
+again_exhausted r q old e h says was same is = residual_on r q e h (exhausted_as r old h says is) was same
+
+pub not_exhausted : (r : Result (Option Offset) Halt) (o : Option Offset) (old : Option Offset) (h : Halt) → Exhausts r old → r ≡ Ok o → IsExhausted old h → ⊥
+not_exhausted r o old h says was is = not_both r o h (exhausted_as r old h says is) was
 
 -- what was told behind a call that read nothing, and behind a start
 pub anew_on : (a b c : Option Told) → IsTakenBy [] a b → IsTakenAnew b c → IsTakenAnew a c

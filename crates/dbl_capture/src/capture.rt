@@ -11,15 +11,17 @@ ghost use Rattle.dbl_offset.specs.declared.offset.Offset.{Offset as SpecOffset};
 ghost use Rattle.dbl_offset.specs.Offsets.{IsOffset};
 ghost use Rattle.dbl_offset.specs.Stores.{ComesOf, IsLive, disk_of};
 ghost use Rattle.dbl_session.specs.Entries.{Entry as SpecEntry, HadOwnTables};
-ghost use Rattle.dbl_work.specs.Begins.{IsOffsetFor, MayRest};
+ghost use Rattle.dbl_work.specs.Begins.{IsExhausted, IsOffsetFor, MayRest};
 ghost use Rattle.dbl_work.specs.Works.{IsBegun};
 ghost use Rattle.dbl_exits.specs.Ends.{AreAllDone, IsAtPosition, LeavesComplete};
 ghost use Rattle.dbl_exits.specs.Found.{BeganAt, BeginsAt, Found, HasStored, IsAsked, IsEntryOf, IsFound, entry_at, position_of};
 ghost use Rattle.dbl_exits.specs.Sessions.{AddsFew, InSession, LeavesBy, LeavesGoing};
-ghost use Rattle.dbl_causes.specs.Musts.{MustHaltStood, MustHaltTold};
+ghost use Rattle.dbl_causes.specs.Musts.{MustExhaust, MustHaltStood, MustHaltTold};
 ghost use Rattle.dbl_causes.specs.Reported.{HasReadMessages, HasSettled, HasStoodBehind, IsFollowed, StoodAtLast};
-ghost use Rattle.dbl_causes.specs.Sources.{HasHalted, IsUnderWay};
+ghost use Rattle.dbl_causes.specs.Sources.{IsUnderWay};
+ghost use Rattle.dbl_capture.specs.Caused.{Halts, IsCaused};
 ghost use Rattle.dbl_causes.specs.Underway.{IsBeginHalt};
+ghost use Rattle.dbl_causes.specs.Written.{AddsExactly, marks_more};
 ghost use Rattle.dbl_capture.specs.Begun.{beginning_at};
 
 use crate::turns::run;
@@ -59,6 +61,7 @@ fn offset_of<S: Source, D: Disk>(
     ensures never { (value at : _) → result ≢ Err (Halt.WatermarkMissing value at) }
     ensures stood { Leads S.stands src.old src.new result (λ offset. Moved) }
     ensures halt { IfErr result (IsBeginHalt config.now store.now.offset (S.told src.new)) }
+    ensures exhausted { (h : _) → IsExhausted store.now.offset h → result ≡ Err h }
     ensures still { (s t : Standing) → S.stands src.old s → S.stands src.new t →
         t.reading ≡ s.reading }
     ensures taken { IsTakenBy [] (S.told src.old) (S.told src.new) }
@@ -108,6 +111,7 @@ fn begun<S: Source, K: Sink, D: Disk>(
     ensures never { (value at : _) → result ≢ Err (Halt.WatermarkMissing value at) }
     ensures stood { Leads S.stands src.old src.new result (λ offset. Moved) }
     ensures halt { IfErr result (IsBeginHalt config.now store.old.offset (S.told src.new)) }
+    ensures exhausted { (h : _) → IsExhausted store.old.offset h → result ≡ Err h }
     ensures still { (s t : Standing) → S.stands src.old s → S.stands src.new t →
         t.reading ≡ s.reading }
     ensures taken { IsTakenBy [] (S.told src.old) (S.told src.new) }
@@ -154,6 +158,7 @@ fn opened<S: Source, K: Sink, D: Disk>(
         ⊎ HasStored config.now store.old.offset store.new.offset) }
     ensures position { report.old.position ≡ 0 →
         OnErr result (report.new.position ≡ position_of store.old.offset store.new.offset) }
+    ensures exhausted { (h : _) → IsExhausted store.old.offset h → result ≡ Err h }
     ensures report { (report.new.messages ≡ report.old.messages) ×
         (report.new.commits ≡ report.old.commits) }
     ensures reading { OnOk result (IsTrue (S.is_reading src.new)) }
@@ -180,7 +185,7 @@ fn opened<S: Source, K: Sink, D: Disk>(
     ensures halted { (at : Option Standing) → ((s : Standing) → at ≡ Some s →
         S.stands src.old s) → (report.old.messages ≡ 0) × (report.old.commits ≡ 0)
         × (report.old.chunks ≡ 0) →
-        IfErr result (HasHalted S.stands at (S.told src.old) config.now now_ms store.old.offset
+        IfErr result (Halts S.stands at (S.told src.old) config.now now_ms store.old.offset
         store.new.offset report.new src.new (S.told src.new)) }
 {
     let offset = begun(alloc, config, src, sink, store)?;
@@ -229,6 +234,13 @@ pub fn session<S: Source, K: Sink, D: Disk>(
         S.may_leave src.new left →
         AddsFew (entry_at config.now now_ms s offsets.old.offset) left }
 
+    // How many marks they are exactly, where it ends as it should.
+    ensures exactly { (s : Standing) → S.stands src.old s → S.honest src.new →
+        HadOwnTables (entry_at config.now now_ms s offsets.old.offset) →
+        IfOk result (λ ending. (left : Left) → S.may_leave src.new left →
+        AddsExactly report.new.chunks (marks_more ending offsets.new.offset)
+        s.history left.history) }
+
     // What it stores, and where it ends, of every source, sink and disk.
     ensures stores { (offsets.new.offset ≡ offsets.old.offset)
         ⊎ HasStored config.now offsets.old.offset offsets.new.offset }
@@ -254,7 +266,13 @@ pub fn session<S: Source, K: Sink, D: Disk>(
     ensures bounded { report.new.messages ≤ config.now.messages }
     ensures position { report.new.position ≡ position_of offsets.old.offset offsets.new.offset }
 
-    // Where it has to halt for the newest message, by what the source told, and stands for.
+    // Why it halts, but for a clash and a record that is too long.
+    ensures halt { IfErr result (IsCaused config.now now_ms offsets.old.offset offsets.new.offset
+        report.new (S.told src.new)) }
+
+    // Where it has to halt for what it found, and for the newest message, by what the source told,
+    // and stands for.
+    ensures exhausted { MustExhaust offsets.old.offset result }
     ensures must { (t : Told) → S.told src.new ≡ Some t →
         MustHaltTold config.now now_ms offsets.old.offset offsets.new.offset report.new t result }
     ensures must_stood { (s t : Standing) → S.stands src.old s → S.stands src.new t →

@@ -4,13 +4,14 @@ ghost use Rattle.std.specs.Prelude.{◌≡◌, ◌≢◌, ◌⊎◌, ◌^◌, �
 ghost use Rattle.dbl_base.specs.Streams.{Rose};
 ghost use Rattle.dbl_history.specs.Ranges.{IsMomentInRange};
 ghost use Rattle.dbl_honest.specs.Standings.{Standing};
-ghost use Rattle.dbl_honest.specs.Told.{Told};
+ghost use Rattle.dbl_honest.specs.Told.{Read, Tells, Told};
 ghost use Rattle.dbl_session.specs.Entries.{Entry as SpecEntry};
 ghost use Rattle.dbl_work.specs.Works.{IsReady};
 ghost use Rattle.dbl_exits.specs.Sessions.{InSession, LeavesBy};
 ghost use Rattle.dbl_exits.specs.Turns.{HasReadAllAt, IsCountedNext, IsDue, IsNextOf};
 ghost use Rattle.dbl_causes.specs.Carried.{Beginning};
-ghost use Rattle.dbl_causes.specs.Sources.{GoesOn, HasHalted, IsUnderWay};
+ghost use Rattle.dbl_causes.specs.Sources.{GoesOn, IsUnderWay};
+ghost use Rattle.dbl_capture.specs.Caused.{Halts};
 
 use dbl_disk::Disk;
 use dbl_offset::OffsetStore;
@@ -73,6 +74,7 @@ pub(crate) fn next<S: Source, K: Sink, D: Disk>(
     ensures due { IfOk result (IsDue work.old work.new) }
     ensures counts { IsCountedNext result report.old report.new }
     ensures ended { result ≡ Ok None → IsTrue (S.has_ended src.new) }
+    ensures nothing { result ≡ Ok None → Tells (S.told src.new) (Read None) }
     ensures reading { S.is_reading src.new ≡ S.is_reading src.old }
     ensures source_live { OnOk result (IsTrue (S.is_live src.new)) }
     ensures sink_live { OnOk result (IsTrue (K.is_live sink.new)) }
@@ -95,7 +97,7 @@ pub(crate) fn next<S: Source, K: Sink, D: Disk>(
     ensures halted { (at : Option Standing) (found : Option Told) (b : Beginning) →
         IsUnderWay S.stands at found b store.now.offset work.old report.old src.old
         (S.told src.old) →
-        IfErr result (HasHalted S.stands at found b.config b.now b.held store.now.offset report.new
+        IfErr result (Halts S.stands at found b.config b.now b.held store.now.offset report.new
         src.new (S.told src.new)) }
 {
     match src.read()? {

@@ -11,7 +11,8 @@ ghost use Rattle.dbl_exits.specs.Ends.{IsReportAt};
 ghost use Rattle.dbl_exits.specs.Sessions.{InSession, LeavesBy};
 ghost use Rattle.dbl_exits.specs.Turns.{HasReadAllAt, IsSettled, IsSettledWhole};
 ghost use Rattle.dbl_causes.specs.Carried.{Beginning};
-ghost use Rattle.dbl_causes.specs.Sources.{HasCommitted, HasHalted, HasSettledAll};
+ghost use Rattle.dbl_causes.specs.Sources.{HasCommitted, HasSettledAll};
+ghost use Rattle.dbl_capture.specs.Caused.{Halts};
 
 use dbl_disk::Disk;
 use dbl_offset::OffsetStore;
@@ -80,7 +81,7 @@ pub(crate) fn settle<S: Source, K: Sink, D: Disk>(
     ensures halted { (at : Option Standing) (found : Option Told) (b : Beginning) →
         HasCommitted S.stands at found b store.old.offset work.old report.old src.old
         (S.told src.old) →
-        IfErr result (HasHalted S.stands at found b.config b.now b.held store.new.offset report.new
+        IfErr result (Halts S.stands at found b.config b.now b.held store.new.offset report.new
         src.new (S.told src.new)) }
 {
     let offset = work.next_offset()?;

@@ -1,21 +1,22 @@
 //! The turns of a session, each of which reads one message.
 
-ghost use Rattle.std.specs.Prelude.{◌≡◌, ◌≢◌, ◌+◌, ◌^◌, ◌≤◌, ◌<◌, true, Option, Some, Ok, Bool, IfErr, IfOk, IsTrue, MatchBool, OnErr, OnOk, is_ok};
+ghost use Rattle.std.specs.Prelude.{◌≡◌, ◌≢◌, ◌+◌, ◌^◌, ◌≤◌, ◌<◌, true, Option, Some, None, Ok, Bool, IfErr, IfOk, IsTrue, MatchBool, OnErr, OnOk, is_ok};
 ghost use Rattle.dbl_base.specs.Streams.{Rose};
 ghost use Rattle.dbl_history.specs.Ranges.{IsMomentInRange};
 ghost use Rattle.dbl_honest.specs.Standings.{Standing};
-ghost use Rattle.dbl_honest.specs.Told.{Told};
+ghost use Rattle.dbl_honest.specs.Told.{Read, Tells, Told};
 ghost use Rattle.dbl_offset.specs.declared.offset.Offset.{Offset as SpecOffset};
 ghost use Rattle.dbl_offset.specs.Stores.{ComesOf, IsLive, disk_of};
 ghost use Rattle.dbl_follow.specs.declared.window.Window.TheVariants as windows;
 ghost use Rattle.dbl_session.specs.Entries.{Entry as SpecEntry};
 ghost use Rattle.dbl_work.specs.declared.report.Report.{Report as SpecReport};
 ghost use Rattle.dbl_work.specs.Works.{IsReady, next_of};
-ghost use Rattle.dbl_exits.specs.Ends.{AreAllDone, HasOwnStored, IsArmedNext, IsAtPosition, IsReportAt, IsTableOf};
+ghost use Rattle.dbl_exits.specs.Ends.{AreAllDone, HasNoneNext, HasOwnStored, IsArmedNext, IsAtPosition, IsReportAt, IsTableOf};
 ghost use Rattle.dbl_exits.specs.Sessions.{InSession, LeavesBy};
 ghost use Rattle.dbl_exits.specs.Turns.{HasReadAllAt, IsSettledWhole};
 ghost use Rattle.dbl_causes.specs.Carried.{Beginning};
-ghost use Rattle.dbl_causes.specs.Sources.{HasHalted, HasSettledAll, IsUnderWay};
+ghost use Rattle.dbl_causes.specs.Sources.{HasSettledAll, IsUnderWay};
+ghost use Rattle.dbl_capture.specs.Caused.{Halts};
 
 use crate::messages::next;
 use crate::settle::settle;
@@ -77,7 +78,7 @@ fn arm_next<S: Source, K: Sink, D: Disk>(
     ensures halted { (at : Option Standing) (found : Option Told) (b : Beginning)
         (report : SpecReport) →
         IsUnderWay S.stands at found b store.now.offset work.old report src.old (S.told src.old) →
-        IfErr result (HasHalted S.stands at found b.config b.now b.held store.now.offset report
+        IfErr result (Halts S.stands at found b.config b.now b.held store.now.offset report
         src.new (S.told src.new)) }
 {
     match table_of(work) {
@@ -135,8 +136,8 @@ fn end<S: Source, K: Sink, D: Disk>(
         (S.told src.new)) }
     ensures halted { (at : Option Standing) (found : Option Told) (b : Beginning) →
         IsUnderWay S.stands at found b store.old.offset work.old report.old src.old
-        (S.told src.old) →
-        IfErr result (HasHalted S.stands at found b.config b.now b.held store.new.offset report.new
+        (S.told src.old) → Tells (S.told src.old) (Read None) →
+        IfErr result (Halts S.stands at found b.config b.now b.held store.new.offset report.new
         src.new (S.told src.new)) }
 {
     match work.follower.waits_for() {
@@ -189,6 +190,8 @@ fn turn<S: Source, K: Sink, D: Disk>(
 
     // What it has in hand.
     ensures done { result ≡ Ok true → AreAllDone work.new.follower.cursors }
+    ensures none { result ≡ Ok true → HasNoneNext work.new
+        × (work.new.follower.window ≡ windows.Absent) }
     ensures ended { result ≡ Ok true → IsTrue (S.has_ended src.new) }
     ensures missed { (value at : _) → result ≡ Err (Halt.WatermarkMissing value at) →
         IsTrue (S.has_ended src.new) }
@@ -239,7 +242,7 @@ fn turn<S: Source, K: Sink, D: Disk>(
     ensures halted { (at : Option Standing) (found : Option Told) (b : Beginning) →
         IsUnderWay S.stands at found b store.old.offset work.old report.old src.old
         (S.told src.old) →
-        IfErr result (HasHalted S.stands at found b.config b.now b.held store.new.offset report.new
+        IfErr result (Halts S.stands at found b.config b.now b.held store.new.offset report.new
         src.new (S.told src.new)) }
 {
     arm_next(work, src, sink, store)?;
@@ -302,6 +305,8 @@ pub(crate) fn run<S: Source, K: Sink, D: Disk>(
     ensures ended { result ≡ Ok Ending.Complete → IsTrue (S.has_ended src.new) }
     ensures missed { (value at : _) → result ≡ Err (Halt.WatermarkMissing value at) →
         IsTrue (S.has_ended src.new) }
+    ensures none { OnOk result (HasNoneNext work.new) }
+    ensures waited { result ≡ Ok Ending.Complete → work.new.follower.window ≡ windows.Absent }
     ensures spent { result ≡ Ok Ending.Budget → report.new.messages ≡ budget }
     ensures stored { HasOwnStored work.old.offset store.old.offset →
         HasOwnStored work.old.offset store.new.offset }
@@ -333,7 +338,7 @@ pub(crate) fn run<S: Source, K: Sink, D: Disk>(
     ensures halted { (at : Option Standing) (found : Option Told) (b : Beginning) →
         IsUnderWay S.stands at found b store.old.offset work.old report.old src.old
         (S.told src.old) →
-        IfErr result (HasHalted S.stands at found b.config b.now b.held store.new.offset report.new
+        IfErr result (Halts S.stands at found b.config b.now b.held store.new.offset report.new
         src.new (S.told src.new)) }
 {
     'turns: for _count in 0..budget {

@@ -10,7 +10,8 @@ ghost use Rattle.dbl_work.specs.declared.report.Report.{Report as SpecReport};
 ghost use Rattle.dbl_work.specs.Works.{IsArmedWork, IsOpenTable, IsReady};
 ghost use Rattle.dbl_exits.specs.Sessions.{InSession, LeavesBy};
 ghost use Rattle.dbl_causes.specs.Carried.{Beginning};
-ghost use Rattle.dbl_causes.specs.Sources.{HasHalted, IsUnderWay};
+ghost use Rattle.dbl_causes.specs.Sources.{IsUnderWay};
+ghost use Rattle.dbl_capture.specs.Caused.{Halts};
 
 use dbl_disk::Disk;
 use dbl_offset::OffsetStore;
@@ -60,7 +61,7 @@ pub(crate) fn arm<S: Source, K: Sink, D: Disk>(
     ensures halted { (at : Option Standing) (found : Option Told) (b : Beginning)
         (report : SpecReport) →
         IsUnderWay S.stands at found b store.now.offset work.old report src.old (S.told src.old) →
-        IfErr result (HasHalted S.stands at found b.config b.now b.held store.now.offset report
+        IfErr result (Halts S.stands at found b.config b.now b.held store.now.offset report
         src.new (S.told src.new)) }
 {
     read_window(work, table, src)

@@ -11,6 +11,7 @@ use Rattle.dbl_offset.specs.Offsets.{IsOffset}
 use Rattle.dbl_work.specs.Begins.{IsOffsetFor}
 use Rattle.dbl_causes.specs.Underway.{IsBeginHalt}
 use Rattle.dbl_capture.proofs.Telling.{store_begins}
+use Rattle.dbl_capture.proofs.Telling.{not_both, residual_on}
 use Rattle.dbl_capture.proofs.capture.begun.Goals as goal
 
 -- before the store
@@ -111,3 +112,15 @@ returns-in_err-put_offset-clause-halt g c =
 
 pub returns-clause-stood : goal.returns-clause-stood
 returns-clause-stood g c s is = c.in_ok-offset.ensures.stood s is
+
+pub returns-in_err-offset-clause-exhausted : goal.returns-in_err-offset-clause-exhausted
+returns-in_err-offset-clause-exhausted g c h is = residual_on c.offset_of.result c.from_residual.result _ h (c.offset_of.ensures.exhausted h is) c.in_err-offset.was c.from_residual.ensures.1
+
+pub returns-in_err-stored-clause-exhausted : goal.returns-in_err-stored-clause-exhausted
+returns-in_err-stored-clause-exhausted g c h is = absurd (not_both c.offset_of.result _ h (c.offset_of.ensures.exhausted h is) c.in_ok-offset.was)
+
+pub returns-in_err-put_offset-clause-exhausted : goal.returns-in_err-put_offset-clause-exhausted
+returns-in_err-put_offset-clause-exhausted g c h is = absurd (not_both c.offset_of.result _ h (c.offset_of.ensures.exhausted h is) c.in_ok-offset.was)
+
+pub returns-clause-exhausted : goal.returns-clause-exhausted
+returns-clause-exhausted g c h is = absurd (not_both c.offset_of.result _ h (c.offset_of.ensures.exhausted h is) c.in_ok-offset.was)

@@ -10,6 +10,7 @@ use Rattle.dbl_exits.proofs.Keeping.{answer_then}
 use Rattle.dbl_work.proofs.Exits.{none_taken}
 use Rattle.dbl_causes.specs.Underway.{IsBeginHalt}
 use Rattle.dbl_capture.proofs.Telling.{again_begins, first_begins}
+use Rattle.dbl_capture.proofs.Telling.{again_exhausted, not_exhausted}
 use Rattle.dbl_capture.proofs.capture.offset_of.Goals as goal
 
 -- nothing was asked of the source yet
@@ -116,3 +117,12 @@ returns-in-Some-clause-still g c s t was now = ap (λ (x : Standing). x.reading)
 
 pub returns-in-Some-clause-taken : goal.returns-in-Some-clause-taken
 returns-in-Some-clause-taken g c = none_taken (g.S.Source.told c.args.src.now)
+
+pub returns-in_err-offset-clause-exhausted : goal.returns-in_err-offset-clause-exhausted
+returns-in_err-offset-clause-exhausted g c h is = again_exhausted c.again.result c.from_residual.result c.args.store.now.offset _ h c.again.ensures.exhausted c.in_err-offset.was c.from_residual.ensures.1 is
+
+pub returns-in-Some-clause-exhausted : goal.returns-in-Some-clause-exhausted
+returns-in-Some-clause-exhausted g c h is = absurd (not_exhausted c.again.result _ c.args.store.now.offset h c.again.ensures.exhausted c.in_ok-offset.was is)
+
+pub returns-in-None-clause-exhausted : goal.returns-in-None-clause-exhausted
+returns-in-None-clause-exhausted g c h is = absurd (not_exhausted c.again.result _ c.args.store.now.offset h c.again.ensures.exhausted c.in_ok-offset.was is)

@@ -14,10 +14,13 @@ use Rattle.dbl_exits.proofs.Endings.{has_stored, own_first, position_is, positio
 use Rattle.dbl_exits.proofs.Keeping.{answer_then, on_err, on_ok}
 use Rattle.dbl_exits.proofs.Openings.{start_left}
 use Rattle.dbl_work.specs.declared.halt.Halt.{Halt}
-use Rattle.dbl_causes.specs.Sources.{HasHalted, IsUnderWay}
+use Rattle.dbl_causes.specs.Sources.{IsUnderWay}
+use Rattle.dbl_capture.specs.Caused.{Halts}
 use Rattle.dbl_causes.proofs.Sources.{begins, halts_unread}
 use Rattle.dbl_capture.specs.Begun.{beginning_at}
 use Rattle.dbl_capture.proofs.Telling.{anew_on, fell_on, read_none, start_opens}
+use Rattle.dbl_capture.proofs.Halting.{open_caused}
+use Rattle.dbl_capture.proofs.Telling.{not_both, residual_on}
 use Rattle.dbl_capture.proofs.capture.opened.Goals as goal
 
 pub returns-in_err-offset-clause-left : goal.returns-in_err-offset-clause-left
@@ -160,21 +163,24 @@ returns-clause-report g c = (refl, refl)
 
 pub returns-in_err-offset-clause-halted : goal.returns-in_err-offset-clause-halted
 returns-in_err-offset-clause-halted g c at stood none =
-    residual_of c.from_residual.result _ (HasHalted g.S.Source.stands at (g.S.Source.told c.args.src.now) c.args.config.now c.args.now_ms c.args.store.now.offset c.begun.new.store.offset c.args.report.now c.begun.new.src (g.S.Source.told c.begun.new.src)) c.from_residual.ensures.1
-    (halts_unread g.S.Source.stands at (g.S.Source.told c.args.src.now) c.args.config.now c.args.now_ms c.args.store.now.offset c.begun.new.store.offset c.args.report.now c.args.src.now c.begun.new.src (g.S.Source.told c.begun.new.src) _ stood (inl (c.in_err-offset.ensures.halt, c.in_err-offset.ensures.keeps)) none.0 none.1 (inl c.begun.ensures.taken) (λ s t was now. inl (c.begun.ensures.still s t was now)))
+    residual_of c.from_residual.result _ (Halts g.S.Source.stands at (g.S.Source.told c.args.src.now) c.args.config.now c.args.now_ms c.args.store.now.offset c.begun.new.store.offset c.args.report.now c.begun.new.src (g.S.Source.told c.begun.new.src)) c.from_residual.ensures.1
+    (record { halted = halts_unread g.S.Source.stands at (g.S.Source.told c.args.src.now) c.args.config.now c.args.now_ms c.args.store.now.offset c.begun.new.store.offset c.args.report.now c.args.src.now c.begun.new.src (g.S.Source.told c.begun.new.src) _ stood (inl (c.in_err-offset.ensures.halt, c.in_err-offset.ensures.keeps)) none.0 none.1 (inl c.begun.ensures.taken) (λ s t was now. inl (c.begun.ensures.still s t was now)); cause = open_caused c.args.config.now c.args.now_ms c.args.store.now.offset c.begun.new.store.offset c.args.report.now (g.S.Source.told c.begun.new.src) _ (inl (c.in_err-offset.ensures.halt, c.in_err-offset.ensures.keeps)) })
 
 pub returns-in_err-start-clause-halted : goal.returns-in_err-start-clause-halted
 returns-in_err-start-clause-halted g c at stood none =
     let stored = has_stored c.args.config.now c.args.store.now.offset c.begun.new.store.offset c.in_ok-offset.offset c.in_ok-offset.ensures.of (own_first c.in_ok-offset.offset c.begun.new.store.offset c.in_ok-offset.ensures.loads) in
-    residual_of c.from_residual-in_err-start.result _ (HasHalted g.S.Source.stands at (g.S.Source.told c.args.src.now) c.args.config.now c.args.now_ms c.args.store.now.offset c.begun.new.store.offset (record c.args.report.now { position = c.in_ok-offset.offset.lsn.0 }) c.start.new.src (g.S.Source.told c.start.new.src)) c.from_residual-in_err-start.ensures.1
-    (halts_unread g.S.Source.stands at (g.S.Source.told c.args.src.now) c.args.config.now c.args.now_ms c.args.store.now.offset c.begun.new.store.offset (record c.args.report.now { position = c.in_ok-offset.offset.lsn.0 }) c.args.src.now c.start.new.src (g.S.Source.told c.start.new.src) _ stood
-    (start_opens c.args.config.now c.args.store.now.offset c.begun.new.store.offset (g.S.Source.told c.start.new.src) c.in_ok-offset.offset.lsn _ stored (ap (λ (o : Offset). o.lsn) (first_some c.in_ok-offset.offset stored.offset (sym c.in_ok-offset.ensures.loads ∙ stored.is))) (λ asked first is. c.in_err-start.ensures.gone asked first (ap (λ (h : Halt). Err h) is)) c.in_err-start.ensures.halt)
-    none.0 none.1 (fell_on (g.S.Source.told c.args.src.now) (g.S.Source.told c.begun.new.src) (g.S.Source.told c.start.new.src) c.begun.ensures.taken c.in_err-start.ensures.fell) (λ s t was now. let mid = c.in_ok-offset.ensures.stood s was in inr (read_none c.in_ok-offset.offset.lsn t.reading (c.start.ensures.unread mid.standing t mid.is now))))
+    residual_of c.from_residual-in_err-start.result _ (Halts g.S.Source.stands at (g.S.Source.told c.args.src.now) c.args.config.now c.args.now_ms c.args.store.now.offset c.begun.new.store.offset (record c.args.report.now { position = c.in_ok-offset.offset.lsn.0 }) c.start.new.src (g.S.Source.told c.start.new.src)) c.from_residual-in_err-start.ensures.1
+    (record {
+      halted = halts_unread g.S.Source.stands at (g.S.Source.told c.args.src.now) c.args.config.now c.args.now_ms c.args.store.now.offset c.begun.new.store.offset (record c.args.report.now { position = c.in_ok-offset.offset.lsn.0 }) c.args.src.now c.start.new.src (g.S.Source.told c.start.new.src) _ stood
+          (start_opens c.args.config.now c.args.store.now.offset c.begun.new.store.offset (g.S.Source.told c.start.new.src) c.in_ok-offset.offset.lsn _ stored (ap (λ (o : Offset). o.lsn) (first_some c.in_ok-offset.offset stored.offset (sym c.in_ok-offset.ensures.loads ∙ stored.is))) (λ asked first is. c.in_err-start.ensures.gone asked first (ap (λ (h : Halt). Err h) is)) c.in_err-start.ensures.halt)
+          none.0 none.1 (fell_on (g.S.Source.told c.args.src.now) (g.S.Source.told c.begun.new.src) (g.S.Source.told c.start.new.src) c.begun.ensures.taken c.in_err-start.ensures.fell) (λ s t was now. let mid = c.in_ok-offset.ensures.stood s was in inr (read_none c.in_ok-offset.offset.lsn t.reading (c.start.ensures.unread mid.standing t mid.is now)));
+      cause = open_caused c.args.config.now c.args.now_ms c.args.store.now.offset c.begun.new.store.offset (record c.args.report.now { position = c.in_ok-offset.offset.lsn.0 }) (g.S.Source.told c.start.new.src) _ (start_opens c.args.config.now c.args.store.now.offset c.begun.new.store.offset (g.S.Source.told c.start.new.src) c.in_ok-offset.offset.lsn _ stored (ap (λ (o : Offset). o.lsn) (first_some c.in_ok-offset.offset stored.offset (sym c.in_ok-offset.ensures.loads ∙ stored.is))) (λ asked first is. c.in_err-start.ensures.gone asked first (ap (λ (h : Halt). Err h) is)) c.in_err-start.ensures.halt);
+    })
 
 pub returns-clause-halted : goal.returns-clause-halted
 returns-clause-halted g c at stood none =
-    err_then c.make.result _ (HasHalted g.S.Source.stands at (g.S.Source.told c.args.src.now) c.args.config.now c.args.now_ms c.args.store.now.offset c.begun.new.store.offset (record c.args.report.now { position = c.in_ok-offset.offset.lsn.0 }) c.start.new.src (g.S.Source.told c.start.new.src)) c.make.ensures.memory
-    (λ h is. halts_unread g.S.Source.stands at (g.S.Source.told c.args.src.now) c.args.config.now c.args.now_ms c.args.store.now.offset c.begun.new.store.offset (record c.args.report.now { position = c.in_ok-offset.offset.lsn.0 }) c.args.src.now c.start.new.src (g.S.Source.told c.start.new.src) h stood (inr (inr (inl is))) none.0 none.1 (inr (anew_on (g.S.Source.told c.args.src.now) (g.S.Source.told c.begun.new.src) (g.S.Source.told c.start.new.src) c.begun.ensures.taken c.in_ok-start.ensures.taken)) (λ s t was now. let mid = c.in_ok-offset.ensures.stood s was in inr (read_none c.in_ok-offset.offset.lsn t.reading (c.start.ensures.unread mid.standing t mid.is now))))
+    err_then c.make.result _ (Halts g.S.Source.stands at (g.S.Source.told c.args.src.now) c.args.config.now c.args.now_ms c.args.store.now.offset c.begun.new.store.offset (record c.args.report.now { position = c.in_ok-offset.offset.lsn.0 }) c.start.new.src (g.S.Source.told c.start.new.src)) c.make.ensures.memory
+    (λ h is. record { halted = halts_unread g.S.Source.stands at (g.S.Source.told c.args.src.now) c.args.config.now c.args.now_ms c.args.store.now.offset c.begun.new.store.offset (record c.args.report.now { position = c.in_ok-offset.offset.lsn.0 }) c.args.src.now c.start.new.src (g.S.Source.told c.start.new.src) h stood (inr (inr (inl is))) none.0 none.1 (inr (anew_on (g.S.Source.told c.args.src.now) (g.S.Source.told c.begun.new.src) (g.S.Source.told c.start.new.src) c.begun.ensures.taken c.in_ok-start.ensures.taken)) (λ s t was now. let mid = c.in_ok-offset.ensures.stood s was in inr (read_none c.in_ok-offset.offset.lsn t.reading (c.start.ensures.unread mid.standing t mid.is now))); cause = open_caused c.args.config.now c.args.now_ms c.args.store.now.offset c.begun.new.store.offset (record c.args.report.now { position = c.in_ok-offset.offset.lsn.0 }) (g.S.Source.told c.start.new.src) h (inr (inr (inl is))) })
 
 pub returns-clause-under_way : goal.returns-clause-under_way
 returns-clause-under_way g c at stood none =
@@ -190,3 +196,12 @@ returns-clause-under_way g c at stood none =
           let began = c.in_ok-start.ensures.started mid.standing mid.is in
           record { standing = began.standing; is = began.is; holds = began.holds.reading })),
     ))
+
+pub returns-in_err-offset-clause-exhausted : goal.returns-in_err-offset-clause-exhausted
+returns-in_err-offset-clause-exhausted g c h is = residual_on c.begun.result c.from_residual.result _ h (c.begun.ensures.exhausted h is) c.in_err-offset.was c.from_residual.ensures.1
+
+pub returns-in_err-start-clause-exhausted : goal.returns-in_err-start-clause-exhausted
+returns-in_err-start-clause-exhausted g c h is = absurd (not_both c.begun.result _ h (c.begun.ensures.exhausted h is) c.in_ok-offset.was)
+
+pub returns-clause-exhausted : goal.returns-clause-exhausted
+returns-clause-exhausted g c h is = absurd (not_both c.begun.result _ h (c.begun.ensures.exhausted h is) c.in_ok-offset.was)

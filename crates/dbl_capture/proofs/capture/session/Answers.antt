@@ -16,10 +16,14 @@ use Rattle.dbl_exits.proofs.Openings.{going_left, source_found, told_found}
 use Rattle.dbl_honest.specs.Standings.{Standing, Stood}
 use Rattle.dbl_causes.specs.Musts.{MustHaltStood, MustHaltTold}
 use Rattle.dbl_causes.specs.Reported.{HasReadMessages, HasSettled, HasStoodBehind, IsFollowed, StoodAtLast}
-use Rattle.dbl_causes.specs.Sources.{HasHalted, IsUnderWay}
+use Rattle.dbl_causes.specs.Sources.{IsUnderWay}
+use Rattle.dbl_capture.specs.Caused.{Halts, IsCaused}
 use Rattle.dbl_causes.proofs.Sources.{ended_stood, ended_told}
 use Rattle.dbl_capture.specs.Begun.{beginning_at}
 use Rattle.dbl_capture.proofs.Telling.{answer_as, at_none, at_some, residual_as}
+use Rattle.dbl_exits.specs.Sessions.{standing_at}
+use Rattle.dbl_capture.proofs.Marking.{exact_budget, exact_complete, exact_left, exactly_by}
+use Rattle.dbl_capture.proofs.Telling.{not_both, residual_on}
 use Rattle.dbl_capture.proofs.capture.session.Goals as goal
 
 -- it didn't begin
@@ -144,7 +148,7 @@ returns-in_err-work-clause-bounded g c =
     omega (arith, messages)
 
 pub returns-in_err-work-clause-read : goal.returns-in_err-work-clause-read
-returns-in_err-work-clause-read g c = residual_as c.from_residual.result _ (λ x. HasReadMessages x c.opened.new.report.messages (g.S.Source.told c.args.src.now) (g.S.Source.told c.opened.new.src)) c.from_residual.ensures.1 (subst (λ (n : ℤ). HasHalted g.S.Source.stands None (g.S.Source.told c.args.src.now) c.args.config.now n c.args.offsets.now.offset c.opened.new.store.offset c.opened.new.report c.opened.new.src (g.S.Source.told c.opened.new.src) c.in_err-work.field-0.0) (to_z-of_z c.ranges.now_ms) (c.in_err-work.ensures.halted None (at_none g.S.Source.stands c.args.src.now) (refl, refl, refl))).tells.read
+returns-in_err-work-clause-read g c = residual_as c.from_residual.result _ (λ x. HasReadMessages x c.opened.new.report.messages (g.S.Source.told c.args.src.now) (g.S.Source.told c.opened.new.src)) c.from_residual.ensures.1 (subst (λ (n : ℤ). Halts g.S.Source.stands None (g.S.Source.told c.args.src.now) c.args.config.now n c.args.offsets.now.offset c.opened.new.store.offset c.opened.new.report c.opened.new.src (g.S.Source.told c.opened.new.src) c.in_err-work.field-0.0) (to_z-of_z c.ranges.now_ms) (c.in_err-work.ensures.halted None (at_none g.S.Source.stands c.args.src.now) (refl, refl, refl))).halted.tells.read
 
 pub returns-in_err-work-clause-last : goal.returns-in_err-work-clause-last
 returns-in_err-work-clause-last g c = residual_as c.from_residual.result _ (λ x. OnOk x (StoodAtLast c.args.config.now c.args.now_ms c.args.offsets.now.offset c.opened.new.store.offset c.opened.new.report (g.S.Source.told c.opened.new.src))) c.from_residual.ensures.1 tt
@@ -153,16 +157,16 @@ pub returns-in_err-work-clause-settled : goal.returns-in_err-work-clause-settled
 returns-in_err-work-clause-settled g c s was = residual_as c.from_residual.result _ (λ x. OnOk x (Stood g.S.Source.stands c.opened.new.src (HasSettled c.args.config.now c.args.now_ms c.args.offsets.now.offset c.opened.new.store.offset c.opened.new.report))) c.from_residual.ensures.1 tt
 
 pub returns-in_err-work-clause-followed : goal.returns-in_err-work-clause-followed
-returns-in_err-work-clause-followed g c = residual_of c.from_residual.result _ (IsFollowed c.args.config.now c.args.now_ms c.args.offsets.now.offset c.opened.new.store.offset c.opened.new.report (g.S.Source.told c.opened.new.src)) c.from_residual.ensures.1 (subst (λ (n : ℤ). HasHalted g.S.Source.stands None (g.S.Source.told c.args.src.now) c.args.config.now n c.args.offsets.now.offset c.opened.new.store.offset c.opened.new.report c.opened.new.src (g.S.Source.told c.opened.new.src) c.in_err-work.field-0.0) (to_z-of_z c.ranges.now_ms) (c.in_err-work.ensures.halted None (at_none g.S.Source.stands c.args.src.now) (refl, refl, refl))).tells.followed
+returns-in_err-work-clause-followed g c = residual_of c.from_residual.result _ (IsFollowed c.args.config.now c.args.now_ms c.args.offsets.now.offset c.opened.new.store.offset c.opened.new.report (g.S.Source.told c.opened.new.src)) c.from_residual.ensures.1 (subst (λ (n : ℤ). Halts g.S.Source.stands None (g.S.Source.told c.args.src.now) c.args.config.now n c.args.offsets.now.offset c.opened.new.store.offset c.opened.new.report c.opened.new.src (g.S.Source.told c.opened.new.src) c.in_err-work.field-0.0) (to_z-of_z c.ranges.now_ms) (c.in_err-work.ensures.halted None (at_none g.S.Source.stands c.args.src.now) (refl, refl, refl))).halted.tells.followed
 
 pub returns-in_err-work-clause-stood : goal.returns-in_err-work-clause-stood
-returns-in_err-work-clause-stood g c s t was now = residual_of c.from_residual.result _ (HasStoodBehind c.args.config.now c.args.now_ms c.args.offsets.now.offset c.opened.new.store.offset c.opened.new.report s t) c.from_residual.ensures.1 ((subst (λ (n : ℤ). HasHalted g.S.Source.stands (Some s) (g.S.Source.told c.args.src.now) c.args.config.now n c.args.offsets.now.offset c.opened.new.store.offset c.opened.new.report c.opened.new.src (g.S.Source.told c.opened.new.src) c.in_err-work.field-0.0) (to_z-of_z c.ranges.now_ms) (c.in_err-work.ensures.halted (Some s) (at_some g.S.Source.stands c.args.src.now s was) (refl, refl, refl))).stood s t refl now).stood
+returns-in_err-work-clause-stood g c s t was now = residual_of c.from_residual.result _ (HasStoodBehind c.args.config.now c.args.now_ms c.args.offsets.now.offset c.opened.new.store.offset c.opened.new.report s t) c.from_residual.ensures.1 ((subst (λ (n : ℤ). Halts g.S.Source.stands (Some s) (g.S.Source.told c.args.src.now) c.args.config.now n c.args.offsets.now.offset c.opened.new.store.offset c.opened.new.report c.opened.new.src (g.S.Source.told c.opened.new.src) c.in_err-work.field-0.0) (to_z-of_z c.ranges.now_ms) (c.in_err-work.ensures.halted (Some s) (at_some g.S.Source.stands c.args.src.now s was) (refl, refl, refl))).halted.stood s t refl now).stood
 
 pub returns-in_err-work-clause-must : goal.returns-in_err-work-clause-must
-returns-in_err-work-clause-must g c t is = residual_as c.from_residual.result _ (λ x. MustHaltTold c.args.config.now c.args.now_ms c.args.offsets.now.offset c.opened.new.store.offset c.opened.new.report t x) c.from_residual.ensures.1 ((subst (λ (n : ℤ). HasHalted g.S.Source.stands None (g.S.Source.told c.args.src.now) c.args.config.now n c.args.offsets.now.offset c.opened.new.store.offset c.opened.new.report c.opened.new.src (g.S.Source.told c.opened.new.src) c.in_err-work.field-0.0) (to_z-of_z c.ranges.now_ms) (c.in_err-work.ensures.halted None (at_none g.S.Source.stands c.args.src.now) (refl, refl, refl))).tells.must t is)
+returns-in_err-work-clause-must g c t is = residual_as c.from_residual.result _ (λ x. MustHaltTold c.args.config.now c.args.now_ms c.args.offsets.now.offset c.opened.new.store.offset c.opened.new.report t x) c.from_residual.ensures.1 ((subst (λ (n : ℤ). Halts g.S.Source.stands None (g.S.Source.told c.args.src.now) c.args.config.now n c.args.offsets.now.offset c.opened.new.store.offset c.opened.new.report c.opened.new.src (g.S.Source.told c.opened.new.src) c.in_err-work.field-0.0) (to_z-of_z c.ranges.now_ms) (c.in_err-work.ensures.halted None (at_none g.S.Source.stands c.args.src.now) (refl, refl, refl))).halted.tells.must t is)
 
 pub returns-in_err-work-clause-must_stood : goal.returns-in_err-work-clause-must_stood
-returns-in_err-work-clause-must_stood g c s t was now = residual_as c.from_residual.result _ (λ x. MustHaltStood c.args.config.now c.args.now_ms c.args.offsets.now.offset c.opened.new.store.offset c.opened.new.report t x) c.from_residual.ensures.1 ((subst (λ (n : ℤ). HasHalted g.S.Source.stands (Some s) (g.S.Source.told c.args.src.now) c.args.config.now n c.args.offsets.now.offset c.opened.new.store.offset c.opened.new.report c.opened.new.src (g.S.Source.told c.opened.new.src) c.in_err-work.field-0.0) (to_z-of_z c.ranges.now_ms) (c.in_err-work.ensures.halted (Some s) (at_some g.S.Source.stands c.args.src.now s was) (refl, refl, refl))).stood s t refl now).must
+returns-in_err-work-clause-must_stood g c s t was now = residual_as c.from_residual.result _ (λ x. MustHaltStood c.args.config.now c.args.now_ms c.args.offsets.now.offset c.opened.new.store.offset c.opened.new.report t x) c.from_residual.ensures.1 ((subst (λ (n : ℤ). Halts g.S.Source.stands (Some s) (g.S.Source.told c.args.src.now) c.args.config.now n c.args.offsets.now.offset c.opened.new.store.offset c.opened.new.report c.opened.new.src (g.S.Source.told c.opened.new.src) c.in_err-work.field-0.0) (to_z-of_z c.ranges.now_ms) (c.in_err-work.ensures.halted (Some s) (at_some g.S.Source.stands c.args.src.now s was) (refl, refl, refl))).halted.stood s t refl now).must
 
 pub returns-clause-read : goal.returns-clause-read
 returns-clause-read g c =
@@ -171,7 +175,7 @@ returns-clause-read g c =
     let u = subst (λ (n : ℤ). IsUnderWay g.S.Source.stands None (g.S.Source.told c.args.src.now) (beginning_at c.args.config.now n c.args.offsets.now.offset way.0) c.opened.new.store.offset c.in_ok-work.work c.opened.new.report c.opened.new.src (g.S.Source.told c.opened.new.src)) (to_z-of_z c.ranges.now_ms) way.1 in
     let all = c.run.ensures.all None (g.S.Source.told c.args.src.now) b u in
     let halted = c.run.ensures.halted None (g.S.Source.told c.args.src.now) b u in
-    answer_as c.run.result _ _ (λ r. HasReadMessages r c.run.new.report.messages (g.S.Source.told c.args.src.now) (g.S.Source.told c.run.new.src)) all halted (λ a e. inl (ended_told g.S.Source.stands None (g.S.Source.told c.args.src.now) b c.run.new.store.offset c.run.new.work c.run.new.report c.run.new.src (g.S.Source.told c.run.new.src) e a).1) (λ h x. x.tells.read)
+    answer_as c.run.result _ _ (λ r. HasReadMessages r c.run.new.report.messages (g.S.Source.told c.args.src.now) (g.S.Source.told c.run.new.src)) all halted (λ a e. inl (ended_told g.S.Source.stands None (g.S.Source.told c.args.src.now) b c.run.new.store.offset c.run.new.work c.run.new.report c.run.new.src (g.S.Source.told c.run.new.src) e a).1) (λ h x. x.halted.tells.read)
 
 pub returns-clause-last : goal.returns-clause-last
 returns-clause-last g c =
@@ -198,7 +202,7 @@ returns-clause-followed g c =
     let u = subst (λ (n : ℤ). IsUnderWay g.S.Source.stands None (g.S.Source.told c.args.src.now) (beginning_at c.args.config.now n c.args.offsets.now.offset way.0) c.opened.new.store.offset c.in_ok-work.work c.opened.new.report c.opened.new.src (g.S.Source.told c.opened.new.src)) (to_z-of_z c.ranges.now_ms) way.1 in
     let all = c.run.ensures.all None (g.S.Source.told c.args.src.now) b u in
     let halted = c.run.ensures.halted None (g.S.Source.told c.args.src.now) b u in
-    err_then c.run.result _ _ halted (λ h x. x.tells.followed)
+    err_then c.run.result _ _ halted (λ h x. x.halted.tells.followed)
 
 pub returns-clause-stood : goal.returns-clause-stood
 returns-clause-stood g c s t was now =
@@ -207,7 +211,7 @@ returns-clause-stood g c s t was now =
     let u = subst (λ (n : ℤ). IsUnderWay g.S.Source.stands (Some s) (g.S.Source.told c.args.src.now) (beginning_at c.args.config.now n c.args.offsets.now.offset way.0) c.opened.new.store.offset c.in_ok-work.work c.opened.new.report c.opened.new.src (g.S.Source.told c.opened.new.src)) (to_z-of_z c.ranges.now_ms) way.1 in
     let all = c.run.ensures.all (Some s) (g.S.Source.told c.args.src.now) b u in
     let halted = c.run.ensures.halted (Some s) (g.S.Source.told c.args.src.now) b u in
-    err_then c.run.result _ _ halted (λ h x. (x.stood s t refl now).stood)
+    err_then c.run.result _ _ halted (λ h x. (x.halted.stood s t refl now).stood)
 
 pub returns-clause-must : goal.returns-clause-must
 returns-clause-must g c t is =
@@ -216,7 +220,7 @@ returns-clause-must g c t is =
     let u = subst (λ (n : ℤ). IsUnderWay g.S.Source.stands None (g.S.Source.told c.args.src.now) (beginning_at c.args.config.now n c.args.offsets.now.offset way.0) c.opened.new.store.offset c.in_ok-work.work c.opened.new.report c.opened.new.src (g.S.Source.told c.opened.new.src)) (to_z-of_z c.ranges.now_ms) way.1 in
     let all = c.run.ensures.all None (g.S.Source.told c.args.src.now) b u in
     let halted = c.run.ensures.halted None (g.S.Source.told c.args.src.now) b u in
-    answer_as c.run.result _ _ (λ r. MustHaltTold c.args.config.now c.args.now_ms c.args.offsets.now.offset c.run.new.store.offset c.run.new.report t r) all halted (λ a e. (ended_told g.S.Source.stands None (g.S.Source.told c.args.src.now) b c.run.new.store.offset c.run.new.work c.run.new.report c.run.new.src (g.S.Source.told c.run.new.src) e a).2 t is) (λ h x. x.tells.must t is)
+    answer_as c.run.result _ _ (λ r. MustHaltTold c.args.config.now c.args.now_ms c.args.offsets.now.offset c.run.new.store.offset c.run.new.report t r) all halted (λ a e. (ended_told g.S.Source.stands None (g.S.Source.told c.args.src.now) b c.run.new.store.offset c.run.new.work c.run.new.report c.run.new.src (g.S.Source.told c.run.new.src) e a).2 t is) (λ h x. x.halted.tells.must t is)
 
 pub returns-clause-must_stood : goal.returns-clause-must_stood
 returns-clause-must_stood g c s t was now =
@@ -225,4 +229,34 @@ returns-clause-must_stood g c s t was now =
     let u = subst (λ (n : ℤ). IsUnderWay g.S.Source.stands (Some s) (g.S.Source.told c.args.src.now) (beginning_at c.args.config.now n c.args.offsets.now.offset way.0) c.opened.new.store.offset c.in_ok-work.work c.opened.new.report c.opened.new.src (g.S.Source.told c.opened.new.src)) (to_z-of_z c.ranges.now_ms) way.1 in
     let all = c.run.ensures.all (Some s) (g.S.Source.told c.args.src.now) b u in
     let halted = c.run.ensures.halted (Some s) (g.S.Source.told c.args.src.now) b u in
-    answer_as c.run.result _ _ (λ r. MustHaltStood c.args.config.now c.args.now_ms c.args.offsets.now.offset c.run.new.store.offset c.run.new.report t r) all halted (λ a e. let end = ended_stood g.S.Source.stands (Some s) (g.S.Source.told c.args.src.now) b c.run.new.store.offset c.run.new.work c.run.new.report c.run.new.src (g.S.Source.told c.run.new.src) e a s refl in subst (λ (x : Standing). MustHaltStood c.args.config.now c.args.now_ms c.args.offsets.now.offset c.run.new.store.offset c.run.new.report x (Ok e)) (g.met.S.Source.one c.run.new.src end.standing t end.is now) end.holds.1) (λ h x. (x.stood s t refl now).must)
+    answer_as c.run.result _ _ (λ r. MustHaltStood c.args.config.now c.args.now_ms c.args.offsets.now.offset c.run.new.store.offset c.run.new.report t r) all halted (λ a e. let end = ended_stood g.S.Source.stands (Some s) (g.S.Source.told c.args.src.now) b c.run.new.store.offset c.run.new.work c.run.new.report c.run.new.src (g.S.Source.told c.run.new.src) e a s refl in subst (λ (x : Standing). MustHaltStood c.args.config.now c.args.now_ms c.args.offsets.now.offset c.run.new.store.offset c.run.new.report x (Ok e)) (g.met.S.Source.one c.run.new.src end.standing t end.is now) end.holds.1) (λ h x. (x.halted.stood s t refl now).must)
+
+pub returns-in_err-work-clause-halt : goal.returns-in_err-work-clause-halt
+returns-in_err-work-clause-halt g c = residual_of c.from_residual.result _ (IsCaused c.args.config.now c.args.now_ms c.args.offsets.now.offset c.opened.new.store.offset c.opened.new.report (g.S.Source.told c.opened.new.src)) c.from_residual.ensures.1 (subst (λ (n : ℤ). Halts g.S.Source.stands None (g.S.Source.told c.args.src.now) c.args.config.now n c.args.offsets.now.offset c.opened.new.store.offset c.opened.new.report c.opened.new.src (g.S.Source.told c.opened.new.src) c.in_err-work.field-0.0) (to_z-of_z c.ranges.now_ms) (c.in_err-work.ensures.halted None (at_none g.S.Source.stands c.args.src.now) (refl, refl, refl))).cause
+
+pub returns-clause-halt : goal.returns-clause-halt
+returns-clause-halt g c =
+    let way = c.in_ok-work.ensures.under_way None (at_none g.S.Source.stands c.args.src.now) (refl, refl, refl) in
+    let b = beginning_at c.args.config.now c.args.now_ms c.args.offsets.now.offset way.0 in
+    let u = subst (λ (n : ℤ). IsUnderWay g.S.Source.stands None (g.S.Source.told c.args.src.now) (beginning_at c.args.config.now n c.args.offsets.now.offset way.0) c.opened.new.store.offset c.in_ok-work.work c.opened.new.report c.opened.new.src (g.S.Source.told c.opened.new.src)) (to_z-of_z c.ranges.now_ms) way.1 in
+    let all = c.run.ensures.all None (g.S.Source.told c.args.src.now) b u in
+    let halted = c.run.ensures.halted None (g.S.Source.told c.args.src.now) b u in
+    err_then c.run.result _ _ halted (λ h x. x.cause)
+
+pub returns-clause-exactly : goal.returns-clause-exactly
+returns-clause-exactly g c s was honest had =
+    let entry = entry_at c.args.config.now c.args.now_ms s c.args.offsets.now.offset in
+    let in_session = c.in_ok-work.ensures.opened false entry refl (sym (to_z-of_z c.ranges.now_ms)) (source_found _ _ _ _ c.args.config.now c.args.now_ms s _ _ c.args.offsets.now was) (c.run.ensures.honest honest) had in
+    let way = c.in_ok-work.ensures.under_way None (at_none g.S.Source.stands c.args.src.now) (refl, refl, refl) in
+    let b = beginning_at c.args.config.now c.args.now_ms c.args.offsets.now.offset way.0 in
+    let u = subst (λ (n : ℤ). IsUnderWay g.S.Source.stands None (g.S.Source.told c.args.src.now) (beginning_at c.args.config.now n c.args.offsets.now.offset way.0) c.opened.new.store.offset c.in_ok-work.work c.opened.new.report c.opened.new.src (g.S.Source.told c.opened.new.src)) (to_z-of_z c.ranges.now_ms) way.1 in
+    let all = c.run.ensures.all None (g.S.Source.told c.args.src.now) b u in
+    exactly_by c.run.result _ _ _ _ _ (c.run.ensures.ran false entry in_session honest) all c.run.ensures.none c.run.ensures.waited
+    (λ t e none left may. exact_left t c.run.new.report.chunks _ left (g.met.S.Source.only _ (standing_at t.stage) left t.source_is may) (exact_budget t c.run.new.store.offset c.run.new.report.chunks e.stored_is e.is.is.windows none))
+    (λ t e none absent left may. exact_left t c.run.new.report.chunks _ left (g.met.S.Source.only _ (standing_at t.stage) left t.source_is may) (exact_complete t c.run.new.store.offset c.run.new.report.chunks e.stored_is e.is.is.windows none absent))
+
+pub returns-in_err-work-clause-exhausted : goal.returns-in_err-work-clause-exhausted
+returns-in_err-work-clause-exhausted g c h is = residual_on c.opened.result c.from_residual.result _ h (c.opened.ensures.exhausted h is) c.in_err-work.was c.from_residual.ensures.1
+
+pub returns-clause-exhausted : goal.returns-clause-exhausted
+returns-clause-exhausted g c h is = absurd (not_both c.opened.result _ h (c.opened.ensures.exhausted h is) c.in_ok-work.was)

@@ -1,4 +1,4 @@
-use Rattle.std.proofs.Common.{◌∙◌, ◌+◌, ◌<◌, inl, Some, None, Option, Err, refl, sym, ap, subst, arith}
+use Rattle.std.proofs.Common.{◌∙◌, ◌+◌, ◌<◌, inl, ℕ, List, Some, None, Option, Err, refl, sym, ap, subst, arith}
 use Rattle.std.specs.Prelude.{IfSome, All, is_none}
 use Rattle.std.proofs.lemmas.Result.{err_from_is_err_and}
 use Rattle.dbl_table.specs.declared.change.Commit.{Commit}
@@ -15,9 +15,11 @@ use Rattle.dbl_exits.proofs.Settles.{follow_fails}
 use Rattle.dbl_exits.proofs.Taken.{stepped_next, stepped_ready, stepped_since, taken_next, taken_ready}
 use Rattle.dbl_work.specs.declared.halt.Halt.{Halt}
 use Rattle.dbl_work.proofs.Exits.{dead_source}
-use Rattle.dbl_causes.specs.Sources.{HasHalted}
+use Rattle.dbl_capture.specs.Caused.{Halts}
 use Rattle.dbl_causes.proofs.Sources.{at_rest, follows_at_rest, follows_on, halts_at, halts_between, rests_on, takes_on}
 use Rattle.dbl_capture.proofs.Telling.{follow_cause, goes_due, source_left, taken_cause, torn_counts}
+use Rattle.dbl_capture.proofs.Halting.{follow_caused, source_caused, taken_caused}
+use Rattle.dbl_honest.specs.Told.{Read, Tells}
 use Rattle.dbl_capture.proofs.messages.next.Goals as goal
 
 pub returns-in_err-bytes-clause-left : goal.returns-in_err-bytes-clause-left
@@ -170,22 +172,31 @@ follow-requires-clause-commits g c = omega (arith, c.requires.commits, c.require
 
 pub returns-in_err-bytes-clause-halted : goal.returns-in_err-bytes-clause-halted
 returns-in_err-bytes-clause-halted g c at found b u =
-    residual_of c.from_residual.result _ (HasHalted g.S.Source.stands at found b.config b.now b.held c.args.store.now.offset c.args.report.now c.read.new.self (g.S.Source.told c.read.new.self)) c.from_residual.ensures.1
-    (halts_between g.S.Source.stands at found b c.args.store.now.offset c.args.store.now.offset c.args.work.now c.args.report.now c.args.report.now c.args.src.now c.read.new.self (g.S.Source.told c.args.src.now) (g.S.Source.told c.read.new.self) _ (at_rest g.S.Source.stands at found b c.args.store.now.offset c.args.work.now c.args.report.now c.args.src.now (g.S.Source.told c.args.src.now) u) c.in_err-bytes.ensures.untaken
-    (λ s t was now. absurd (dead_source (g.S.Source.is_live c.read.new.self) (g.met.S.Source.lives c.read.new.self t now) c.in_err-bytes.ensures.dead)) (source_left c.in_err-bytes.field-0.0) refl refl (inl refl))
+    residual_of c.from_residual.result _ (Halts g.S.Source.stands at found b.config b.now b.held c.args.store.now.offset c.args.report.now c.read.new.self (g.S.Source.told c.read.new.self)) c.from_residual.ensures.1
+    (record {
+      halted = halts_between g.S.Source.stands at found b c.args.store.now.offset c.args.store.now.offset c.args.work.now c.args.report.now c.args.report.now c.args.src.now c.read.new.self (g.S.Source.told c.args.src.now) (g.S.Source.told c.read.new.self) _ (at_rest g.S.Source.stands at found b c.args.store.now.offset c.args.work.now c.args.report.now c.args.src.now (g.S.Source.told c.args.src.now) u) c.in_err-bytes.ensures.untaken
+          (λ s t was now. absurd (dead_source (g.S.Source.is_live c.read.new.self) (g.met.S.Source.lives c.read.new.self t now) c.in_err-bytes.ensures.dead)) (source_left c.in_err-bytes.field-0.0) refl refl (inl refl);
+      cause = source_caused b.config b.now b.held c.args.store.now.offset c.args.report.now (g.S.Source.told c.read.new.self) c.in_err-bytes.field-0.0;
+    })
 
 pub returns-in_err-commit-in-Some-clause-halted : goal.returns-in_err-commit-in-Some-clause-halted
 returns-in_err-commit-in-Some-clause-halted g c at found b u =
-    residual_of c.from_residual-in_err-commit-in-Some.result _ (HasHalted g.S.Source.stands at found b.config b.now b.held c.args.store.now.offset (record c.args.report.now { messages = c.args.report.now.messages + 1 }) c.read.new.self (g.S.Source.told c.read.new.self)) c.from_residual-in_err-commit-in-Some.ensures.1
-    (halts_at g.S.Source.stands at found b c.args.store.now.offset c.args.work.now c.args.report.now (record c.args.report.now { messages = c.args.report.now.messages + 1 }) c.args.src.now c.read.new.self (g.S.Source.told c.args.src.now) (g.S.Source.told c.read.new.self) c.in-Some.bytes _ u (some_read _ _ _ _ c.in-Some.is c.in_ok-bytes.ensures.taken) (λ s is. some_read _ _ _ _ c.in-Some.is (c.in_ok-bytes.ensures.took s is)) (g.met.S.Source.one c.read.new.self)
-    (taken_cause (c.args.report.now.messages + 1) b.first.lsn u.messages c.in-Some.bytes c.args.work.now _ (c.in_err-commit-in-Some.ensures.halt b.first.lsn u.messages u.is.is.is)) refl refl)
+    residual_of c.from_residual-in_err-commit-in-Some.result _ (Halts g.S.Source.stands at found b.config b.now b.held c.args.store.now.offset (record c.args.report.now { messages = c.args.report.now.messages + 1 }) c.read.new.self (g.S.Source.told c.read.new.self)) c.from_residual-in_err-commit-in-Some.ensures.1
+    (record {
+      halted = halts_at g.S.Source.stands at found b c.args.store.now.offset c.args.work.now c.args.report.now (record c.args.report.now { messages = c.args.report.now.messages + 1 }) c.args.src.now c.read.new.self (g.S.Source.told c.args.src.now) (g.S.Source.told c.read.new.self) c.in-Some.bytes _ u (some_read _ _ _ _ c.in-Some.is c.in_ok-bytes.ensures.taken) (λ s is. some_read _ _ _ _ c.in-Some.is (c.in_ok-bytes.ensures.took s is)) (g.met.S.Source.one c.read.new.self)
+          (taken_cause (c.args.report.now.messages + 1) b.first.lsn u.messages c.in-Some.bytes c.args.work.now _ (c.in_err-commit-in-Some.ensures.halt b.first.lsn u.messages u.is.is.is)) refl refl;
+      cause = taken_caused b u.messages c.args.store.now.offset c.args.work.now c.args.report.now found (g.S.Source.told c.args.src.now) (g.S.Source.told c.read.new.self) c.in-Some.bytes _ u.is u.tells (some_read _ _ _ _ c.in-Some.is c.in_ok-bytes.ensures.taken) (c.in_err-commit-in-Some.ensures.halt b.first.lsn u.messages u.is.is.is);
+    })
 
 pub returns-in_err-closed-in-Some-2-clause-halted : goal.returns-in_err-closed-in-Some-2-clause-halted
 returns-in_err-closed-in-Some-2-clause-halted g c at found b u =
     let counts = torn_counts c.in-Some-2.commit c.taken.new.work c.args.report.now c.follow.new.report c.in_err-closed-in-Some-2.ensures.noted in
-    residual_of c.from_residual-in_err-closed-in-Some-2.result _ (HasHalted g.S.Source.stands at found b.config b.now b.held c.args.store.now.offset c.follow.new.report c.read.new.self (g.S.Source.told c.read.new.self)) c.from_residual-in_err-closed-in-Some-2.ensures.1
-    (halts_at g.S.Source.stands at found b c.args.store.now.offset c.args.work.now c.args.report.now c.follow.new.report c.args.src.now c.read.new.self (g.S.Source.told c.args.src.now) (g.S.Source.told c.read.new.self) c.in-Some.bytes _ u (some_read _ _ _ _ c.in-Some.is c.in_ok-bytes.ensures.taken) (λ s is. some_read _ _ _ _ c.in-Some.is (c.in_ok-bytes.ensures.took s is)) (g.met.S.Source.one c.read.new.self)
-    (follow_cause c.follow.new.report.messages b.first.lsn u.messages c.in-Some.bytes c.args.work.now c.taken.new.work c.in-Some-2.commit _ (subst (WasTaken b.first.lsn u.messages c.in-Some.bytes c.args.work.now c.taken.new.work) c.in-Some-2.is (c.in_ok-commit-in-Some.ensures.taken b.first.lsn u.messages u.is.is.is)) (λ is. c.in_err-closed-in-Some-2.ensures.sink (ap (λ (k : Halt). Err k) is)) c.in_err-closed-in-Some-2.ensures.halt) counts.messages counts.commits)
+    residual_of c.from_residual-in_err-closed-in-Some-2.result _ (Halts g.S.Source.stands at found b.config b.now b.held c.args.store.now.offset c.follow.new.report c.read.new.self (g.S.Source.told c.read.new.self)) c.from_residual-in_err-closed-in-Some-2.ensures.1
+    (record {
+      halted = halts_at g.S.Source.stands at found b c.args.store.now.offset c.args.work.now c.args.report.now c.follow.new.report c.args.src.now c.read.new.self (g.S.Source.told c.args.src.now) (g.S.Source.told c.read.new.self) c.in-Some.bytes _ u (some_read _ _ _ _ c.in-Some.is c.in_ok-bytes.ensures.taken) (λ s is. some_read _ _ _ _ c.in-Some.is (c.in_ok-bytes.ensures.took s is)) (g.met.S.Source.one c.read.new.self)
+          (follow_cause c.follow.new.report.messages b.first.lsn u.messages c.in-Some.bytes c.args.work.now c.taken.new.work c.in-Some-2.commit _ (subst (WasTaken b.first.lsn u.messages c.in-Some.bytes c.args.work.now c.taken.new.work) c.in-Some-2.is (c.in_ok-commit-in-Some.ensures.taken b.first.lsn u.messages u.is.is.is)) (λ is. c.in_err-closed-in-Some-2.ensures.sink (ap (λ (k : Halt). Err k) is)) c.in_err-closed-in-Some-2.ensures.halt) counts.messages counts.commits;
+      cause = follow_caused b.config b.now b.held c.args.store.now.offset c.follow.new.report (g.S.Source.told c.read.new.self) _ _ _ c.in_err-closed-in-Some-2.ensures.halt;
+    })
 
 pub returns-in-Some-2-clause-under_way : goal.returns-in-Some-2-clause-under_way
 returns-in-Some-2-clause-under_way g c at found b u =
@@ -201,3 +212,6 @@ pub returns-clause-under_way : goal.returns-clause-under_way
 returns-clause-under_way g c at found b u =
     rests_on g.S.Source.stands at found b c.args.store.now.offset c.args.src.now c.read.new.self (g.S.Source.told c.args.src.now) (g.S.Source.told c.read.new.self) c.args.work.now c.args.report.now u (none_read _ _ _ c.in-None.is c.in_ok-bytes.ensures.taken)
     (λ s is. let t = none_read _ _ _ c.in-None.is (c.in_ok-bytes.ensures.took s is) in record { standing = t.standing; is = t.is; holds = t.holds.0.reading })
+
+pub returns-clause-nothing : goal.returns-clause-nothing
+returns-clause-nothing g c is = subst (λ (o : Option (List ℕ)). Tells (g.S.Source.told c.read.new.self) (Read o)) c.in-None.is c.in_ok-bytes.ensures.told

@@ -1,4 +1,4 @@
-use Rattle.std.proofs.Common.{◌≡◌, ◌∙◌, ◌⊎◌, Some, subst, inl, inr, refl, ap}
+use Rattle.std.proofs.Common.{◌≡◌, ◌∙◌, ◌⊎◌, Option, Some, subst, inl, inr, refl, sym, ap}
 use Rattle.dbl_honest.specs.Calls.{IsConfirmed}
 use Rattle.dbl_honest.specs.Leaves.{MayFollowConfirm}
 use Rattle.dbl_offset.specs.declared.offset.Offset.{Offset}
@@ -12,9 +12,12 @@ use Rattle.dbl_exits.proofs.Keeping.{on_err, rests, some_chunk}
 use Rattle.dbl_exits.proofs.Settles.{settled_on, settled_whole, settle_fails, store_fails}
 use Rattle.dbl_honest.specs.Standings.{Standing, Stood}
 use Rattle.dbl_work.proofs.Exits.{dead_source, none_taken}
-use Rattle.dbl_causes.specs.Sources.{HasHalted}
+use Rattle.dbl_capture.specs.Caused.{Halts, IsCaused}
 use Rattle.dbl_causes.proofs.Sources.{halts_between, settles_on}
 use Rattle.dbl_capture.proofs.Telling.{memory_left, source_left, store_left}
+use Rattle.dbl_capture.proofs.Halting.{memory_caused, source_caused, store_caused}
+use Rattle.dbl_offset.specs.Offsets.{IsOffset}
+use Rattle.dbl_work.specs.Begins.{IsTooLong}
 use Rattle.dbl_capture.proofs.settle.settle.Goals as goal
 
 -- nothing was asked of the three yet
@@ -126,19 +129,22 @@ returns-clause-never g c value at is = cc
 
 pub returns-in_err-offset-clause-halted : goal.returns-in_err-offset-clause-halted
 returns-in_err-offset-clause-halted g c at found b u =
-    residual_of c.from_residual.result halt.Memory (HasHalted g.S.Source.stands at found b.config b.now b.held c.args.store.now.offset c.args.report.now c.args.src.now (g.S.Source.told c.args.src.now)) c.from_residual.ensures.1
-    (halts_between g.S.Source.stands at found b c.args.store.now.offset c.args.store.now.offset c.args.work.now c.args.report.now c.args.report.now c.args.src.now c.args.src.now (g.S.Source.told c.args.src.now) (g.S.Source.told c.args.src.now) halt.Memory u (none_taken (g.S.Source.told c.args.src.now)) (λ s t was now. ap (λ (x : Standing). x.reading) (g.met.S.Source.one c.args.src.now t s now was)) memory_left refl refl (inl refl))
+    residual_of c.from_residual.result halt.Memory (Halts g.S.Source.stands at found b.config b.now b.held c.args.store.now.offset c.args.report.now c.args.src.now (g.S.Source.told c.args.src.now)) c.from_residual.ensures.1
+    (record { halted = halts_between g.S.Source.stands at found b c.args.store.now.offset c.args.store.now.offset c.args.work.now c.args.report.now c.args.report.now c.args.src.now c.args.src.now (g.S.Source.told c.args.src.now) (g.S.Source.told c.args.src.now) halt.Memory u (none_taken (g.S.Source.told c.args.src.now)) (λ s t was now. ap (λ (x : Standing). x.reading) (g.met.S.Source.one c.args.src.now t s now was)) memory_left refl refl (inl refl); cause = memory_caused b.config b.now b.held c.args.store.now.offset c.args.report.now (g.S.Source.told c.args.src.now) halt.Memory refl })
 
 pub returns-in_err-put_offset-clause-halted : goal.returns-in_err-put_offset-clause-halted
 returns-in_err-put_offset-clause-halted g c at found b u =
-    residual_of c.from_residual-in_err-put_offset.result _ (HasHalted g.S.Source.stands at found b.config b.now b.held c.put_offset.new.store.offset c.args.report.now c.args.src.now (g.S.Source.told c.args.src.now)) c.from_residual-in_err-put_offset.ensures.1
-    (halts_between g.S.Source.stands at found b c.args.store.now.offset c.put_offset.new.store.offset c.args.work.now c.args.report.now c.args.report.now c.args.src.now c.args.src.now (g.S.Source.told c.args.src.now) (g.S.Source.told c.args.src.now) _ u (none_taken (g.S.Source.told c.args.src.now)) (λ s t was now. ap (λ (x : Standing). x.reading) (g.met.S.Source.one c.args.src.now t s now was)) (store_left _ _ c.in_err-put_offset.ensures.halt) refl refl (inl c.in_err-put_offset.ensures.keeps))
+    residual_of c.from_residual-in_err-put_offset.result _ (Halts g.S.Source.stands at found b.config b.now b.held c.put_offset.new.store.offset c.args.report.now c.args.src.now (g.S.Source.told c.args.src.now)) c.from_residual-in_err-put_offset.ensures.1
+    (record { halted = halts_between g.S.Source.stands at found b c.args.store.now.offset c.put_offset.new.store.offset c.args.work.now c.args.report.now c.args.report.now c.args.src.now c.args.src.now (g.S.Source.told c.args.src.now) (g.S.Source.told c.args.src.now) _ u (none_taken (g.S.Source.told c.args.src.now)) (λ s t was now. ap (λ (x : Standing). x.reading) (g.met.S.Source.one c.args.src.now t s now was)) (store_left _ _ c.in_err-put_offset.ensures.halt) refl refl (inl c.in_err-put_offset.ensures.keeps); cause = subst (λ (o : Option Offset). IsCaused b.config b.now b.held o c.args.report.now (g.S.Source.told c.args.src.now) c.in_err-put_offset.field-0.0) (sym c.in_err-put_offset.ensures.keeps) (store_caused b u.messages c.args.store.now.offset c.args.work.now c.args.report.now found (g.S.Source.told c.args.src.now) _ u.is u.tells (subst IsOffset c.in_ok-offset.ensures.next c.in_ok-offset.ensures.asked) (subst (λ (o : Offset). (c.in_err-put_offset.field-0.0 ≡ halt.Memory) ⊎ ((c.in_err-put_offset.field-0.0 ≡ halt.Offsets) ⊎ IsTooLong o c.in_err-put_offset.field-0.0)) c.in_ok-offset.ensures.next c.in_err-put_offset.ensures.halt)) })
 
 pub returns-in_err-confirm-clause-halted : goal.returns-in_err-confirm-clause-halted
 returns-in_err-confirm-clause-halted g c at found b u =
-    residual_of c.from_residual-in_err-confirm.result _ (HasHalted g.S.Source.stands at found b.config b.now b.held c.put_offset.new.store.offset (record c.args.report.now { position = c.in_ok-offset.offset.lsn.0 }) c.confirm.new.self (g.S.Source.told c.confirm.new.self)) c.from_residual-in_err-confirm.ensures.1
-    (halts_between g.S.Source.stands at found b c.args.store.now.offset c.put_offset.new.store.offset c.args.work.now c.args.report.now (record c.args.report.now { position = c.in_ok-offset.offset.lsn.0 }) c.args.src.now c.confirm.new.self (g.S.Source.told c.args.src.now) (g.S.Source.told c.confirm.new.self) _ u c.confirm.ensures.taken
-    (λ s t was now. absurd (dead_source (g.S.Source.is_live c.confirm.new.self) (g.met.S.Source.lives c.confirm.new.self t now) c.in_err-confirm.ensures.dead)) (source_left c.in_err-confirm.field-0.0) refl refl (inr (c.in_ok-put_offset.ensures.loads ∙ ap (λ (o : Offset). Some o) c.in_ok-offset.ensures.next)))
+    residual_of c.from_residual-in_err-confirm.result _ (Halts g.S.Source.stands at found b.config b.now b.held c.put_offset.new.store.offset (record c.args.report.now { position = c.in_ok-offset.offset.lsn.0 }) c.confirm.new.self (g.S.Source.told c.confirm.new.self)) c.from_residual-in_err-confirm.ensures.1
+    (record {
+      halted = halts_between g.S.Source.stands at found b c.args.store.now.offset c.put_offset.new.store.offset c.args.work.now c.args.report.now (record c.args.report.now { position = c.in_ok-offset.offset.lsn.0 }) c.args.src.now c.confirm.new.self (g.S.Source.told c.args.src.now) (g.S.Source.told c.confirm.new.self) _ u c.confirm.ensures.taken
+          (λ s t was now. absurd (dead_source (g.S.Source.is_live c.confirm.new.self) (g.met.S.Source.lives c.confirm.new.self t now) c.in_err-confirm.ensures.dead)) (source_left c.in_err-confirm.field-0.0) refl refl (inr (c.in_ok-put_offset.ensures.loads ∙ ap (λ (o : Offset). Some o) c.in_ok-offset.ensures.next));
+      cause = source_caused b.config b.now b.held c.put_offset.new.store.offset (record c.args.report.now { position = c.in_ok-offset.offset.lsn.0 }) (g.S.Source.told c.confirm.new.self) c.in_err-confirm.field-0.0;
+    })
 
 pub returns-clause-all : goal.returns-clause-all
 returns-clause-all g c at found b u =

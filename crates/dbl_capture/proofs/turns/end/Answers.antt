@@ -1,4 +1,4 @@
-use Rattle.std.proofs.Common.{ap, inl, refl}
+use Rattle.std.proofs.Common.{◌∙◌, ℕ, List, Some, ap, inl, refl, sym}
 use Rattle.std.proofs.lemmas.Result.{err_from_is_err_and}
 use Rattle.dbl_work.specs.declared.halt.Halt.TheVariants as halt
 use Rattle.dbl_capture.proofs.Reporting.{report_err}
@@ -7,9 +7,10 @@ use Rattle.dbl_exits.proofs.Keeping.{on_err, on_ok, rests, some_chunk}
 use Rattle.dbl_exits.proofs.Turning.{not_awaited}
 use Rattle.dbl_honest.specs.Standings.{Standing}
 use Rattle.dbl_work.proofs.Exits.{none_taken}
-use Rattle.dbl_causes.specs.Sources.{HasHalted}
+use Rattle.dbl_capture.specs.Caused.{Halts}
 use Rattle.dbl_causes.proofs.Sources.{at_rest, halts_between}
 use Rattle.dbl_capture.proofs.Telling.{memory_left}
+use Rattle.dbl_capture.proofs.Halting.{memory_caused, missed_caused}
 use Rattle.dbl_capture.proofs.turns.end.Goals as goal
 
 pub returns-in_err-copy-in-Some-clause-left : goal.returns-in_err-copy-in-Some-clause-left
@@ -53,16 +54,16 @@ returns-in_err-copy-in-Some-clause-report g c =
     report_err c.from_residual.result p.0 c.args.store.now.offset c.args.store.now.offset c.args.work.now c.args.report.now c.args.report.now p.1 (inl (refl, refl))
 
 pub returns-in_err-copy-in-Some-clause-halted : goal.returns-in_err-copy-in-Some-clause-halted
-returns-in_err-copy-in-Some-clause-halted g c at found b u =
-    residual_of c.from_residual.result halt.Memory (HasHalted g.S.Source.stands at found b.config b.now b.held c.args.store.now.offset c.args.report.now c.args.src.now (g.S.Source.told c.args.src.now)) c.from_residual.ensures.1
-    (halts_between g.S.Source.stands at found b c.args.store.now.offset c.args.store.now.offset c.args.work.now c.args.report.now c.args.report.now c.args.src.now c.args.src.now (g.S.Source.told c.args.src.now) (g.S.Source.told c.args.src.now) halt.Memory (at_rest g.S.Source.stands at found b c.args.store.now.offset c.args.work.now c.args.report.now c.args.src.now (g.S.Source.told c.args.src.now) u) (none_taken (g.S.Source.told c.args.src.now)) (λ s t was now. ap (λ (x : Standing). x.reading) (g.met.S.Source.one c.args.src.now t s now was)) memory_left refl refl (inl refl))
+returns-in_err-copy-in-Some-clause-halted g c at found b u answer =
+    residual_of c.from_residual.result halt.Memory (Halts g.S.Source.stands at found b.config b.now b.held c.args.store.now.offset c.args.report.now c.args.src.now (g.S.Source.told c.args.src.now)) c.from_residual.ensures.1
+    (record { halted = halts_between g.S.Source.stands at found b c.args.store.now.offset c.args.store.now.offset c.args.work.now c.args.report.now c.args.report.now c.args.src.now c.args.src.now (g.S.Source.told c.args.src.now) (g.S.Source.told c.args.src.now) halt.Memory (at_rest g.S.Source.stands at found b c.args.store.now.offset c.args.work.now c.args.report.now c.args.src.now (g.S.Source.told c.args.src.now) u) (none_taken (g.S.Source.told c.args.src.now)) (λ s t was now. ap (λ (x : Standing). x.reading) (g.met.S.Source.one c.args.src.now t s now was)) memory_left refl refl (inl refl); cause = memory_caused b.config b.now b.held c.args.store.now.offset c.args.report.now (g.S.Source.told c.args.src.now) halt.Memory refl })
 
 pub returns-in_ok-copy-in-Some-clause-halted : goal.returns-in_ok-copy-in-Some-clause-halted
-returns-in_ok-copy-in-Some-clause-halted g c at found b u =
-    halts_between g.S.Source.stands at found b c.args.store.now.offset c.args.store.now.offset c.args.work.now c.args.report.now c.args.report.now c.args.src.now c.args.src.now (g.S.Source.told c.args.src.now) (g.S.Source.told c.args.src.now) _ (at_rest g.S.Source.stands at found b c.args.store.now.offset c.args.work.now c.args.report.now c.args.src.now (g.S.Source.told c.args.src.now) u) (none_taken (g.S.Source.told c.args.src.now)) (λ s t was now. ap (λ (x : Standing). x.reading) (g.met.S.Source.one c.args.src.now t s now was)) refl refl refl (inl refl)
+returns-in_ok-copy-in-Some-clause-halted g c at found b u answer =
+    record { halted = halts_between g.S.Source.stands at found b c.args.store.now.offset c.args.store.now.offset c.args.work.now c.args.report.now c.args.report.now c.args.src.now c.args.src.now (g.S.Source.told c.args.src.now) (g.S.Source.told c.args.src.now) _ (at_rest g.S.Source.stands at found b c.args.store.now.offset c.args.work.now c.args.report.now c.args.src.now (g.S.Source.told c.args.src.now) u) (none_taken (g.S.Source.told c.args.src.now)) (λ s t was now. ap (λ (x : Standing). x.reading) (g.met.S.Source.one c.args.src.now t s now was)) refl refl refl (inl refl); cause = missed_caused b u.messages c.args.store.now.offset c.args.work.now c.args.report.now found (g.S.Source.told c.args.src.now) _ u.is u.tells (sym c.in-Some.ensures.text ∙ ap (λ (v : List ℕ). Some v) (sym c.in_ok-copy-in-Some.ensures)) answer }
 
 pub returns-in-None-clause-all : goal.returns-in-None-clause-all
 returns-in-None-clause-all g c at found b u = c.settle.ensures.all at found b (at_rest g.S.Source.stands at found b c.args.store.now.offset c.args.work.now c.args.report.now c.args.src.now (g.S.Source.told c.args.src.now) u)
 
 pub returns-in-None-clause-halted : goal.returns-in-None-clause-halted
-returns-in-None-clause-halted g c at found b u = c.settle.ensures.halted at found b (at_rest g.S.Source.stands at found b c.args.store.now.offset c.args.work.now c.args.report.now c.args.src.now (g.S.Source.told c.args.src.now) u)
+returns-in-None-clause-halted g c at found b u answer = c.settle.ensures.halted at found b (at_rest g.S.Source.stands at found b c.args.store.now.offset c.args.work.now c.args.report.now c.args.src.now (g.S.Source.told c.args.src.now) u)

@@ -6,8 +6,9 @@ use Rattle.dbl_capture.proofs.Causes.{residual_is, residual_of}
 use Rattle.std.specs.Prelude.{MatchBool}
 use Rattle.dbl_exits.proofs.Keeping.{on_err}
 use Rattle.dbl_capture.proofs.Reporting.{at_stored, counts_stored, own_stored, placed_next, placed_on}
-use Rattle.dbl_causes.specs.Sources.{HasHalted}
+use Rattle.dbl_capture.specs.Caused.{Halts}
 use Rattle.dbl_causes.proofs.Sources.{at_rest}
+use Rattle.dbl_capture.proofs.Marking.{none_settled}
 use Rattle.dbl_capture.proofs.turns.run.Goals as goal
 
 pub turns-init : goal.turns-init
@@ -367,16 +368,28 @@ pub returns-in_err-turn-clause-commits : goal.returns-in_err-turn-clause-commits
 returns-in_err-turn-clause-commits g c = c.turn.ensures.commits
 
 pub returns-in_err-turn-clause-halted : goal.returns-in_err-turn-clause-halted
-returns-in_err-turn-clause-halted g c at found b u = residual_of c.from_residual.result _ (HasHalted g.S.Source.stands at found b.config b.now b.held c.turn.new.store.offset c.turn.new.report c.turn.new.src (g.S.Source.told c.turn.new.src)) c.from_residual.ensures.1 (c.in_err-turn.ensures.halted at found b (c.turns.invariant.under_way at found b u))
+returns-in_err-turn-clause-halted g c at found b u = residual_of c.from_residual.result _ (Halts g.S.Source.stands at found b.config b.now b.held c.turn.new.store.offset c.turn.new.report c.turn.new.src (g.S.Source.told c.turn.new.src)) c.from_residual.ensures.1 (c.in_err-turn.ensures.halted at found b (c.turns.invariant.under_way at found b u))
 
 pub returns-in_err-arm_next-clause-halted : goal.returns-in_err-arm_next-clause-halted
-returns-in_err-arm_next-clause-halted g c at found b u = residual_of c.from_residual-in_err-arm_next.result _ (HasHalted g.S.Source.stands at found b.config b.now b.held c.turns.store.offset c.turns.report c.arm_next.new.src (g.S.Source.told c.arm_next.new.src)) c.from_residual-in_err-arm_next.ensures.1 (c.in_err-arm_next.ensures.halted at found b c.turns.report (c.turns.invariant.under_way at found b u))
+returns-in_err-arm_next-clause-halted g c at found b u = residual_of c.from_residual-in_err-arm_next.result _ (Halts g.S.Source.stands at found b.config b.now b.held c.turns.store.offset c.turns.report c.arm_next.new.src (g.S.Source.told c.arm_next.new.src)) c.from_residual-in_err-arm_next.ensures.1 (c.in_err-arm_next.ensures.halted at found b c.turns.report (c.turns.invariant.under_way at found b u))
 
 pub returns-in_err-settle-clause-halted : goal.returns-in_err-settle-clause-halted
-returns-in_err-settle-clause-halted g c at found b u = residual_of c.from_residual-in_err-settle.result _ (HasHalted g.S.Source.stands at found b.config b.now b.held c.settle.new.store.offset c.settle.new.report c.settle.new.src (g.S.Source.told c.settle.new.src)) c.from_residual-in_err-settle.ensures.1 (c.in_err-settle.ensures.halted at found b (at_rest g.S.Source.stands at found b c.turns.store.offset c.arm_next.new.work c.turns.report c.arm_next.new.src (g.S.Source.told c.arm_next.new.src) (c.in_ok-arm_next.ensures.under_way at found b c.turns.report (c.turns.invariant.under_way at found b u))))
+returns-in_err-settle-clause-halted g c at found b u = residual_of c.from_residual-in_err-settle.result _ (Halts g.S.Source.stands at found b.config b.now b.held c.settle.new.store.offset c.settle.new.report c.settle.new.src (g.S.Source.told c.settle.new.src)) c.from_residual-in_err-settle.ensures.1 (c.in_err-settle.ensures.halted at found b (at_rest g.S.Source.stands at found b c.turns.store.offset c.arm_next.new.work c.turns.report c.arm_next.new.src (g.S.Source.told c.arm_next.new.src) (c.in_ok-arm_next.ensures.under_way at found b c.turns.report (c.turns.invariant.under_way at found b u))))
 
 pub returns-clause-all : goal.returns-clause-all
 returns-clause-all g c at found b u = c.in_ok-settle.ensures.all at found b (at_rest g.S.Source.stands at found b c.turns.store.offset c.arm_next.new.work c.turns.report c.arm_next.new.src (g.S.Source.told c.arm_next.new.src) (c.in_ok-arm_next.ensures.under_way at found b c.turns.report (c.turns.invariant.under_way at found b u)))
 
 pub returns-then-branch-clause-all : goal.returns-then-branch-clause-all
 returns-then-branch-clause-all g c at found b u = c.turn.ensures.all at found b (c.turns.invariant.under_way at found b u) (c.in_ok-turn.was ∙ ap (λ (x : Bool). Ok x) c.if-branch.true)
+
+pub returns-clause-none : goal.returns-clause-none
+returns-clause-none g c = none_settled c.arm_next.new.work c.arm_next.new.work c.settle.new.work c.in_ok-arm_next.ensures.waits.none refl c.in_ok-settle.ensures.same
+
+pub returns-clause-waited : goal.returns-clause-waited
+returns-clause-waited g c is = cc
+
+pub returns-then-branch-clause-none : goal.returns-then-branch-clause-none
+returns-then-branch-clause-none g c = (c.turn.ensures.none (c.in_ok-turn.was ∙ ap (λ (x : Bool). Ok x) c.if-branch.true)).0
+
+pub returns-then-branch-clause-waited : goal.returns-then-branch-clause-waited
+returns-then-branch-clause-waited g c is = (c.turn.ensures.none (c.in_ok-turn.was ∙ ap (λ (x : Bool). Ok x) c.if-branch.true)).1

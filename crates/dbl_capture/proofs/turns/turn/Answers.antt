@@ -9,9 +9,10 @@ use Rattle.dbl_exits.specs.Turns.{IsCountedNext, IsDue}
 use Rattle.dbl_exits.proofs.Endings.{done_at}
 use Rattle.dbl_exits.proofs.Keeping.{on_err, settled_ready, settled_since}
 use Rattle.dbl_capture.proofs.Reporting.{IsPlacedOf, at_same, at_stored, counts_stored, not_due, own_stored, placed_on, placed_same}
-use Rattle.dbl_causes.specs.Sources.{HasHalted}
+use Rattle.dbl_capture.specs.Caused.{Halts}
 use Rattle.dbl_causes.proofs.Sources.{settled_rests}
 use Rattle.dbl_capture.proofs.Telling.{goes_false, goes_none, goes_true}
+use Rattle.dbl_capture.proofs.Marking.{absent_settled, none_settled}
 use Rattle.dbl_capture.proofs.turns.turn.Goals as goal
 
 pub next-requires-clause-ready : goal.next-requires-clause-ready
@@ -364,19 +365,19 @@ pub next-requires-clause-number : goal.next-requires-clause-number
 next-requires-clause-number g c = omega (arith, c.in_ok-arm_next.ensures.waits.number, c.requires.number)
 
 pub returns-in_err-arm_next-clause-halted : goal.returns-in_err-arm_next-clause-halted
-returns-in_err-arm_next-clause-halted g c at found b u = residual_of c.from_residual.result _ (HasHalted g.S.Source.stands at found b.config b.now b.held c.args.store.now.offset c.args.report.now c.arm_next.new.src (g.S.Source.told c.arm_next.new.src)) c.from_residual.ensures.1 (c.in_err-arm_next.ensures.halted at found b c.args.report.now u)
+returns-in_err-arm_next-clause-halted g c at found b u = residual_of c.from_residual.result _ (Halts g.S.Source.stands at found b.config b.now b.held c.args.store.now.offset c.args.report.now c.arm_next.new.src (g.S.Source.told c.arm_next.new.src)) c.from_residual.ensures.1 (c.in_err-arm_next.ensures.halted at found b c.args.report.now u)
 
 pub returns-in_err-next-clause-halted : goal.returns-in_err-next-clause-halted
-returns-in_err-next-clause-halted g c at found b u = residual_of c.from_residual-in_err-next.result _ (HasHalted g.S.Source.stands at found b.config b.now b.held c.args.store.now.offset c.next.new.report c.next.new.src (g.S.Source.told c.next.new.src)) c.from_residual-in_err-next.ensures.1 (c.in_err-next.ensures.halted at found b (c.in_ok-arm_next.ensures.under_way at found b c.args.report.now u))
+returns-in_err-next-clause-halted g c at found b u = residual_of c.from_residual-in_err-next.result _ (Halts g.S.Source.stands at found b.config b.now b.held c.args.store.now.offset c.next.new.report c.next.new.src (g.S.Source.told c.next.new.src)) c.from_residual-in_err-next.ensures.1 (c.in_err-next.ensures.halted at found b (c.in_ok-arm_next.ensures.under_way at found b c.args.report.now u))
 
 pub returns-in_err-settle-in-Some-true-clause-halted : goal.returns-in_err-settle-in-Some-true-clause-halted
-returns-in_err-settle-in-Some-true-clause-halted g c at found b u = residual_of c.from_residual-in_err-settle-in-Some-true.result _ (HasHalted g.S.Source.stands at found b.config b.now b.held c.settle.new.store.offset c.settle.new.report c.settle.new.src (g.S.Source.told c.settle.new.src)) c.from_residual-in_err-settle-in-Some-true.ensures.1 (c.in_err-settle-in-Some-true.ensures.halted at found b (goes_true g.S.Source.stands at found b c.args.store.now.offset c.next.new.work c.next.new.report c.next.new.src (g.S.Source.told c.next.new.src) _ c.in-Some-true.field-0 c.in-Some-true.is c.in-Some-true.field-0-test (c.in_ok-next.ensures.under_way at found b (c.in_ok-arm_next.ensures.under_way at found b c.args.report.now u))))
+returns-in_err-settle-in-Some-true-clause-halted g c at found b u = residual_of c.from_residual-in_err-settle-in-Some-true.result _ (Halts g.S.Source.stands at found b.config b.now b.held c.settle.new.store.offset c.settle.new.report c.settle.new.src (g.S.Source.told c.settle.new.src)) c.from_residual-in_err-settle-in-Some-true.ensures.1 (c.in_err-settle-in-Some-true.ensures.halted at found b (goes_true g.S.Source.stands at found b c.args.store.now.offset c.next.new.work c.next.new.report c.next.new.src (g.S.Source.told c.next.new.src) _ c.in-Some-true.field-0 c.in-Some-true.is c.in-Some-true.field-0-test (c.in_ok-next.ensures.under_way at found b (c.in_ok-arm_next.ensures.under_way at found b c.args.report.now u))))
 
 pub returns-in_ok-settle-in-Some-true-clause-under_way : goal.returns-in_ok-settle-in-Some-true-clause-under_way
 returns-in_ok-settle-in-Some-true-clause-under_way g c at found b u = settled_rests g.S.Source.stands at found b c.settle.new.store.offset c.settle.new.work c.settle.new.report c.settle.new.src (g.S.Source.told c.settle.new.src) (c.in_ok-settle-in-Some-true.ensures.all at found b (goes_true g.S.Source.stands at found b c.args.store.now.offset c.next.new.work c.next.new.report c.next.new.src (g.S.Source.told c.next.new.src) _ c.in-Some-true.field-0 c.in-Some-true.is c.in-Some-true.field-0-test (c.in_ok-next.ensures.under_way at found b (c.in_ok-arm_next.ensures.under_way at found b c.args.report.now u))))
 
 pub returns-in_err-end-in-None-clause-halted : goal.returns-in_err-end-in-None-clause-halted
-returns-in_err-end-in-None-clause-halted g c at found b u = residual_of c.from_residual-in_err-end-in-None.result _ (HasHalted g.S.Source.stands at found b.config b.now b.held c.end.new.store.offset c.end.new.report c.end.new.src (g.S.Source.told c.end.new.src)) c.from_residual-in_err-end-in-None.ensures.1 (c.in_err-end-in-None.ensures.halted at found b (goes_none g.S.Source.stands at found b c.args.store.now.offset c.next.new.work c.next.new.report c.next.new.src (g.S.Source.told c.next.new.src) _ c.in-None.is (c.in_ok-next.ensures.under_way at found b (c.in_ok-arm_next.ensures.under_way at found b c.args.report.now u))))
+returns-in_err-end-in-None-clause-halted g c at found b u = residual_of c.from_residual-in_err-end-in-None.result _ (Halts g.S.Source.stands at found b.config b.now b.held c.end.new.store.offset c.end.new.report c.end.new.src (g.S.Source.told c.end.new.src)) c.from_residual-in_err-end-in-None.ensures.1 (c.in_err-end-in-None.ensures.halted at found b (goes_none g.S.Source.stands at found b c.args.store.now.offset c.next.new.work c.next.new.report c.next.new.src (g.S.Source.told c.next.new.src) _ c.in-None.is (c.in_ok-next.ensures.under_way at found b (c.in_ok-arm_next.ensures.under_way at found b c.args.report.now u))) (c.next.ensures.nothing (c.in_ok-next.was ∙ ap (λ o. Ok o) c.in-None.is)))
 
 pub returns-in_ok-end-in-None-clause-under_way : goal.returns-in_ok-end-in-None-clause-under_way
 returns-in_ok-end-in-None-clause-under_way g c at found b u = settled_rests g.S.Source.stands at found b c.end.new.store.offset c.end.new.work c.end.new.report c.end.new.src (g.S.Source.told c.end.new.src) (c.in_ok-end-in-None.ensures.all at found b (goes_none g.S.Source.stands at found b c.args.store.now.offset c.next.new.work c.next.new.report c.next.new.src (g.S.Source.told c.next.new.src) _ c.in-None.is (c.in_ok-next.ensures.under_way at found b (c.in_ok-arm_next.ensures.under_way at found b c.args.report.now u))))
@@ -386,3 +387,8 @@ returns-in_ok-end-in-None-clause-all g c at found b u is = c.in_ok-end-in-None.e
 
 pub returns-in-Some-false-clause-under_way : goal.returns-in-Some-false-clause-under_way
 returns-in-Some-false-clause-under_way g c at found b u = goes_false g.S.Source.stands at found b c.args.store.now.offset c.next.new.work c.next.new.report c.next.new.src (g.S.Source.told c.next.new.src) _ c.in-Some-false.field-0 c.in-Some-false.is c.in-Some-false.field-0-test (c.in_ok-next.ensures.under_way at found b (c.in_ok-arm_next.ensures.under_way at found b c.args.report.now u))
+
+pub returns-in_ok-end-in-None-clause-none : goal.returns-in_ok-end-in-None-clause-none
+returns-in_ok-end-in-None-clause-none g c is =
+    let same = subst (IsDue c.arm_next.new.work c.next.new.work) c.in-None.is c.in_ok-next.ensures.due in
+    (none_settled c.arm_next.new.work c.next.new.work c.end.new.work c.in_ok-arm_next.ensures.waits.none same c.in_ok-end-in-None.ensures.same, absent_settled c.next.new.work c.end.new.work c.in_ok-end-in-None.ensures.waited c.in_ok-end-in-None.ensures.same)

@@ -3,9 +3,10 @@ use Rattle.dbl_exits.proofs.Arms.{arm_left, plan_here, plan_parts, window_on}
 use Rattle.dbl_capture.proofs.Causes.{OfSource, chunk_of, err_at, err_then}
 use Rattle.dbl_exits.proofs.Keeping.{ok_then, on_err}
 use Rattle.std.proofs.Common.{inl, refl}
-use Rattle.dbl_causes.specs.Sources.{HasHalted}
+use Rattle.dbl_capture.specs.Caused.{Halts}
 use Rattle.dbl_causes.proofs.Sources.{arms_on, at_rest, halts_between}
 use Rattle.dbl_capture.proofs.Telling.{chunk_left, ok_both}
+use Rattle.dbl_capture.proofs.Halting.{chunk_caused}
 use Rattle.dbl_capture.proofs.windows.arm.Goals as goal
 
 pub returns-clause-armed : goal.returns-clause-armed
@@ -43,5 +44,5 @@ returns-clause-under_way g c at found b report u =
 
 pub returns-clause-halted : goal.returns-clause-halted
 returns-clause-halted g c at found b report u =
-    err_then c.read_window.result _ (HasHalted g.S.Source.stands at found b.config b.now b.held c.args.store.now.offset report c.read_window.new.src (g.S.Source.told c.read_window.new.src)) c.read_window.ensures.halt
-    (λ h chunk. halts_between g.S.Source.stands at found b c.args.store.now.offset c.args.store.now.offset c.args.work.now report report c.args.src.now c.read_window.new.src (g.S.Source.told c.args.src.now) (g.S.Source.told c.read_window.new.src) h (at_rest g.S.Source.stands at found b c.args.store.now.offset c.args.work.now report c.args.src.now (g.S.Source.told c.args.src.now) u) c.read_window.ensures.taken c.read_window.ensures.still (chunk_left c.args.work.now c.args.table _ h chunk) refl refl (inl refl))
+    err_then c.read_window.result _ (Halts g.S.Source.stands at found b.config b.now b.held c.args.store.now.offset report c.read_window.new.src (g.S.Source.told c.read_window.new.src)) c.read_window.ensures.halt
+    (λ h chunk. record { halted = halts_between g.S.Source.stands at found b c.args.store.now.offset c.args.store.now.offset c.args.work.now report report c.args.src.now c.read_window.new.src (g.S.Source.told c.args.src.now) (g.S.Source.told c.read_window.new.src) h (at_rest g.S.Source.stands at found b c.args.store.now.offset c.args.work.now report c.args.src.now (g.S.Source.told c.args.src.now) u) c.read_window.ensures.taken c.read_window.ensures.still (chunk_left c.args.work.now c.args.table _ h chunk) refl refl (inl refl); cause = chunk_caused b u.messages c.args.store.now.offset c.args.work.now report c.args.table (g.S.Source.told c.read_window.new.src) h u.is c.requires.absent c.requires.table chunk })

@@ -1,0 +1,100 @@
+-- The cause of a session's halt, at each of its calls.
+use Rattle.std.proofs.Common.{◌≡◌, ◌⊎◌, inl, inr, ◌+◌, ℕ, ℤ, Option, Some, None, List, [], ◌∷◌, refl, sym, subst}
+use Rattle.dbl_pgmsg.specs.declared.messages.Message.{Message}
+use Rattle.dbl_record.specs.declared.record.Record.{Record}
+use Rattle.dbl_table.specs.declared.config.Config.{Config}
+use Rattle.dbl_event.specs.Clashes.{Clash}
+use Rattle.dbl_honest.specs.Told.{Told, IsTakenBy, Read, Tells}
+use Rattle.dbl_offset.specs.declared.offset.Offset.{Offset}
+use Rattle.dbl_offset.specs.Offsets.{IsOffset}
+use Rattle.dbl_reading.specs.declared.error.SourceError.{SourceError}
+use Rattle.dbl_reading.specs.declared.error.SourceError.TheVariants as source
+use Rattle.dbl_follow.specs.declared.window.Window.TheVariants.{Absent}
+use Rattle.dbl_follow.specs.Followed.{awaited}
+use Rattle.dbl_work.specs.declared.halt.Halt.{Halt}
+use Rattle.dbl_work.specs.declared.halt.Halt.TheVariants as halt
+use Rattle.dbl_work.specs.declared.report.Report.{Report}
+use Rattle.dbl_work.specs.declared.work.Work.{Work}
+use Rattle.dbl_work.specs.Begins.{IsTooLong}
+use Rattle.dbl_work.specs.Causes.{IsChunkHalt, IsLongRecord}
+use Rattle.dbl_work.specs.Halts.{source_halt}
+use Rattle.dbl_work.specs.Takes.{IsClashIn, IsMessageHalt, IsTxnHalt}
+use Rattle.dbl_work.specs.Works.{IsOpenTable, next_of}
+use Rattle.dbl_causes.specs.Halted.{IsHalt}
+use Rattle.dbl_causes.specs.Underway.{IsBetween, IsOpenHalt}
+use Rattle.dbl_causes.specs.Carried.{AreTold, Beginning, IsBehind, IsResting}
+use Rattle.dbl_causes.proofs.Causes.{bytes_halt, marks_are_missed, messages_halt, offsets_halt, windows_halt}
+use Rattle.dbl_causes.proofs.Ended.{has_taken}
+use Rattle.dbl_causes.proofs.Unread.{sessions_halt_unread}
+use Rattle.dbl_capture.specs.Caused.{IsCaused}
+
+module _ (config : Config) (now : ℤ) (held stored : Option Offset) (report : Report) (told : Option Told) where
+  pub caused : (h : Halt) → IsHalt config now held stored report told h → IsCaused config now held stored report told h
+  caused (halt.Clash table column) is = tt
+  caused (halt.RecordTooLong len) is = tt
+  caused h is = is
+
+  pub memory_caused : (h : Halt) → h ≡ halt.Memory → IsCaused config now held stored report told h
+  memory_caused h is = subst (IsCaused config now held stored report told) (sym is) tt
+
+  pub source_caused : (e : SourceError) → IsCaused config now held stored report told (source_halt e)
+  source_caused source.Failed = tt
+  source_caused source.Memory = tt
+
+  clash_caused : (clash : Option Clash) (h : Halt) → IsClashIn clash h → IsCaused config now held stored report told h
+  clash_caused None h is = absurd is
+  clash_caused (Some c) h is = subst (IsCaused config now held stored report told) (sym is) tt
+
+  -- of a commit whose records weren't all put nothing is said
+  pub follow_caused : (clash : Option Clash) (records : List Record) (h : Halt) → (h ≡ halt.Memory) ⊎ ((h ≡ halt.Sink) ⊎ (IsClashIn clash h ⊎ ((clash ≡ None) × IsLongRecord records h))) → IsCaused config now held stored report told h
+  follow_caused clash records h (inl memory) = memory_caused h memory
+  follow_caused clash records h (inr (inl failed)) = subst (IsCaused config now held stored report told) (sym failed) tt
+  follow_caused clash records h (inr (inr (inl is))) = clash_caused clash h is
+  follow_caused clash records h (inr (inr (inr long))) = subst (IsCaused config now held stored report told) (sym long.1.is) tt
+
+  -- before it reads
+  pub open_caused : (h : Halt) → IsOpenHalt config held stored told h → IsCaused config now held stored report told h
+  open_caused h is = caused h (sessions_halt_unread config now held stored report told h is)
+
+-- while it reads
+module _ (b : Beginning) (ms : List Message) (stored : Option Offset) (work : Work) where
+  between : (report : Report) (r : IsResting b ms stored work report) → IsBetween work r.is.offset report.chunks
+  between report r = record { cursors = r.same; windows = r.is.windows }
+
+  held_as : (report : Report) (told : Option Told) (is : IsBehind b ms stored work report) (after : Report) (h : Halt) → IsHalt b.config b.now b.held (Some is.offset) after told h → IsCaused b.config b.now b.held stored after told h
+  held_as report told is after h x =
+      subst (λ (o : Option Offset). IsCaused b.config b.now b.held o after told h) (sym is.stored_is) (caused b.config b.now b.held (Some is.offset) after told h x)
+
+  -- for the rows of its next window
+  pub chunk_caused : (report : Report) (table : ℕ) (told : Option Told) (h : Halt) → IsResting b ms stored work report → work.follower.window ≡ Absent → IsOpenTable work table → IsChunkHalt work table told h
+      → IsCaused b.config b.now b.held stored report told h
+  chunk_caused report table told h r absent unread chunk =
+      held_as report told r.is report h (windows_halt b.config b.now b.held b.first r.is.offset work report table told h r.is.of (between report r) absent unread chunk)
+
+  -- for the newest bytes, or the message that they spell
+  pub taken_caused : (before : Report) (found old new : Option Told) (bytes : List ℕ) (h : Halt) → IsResting b ms stored work before → AreTold found old ms → IsTakenBy (bytes ∷ []) old new
+      → (h ≡ halt.Memory) ⊎ (IsMessageHalt (before.messages + 1) bytes h ⊎ IsTxnHalt (before.messages + 1) b.first.lsn ms bytes work h)
+      → IsCaused b.config b.now b.held stored (record before { messages = before.messages + 1 }) new h
+  taken_caused before found old new bytes h r a one (inl memory) = memory_caused b.config b.now b.held stored (record before { messages = before.messages + 1 }) new h memory
+  taken_caused before found old new bytes h r a one (inr (inl message)) =
+      held_as before new r.is (record before { messages = before.messages + 1 }) h
+      (bytes_halt b.config b.now b.held b.first r.is.offset work before (record before { messages = before.messages + 1 }) found a.begun old new bytes h r.is.of a.anew (has_taken b ms stored work before found old r.is a) one refl message)
+  taken_caused before found old new bytes h r a one (inr (inr txn)) =
+      held_as before new r.is (record before { messages = before.messages + 1 }) h
+      (messages_halt b.config b.now b.held b.first r.is.offset work before (record before { messages = before.messages + 1 }) found a.begun old new bytes h r.is.of (between before r) a.anew (has_taken b ms stored work before found old r.is a) one refl (inl txn))
+
+  -- for a mark that it waits for
+  pub missed_caused : (report : Report) (found told : Option Told) (value : List ℕ) → IsResting b ms stored work report → AreTold found told ms → awaited work.follower.window ≡ Some value → Tells told (Read None)
+      → IsCaused b.config b.now b.held stored report told (halt.WatermarkMissing value work.offset.lsn)
+  missed_caused report found told value r a waits answer =
+      held_as report told r.is report (halt.WatermarkMissing value work.offset.lsn)
+      (marks_are_missed b.config b.now b.held b.first r.is.offset work report found a.begun told value r.is.of (between report r) a.anew (has_taken b ms stored work report found told r.is a) r.is.opened waits answer)
+
+  -- for its next offset
+  pub store_caused : (report : Report) (found told : Option Told) (h : Halt) → IsBehind b ms stored work report → AreTold found told ms → IsOffset (next_of work) → (h ≡ halt.Memory) ⊎ ((h ≡ halt.Offsets) ⊎ IsTooLong (next_of work) h)
+      → IsCaused b.config b.now b.held stored report told h
+  store_caused report found told h is a asked (inl memory) = memory_caused b.config b.now b.held stored report told h memory
+  store_caused report found told h is a asked (inr (inl failed)) = subst (IsCaused b.config b.now b.held stored report told) (sym failed) tt
+  store_caused report found told h is a asked (inr (inr long)) =
+      held_as report told is report h
+      (offsets_halt b.config b.now b.held b.first is.offset work report found a.begun told h is.of a.anew (has_taken b ms stored work report found told is a) is.moves asked long)

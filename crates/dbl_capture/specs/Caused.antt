@@ -1,0 +1,23 @@
+-- Why a session halts.
+use Rattle.std.specs.Prelude.{ℤ, Option}
+use Rattle.dbl_table.specs.declared.config.Config.{Config}
+use Rattle.dbl_honest.specs.Standings.{Standing}
+use Rattle.dbl_honest.specs.Told.{Told}
+use Rattle.dbl_offset.specs.declared.offset.Offset.{Offset}
+use Rattle.dbl_work.specs.declared.halt.Halt.{Halt}
+use Rattle.dbl_work.specs.declared.halt.Halt.TheVariants as halt
+use Rattle.dbl_work.specs.declared.report.Report.{Report}
+use Rattle.dbl_causes.specs.Halted.{IsHalt}
+use Rattle.dbl_causes.specs.Sources.{HasHalted}
+
+-- The cause of each halt, but for a clash and a record that is too long, of which nothing is said here.
+abbrev pub IsCaused : Config → ℤ → Option Offset → Option Offset → Report → Option Told → Halt → Type 0
+IsCaused config now old new report told (halt.Clash table column) = Unit {0}
+IsCaused config now old new report told (halt.RecordTooLong len) = Unit {0}
+IsCaused config now old new report told h = IsHalt config now old new report told h
+
+-- For private clauses: it halted, and this is why.
+pub record Halts {S : Type 0} (stands : S → Standing → Type 0) (at : Option Standing) (found : Option Told) (config : Config) (now : ℤ)
+    (held stored : Option Offset) (report : Report) (src : S) (told : Option Told) (h : Halt) : Type 0 where
+  pub halted : HasHalted stands at found config now held stored report src told h
+  pub cause : IsCaused config now held stored report told h

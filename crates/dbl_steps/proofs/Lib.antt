@@ -1,3 +1,5 @@
 pub mod Puts
+pub mod Sinks
 pub mod Marks
 pub mod Answered
+pub mod Honest

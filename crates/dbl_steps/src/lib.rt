@@ -3,11 +3,15 @@
 #![tactic(auto)]
 
 mod answer_laws;
+mod honest_laws;
 mod mark_laws;
 mod put_laws;
 
 pub use answer_laws::{
     failures_excuse, newest_bytes_ask, quiet_answers_ask_nothing, rows_ask, unread_answers_ask,
+};
+pub use honest_laws::{
+    captured_tables_can_be_captured, honest_transactions_fail, spelled_bytes_never_halt,
 };
 pub use mark_laws::{
     ends_leave_exact_marks, others_add_no_marks, others_leave_few_marks, windows_leave_few_marks,

@@ -1,0 +1,11 @@
+pub mod RefusalLaws
+pub mod OneOfLaws
+pub mod StepLemmas
+pub mod RunLemmas
+pub mod WorkloadLemmas
+pub mod PrepareLemmas
+pub mod RowLemmas
+pub mod CheckLemmas
+pub mod TakeLemmas
+pub mod LogLemmas
+pub mod ReadLemmas

@@ -1,0 +1,21 @@
+-- The errors of the parts below, as they are told.
+use Rattle.dbl_table.specs.declared.error.ModelError.{ModelError}
+use Rattle.dbl_table.specs.declared.error.ModelError.TheVariants as model
+use Rattle.dbl_script.specs.declared.error.ScriptError.{ScriptError}
+use Rattle.dbl_script.specs.declared.error.ScriptError.TheVariants as script
+use Rattle.dbl_journal.specs.declared.error.JournalError.{JournalError}
+use Rattle.dbl_journal.specs.declared.error.JournalError.TheVariants as journal
+use Rattle.dbl_workload.specs.declared.error.DemoError.{DemoError}
+use Rattle.dbl_workload.specs.declared.error.DemoError.TheVariants as demo
+
+abbrev pub journal_error : JournalError → DemoError
+journal_error journal.Memory = demo.Memory
+journal_error e = demo.Journal e
+
+abbrev pub script_error : ScriptError → DemoError
+script_error script.Memory = demo.Memory
+script_error e = demo.Script e
+
+abbrev pub model_error : ModelError → DemoError
+model_error model.Memory = demo.Memory
+model_error e = demo.Model e

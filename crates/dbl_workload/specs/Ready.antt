@@ -1,0 +1,17 @@
+-- What a workload gives that was read, before its first step.
+use Rattle.std.specs.Prelude.{◌≡◌, IfSome, option_to_list, map}
+use Rattle.dbl_serial.specs.Sending.{log_tables}
+use Rattle.dbl_tables.specs.Stands.{Stands}
+use Rattle.dbl_sound.specs.Workloads.{Workload, acts_at, log_at, steps_of}
+use Rattle.dbl_workload.specs.declared.preparing.Prepared.{Prepared}
+use Rattle.dbl_workload.specs.Steps.{IsShort}
+
+-- the tables' names, the tables as those of a log, the store behind its rows, its steps, and the changes of its rows, where there are
+-- rows
+pub record IsReady (w : Workload) (ready : Prepared) : Type 0 where
+  pub names : ready.names.items ≡ map (λ table. table.info.name) w.tables
+  pub tables : ready.tables.items ≡ log_tables w.tables
+  pub stands : Stands w.tables (acts_at w 0) ready.store
+  pub steps : ready.steps.items ≡ steps_of w
+  pub rows : log_at w 0 ≡ option_to_list ready.rows
+  pub short : IfSome ready.rows IsShort

@@ -1,0 +1,10 @@
+//! Laws of why bytes are no workload. The functions do nothing: their contracts are the laws.
+
+ghost use Rattle.dbl_workload.specs.Laws.{RefusalsAreOne, WorkloadsAreNotRefused, WorkloadsOrRefusals};
+
+/// Bytes are a workload that can be run, or there is one cause why they aren't, and never both.
+pub fn workloads_or_refusals()
+    ensures one { RefusalsAreOne }
+    ensures not_both { WorkloadsAreNotRefused }
+    ensures one_of { WorkloadsOrRefusals }
+{}

@@ -3,3 +3,4 @@ pub mod Causes
 pub mod Telling
 pub mod Halting
 pub mod Marking
+pub mod Sinking

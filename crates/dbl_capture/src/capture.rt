@@ -1,7 +1,8 @@
 //! The session.
 
-ghost use Rattle.std.specs.Prelude.{◌≡◌, ◌≢◌, ◌⊎◌, ◌<◌, ◌≤◌, Option, Some, Bool, [], IfErr, IfOk, IsTrue, OnErr, OnOk};
+ghost use Rattle.std.specs.Prelude.{◌≡◌, ◌≢◌, ◌⊎◌, ◌<◌, ◌≤◌, List, Option, Some, Bool, [], IfErr, IfOk, IsTrue, OnErr, OnOk};
 ghost use Rattle.dbl_base.specs.Streams.{Rose};
+ghost use Rattle.dbl_record.specs.declared.record.Record.{Record as SpecRecord};
 ghost use Rattle.dbl_table.specs.Configs.{IsGoodConfig};
 ghost use Rattle.dbl_honest.specs.Calls.{Moved};
 ghost use Rattle.dbl_honest.specs.Leaves.{Leaves, LeavesSome};
@@ -16,12 +17,14 @@ ghost use Rattle.dbl_work.specs.Works.{IsBegun};
 ghost use Rattle.dbl_exits.specs.Ends.{AreAllDone, IsAtPosition, LeavesComplete};
 ghost use Rattle.dbl_exits.specs.Found.{BeganAt, BeginsAt, Found, HasStored, IsAsked, IsEntryOf, IsFound, entry_at, position_of};
 ghost use Rattle.dbl_exits.specs.Sessions.{AddsFew, InSession, LeavesBy, LeavesGoing};
+ghost use Rattle.dbl_causes.specs.Gained.{Gains, IsReported};
 ghost use Rattle.dbl_causes.specs.Musts.{MustExhaust, MustHaltStood, MustHaltTold};
 ghost use Rattle.dbl_causes.specs.Reported.{HasReadMessages, HasSettled, HasStoodBehind, IsFollowed, StoodAtLast};
 ghost use Rattle.dbl_causes.specs.Sources.{IsUnderWay};
 ghost use Rattle.dbl_capture.specs.Caused.{Halts, IsCaused};
 ghost use Rattle.dbl_causes.specs.Underway.{IsBeginHalt};
 ghost use Rattle.dbl_causes.specs.Written.{AddsExactly, marks_more};
+ghost use Rattle.dbl_steps.specs.Sinks.{IsPutting};
 ghost use Rattle.dbl_capture.specs.Begun.{beginning_at};
 
 use crate::turns::run;
@@ -187,6 +190,17 @@ fn opened<S: Source, K: Sink, D: Disk>(
         × (report.old.chunks ≡ 0) →
         IfErr result (Halts S.stands at (S.told src.old) config.now now_ms store.old.offset
         store.new.offset report.new src.new (S.told src.new)) }
+
+    // What the sink has.
+    ensures putting { (groups : List (List SpecRecord)) → K.holds sink.now groups →
+        (report.old.messages ≡ 0) × (report.old.commits ≡ 0) × (report.old.chunks ≡ 0)
+        × (report.old.records ≡ 0) × (report.old.snapshot_rows ≡ 0) →
+        IfOk result (λ work. (first : SpecOffset) × IsPutting K.holds groups
+        (beginning_at config.now now_ms store.old.offset first) store.new.offset work report.new
+        sink.now) }
+    ensures counts { (report.new.records ≡ report.old.records) ×
+        (report.new.chunks ≡ report.old.chunks) ×
+        (report.new.snapshot_rows ≡ report.old.snapshot_rows) }
 {
     let offset = begun(alloc, config, src, sink, store)?;
     report.position = offset.lsn.0;
@@ -269,6 +283,13 @@ pub fn session<S: Source, K: Sink, D: Disk>(
     // Why it halts, but for a clash and a record that is too long.
     ensures halt { IfErr result (IsCaused config.now now_ms offsets.old.offset offsets.new.offset
         report.new (S.told src.new)) }
+
+    // What the sink gained, and that its report counts it, of every source.
+    ensures grouped { (groups left : List (List SpecRecord)) → K.holds sink.old groups →
+        K.may_leave sink.new left →
+        Gains config.now now_ms offsets.old.offset offsets.new.offset groups left }
+    ensures counted { (groups : List (List SpecRecord)) → K.holds sink.old groups →
+        IsReported K.holds K.may_leave groups result sink.new report.new }
 
     // Where it has to halt for what it found, and for the newest message, by what the source told,
     // and stands for.

@@ -1,7 +1,8 @@
 //! The next message of a session.
 
-ghost use Rattle.std.specs.Prelude.{◌≡◌, ◌≢◌, ◌⊎◌, ◌^◌, ◌<◌, ◌≤◌, Option, None, Ok, Bool, false, true, IfErr, IfOk, IsTrue, OnErr, OnOk};
+ghost use Rattle.std.specs.Prelude.{◌≡◌, ◌≢◌, ◌⊎◌, ◌^◌, ◌<◌, ◌≤◌, List, Option, None, Ok, Bool, false, true, IfErr, IfOk, IsTrue, OnErr, OnOk};
 ghost use Rattle.dbl_base.specs.Streams.{Rose};
+ghost use Rattle.dbl_record.specs.declared.record.Record.{Record as SpecRecord};
 ghost use Rattle.dbl_history.specs.Ranges.{IsMomentInRange};
 ghost use Rattle.dbl_honest.specs.Standings.{Standing};
 ghost use Rattle.dbl_honest.specs.Told.{Read, Tells, Told};
@@ -11,7 +12,9 @@ ghost use Rattle.dbl_exits.specs.Sessions.{InSession, LeavesBy};
 ghost use Rattle.dbl_exits.specs.Turns.{HasReadAllAt, IsCountedNext, IsDue, IsNextOf};
 ghost use Rattle.dbl_causes.specs.Carried.{Beginning};
 ghost use Rattle.dbl_causes.specs.Sources.{GoesOn, IsUnderWay};
+ghost use Rattle.dbl_steps.specs.Sinks.{HasHaltedPut, IsPutting};
 ghost use Rattle.dbl_capture.specs.Caused.{Halts};
+ghost use Rattle.dbl_capture.specs.Putting.{PutsOn};
 
 use dbl_disk::Disk;
 use dbl_offset::OffsetStore;
@@ -45,7 +48,7 @@ pub(crate) fn next<S: Source, K: Sink, D: Disk>(
     requires since { work.old.since < work.old.every }
     requires number { work.old.number < 2 ^ 64 }
     requires time { IsMomentInRange work.old.now_ms }
-    requires messages { report.old.messages < 2 ^ 63 }
+    requires messages { report.old.messages < 2 ^ 30 }
     requires commits { report.old.commits ≤ report.old.messages }
 
     // What goes on, and what may be left.
@@ -99,6 +102,15 @@ pub(crate) fn next<S: Source, K: Sink, D: Disk>(
         (S.told src.old) →
         IfErr result (Halts S.stands at found b.config b.now b.held store.now.offset report.new
         src.new (S.told src.new)) }
+
+    // What the sink has, and what is left of it.
+    ensures putting { (groups : List (List SpecRecord)) (b : Beginning) →
+        IsPutting K.holds groups b store.now.offset work.old report.old sink.old →
+        IfOk result (PutsOn K.holds groups b store.now.offset work.new report.new sink.new) }
+    ensures put { (groups : List (List SpecRecord)) (b : Beginning) →
+        IsPutting K.holds groups b store.now.offset work.old report.old sink.old →
+        IfErr result (HasHaltedPut K.holds K.may_leave groups b.config b.now b.held
+        store.now.offset report.new sink.new) }
 {
     match src.read()? {
         Some(bytes) => {

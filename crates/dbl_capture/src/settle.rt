@@ -1,7 +1,8 @@
 //! The offset is stored, and then confirmed.
 
-ghost use Rattle.std.specs.Prelude.{◌≡◌, ◌≢◌, ◌≤◌, Option, Bool, IfErr, IsTrue, OnErr, OnOk, is_ok};
+ghost use Rattle.std.specs.Prelude.{◌≡◌, ◌≢◌, ◌≤◌, List, Option, Bool, IfErr, IsTrue, OnErr, OnOk, is_ok};
 ghost use Rattle.dbl_base.specs.Streams.{Rose};
+ghost use Rattle.dbl_record.specs.declared.record.Record.{Record as SpecRecord};
 ghost use Rattle.dbl_honest.specs.Standings.{Standing};
 ghost use Rattle.dbl_honest.specs.Told.{Told};
 ghost use Rattle.dbl_offset.specs.Stores.{ComesOf, IsLive, disk_of};
@@ -12,6 +13,7 @@ ghost use Rattle.dbl_exits.specs.Sessions.{InSession, LeavesBy};
 ghost use Rattle.dbl_exits.specs.Turns.{HasReadAllAt, IsSettled, IsSettledWhole};
 ghost use Rattle.dbl_causes.specs.Carried.{Beginning};
 ghost use Rattle.dbl_causes.specs.Sources.{HasCommitted, HasSettledAll};
+ghost use Rattle.dbl_steps.specs.Sinks.{HasHaltedPut, HasPutCommit, IsPutting};
 ghost use Rattle.dbl_capture.specs.Caused.{Halts};
 
 use dbl_disk::Disk;
@@ -83,6 +85,15 @@ pub(crate) fn settle<S: Source, K: Sink, D: Disk>(
         (S.told src.old) →
         IfErr result (Halts S.stands at found b.config b.now b.held store.new.offset report.new
         src.new (S.told src.new)) }
+
+    // What the sink has, and what is left of it.
+    ensures putting { (groups : List (List SpecRecord)) (b : Beginning) →
+        HasPutCommit K.holds groups b store.old.offset work.old report.old sink.now →
+        OnOk result (IsPutting K.holds groups b store.new.offset work.new report.new sink.now) }
+    ensures put { (groups : List (List SpecRecord)) (b : Beginning) →
+        HasPutCommit K.holds groups b store.old.offset work.old report.old sink.now →
+        IfErr result (HasHaltedPut K.holds K.may_leave groups b.config b.now b.held
+        store.new.offset report.new sink.now) }
 {
     let offset = work.next_offset()?;
     let lsn = offset.lsn;

@@ -1,7 +1,8 @@
 //! The turns of a session, each of which reads one message.
 
-ghost use Rattle.std.specs.Prelude.{◌≡◌, ◌≢◌, ◌+◌, ◌^◌, ◌≤◌, ◌<◌, true, Option, Some, None, Ok, Bool, IfErr, IfOk, IsTrue, MatchBool, OnErr, OnOk, is_ok};
+ghost use Rattle.std.specs.Prelude.{◌≡◌, ◌≢◌, ◌+◌, ◌^◌, ◌≤◌, ◌<◌, true, List, Option, Some, None, Ok, Bool, IfErr, IfOk, IsTrue, MatchBool, OnErr, OnOk, is_ok};
 ghost use Rattle.dbl_base.specs.Streams.{Rose};
+ghost use Rattle.dbl_record.specs.declared.record.Record.{Record as SpecRecord};
 ghost use Rattle.dbl_history.specs.Ranges.{IsMomentInRange};
 ghost use Rattle.dbl_honest.specs.Standings.{Standing};
 ghost use Rattle.dbl_honest.specs.Told.{Read, Tells, Told};
@@ -16,6 +17,7 @@ ghost use Rattle.dbl_exits.specs.Sessions.{InSession, LeavesBy};
 ghost use Rattle.dbl_exits.specs.Turns.{HasReadAllAt, IsSettledWhole};
 ghost use Rattle.dbl_causes.specs.Carried.{Beginning};
 ghost use Rattle.dbl_causes.specs.Sources.{HasSettledAll, IsUnderWay};
+ghost use Rattle.dbl_steps.specs.Sinks.{HasHaltedPut, IsPutting};
 ghost use Rattle.dbl_capture.specs.Caused.{Halts};
 
 use crate::messages::next;
@@ -80,6 +82,13 @@ fn arm_next<S: Source, K: Sink, D: Disk>(
         IsUnderWay S.stands at found b store.now.offset work.old report src.old (S.told src.old) →
         IfErr result (Halts S.stands at found b.config b.now b.held store.now.offset report
         src.new (S.told src.new)) }
+    ensures putting { (groups : List (List SpecRecord)) (b : Beginning) (report : SpecReport) →
+        IsPutting K.holds groups b store.now.offset work.old report sink.now →
+        OnOk result (IsPutting K.holds groups b store.now.offset work.new report sink.now) }
+    ensures put { (groups : List (List SpecRecord)) (b : Beginning) (report : SpecReport) →
+        IsPutting K.holds groups b store.now.offset work.old report sink.now →
+        IfErr result (HasHaltedPut K.holds K.may_leave groups b.config b.now b.held
+        store.now.offset report sink.now) }
 {
     match table_of(work) {
         Some(table) => arm(work, table, src, sink, store),
@@ -139,6 +148,15 @@ fn end<S: Source, K: Sink, D: Disk>(
         (S.told src.old) → Tells (S.told src.old) (Read None) →
         IfErr result (Halts S.stands at found b.config b.now b.held store.new.offset report.new
         src.new (S.told src.new)) }
+
+    // What the sink has, and what is left of it.
+    ensures putting { (groups : List (List SpecRecord)) (b : Beginning) →
+        IsPutting K.holds groups b store.old.offset work.old report.old sink.now →
+        OnOk result (IsPutting K.holds groups b store.new.offset work.new report.new sink.now) }
+    ensures put { (groups : List (List SpecRecord)) (b : Beginning) →
+        IsPutting K.holds groups b store.old.offset work.old report.old sink.now →
+        IfErr result (HasHaltedPut K.holds K.may_leave groups b.config b.now b.held
+        store.new.offset report.new sink.now) }
 {
     match work.follower.waits_for() {
         Some(value) => Err(Halt::WatermarkMissing {
@@ -165,7 +183,7 @@ fn turn<S: Source, K: Sink, D: Disk>(
     requires since { work.old.since < work.old.every }
     requires time { IsMomentInRange work.old.now_ms }
     requires number { work.old.number + 1 < 2 ^ 64 }
-    requires messages { report.old.messages < 2 ^ 63 }
+    requires messages { report.old.messages < 2 ^ 30 }
     requires commits { report.old.commits ≤ report.old.messages }
 
     // What goes on, and what may be left.
@@ -244,6 +262,15 @@ fn turn<S: Source, K: Sink, D: Disk>(
         (S.told src.old) →
         IfErr result (Halts S.stands at found b.config b.now b.held store.new.offset report.new
         src.new (S.told src.new)) }
+
+    // What the sink has, and what is left of it.
+    ensures putting { (groups : List (List SpecRecord)) (b : Beginning) →
+        IsPutting K.holds groups b store.old.offset work.old report.old sink.old →
+        OnOk result (IsPutting K.holds groups b store.new.offset work.new report.new sink.new) }
+    ensures put { (groups : List (List SpecRecord)) (b : Beginning) →
+        IsPutting K.holds groups b store.old.offset work.old report.old sink.old →
+        IfErr result (HasHaltedPut K.holds K.may_leave groups b.config b.now b.held
+        store.new.offset report.new sink.new) }
 {
     arm_next(work, src, sink, store)?;
     match next(work, src, sink, store, report)? {
@@ -340,6 +367,15 @@ pub(crate) fn run<S: Source, K: Sink, D: Disk>(
         (S.told src.old) →
         IfErr result (Halts S.stands at found b.config b.now b.held store.new.offset report.new
         src.new (S.told src.new)) }
+
+    // What the sink has, and what is left of it.
+    ensures putting { (groups : List (List SpecRecord)) (b : Beginning) →
+        IsPutting K.holds groups b store.old.offset work.old report.old sink.old →
+        OnOk result (IsPutting K.holds groups b store.new.offset work.new report.new sink.new) }
+    ensures put { (groups : List (List SpecRecord)) (b : Beginning) →
+        IsPutting K.holds groups b store.old.offset work.old report.old sink.old →
+        IfErr result (HasHaltedPut K.holds K.may_leave groups b.config b.now b.held
+        store.new.offset report.new sink.new) }
 {
     'turns: for _count in 0..budget {
         if turn(work, src, sink, store, report)? {

@@ -1,7 +1,8 @@
 //! Windows of a session: rows that are read between two marks.
 
-ghost use Rattle.std.specs.Prelude.{◌≡◌, ◌≢◌, ◌+◌, ◌^◌, ◌<◌, ◌≤◌, Option, Bool, IfErr, IsTrue, OnErr, OnOk};
+ghost use Rattle.std.specs.Prelude.{◌≡◌, ◌≢◌, ◌+◌, ◌^◌, ◌<◌, ◌≤◌, List, Option, Bool, IfErr, IsTrue, OnErr, OnOk};
 ghost use Rattle.dbl_base.specs.Streams.{Rose};
+ghost use Rattle.dbl_record.specs.declared.record.Record.{Record as SpecRecord};
 ghost use Rattle.dbl_honest.specs.Standings.{Standing};
 ghost use Rattle.dbl_honest.specs.Told.{Told};
 ghost use Rattle.dbl_follow.specs.declared.window.Window.TheVariants as windows;
@@ -11,6 +12,7 @@ ghost use Rattle.dbl_work.specs.Works.{IsArmedWork, IsOpenTable, IsReady};
 ghost use Rattle.dbl_exits.specs.Sessions.{InSession, LeavesBy};
 ghost use Rattle.dbl_causes.specs.Carried.{Beginning};
 ghost use Rattle.dbl_causes.specs.Sources.{IsUnderWay};
+ghost use Rattle.dbl_steps.specs.Sinks.{HasHaltedPut, IsPutting};
 ghost use Rattle.dbl_capture.specs.Caused.{Halts};
 
 use dbl_disk::Disk;
@@ -63,6 +65,13 @@ pub(crate) fn arm<S: Source, K: Sink, D: Disk>(
         IsUnderWay S.stands at found b store.now.offset work.old report src.old (S.told src.old) →
         IfErr result (Halts S.stands at found b.config b.now b.held store.now.offset report
         src.new (S.told src.new)) }
+    ensures putting { (groups : List (List SpecRecord)) (b : Beginning) (report : SpecReport) →
+        IsPutting K.holds groups b store.now.offset work.old report sink.now →
+        OnOk result (IsPutting K.holds groups b store.now.offset work.new report sink.now) }
+    ensures put { (groups : List (List SpecRecord)) (b : Beginning) (report : SpecReport) →
+        IsPutting K.holds groups b store.now.offset work.old report sink.now →
+        IfErr result (HasHaltedPut K.holds K.may_leave groups b.config b.now b.held
+        store.now.offset report sink.now) }
 {
     read_window(work, table, src)
 }

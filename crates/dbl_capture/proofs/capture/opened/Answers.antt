@@ -21,6 +21,8 @@ use Rattle.dbl_capture.specs.Begun.{beginning_at}
 use Rattle.dbl_capture.proofs.Telling.{anew_on, fell_on, read_none, start_opens}
 use Rattle.dbl_capture.proofs.Halting.{open_caused}
 use Rattle.dbl_capture.proofs.Telling.{not_both, residual_on}
+use Rattle.dbl_steps.specs.Sinks.{IsPutting}
+use Rattle.dbl_steps.proofs.Sinks.{puts_begin}
 use Rattle.dbl_capture.proofs.capture.opened.Goals as goal
 
 pub returns-in_err-offset-clause-left : goal.returns-in_err-offset-clause-left
@@ -205,3 +207,22 @@ returns-in_err-start-clause-exhausted g c h is = absurd (not_both c.begun.result
 
 pub returns-clause-exhausted : goal.returns-clause-exhausted
 returns-clause-exhausted g c h is = absurd (not_both c.begun.result _ h (c.begun.ensures.exhausted h is) c.in_ok-offset.was)
+
+pub returns-clause-putting : goal.returns-clause-putting
+returns-clause-putting g c groups held none =
+    answer_then c.make.result _ _ c.make.ensures.made
+    (λ work made. (
+      c.in_ok-offset.offset,
+      subst (λ (o : Option Offset). IsPutting g.K.Sink.holds groups (beginning_at c.args.config.now c.args.now_ms c.args.store.now.offset c.in_ok-offset.offset) o work (record c.args.report.now { position = c.in_ok-offset.offset.lsn.0 }) c.args.sink.now) (sym c.in_ok-offset.ensures.loads)
+          (puts_begin g.K.Sink.holds g.K.Sink.may_leave groups (beginning_at c.args.config.now c.args.now_ms c.args.store.now.offset c.in_ok-offset.offset) c.args.config.now.every work (record c.args.report.now { position = c.in_ok-offset.offset.lsn.0 }) c.args.sink.now c.in_ok-offset.ensures.of
+          (subst (λ (n : ℤ). IsBegun c.in_ok-offset.offset n c.args.config.now.chunk c.args.config.now.every work) (to_z-of_z c.ranges.now_ms) made) none.0 none.1 none.2 none.3 none.4 held),
+    ))
+
+pub returns-in_err-offset-clause-counts : goal.returns-in_err-offset-clause-counts
+returns-in_err-offset-clause-counts g c = (refl, refl, refl)
+
+pub returns-in_err-start-clause-counts : goal.returns-in_err-start-clause-counts
+returns-in_err-start-clause-counts g c = (refl, refl, refl)
+
+pub returns-clause-counts : goal.returns-clause-counts
+returns-clause-counts g c = (refl, refl, refl)

@@ -1,4 +1,4 @@
-use Rattle.std.proofs.Common.{◌≡◌, ◌∙◌, arith, inl, inr, ℤ, true, false, Some, None, [], Ok, refl, sym, subst}
+use Rattle.std.proofs.Common.{◌≡◌, ◌∙◌, arith, inl, inr, ℤ, true, false, Some, None, [], Ok, Err, refl, sym, ap, subst}
 use Rattle.std.specs.Prelude.{OnOk}
 use Rattle.std.proofs.Math.Facts.{to_z-of_z}
 use Rattle.dbl_history.specs.Ranges.{IsMomentInRange}
@@ -24,6 +24,11 @@ use Rattle.dbl_capture.proofs.Telling.{answer_as, at_none, at_some, residual_as}
 use Rattle.dbl_exits.specs.Sessions.{standing_at}
 use Rattle.dbl_capture.proofs.Marking.{exact_budget, exact_complete, exact_left, exactly_by}
 use Rattle.dbl_capture.proofs.Telling.{not_both, residual_on}
+use Rattle.dbl_work.specs.declared.halt.Halt.{Halt}
+use Rattle.dbl_causes.specs.Gained.{IsReported}
+use Rattle.dbl_steps.specs.Sinks.{IsPutting}
+use Rattle.dbl_steps.proofs.Sinks.{left_gains, rests_put, still_counted}
+use Rattle.dbl_capture.proofs.Sinking.{counts_nothing, either_of, gains_nothing, reported_other}
 use Rattle.dbl_capture.proofs.capture.session.Goals as goal
 
 -- it didn't begin
@@ -260,3 +265,29 @@ returns-in_err-work-clause-exhausted g c h is = residual_on c.opened.result c.fr
 
 pub returns-clause-exhausted : goal.returns-clause-exhausted
 returns-clause-exhausted g c h is = absurd (not_both c.opened.result _ h (c.opened.ensures.exhausted h is) c.in_ok-work.was)
+
+pub returns-in_err-work-clause-grouped : goal.returns-in_err-work-clause-grouped
+returns-in_err-work-clause-grouped g c groups left held may = gains_nothing c.args.config.now c.args.now_ms c.args.offsets.now.offset c.opened.new.store.offset groups left (g.met.K.Sink.only c.args.sink.now groups left held may)
+
+pub returns-in_err-work-clause-counted : goal.returns-in_err-work-clause-counted
+returns-in_err-work-clause-counted g c groups held =
+    residual_as c.from_residual.result _ (λ x. IsReported g.K.Sink.holds g.K.Sink.may_leave groups x c.args.sink.now c.opened.new.report) c.from_residual.ensures.1
+    (reported_other g.K.Sink.holds g.K.Sink.may_leave groups _ c.args.sink.now c.opened.new.report (λ is. c.opened.ensures.sink (c.in_err-work.was ∙ ap (λ (h : Halt). Err h) is)) (counts_nothing g.K.Sink.holds groups c.args.sink.now c.opened.new.report held c.opened.ensures.counts.0 c.opened.ensures.counts.1 c.opened.ensures.counts.2))
+
+pub returns-clause-grouped : goal.returns-clause-grouped
+returns-clause-grouped g c groups left held may =
+    let way = c.in_ok-work.ensures.putting groups held (refl, refl, refl, refl, refl) in
+    let b = beginning_at c.args.config.now c.args.now_ms c.args.offsets.now.offset way.0 in
+    let u = subst (λ (n : ℤ). IsPutting g.K.Sink.holds groups (beginning_at c.args.config.now n c.args.offsets.now.offset way.0) c.opened.new.store.offset c.in_ok-work.work c.opened.new.report c.args.sink.now) (to_z-of_z c.ranges.now_ms) way.1 in
+    let on = c.run.ensures.putting groups b u in
+    let put = c.run.ensures.put groups b u in
+    either_of c.run.result _ _ _ on put (λ x. left_gains g.K.Sink.holds g.K.Sink.may_leave groups b c.run.new.store.offset c.run.new.sink c.run.new.work c.run.new.report (rests_put g.K.Sink.holds g.K.Sink.may_leave groups b c.run.new.store.offset c.run.new.sink c.run.new.work c.run.new.report x) (g.met.K.Sink.only c.run.new.sink) left may) (λ h x. x.grouped left may)
+
+pub returns-clause-counted : goal.returns-clause-counted
+returns-clause-counted g c groups held =
+    let way = c.in_ok-work.ensures.putting groups held (refl, refl, refl, refl, refl) in
+    let b = beginning_at c.args.config.now c.args.now_ms c.args.offsets.now.offset way.0 in
+    let u = subst (λ (n : ℤ). IsPutting g.K.Sink.holds groups (beginning_at c.args.config.now n c.args.offsets.now.offset way.0) c.opened.new.store.offset c.in_ok-work.work c.opened.new.report c.args.sink.now) (to_z-of_z c.ranges.now_ms) way.1 in
+    let on = c.run.ensures.putting groups b u in
+    let put = c.run.ensures.put groups b u in
+    answer_as c.run.result _ _ (λ r. IsReported g.K.Sink.holds g.K.Sink.may_leave groups r c.run.new.sink c.run.new.report) on put (λ x e. still_counted g.K.Sink.holds g.K.Sink.may_leave groups b c.run.new.store.offset c.run.new.sink c.run.new.work c.run.new.report (rests_put g.K.Sink.holds g.K.Sink.may_leave groups b c.run.new.store.offset c.run.new.sink c.run.new.work c.run.new.report x) (g.met.K.Sink.only c.run.new.sink) c.run.new.report refl refl refl) (λ h x. x.counted)

@@ -1,4 +1,4 @@
-use Rattle.std.proofs.Common.{◌∙◌, ◌+◌, ◌<◌, inl, ℕ, List, Some, None, Option, Err, refl, sym, ap, subst, arith}
+use Rattle.std.proofs.Common.{◌≡◌, ◌∙◌, ◌+◌, ◌++◌, ◌<◌, inl, length, ℕ, List, Some, None, Option, Err, refl, sym, ap, subst, arith}
 use Rattle.std.specs.Prelude.{IfSome, All, is_none}
 use Rattle.std.proofs.lemmas.Result.{err_from_is_err_and}
 use Rattle.dbl_table.specs.declared.change.Commit.{Commit}
@@ -20,6 +20,11 @@ use Rattle.dbl_causes.proofs.Sources.{at_rest, follows_at_rest, follows_on, halt
 use Rattle.dbl_capture.proofs.Telling.{follow_cause, goes_due, source_left, taken_cause, torn_counts}
 use Rattle.dbl_capture.proofs.Halting.{follow_caused, source_caused, taken_caused}
 use Rattle.dbl_honest.specs.Told.{Read, Tells}
+use Rattle.dbl_record.specs.Cuts.{cut}
+use Rattle.dbl_work.specs.declared.halt.Halt.TheVariants as halt
+use Rattle.dbl_steps.specs.Sinks.{HasHaltedPut}
+use Rattle.dbl_steps.proofs.Sinks.{commits_put, commits_put_at_rest, halts_put_nothing, messages_put_nothing, rests_put}
+use Rattle.dbl_capture.proofs.Sinking.{few_taken, follow_puts, none_other, puts_due, source_other}
 use Rattle.dbl_capture.proofs.messages.next.Goals as goal
 
 pub returns-in_err-bytes-clause-left : goal.returns-in_err-bytes-clause-left
@@ -215,3 +220,34 @@ returns-clause-under_way g c at found b u =
 
 pub returns-clause-nothing : goal.returns-clause-nothing
 returns-clause-nothing g c is = subst (λ (o : Option (List ℕ)). Tells (g.S.Source.told c.read.new.self) (Read o)) c.in-None.is c.in_ok-bytes.ensures.told
+
+pub returns-in_err-bytes-clause-put : goal.returns-in_err-bytes-clause-put
+returns-in_err-bytes-clause-put g c groups b u =
+    residual_of c.from_residual.result _ (HasHaltedPut g.K.Sink.holds g.K.Sink.may_leave groups b.config b.now b.held c.args.store.now.offset c.args.report.now c.args.sink.now) c.from_residual.ensures.1
+    (halts_put_nothing g.K.Sink.holds g.K.Sink.may_leave groups b c.args.store.now.offset c.args.store.now.offset c.args.work.now c.args.report.now c.args.report.now c.args.sink.now _ (rests_put g.K.Sink.holds g.K.Sink.may_leave groups b c.args.store.now.offset c.args.sink.now c.args.work.now c.args.report.now u) (g.met.K.Sink.only c.args.sink.now) (source_other _ (source_of c.in_err-bytes.field-0.0)) refl refl refl (inl refl))
+
+pub returns-in_err-commit-in-Some-clause-put : goal.returns-in_err-commit-in-Some-clause-put
+returns-in_err-commit-in-Some-clause-put g c groups b u =
+    residual_of c.from_residual-in_err-commit-in-Some.result _ (HasHaltedPut g.K.Sink.holds g.K.Sink.may_leave groups b.config b.now b.held c.args.store.now.offset (record c.args.report.now { messages = c.args.report.now.messages + 1 }) c.args.sink.now) c.from_residual-in_err-commit-in-Some.ensures.1
+    (halts_put_nothing g.K.Sink.holds g.K.Sink.may_leave groups b c.args.store.now.offset c.args.store.now.offset c.args.work.now c.args.report.now (record c.args.report.now { messages = c.args.report.now.messages + 1 }) c.args.sink.now _ (rests_put g.K.Sink.holds g.K.Sink.may_leave groups b c.args.store.now.offset c.args.sink.now c.args.work.now c.args.report.now u) (g.met.K.Sink.only c.args.sink.now) (none_other _ (taken_of _ c.requires.ready.after c.requires.ready.messages c.in-Some.bytes c.args.work.now _ (c.in_err-commit-in-Some.ensures.halt c.requires.ready.after c.requires.ready.messages c.requires.ready.is))) refl refl refl (inl refl))
+
+pub returns-in_err-closed-in-Some-2-clause-put : goal.returns-in_err-closed-in-Some-2-clause-put
+returns-in_err-closed-in-Some-2-clause-put g c groups b u =
+    residual_of c.from_residual-in_err-closed-in-Some-2.result _ (HasHaltedPut g.K.Sink.holds g.K.Sink.may_leave groups b.config b.now b.held c.args.store.now.offset c.follow.new.report c.follow.new.sink) c.from_residual-in_err-closed-in-Some-2.ensures.1
+    (follow_puts g.K.Sink.holds g.K.Sink.may_leave groups b c.args.store.now.offset c.args.sink.now c.follow.new.sink c.args.work.now c.taken.new.work c.args.report.now c.follow.new.report u c.in-Some.bytes c.in-Some-2.commit (subst (WasTaken b.first.lsn u.messages c.in-Some.bytes c.args.work.now c.taken.new.work) c.in-Some-2.is (c.in_ok-commit-in-Some.ensures.taken b.first.lsn u.messages u.is.is.is)) (few_taken (length u.messages) c.args.report.now.messages u.is.is.many c.requires.messages) c.requires.time c.in_err-closed-in-Some-2.field-0.0
+    (λ left may. c.follow.ensures.left (groups ++ cut u.put.records) left u.put.held may) (g.met.K.Sink.may c.follow.new.sink)
+    (λ other. c.in_err-closed-in-Some-2.ensures.kept (groups ++ cut u.put.records) u.put.held (λ is. let same : c.in_err-closed-in-Some-2.field-0.0 ≡ halt.Sink = cc in other same))
+    (λ is. c.in_err-closed-in-Some-2.ensures.torn (groups ++ cut u.put.records) u.put.held (ap (λ (k : Halt). Err k) is)) (c.follow.ensures.some (groups ++ cut u.put.records) u.put.held) _ _ c.in_err-closed-in-Some-2.ensures.halt)
+
+pub returns-in-Some-2-clause-putting : goal.returns-in-Some-2-clause-putting
+returns-in-Some-2-clause-putting g c groups b u =
+    puts_due g.K.Sink.holds groups b c.args.store.now.offset c.follow.new.work c.follow.new.report c.follow.new.sink c.is_due.result
+    (λ due. commits_put g.K.Sink.holds g.K.Sink.may_leave groups b c.args.store.now.offset c.args.sink.now c.follow.new.sink c.args.work.now c.taken.new.work c.follow.new.work c.args.report.now c.follow.new.report u c.in-Some.bytes c.in-Some-2.commit (subst (WasTaken b.first.lsn u.messages c.in-Some.bytes c.args.work.now c.taken.new.work) c.in-Some-2.is (c.in_ok-commit-in-Some.ensures.taken b.first.lsn u.messages u.is.is.is)) c.in_ok-closed-in-Some-2.ensures.stepped c.in_ok-closed-in-Some-2.ensures.long c.requires.number (few_taken (length u.messages) c.args.report.now.messages u.is.is.many c.requires.messages) c.requires.time c.in_ok-closed-in-Some-2.ensures.noted (c.in_ok-closed-in-Some-2.ensures.put (groups ++ cut u.put.records) u.put.held))
+    (λ due. commits_put_at_rest g.K.Sink.holds g.K.Sink.may_leave groups b c.args.store.now.offset c.args.sink.now c.follow.new.sink c.args.work.now c.taken.new.work c.follow.new.work c.args.report.now c.follow.new.report u c.in-Some.bytes c.in-Some-2.commit (subst (WasTaken b.first.lsn u.messages c.in-Some.bytes c.args.work.now c.taken.new.work) c.in-Some-2.is (c.in_ok-commit-in-Some.ensures.taken b.first.lsn u.messages u.is.is.is)) c.in_ok-closed-in-Some-2.ensures.stepped c.in_ok-closed-in-Some-2.ensures.long c.requires.number (few_taken (length u.messages) c.args.report.now.messages u.is.is.many c.requires.messages) c.requires.time c.in_ok-closed-in-Some-2.ensures.noted (c.in_ok-closed-in-Some-2.ensures.put (groups ++ cut u.put.records) u.put.held) (sym c.in_ok-closed-in-Some-2.ensures.closes ∙ c.is_due.ensures.open due))
+
+pub returns-in-Some-clause-putting : goal.returns-in-Some-clause-putting
+returns-in-Some-clause-putting g c groups b u =
+    messages_put_nothing g.K.Sink.holds g.K.Sink.may_leave groups b c.args.store.now.offset c.args.sink.now c.args.work.now c.taken.new.work c.args.report.now (record c.args.report.now { messages = c.args.report.now.messages + 1 }) u c.in-Some.bytes (subst (WasTaken b.first.lsn u.messages c.in-Some.bytes c.args.work.now c.taken.new.work) c.in-None-2.is (c.in_ok-commit-in-Some.ensures.taken b.first.lsn u.messages u.is.is.is)) refl
+
+pub returns-clause-putting : goal.returns-clause-putting
+returns-clause-putting g c groups b u = u

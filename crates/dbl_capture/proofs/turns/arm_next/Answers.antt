@@ -40,3 +40,12 @@ returns-in-Some-clause-halted g c = c.arm.ensures.halted
 
 pub returns-in-None-clause-under_way : goal.returns-in-None-clause-under_way
 returns-in-None-clause-under_way g c at found b report u = u
+
+pub returns-in-Some-clause-putting : goal.returns-in-Some-clause-putting
+returns-in-Some-clause-putting g c = c.arm.ensures.putting
+
+pub returns-in-Some-clause-put : goal.returns-in-Some-clause-put
+returns-in-Some-clause-put g c = c.arm.ensures.put
+
+pub returns-in-None-clause-putting : goal.returns-in-None-clause-putting
+returns-in-None-clause-putting g c groups b report u = u

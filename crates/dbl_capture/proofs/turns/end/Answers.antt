@@ -11,6 +11,9 @@ use Rattle.dbl_capture.specs.Caused.{Halts}
 use Rattle.dbl_causes.proofs.Sources.{at_rest, halts_between}
 use Rattle.dbl_capture.proofs.Telling.{memory_left}
 use Rattle.dbl_capture.proofs.Halting.{memory_caused, missed_caused}
+use Rattle.dbl_steps.specs.Sinks.{HasHaltedPut}
+use Rattle.dbl_steps.proofs.Sinks.{halts_put_nothing, rests_put}
+use Rattle.dbl_capture.proofs.Sinking.{none_other}
 use Rattle.dbl_capture.proofs.turns.end.Goals as goal
 
 pub returns-in_err-copy-in-Some-clause-left : goal.returns-in_err-copy-in-Some-clause-left
@@ -67,3 +70,18 @@ returns-in-None-clause-all g c at found b u = c.settle.ensures.all at found b (a
 
 pub returns-in-None-clause-halted : goal.returns-in-None-clause-halted
 returns-in-None-clause-halted g c at found b u answer = c.settle.ensures.halted at found b (at_rest g.S.Source.stands at found b c.args.store.now.offset c.args.work.now c.args.report.now c.args.src.now (g.S.Source.told c.args.src.now) u)
+
+pub returns-in_err-copy-in-Some-clause-put : goal.returns-in_err-copy-in-Some-clause-put
+returns-in_err-copy-in-Some-clause-put g c groups b u =
+    residual_of c.from_residual.result halt.Memory (HasHaltedPut g.K.Sink.holds g.K.Sink.may_leave groups b.config b.now b.held c.args.store.now.offset c.args.report.now c.args.sink.now) c.from_residual.ensures.1
+    (halts_put_nothing g.K.Sink.holds g.K.Sink.may_leave groups b c.args.store.now.offset c.args.store.now.offset c.args.work.now c.args.report.now c.args.report.now c.args.sink.now halt.Memory (rests_put g.K.Sink.holds g.K.Sink.may_leave groups b c.args.store.now.offset c.args.sink.now c.args.work.now c.args.report.now u) (g.met.K.Sink.only c.args.sink.now) (none_other halt.Memory tt) refl refl refl (inl refl))
+
+pub returns-in_ok-copy-in-Some-clause-put : goal.returns-in_ok-copy-in-Some-clause-put
+returns-in_ok-copy-in-Some-clause-put g c groups b u =
+    halts_put_nothing g.K.Sink.holds g.K.Sink.may_leave groups b c.args.store.now.offset c.args.store.now.offset c.args.work.now c.args.report.now c.args.report.now c.args.sink.now _ (rests_put g.K.Sink.holds g.K.Sink.may_leave groups b c.args.store.now.offset c.args.sink.now c.args.work.now c.args.report.now u) (g.met.K.Sink.only c.args.sink.now) (λ is. cc) refl refl refl (inl refl)
+
+pub returns-in-None-clause-putting : goal.returns-in-None-clause-putting
+returns-in-None-clause-putting g c groups b u = c.settle.ensures.putting groups b (rests_put g.K.Sink.holds g.K.Sink.may_leave groups b c.args.store.now.offset c.args.sink.now c.args.work.now c.args.report.now u)
+
+pub returns-in-None-clause-put : goal.returns-in-None-clause-put
+returns-in-None-clause-put g c groups b u = c.settle.ensures.put groups b (rests_put g.K.Sink.holds g.K.Sink.may_leave groups b c.args.store.now.offset c.args.sink.now c.args.work.now c.args.report.now u)

@@ -9,12 +9,15 @@ use Rattle.dbl_capture.proofs.Reporting.{at_stored, counts_stored, own_stored, p
 use Rattle.dbl_capture.specs.Caused.{Halts}
 use Rattle.dbl_causes.proofs.Sources.{at_rest}
 use Rattle.dbl_capture.proofs.Marking.{none_settled}
+use Rattle.dbl_steps.specs.Sinks.{HasHaltedPut}
+use Rattle.dbl_steps.proofs.Sinks.{rests_put}
 use Rattle.dbl_capture.proofs.turns.run.Goals as goal
 
 pub turns-init : goal.turns-init
 turns-init g c = record {
   kept = λ tell entry s honest. s;
   under_way = λ at found b u. u;
+  putting = λ groups b u. u;
   ready = c.requires.ready;
   offset_is = refl;
   stored = λ own. own;
@@ -41,6 +44,7 @@ pub turns-preserved : goal.turns-preserved
 turns-preserved g c = record {
   kept = λ tell entry s honest. c.in_ok-turn.ensures.turned tell entry (c.turns.invariant.kept tell entry s (c.turn.ensures.honest honest)) honest;
   under_way = λ at found b u. c.in_ok-turn.ensures.under_way at found b (c.turns.invariant.under_way at found b u);
+  putting = λ groups b u. c.in_ok-turn.ensures.putting groups b (c.turns.invariant.putting groups b u);
   ready = c.in_ok-turn.ensures.ready;
   offset_is = placed_on c.args.work.now.offset c.turns.work.offset c.turn.new.work.offset c.turns.invariant.offset_is c.in_ok-turn.ensures.offset_is;
   stored = λ own. c.turn.ensures.stored c.args.work.now.offset c.turns.invariant.offset_is (c.turns.invariant.stored own);
@@ -393,3 +397,18 @@ returns-then-branch-clause-none g c = (c.turn.ensures.none (c.in_ok-turn.was ∙
 
 pub returns-then-branch-clause-waited : goal.returns-then-branch-clause-waited
 returns-then-branch-clause-waited g c is = (c.turn.ensures.none (c.in_ok-turn.was ∙ ap (λ (x : Bool). Ok x) c.if-branch.true)).1
+
+pub returns-in_err-turn-clause-put : goal.returns-in_err-turn-clause-put
+returns-in_err-turn-clause-put g c groups b u = residual_of c.from_residual.result _ (HasHaltedPut g.K.Sink.holds g.K.Sink.may_leave groups b.config b.now b.held c.turn.new.store.offset c.turn.new.report c.turn.new.sink) c.from_residual.ensures.1 (c.in_err-turn.ensures.put groups b (c.turns.invariant.putting groups b u))
+
+pub returns-in_err-arm_next-clause-put : goal.returns-in_err-arm_next-clause-put
+returns-in_err-arm_next-clause-put g c groups b u = residual_of c.from_residual-in_err-arm_next.result _ (HasHaltedPut g.K.Sink.holds g.K.Sink.may_leave groups b.config b.now b.held c.turns.store.offset c.turns.report c.turns.sink) c.from_residual-in_err-arm_next.ensures.1 (c.in_err-arm_next.ensures.put groups b c.turns.report (c.turns.invariant.putting groups b u))
+
+pub returns-in_err-settle-clause-put : goal.returns-in_err-settle-clause-put
+returns-in_err-settle-clause-put g c groups b u = residual_of c.from_residual-in_err-settle.result _ (HasHaltedPut g.K.Sink.holds g.K.Sink.may_leave groups b.config b.now b.held c.settle.new.store.offset c.settle.new.report c.turns.sink) c.from_residual-in_err-settle.ensures.1 (c.in_err-settle.ensures.put groups b (rests_put g.K.Sink.holds g.K.Sink.may_leave groups b c.turns.store.offset c.turns.sink c.arm_next.new.work c.turns.report (c.in_ok-arm_next.ensures.putting groups b c.turns.report (c.turns.invariant.putting groups b u))))
+
+pub returns-clause-putting : goal.returns-clause-putting
+returns-clause-putting g c groups b u = c.in_ok-settle.ensures.putting groups b (rests_put g.K.Sink.holds g.K.Sink.may_leave groups b c.turns.store.offset c.turns.sink c.arm_next.new.work c.turns.report (c.in_ok-arm_next.ensures.putting groups b c.turns.report (c.turns.invariant.putting groups b u)))
+
+pub returns-then-branch-clause-putting : goal.returns-then-branch-clause-putting
+returns-then-branch-clause-putting g c groups b u = c.in_ok-turn.ensures.putting groups b (c.turns.invariant.putting groups b u)

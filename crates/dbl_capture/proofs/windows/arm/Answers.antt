@@ -7,6 +7,9 @@ use Rattle.dbl_capture.specs.Caused.{Halts}
 use Rattle.dbl_causes.proofs.Sources.{arms_on, at_rest, halts_between}
 use Rattle.dbl_capture.proofs.Telling.{chunk_left, ok_both}
 use Rattle.dbl_capture.proofs.Halting.{chunk_caused}
+use Rattle.dbl_steps.specs.Sinks.{HasHaltedPut}
+use Rattle.dbl_steps.proofs.Sinks.{halts_put_nothing, rests_put, windows_put_nothing}
+use Rattle.dbl_capture.proofs.Sinking.{source_other}
 use Rattle.dbl_capture.proofs.windows.arm.Goals as goal
 
 pub returns-clause-armed : goal.returns-clause-armed
@@ -46,3 +49,12 @@ pub returns-clause-halted : goal.returns-clause-halted
 returns-clause-halted g c at found b report u =
     err_then c.read_window.result _ (Halts g.S.Source.stands at found b.config b.now b.held c.args.store.now.offset report c.read_window.new.src (g.S.Source.told c.read_window.new.src)) c.read_window.ensures.halt
     (λ h chunk. record { halted = halts_between g.S.Source.stands at found b c.args.store.now.offset c.args.store.now.offset c.args.work.now report report c.args.src.now c.read_window.new.src (g.S.Source.told c.args.src.now) (g.S.Source.told c.read_window.new.src) h (at_rest g.S.Source.stands at found b c.args.store.now.offset c.args.work.now report c.args.src.now (g.S.Source.told c.args.src.now) u) c.read_window.ensures.taken c.read_window.ensures.still (chunk_left c.args.work.now c.args.table _ h chunk) refl refl (inl refl); cause = chunk_caused b u.messages c.args.store.now.offset c.args.work.now report c.args.table (g.S.Source.told c.read_window.new.src) h u.is c.requires.absent c.requires.table chunk })
+
+pub returns-clause-putting : goal.returns-clause-putting
+returns-clause-putting g c groups b report u =
+    ok_then c.read_window.result _ _ c.read_window.ensures.same (λ armed. windows_put_nothing g.K.Sink.holds g.K.Sink.may_leave groups b c.args.store.now.offset c.args.sink.now c.args.work.now c.read_window.new.work c.args.table report u c.requires.absent c.requires.table armed)
+
+pub returns-clause-put : goal.returns-clause-put
+returns-clause-put g c groups b report u =
+    err_then c.read_window.result _ (HasHaltedPut g.K.Sink.holds g.K.Sink.may_leave groups b.config b.now b.held c.args.store.now.offset report c.args.sink.now) c.read_window.ensures.halt
+    (λ h chunk. halts_put_nothing g.K.Sink.holds g.K.Sink.may_leave groups b c.args.store.now.offset c.args.store.now.offset c.args.work.now report report c.args.sink.now h (rests_put g.K.Sink.holds g.K.Sink.may_leave groups b c.args.store.now.offset c.args.sink.now c.args.work.now report u) (g.met.K.Sink.only c.args.sink.now) (source_other h (chunk_of c.args.work.now c.args.table _ h chunk)) refl refl refl (inl refl))

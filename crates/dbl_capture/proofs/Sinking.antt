@@ -1,0 +1,113 @@
+-- What the sink has where a session goes on, and what is left of it where it halts.
+use Rattle.std.proofs.Common.{◌≡◌, ◌∙◌, ◌⊎◌, inl, inr, ◌+◌, ◌<◌, ◌^◌, ℕ, ℤ, Bool, true, false, Option, Some, None, List, [], ◌++◌, Result, Ok, Err, length, refl, sym, ap, subst, append-nil, arith}
+use Rattle.std.specs.Prelude.{IfErr, OnOk, is_some}
+use Rattle.dbl_record.specs.declared.record.Record.{Record}
+use Rattle.dbl_record.specs.Cuts.{cut}
+use Rattle.dbl_table.specs.declared.config.Config.{Config}
+use Rattle.dbl_table.specs.declared.change.Commit.{Commit}
+use Rattle.dbl_event.specs.Clashes.{Clash}
+use Rattle.dbl_history.specs.Ranges.{IsMomentInRange}
+use Rattle.dbl_offset.specs.declared.offset.Offset.{Offset}
+use Rattle.dbl_follow.specs.Steps.{mark_of, records_by}
+use Rattle.dbl_work.specs.declared.halt.Halt.{Halt}
+use Rattle.dbl_work.specs.declared.halt.Halt.TheVariants as halt
+use Rattle.dbl_work.specs.declared.report.Ending.{Ending}
+use Rattle.dbl_work.specs.declared.report.Report.{Report}
+use Rattle.dbl_work.specs.declared.work.Work.{Work}
+use Rattle.dbl_work.specs.Causes.{IsLongRecord}
+use Rattle.dbl_work.specs.Groups.{HoldsPut, WasTorn, counted}
+use Rattle.dbl_work.specs.Takes.{IsClashIn, IsLeftByStep, WasTaken}
+use Rattle.dbl_causes.specs.Gained.{Gains, HasCounted, IsReported}
+use Rattle.dbl_causes.specs.Carried.{Beginning}
+use Rattle.dbl_steps.specs.Sinks.{HasHaltedPut, HasPutCommit, IsPutting}
+use Rattle.dbl_steps.proofs.Sinks.{commits_halt, puts_fail}
+use Rattle.dbl_capture.specs.Putting.{PutsOn}
+use Rattle.dbl_capture.proofs.Causes.{OfNone, OfSource, OfStore}
+
+-- ---- halts that aren't the sink's
+
+pub source_other : (h : Halt) → OfSource h → h ≡ halt.Sink → ⊥
+source_other h of is = subst OfSource is of
+
+pub store_other : (h : Halt) → OfStore h → h ≡ halt.Sink → ⊥
+store_other h of is = subst OfStore is of
+
+pub none_other : (h : Halt) → OfNone h → h ≡ halt.Sink → ⊥
+none_other h of is = subst OfNone is of
+
+memory_other : (h : Halt) → h ≡ halt.Memory → h ≡ halt.Sink → ⊥
+memory_other h memory is = cc
+
+clash_other : (clash : Option Clash) (h : Halt) → IsClashIn clash h → h ≡ halt.Sink → ⊥
+clash_other None h clash is = absurd clash
+clash_other (Some c) h clash is = cc
+
+long_other : (records : List Record) (h : Halt) → IsLongRecord records h → h ≡ halt.Sink → ⊥
+long_other records h long is = let at = long.is in cc
+
+pub either_of : {T : Type 0} (r : Result T Halt) (A : Type 0) (B : Halt → Type 0) (C : Type 0) → OnOk r A → IfErr r B → (A → C) → ((h : Halt) → B h → C) → C
+either_of (Ok x) A B C a b f g = f a
+either_of (Err h) A B C a b f g = g h b
+
+-- ---- it goes on
+
+module _ {K : Type 0} (holds : K → List (List Record) → Type 0) (groups : List (List Record)) (b : Beginning) (stored : Option Offset) (work : Work) (report : Report) (sink : K) where
+  pub puts_due : (due : Bool) → (due ≡ true → HasPutCommit holds groups b stored work report sink) → (due ≡ false → IsPutting holds groups b stored work report sink) → PutsOn holds groups b stored work report sink (Some due)
+  puts_due true committed rests = committed refl
+  puts_due false committed rests = rests refl
+
+  pub puts_true : (o : Option Bool) (due : Bool) → o ≡ Some due → due ≡ true → PutsOn holds groups b stored work report sink o → HasPutCommit holds groups b stored work report sink
+  puts_true o due is yes_is puts = subst (λ (x : Option Bool). PutsOn holds groups b stored work report sink x) (is ∙ ap (λ (d : Bool). Some d) yes_is) puts
+
+  pub puts_false : (o : Option Bool) (due : Bool) → o ≡ Some due → due ≡ false → PutsOn holds groups b stored work report sink o → IsPutting holds groups b stored work report sink
+  puts_false o due is no_is puts = subst (λ (x : Option Bool). PutsOn holds groups b stored work report sink x) (is ∙ ap (λ (d : Bool). Some d) no_is) puts
+
+  pub puts_none : (o : Option Bool) → o ≡ None → PutsOn holds groups b stored work report sink o → IsPutting holds groups b stored work report sink
+  puts_none o is puts = subst (λ (x : Option Bool). PutsOn holds groups b stored work report sink x) is puts
+
+-- so many messages were taken
+pub few_taken : (n m : ℕ) → n ≡ m → m < 2 ^ 30 → n < 2 ^ 30
+few_taken n m is lt = omega (arith, is, lt)
+
+-- ---- in the middle of a commit
+
+module _ {K : Type 0} (holds may_leave : K → List (List Record) → Type 0) (groups : List (List Record)) (b : Beginning) (stored : Option Offset) (sink sink2 : K) (old next : Work) (before report : Report) (u : IsPutting holds groups b stored old before sink)
+    (bytes : List ℕ) (commit : Commit) (w : WasTaken b.first.lsn u.messages bytes old next (Some commit)) (many : length u.messages < 2 ^ 30) (moment : IsMomentInRange old.now_ms) (h : Halt)
+    (leaves : (left : List (List Record)) → may_leave sink2 left → IsLeftByStep commit next (groups ++ cut u.put.records) left) (may : (held : List (List Record)) → holds sink2 held → may_leave sink2 held)
+    (kept : (h ≡ halt.Sink → ⊥) → HoldsPut holds (groups ++ cut u.put.records) (is_some (mark_of commit)) (records_by next.follower commit next.now_ms) (record before { messages = before.messages + 1 }) report sink2)
+    (torn : h ≡ halt.Sink → WasTorn may_leave (groups ++ cut u.put.records) (is_some (mark_of commit)) (records_by next.follower commit next.now_ms) (record before { messages = before.messages + 1 }) report sink2)
+    (some : (left : List (List Record)) × may_leave sink2 left) where
+  other_halts : (h ≡ halt.Sink → ⊥) → HasHaltedPut holds may_leave groups b.config b.now b.held stored report sink2 h
+  other_halts other = commits_halt holds may_leave groups b stored sink sink2 old next before report u bytes commit w many moment h leaves may other (kept other)
+
+  pub follow_puts : (clash : Option Clash) (records : List Record) → (h ≡ halt.Memory) ⊎ ((h ≡ halt.Sink) ⊎ (IsClashIn clash h ⊎ ((clash ≡ None) × IsLongRecord records h))) → HasHaltedPut holds may_leave groups b.config b.now b.held stored report sink2 h
+  follow_puts clash records (inl memory) = other_halts (memory_other h memory)
+  follow_puts clash records (inr (inl failed)) = puts_fail holds may_leave groups b stored sink sink2 old next before report u bytes commit w many moment h leaves failed (torn failed) some
+  follow_puts clash records (inr (inr (inl is))) = other_halts (clash_other clash h is)
+  follow_puts clash records (inr (inr (inr long))) = other_halts (long_other records h long.1)
+
+-- ---- nothing was put
+
+pub gains_nothing : (config : Config) (now : ℤ) (old new : Option Offset) (groups left : List (List Record)) → left ≡ groups → Gains config now old new groups left
+gains_nothing config now old None groups left same = same
+gains_nothing config now old (Some offset) groups left same = record {
+  commits = [];
+  records = [];
+  sent = record { parts = []; each = tt; whole = refl; rising = tt };
+  count = 0;
+  is = same ∙ sym (append-nil groups);
+}
+
+no_count : (n : ℕ) → n ≡ 0 → n ≡ counted 0 0
+no_count n is = is
+
+pub counts_nothing : {K : Type 0} (holds : K → List (List Record) → Type 0) (groups : List (List Record)) (sink : K) (report : Report) → holds sink groups → report.records ≡ 0 → report.chunks ≡ 0 → report.snapshot_rows ≡ 0 → HasCounted holds groups sink report
+counts_nothing holds groups sink report held one two three = record {
+  more = [];
+  held = subst (holds sink) (sym (append-nil groups)) held;
+  are = record { records = no_count report.records one; chunks = no_count report.chunks two; rows = no_count report.snapshot_rows three };
+}
+
+pub reported_other : {K : Type 0} (holds may_leave : K → List (List Record) → Type 0) (groups : List (List Record)) (h : Halt) (sink : K) (report : Report) → (h ≡ halt.Sink → ⊥) → HasCounted holds groups sink report → IsReported {A = Ending} holds may_leave groups (Err h) sink report
+reported_other holds may_leave groups halt.Sink sink report other is = absurd (other refl)
+reported_other holds may_leave groups h sink report other is = is

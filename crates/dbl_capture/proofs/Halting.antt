@@ -2,6 +2,7 @@
 use Rattle.std.proofs.Common.{◌≡◌, ◌⊎◌, inl, inr, ◌+◌, ℕ, ℤ, Option, Some, None, List, [], ◌∷◌, refl, sym, subst}
 use Rattle.dbl_pgmsg.specs.declared.messages.Message.{Message}
 use Rattle.dbl_record.specs.declared.record.Record.{Record}
+use Rattle.dbl_table.specs.declared.change.Commit.{Commit}
 use Rattle.dbl_table.specs.declared.config.Config.{Config}
 use Rattle.dbl_event.specs.Clashes.{Clash}
 use Rattle.dbl_honest.specs.Told.{Told, IsTakenBy, Read, Tells}
@@ -11,6 +12,7 @@ use Rattle.dbl_reading.specs.declared.error.SourceError.{SourceError}
 use Rattle.dbl_reading.specs.declared.error.SourceError.TheVariants as source
 use Rattle.dbl_follow.specs.declared.window.Window.TheVariants.{Absent}
 use Rattle.dbl_follow.specs.Followed.{awaited}
+use Rattle.dbl_follow.specs.Steps.{clash_by, records_by}
 use Rattle.dbl_work.specs.declared.halt.Halt.{Halt}
 use Rattle.dbl_work.specs.declared.halt.Halt.TheVariants as halt
 use Rattle.dbl_work.specs.declared.report.Report.{Report}
@@ -18,7 +20,7 @@ use Rattle.dbl_work.specs.declared.work.Work.{Work}
 use Rattle.dbl_work.specs.Begins.{IsTooLong}
 use Rattle.dbl_work.specs.Causes.{IsChunkHalt, IsLongRecord}
 use Rattle.dbl_work.specs.Halts.{source_halt}
-use Rattle.dbl_work.specs.Takes.{IsClashIn, IsMessageHalt, IsTxnHalt}
+use Rattle.dbl_work.specs.Takes.{IsClashIn, IsMessageHalt, IsTxnHalt, WasTaken}
 use Rattle.dbl_work.specs.Works.{IsOpenTable, next_of}
 use Rattle.dbl_causes.specs.Halted.{IsHalt}
 use Rattle.dbl_causes.specs.Underway.{IsBetween, IsOpenHalt}
@@ -28,10 +30,24 @@ use Rattle.dbl_causes.proofs.Ended.{has_taken}
 use Rattle.dbl_causes.proofs.Unread.{sessions_halt_unread}
 use Rattle.dbl_capture.specs.Caused.{IsCaused}
 
+-- a clash, or a record that is too long
+abbrev IsOfRecords : Halt → Type 0
+IsOfRecords (halt.Clash table column) = Unit {0}
+IsOfRecords (halt.RecordTooLong len) = Unit {0}
+IsOfRecords h = ⊥
+
+clash_kind : (clash : Option Clash) (h : Halt) → IsClashIn clash h → IsOfRecords h
+clash_kind None h is = absurd is
+clash_kind (Some c) h is = subst IsOfRecords (sym is) tt
+
+records_kind : (clash : Option Clash) (records : List Record) (h : Halt) → IsClashIn clash h ⊎ ((clash ≡ None) × IsLongRecord records h) → IsOfRecords h
+records_kind clash records h (inl is) = clash_kind clash h is
+records_kind clash records h (inr long) = subst IsOfRecords (sym long.1.is) tt
+
 module _ (config : Config) (now : ℤ) (held stored : Option Offset) (report : Report) (told : Option Told) where
   pub caused : (h : Halt) → IsHalt config now held stored report told h → IsCaused config now held stored report told h
-  caused (halt.Clash table column) is = tt
-  caused (halt.RecordTooLong len) is = tt
+  caused (halt.Clash table column) is = (report.chunks, is)
+  caused (halt.RecordTooLong len) is = (report.chunks, is)
   caused h is = is
 
   pub memory_caused : (h : Halt) → h ≡ halt.Memory → IsCaused config now held stored report told h
@@ -41,16 +57,11 @@ module _ (config : Config) (now : ℤ) (held stored : Option Offset) (report : R
   source_caused source.Failed = tt
   source_caused source.Memory = tt
 
-  clash_caused : (clash : Option Clash) (h : Halt) → IsClashIn clash h → IsCaused config now held stored report told h
-  clash_caused None h is = absurd is
-  clash_caused (Some c) h is = subst (IsCaused config now held stored report told) (sym is) tt
-
-  -- of a commit whose records weren't all put nothing is said
-  pub follow_caused : (clash : Option Clash) (records : List Record) (h : Halt) → (h ≡ halt.Memory) ⊎ ((h ≡ halt.Sink) ⊎ (IsClashIn clash h ⊎ ((clash ≡ None) × IsLongRecord records h))) → IsCaused config now held stored report told h
-  follow_caused clash records h (inl memory) = memory_caused h memory
-  follow_caused clash records h (inr (inl failed)) = subst (IsCaused config now held stored report told) (sym failed) tt
-  follow_caused clash records h (inr (inr (inl is))) = clash_caused clash h is
-  follow_caused clash records h (inr (inr (inr long))) = subst (IsCaused config now held stored report told) (sym long.1.is) tt
+  -- by the report but for its windows
+  records_caused : (chunks : ℕ) (h : Halt) → IsOfRecords h → IsHalt config now held stored (record report { chunks = chunks }) told h → IsCaused config now held stored report told h
+  records_caused chunks (halt.Clash table column) kind is = (chunks, is)
+  records_caused chunks (halt.RecordTooLong len) kind is = (chunks, is)
+  records_caused chunks h kind is = absurd kind
 
   -- before it reads
   pub open_caused : (h : Halt) → IsOpenHalt config held stored told h → IsCaused config now held stored report told h
@@ -82,6 +93,18 @@ module _ (b : Beginning) (ms : List Message) (stored : Option Offset) (work : Wo
   taken_caused before found old new bytes h r a one (inr (inr txn)) =
       held_as before new r.is (record before { messages = before.messages + 1 }) h
       (messages_halt b.config b.now b.held b.first r.is.offset work before (record before { messages = before.messages + 1 }) found a.begun old new bytes h r.is.of (between before r) a.anew (has_taken b ms stored work before found old r.is a) one refl (inl txn))
+
+  -- for the records of the commit that it ends
+  pub follow_caused : (before report : Report) (found old new : Option Told) (bytes : List ℕ) (next : Work) (commit : Commit) (h : Halt) → IsResting b ms stored work before → AreTold found old ms → IsTakenBy (bytes ∷ []) old new
+      → WasTaken b.first.lsn ms bytes work next (Some commit) → report.messages ≡ before.messages + 1
+      → (h ≡ halt.Memory) ⊎ ((h ≡ halt.Sink) ⊎ (IsClashIn (clash_by next.follower commit) h ⊎ ((clash_by next.follower commit ≡ None) × IsLongRecord (records_by next.follower commit next.now_ms) h)))
+      → IsCaused b.config b.now b.held stored report new h
+  follow_caused before report found old new bytes next commit h r a one w counted (inl memory) = memory_caused b.config b.now b.held stored report new h memory
+  follow_caused before report found old new bytes next commit h r a one w counted (inr (inl failed)) = subst (IsCaused b.config b.now b.held stored report new) (sym failed) tt
+  follow_caused before report found old new bytes next commit h r a one w counted (inr (inr either)) =
+      subst (λ (o : Option Offset). IsCaused b.config b.now b.held o report new h) (sym r.is.stored_is)
+      (records_caused b.config b.now b.held (Some r.is.offset) report new before.chunks h (records_kind (clash_by next.follower commit) (records_by next.follower commit next.now_ms) h either)
+      (messages_halt b.config b.now b.held b.first r.is.offset work before (record report { chunks = before.chunks }) found a.begun old new bytes h r.is.of (between before r) a.anew (has_taken b ms stored work before found old r.is a) one counted (inr (next, commit, w, either))))
 
   -- for a mark that it waits for
   pub missed_caused : (report : Report) (found told : Option Told) (value : List ℕ) → IsResting b ms stored work report → AreTold found told ms → awaited work.follower.window ≡ Some value → Tells told (Read None)

@@ -1,11 +1,12 @@
 -- What a session's report tells where it goes on, and where it halts.
-use Rattle.std.proofs.Common.{◌≡◌, ◌∙◌, ◌⊎◌, inl, inr, ◌+◌, ◌≤◌, ◌^◌, ℕ, Bool, true, false, Option, Some, None, List, [], Result, Ok, Err, refl, sym, ap, subst, arith}
+use Rattle.std.proofs.Common.{◌≡◌, ◌∙◌, ◌⊎◌, inl, inr, ◌+◌, ◌≤◌, ◌^◌, ℕ, ℤ, Bool, true, false, Option, Some, None, List, [], Result, Ok, Err, refl, sym, ap, subst, arith}
 use Rattle.std.specs.Prelude.{Contains, IfErr, IfSome, IsErrAnd, OnOk}
 use Rattle.dbl_base.specs.declared.lsn.Lsn.{Lsn}
 use Rattle.dbl_pgmsg.specs.declared.messages.Message.{Message}
 use Rattle.dbl_table.specs.declared.config.Config.{Config}
 use Rattle.dbl_table.specs.declared.change.Commit.{Commit}
 use Rattle.dbl_table.specs.declared.table.TableName.{TableName}
+use Rattle.dbl_history.specs.History.{History}
 use Rattle.dbl_honest.specs.declared.started.Started.TheVariants.{Gone}
 use Rattle.dbl_honest.specs.Standings.{Reading, Standing}
 use Rattle.dbl_honest.specs.Told.{Told, Began, IsTakenAnew, IsTakenBy, Tells}
@@ -21,7 +22,7 @@ use Rattle.dbl_work.specs.declared.halt.Halt.{Halt}
 use Rattle.dbl_work.specs.declared.halt.Halt.TheVariants as halt
 use Rattle.dbl_work.specs.declared.report.Report.{Report}
 use Rattle.dbl_work.specs.declared.work.Work.{Work}
-use Rattle.dbl_work.specs.Begins.{IsExhausted, IsGoneFrom, IsModelFault, IsOffsetFor, IsTooLong}
+use Rattle.dbl_work.specs.Begins.{IsAbsentHalt, IsExhausted, IsGoneFrom, IsModelFault, IsOffsetFor, IsTooLong}
 use Rattle.dbl_work.specs.Causes.{IsChunkHalt, IsLongRecord, IsOfRows}
 use Rattle.dbl_work.specs.Halts.{source_halt, window_halt}
 use Rattle.dbl_work.specs.Takes.{IsClashIn, IsMessageHalt, IsTxnHalt, ReportsStep, WasTaken}
@@ -31,6 +32,7 @@ use Rattle.dbl_causes.specs.Underway.{IsBeginHalt, IsOpenHalt}
 use Rattle.dbl_causes.specs.Carried.{Beginning, IsNewestCause}
 use Rattle.dbl_causes.specs.Sources.{GoesOn, HasCommitted, IsUnderWay}
 use Rattle.dbl_exits.specs.Found.{HasStored}
+use Rattle.dbl_capture.specs.Caused.{IsCaused}
 use Rattle.dbl_capture.proofs.Reporting.{HasStepped, step_counts}
 
 -- ---- results
@@ -202,3 +204,33 @@ at_none stands src s is = cc
 
 pub at_some : {S : Type 0} (stands : S → Standing → Type 0) (src : S) (first : Standing) → stands src first → (s : Standing) → Some first ≡ Some s → stands src s
 at_some stands src first is s same = subst (stands src) (first_some first s same) is
+
+-- ---- by the catalogue
+
+module _ (names : List TableName) (history : History) where
+  pub memory_absent : (h : Halt) → h ≡ halt.Memory → IsAbsentHalt names history h
+  memory_absent h is = subst (IsAbsentHalt names history) (sym is) tt
+
+  exhausted_absent : (old : Option Offset) (h : Halt) → IsExhausted old h → IsAbsentHalt names history h
+  exhausted_absent None h is = absurd is
+  exhausted_absent (Some stored) h is = subst (IsAbsentHalt names history) (sym is.1) tt
+
+  pub again_absent : (old : Option Offset) (h : Halt) → (h ≡ halt.Memory) ⊎ IsExhausted old h → IsAbsentHalt names history h
+  again_absent old h (inl memory) = memory_absent h memory
+  again_absent old h (inr exhausted) = exhausted_absent old h exhausted
+
+  pub store_absent : (offset : Offset) (h : Halt) → (h ≡ halt.Memory) ⊎ ((h ≡ halt.Offsets) ⊎ IsTooLong offset h) → IsAbsentHalt names history h
+  store_absent offset h (inl memory) = memory_absent h memory
+  store_absent offset h (inr (inl failed)) = subst (IsAbsentHalt names history) (sym failed) tt
+  store_absent offset h (inr (inr long)) = subst (IsAbsentHalt names history) (sym long.is) tt
+
+  pub start_absent : (after : Lsn) (h : Halt) → (h ≡ halt.Memory) ⊎ ((h ≡ halt.Source) ⊎ IsGoneFrom after h) → IsAbsentHalt names history h
+  start_absent after h (inl memory) = memory_absent h memory
+  start_absent after h (inr (inl failed)) = subst (IsAbsentHalt names history) (sym failed) tt
+  start_absent after h (inr (inr gone)) = subst (IsAbsentHalt names history) (sym gone.is) tt
+
+  -- behind the first store no table is the cause
+  pub caused_absent : (config : Config) (now : ℤ) (old new : Option Offset) (report : Report) (told : Option Told) (offset : Offset) (h : Halt) → new ≡ Some offset → IsCaused config now old new report told h → IsAbsentHalt names history h
+  caused_absent config now old new report told offset (halt.Model error) is cause = let wrong : None ≡ Some offset = sym cause.1 ∙ is in cc
+  caused_absent config now old new report told offset (halt.UnknownTable table) is cause = let wrong : None ≡ Some offset = sym cause.1 ∙ is in cc
+  caused_absent config now old new report told offset h is cause = tt

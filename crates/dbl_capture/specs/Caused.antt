@@ -1,5 +1,5 @@
 -- Why a session halts.
-use Rattle.std.specs.Prelude.{ℤ, Option}
+use Rattle.std.specs.Prelude.{ℕ, ℤ, Option}
 use Rattle.dbl_table.specs.declared.config.Config.{Config}
 use Rattle.dbl_honest.specs.Standings.{Standing}
 use Rattle.dbl_honest.specs.Told.{Told}
@@ -10,10 +10,13 @@ use Rattle.dbl_work.specs.declared.report.Report.{Report}
 use Rattle.dbl_causes.specs.Halted.{IsHalt}
 use Rattle.dbl_causes.specs.Sources.{HasHalted}
 
--- The cause of each halt, but for a clash and a record that is too long, of which nothing is said here.
+-- The cause of each halt. That of a clash and of a record that is too long is told by the report but for its windows: of the mark that
+-- closes the window whose records these are, the number isn't told.
 abbrev pub IsCaused : Config → ℤ → Option Offset → Option Offset → Report → Option Told → Halt → Type 0
-IsCaused config now old new report told (halt.Clash table column) = Unit {0}
-IsCaused config now old new report told (halt.RecordTooLong len) = Unit {0}
+IsCaused config now old new report told (halt.Clash table column) =
+    (chunks : ℕ) × IsHalt config now old new (record report { chunks = chunks }) told (halt.Clash table column)
+IsCaused config now old new report told (halt.RecordTooLong len) =
+    (chunks : ℕ) × IsHalt config now old new (record report { chunks = chunks }) told (halt.RecordTooLong len)
 IsCaused config now old new report told h = IsHalt config now old new report told h
 
 -- For private clauses: it halted, and this is why.

@@ -12,7 +12,7 @@ ghost use Rattle.dbl_offset.specs.declared.offset.Offset.{Offset as SpecOffset};
 ghost use Rattle.dbl_offset.specs.Offsets.{IsOffset};
 ghost use Rattle.dbl_offset.specs.Stores.{ComesOf, IsLive, disk_of};
 ghost use Rattle.dbl_session.specs.Entries.{Entry as SpecEntry, HadOwnTables};
-ghost use Rattle.dbl_work.specs.Begins.{IsExhausted, IsOffsetFor, MayRest};
+ghost use Rattle.dbl_work.specs.Begins.{IsAbsentHalt, IsExhausted, IsOffsetFor, MayRest};
 ghost use Rattle.dbl_work.specs.Works.{IsBegun};
 ghost use Rattle.dbl_exits.specs.Ends.{AreAllDone, IsAtPosition, LeavesComplete};
 ghost use Rattle.dbl_exits.specs.Found.{BeganAt, BeginsAt, Found, HasStored, IsAsked, IsEntryOf, IsFound, entry_at, position_of};
@@ -64,6 +64,8 @@ fn offset_of<S: Source, D: Disk>(
     ensures never { (value at : _) → result ≢ Err (Halt.WatermarkMissing value at) }
     ensures stood { Leads S.stands src.old src.new result (λ offset. Moved) }
     ensures halt { IfErr result (IsBeginHalt config.now store.now.offset (S.told src.new)) }
+    ensures absent { (s : Standing) → S.stands src.old s →
+        IfErr result (IsAbsentHalt config.now.tables s.history) }
     ensures exhausted { (h : _) → IsExhausted store.now.offset h → result ≡ Err h }
     ensures still { (s t : Standing) → S.stands src.old s → S.stands src.new t →
         t.reading ≡ s.reading }
@@ -114,6 +116,8 @@ fn begun<S: Source, K: Sink, D: Disk>(
     ensures never { (value at : _) → result ≢ Err (Halt.WatermarkMissing value at) }
     ensures stood { Leads S.stands src.old src.new result (λ offset. Moved) }
     ensures halt { IfErr result (IsBeginHalt config.now store.old.offset (S.told src.new)) }
+    ensures absent { (s : Standing) → S.stands src.old s →
+        IfErr result (IsAbsentHalt config.now.tables s.history) }
     ensures exhausted { (h : _) → IsExhausted store.old.offset h → result ≡ Err h }
     ensures still { (s t : Standing) → S.stands src.old s → S.stands src.new t →
         t.reading ≡ s.reading }
@@ -162,6 +166,8 @@ fn opened<S: Source, K: Sink, D: Disk>(
     ensures position { report.old.position ≡ 0 →
         OnErr result (report.new.position ≡ position_of store.old.offset store.new.offset) }
     ensures exhausted { (h : _) → IsExhausted store.old.offset h → result ≡ Err h }
+    ensures absent { (s : Standing) → S.stands src.old s →
+        IfErr result (IsAbsentHalt config.now.tables s.history) }
     ensures report { (report.new.messages ≡ report.old.messages) ×
         (report.new.commits ≡ report.old.commits) }
     ensures reading { OnOk result (IsTrue (S.is_reading src.new)) }
@@ -280,9 +286,11 @@ pub fn session<S: Source, K: Sink, D: Disk>(
     ensures bounded { report.new.messages ≤ config.now.messages }
     ensures position { report.new.position ≡ position_of offsets.old.offset offsets.new.offset }
 
-    // Why it halts, but for a clash and a record that is too long.
+    // Why it halts: what its source told; and of one that stands, by its catalogue.
     ensures halt { IfErr result (IsCaused config.now now_ms offsets.old.offset offsets.new.offset
         report.new (S.told src.new)) }
+    ensures absent { (s : Standing) → S.stands src.old s →
+        IfErr result (IsAbsentHalt config.now.tables s.history) }
 
     // What the sink gained, and that its report counts it, of every source.
     ensures grouped { (groups left : List (List SpecRecord)) → K.holds sink.old groups →

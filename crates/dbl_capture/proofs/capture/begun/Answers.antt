@@ -12,6 +12,8 @@ use Rattle.dbl_work.specs.Begins.{IsOffsetFor}
 use Rattle.dbl_causes.specs.Underway.{IsBeginHalt}
 use Rattle.dbl_capture.proofs.Telling.{store_begins}
 use Rattle.dbl_capture.proofs.Telling.{not_both, residual_on}
+use Rattle.dbl_work.specs.Begins.{IsAbsentHalt}
+use Rattle.dbl_capture.proofs.Telling.{memory_absent, store_absent}
 use Rattle.dbl_capture.proofs.capture.begun.Goals as goal
 
 -- before the store
@@ -124,3 +126,12 @@ returns-in_err-put_offset-clause-exhausted g c h is = absurd (not_both c.offset_
 
 pub returns-clause-exhausted : goal.returns-clause-exhausted
 returns-clause-exhausted g c h is = absurd (not_both c.offset_of.result _ h (c.offset_of.ensures.exhausted h is) c.in_ok-offset.was)
+
+pub returns-in_err-offset-clause-absent : goal.returns-in_err-offset-clause-absent
+returns-in_err-offset-clause-absent g c s is = residual_of c.from_residual.result _ (IsAbsentHalt c.args.config.now.tables s.history) c.from_residual.ensures.1 (c.in_err-offset.ensures.absent s is)
+
+pub returns-in_err-stored-clause-absent : goal.returns-in_err-stored-clause-absent
+returns-in_err-stored-clause-absent g c s is = residual_of c.from_residual-in_err-stored.result halt.Memory (IsAbsentHalt c.args.config.now.tables s.history) c.from_residual-in_err-stored.ensures.1 (memory_absent c.args.config.now.tables s.history halt.Memory refl)
+
+pub returns-in_err-put_offset-clause-absent : goal.returns-in_err-put_offset-clause-absent
+returns-in_err-put_offset-clause-absent g c s is = residual_of c.from_residual-in_err-put_offset.result _ (IsAbsentHalt c.args.config.now.tables s.history) c.from_residual-in_err-put_offset.ensures.1 (store_absent c.args.config.now.tables s.history _ _ c.in_err-put_offset.ensures.halt)

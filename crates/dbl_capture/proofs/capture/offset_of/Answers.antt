@@ -11,6 +11,8 @@ use Rattle.dbl_work.proofs.Exits.{none_taken}
 use Rattle.dbl_causes.specs.Underway.{IsBeginHalt}
 use Rattle.dbl_capture.proofs.Telling.{again_begins, first_begins}
 use Rattle.dbl_capture.proofs.Telling.{again_exhausted, not_exhausted}
+use Rattle.dbl_work.specs.Begins.{IsAbsentHalt}
+use Rattle.dbl_capture.proofs.Telling.{again_absent}
 use Rattle.dbl_capture.proofs.capture.offset_of.Goals as goal
 
 -- nothing was asked of the source yet
@@ -126,3 +128,9 @@ returns-in-Some-clause-exhausted g c h is = absurd (not_exhausted c.again.result
 
 pub returns-in-None-clause-exhausted : goal.returns-in-None-clause-exhausted
 returns-in-None-clause-exhausted g c h is = absurd (not_exhausted c.again.result _ c.args.store.now.offset h c.again.ensures.exhausted c.in_ok-offset.was is)
+
+pub returns-in_err-offset-clause-absent : goal.returns-in_err-offset-clause-absent
+returns-in_err-offset-clause-absent g c s is = residual_of c.from_residual.result _ (IsAbsentHalt c.args.config.now.tables s.history) c.from_residual.ensures.1 (again_absent c.args.config.now.tables s.history c.args.store.now.offset _ c.in_err-offset.ensures.halt)
+
+pub returns-in-None-clause-absent : goal.returns-in-None-clause-absent
+returns-in-None-clause-absent g c s is = c.first_offset.ensures.absent s is

@@ -23,6 +23,8 @@ use Rattle.dbl_capture.proofs.Halting.{open_caused}
 use Rattle.dbl_capture.proofs.Telling.{not_both, residual_on}
 use Rattle.dbl_steps.specs.Sinks.{IsPutting}
 use Rattle.dbl_steps.proofs.Sinks.{puts_begin}
+use Rattle.dbl_work.specs.Begins.{IsAbsentHalt}
+use Rattle.dbl_capture.proofs.Telling.{memory_absent, start_absent}
 use Rattle.dbl_capture.proofs.capture.opened.Goals as goal
 
 pub returns-in_err-offset-clause-left : goal.returns-in_err-offset-clause-left
@@ -226,3 +228,12 @@ returns-in_err-start-clause-counts g c = (refl, refl, refl)
 
 pub returns-clause-counts : goal.returns-clause-counts
 returns-clause-counts g c = (refl, refl, refl)
+
+pub returns-in_err-offset-clause-absent : goal.returns-in_err-offset-clause-absent
+returns-in_err-offset-clause-absent g c s is = residual_of c.from_residual.result _ (IsAbsentHalt c.args.config.now.tables s.history) c.from_residual.ensures.1 (c.in_err-offset.ensures.absent s is)
+
+pub returns-in_err-start-clause-absent : goal.returns-in_err-start-clause-absent
+returns-in_err-start-clause-absent g c s is = residual_of c.from_residual-in_err-start.result _ (IsAbsentHalt c.args.config.now.tables s.history) c.from_residual-in_err-start.ensures.1 (start_absent c.args.config.now.tables s.history _ _ c.in_err-start.ensures.halt)
+
+pub returns-clause-absent : goal.returns-clause-absent
+returns-clause-absent g c s is = err_then c.make.result _ (IsAbsentHalt c.args.config.now.tables s.history) c.make.ensures.memory (λ h memory. memory_absent c.args.config.now.tables s.history h memory)

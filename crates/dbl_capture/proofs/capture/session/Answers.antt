@@ -29,6 +29,8 @@ use Rattle.dbl_causes.specs.Gained.{IsReported}
 use Rattle.dbl_steps.specs.Sinks.{IsPutting}
 use Rattle.dbl_steps.proofs.Sinks.{left_gains, rests_put, still_counted}
 use Rattle.dbl_capture.proofs.Sinking.{counts_nothing, either_of, gains_nothing, reported_other}
+use Rattle.dbl_work.specs.Begins.{IsAbsentHalt}
+use Rattle.dbl_capture.proofs.Telling.{caused_absent}
 use Rattle.dbl_capture.proofs.capture.session.Goals as goal
 
 -- it didn't begin
@@ -291,3 +293,17 @@ returns-clause-counted g c groups held =
     let on = c.run.ensures.putting groups b u in
     let put = c.run.ensures.put groups b u in
     answer_as c.run.result _ _ (λ r. IsReported g.K.Sink.holds g.K.Sink.may_leave groups r c.run.new.sink c.run.new.report) on put (λ x e. still_counted g.K.Sink.holds g.K.Sink.may_leave groups b c.run.new.store.offset c.run.new.sink c.run.new.work c.run.new.report (rests_put g.K.Sink.holds g.K.Sink.may_leave groups b c.run.new.store.offset c.run.new.sink c.run.new.work c.run.new.report x) (g.met.K.Sink.only c.run.new.sink) c.run.new.report refl refl refl) (λ h x. x.counted)
+
+pub returns-in_err-work-clause-absent : goal.returns-in_err-work-clause-absent
+returns-in_err-work-clause-absent g c s is = residual_of c.from_residual.result _ (IsAbsentHalt c.args.config.now.tables s.history) c.from_residual.ensures.1 (c.in_err-work.ensures.absent s is)
+
+pub returns-clause-absent : goal.returns-clause-absent
+returns-clause-absent g c s is =
+    let way = c.in_ok-work.ensures.under_way None (at_none g.S.Source.stands c.args.src.now) (refl, refl, refl) in
+    let b = beginning_at c.args.config.now c.args.now_ms c.args.offsets.now.offset way.0 in
+    let u = subst (λ (n : ℤ). IsUnderWay g.S.Source.stands None (g.S.Source.told c.args.src.now) (beginning_at c.args.config.now n c.args.offsets.now.offset way.0) c.opened.new.store.offset c.in_ok-work.work c.opened.new.report c.opened.new.src (g.S.Source.told c.opened.new.src)) (to_z-of_z c.ranges.now_ms) way.1 in
+    let all = c.run.ensures.all None (g.S.Source.told c.args.src.now) b u in
+    let halted = c.run.ensures.halted None (g.S.Source.told c.args.src.now) b u in
+    let begun = c.in_ok-work.ensures.begun in
+    let own = c.run.ensures.stored (subst (λ (o : Offset). HasOwnStored o c.opened.new.store.offset) (sym begun.2.offset_is) (own_first begun.0 c.opened.new.store.offset begun.1)) in
+    err_then c.run.result _ (IsAbsentHalt c.args.config.now.tables s.history) halted (λ h x. caused_absent c.args.config.now.tables s.history c.args.config.now c.args.now_ms c.args.offsets.now.offset c.run.new.store.offset c.run.new.report (g.S.Source.told c.run.new.src) own.offset h own.is x.cause)

@@ -200,7 +200,7 @@ returns-in_err-closed-in-Some-2-clause-halted g c at found b u =
     (record {
       halted = halts_at g.S.Source.stands at found b c.args.store.now.offset c.args.work.now c.args.report.now c.follow.new.report c.args.src.now c.read.new.self (g.S.Source.told c.args.src.now) (g.S.Source.told c.read.new.self) c.in-Some.bytes _ u (some_read _ _ _ _ c.in-Some.is c.in_ok-bytes.ensures.taken) (λ s is. some_read _ _ _ _ c.in-Some.is (c.in_ok-bytes.ensures.took s is)) (g.met.S.Source.one c.read.new.self)
           (follow_cause c.follow.new.report.messages b.first.lsn u.messages c.in-Some.bytes c.args.work.now c.taken.new.work c.in-Some-2.commit _ (subst (WasTaken b.first.lsn u.messages c.in-Some.bytes c.args.work.now c.taken.new.work) c.in-Some-2.is (c.in_ok-commit-in-Some.ensures.taken b.first.lsn u.messages u.is.is.is)) (λ is. c.in_err-closed-in-Some-2.ensures.sink (ap (λ (k : Halt). Err k) is)) c.in_err-closed-in-Some-2.ensures.halt) counts.messages counts.commits;
-      cause = follow_caused b.config b.now b.held c.args.store.now.offset c.follow.new.report (g.S.Source.told c.read.new.self) _ _ _ c.in_err-closed-in-Some-2.ensures.halt;
+      cause = follow_caused b u.messages c.args.store.now.offset c.args.work.now c.args.report.now c.follow.new.report found (g.S.Source.told c.args.src.now) (g.S.Source.told c.read.new.self) c.in-Some.bytes c.taken.new.work c.in-Some-2.commit _ u.is u.tells (some_read _ _ _ _ c.in-Some.is c.in_ok-bytes.ensures.taken) (subst (WasTaken b.first.lsn u.messages c.in-Some.bytes c.args.work.now c.taken.new.work) c.in-Some-2.is (c.in_ok-commit-in-Some.ensures.taken b.first.lsn u.messages u.is.is.is)) counts.messages c.in_err-closed-in-Some-2.ensures.halt;
     })
 
 pub returns-in-Some-2-clause-under_way : goal.returns-in-Some-2-clause-under_way

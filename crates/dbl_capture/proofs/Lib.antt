@@ -4,3 +4,4 @@ pub mod Telling
 pub mod Halting
 pub mod Marking
 pub mod Sinking
+pub mod Going

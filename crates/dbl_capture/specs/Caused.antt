@@ -19,6 +19,11 @@ IsCaused config now old new report told (halt.RecordTooLong len) =
     (chunks : ℕ) × IsHalt config now old new (record report { chunks = chunks }) told (halt.RecordTooLong len)
 IsCaused config now old new report told h = IsHalt config now old new report told h
 
+-- For private clauses: no log is gone behind its offset.
+abbrev pub IsNotGone : Halt → Type 0
+IsNotGone (halt.Gone asked first) = ⊥
+IsNotGone h = Unit {0}
+
 -- For private clauses: it halted, and this is why.
 pub record Halts {S : Type 0} (stands : S → Standing → Type 0) (at : Option Standing) (found : Option Told) (config : Config) (now : ℤ)
     (held stored : Option Offset) (report : Report) (src : S) (told : Option Told) (h : Halt) : Type 0 where

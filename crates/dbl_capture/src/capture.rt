@@ -11,7 +11,7 @@ ghost use Rattle.dbl_honest.specs.Told.{IsTakenBy, Told};
 ghost use Rattle.dbl_offset.specs.declared.offset.Offset.{Offset as SpecOffset};
 ghost use Rattle.dbl_offset.specs.Offsets.{IsOffset};
 ghost use Rattle.dbl_offset.specs.Stores.{ComesOf, IsLive, disk_of};
-ghost use Rattle.dbl_session.specs.Entries.{Entry as SpecEntry, HadOwnTables};
+ghost use Rattle.dbl_session.specs.Entries.{Entry as SpecEntry, HadOwnTables, IsKeptBehind};
 ghost use Rattle.dbl_work.specs.Begins.{IsAbsentHalt, IsExhausted, IsOffsetFor, MayRest};
 ghost use Rattle.dbl_work.specs.Works.{IsBegun};
 ghost use Rattle.dbl_exits.specs.Ends.{AreAllDone, IsAtPosition, LeavesComplete};
@@ -21,7 +21,7 @@ ghost use Rattle.dbl_causes.specs.Gained.{Gains, IsReported};
 ghost use Rattle.dbl_causes.specs.Musts.{MustExhaust, MustHaltStood, MustHaltTold};
 ghost use Rattle.dbl_causes.specs.Reported.{HasReadMessages, HasSettled, HasStoodBehind, IsFollowed, StoodAtLast};
 ghost use Rattle.dbl_causes.specs.Sources.{IsUnderWay};
-ghost use Rattle.dbl_capture.specs.Caused.{Halts, IsCaused};
+ghost use Rattle.dbl_capture.specs.Caused.{Halts, IsCaused, IsNotGone};
 ghost use Rattle.dbl_causes.specs.Underway.{IsBeginHalt};
 ghost use Rattle.dbl_causes.specs.Written.{AddsExactly, marks_more};
 ghost use Rattle.dbl_steps.specs.Sinks.{IsPutting};
@@ -168,6 +168,8 @@ fn opened<S: Source, K: Sink, D: Disk>(
     ensures exhausted { (h : _) → IsExhausted store.old.offset h → result ≡ Err h }
     ensures absent { (s : Standing) → S.stands src.old s →
         IfErr result (IsAbsentHalt config.now.tables s.history) }
+    ensures gone { (s : Standing) → S.stands src.old s →
+        IsKeptBehind s.confirmed store.old.offset → IfErr result IsNotGone }
     ensures report { (report.new.messages ≡ report.old.messages) ×
         (report.new.commits ≡ report.old.commits) }
     ensures reading { OnOk result (IsTrue (S.is_reading src.new)) }
@@ -291,6 +293,9 @@ pub fn session<S: Source, K: Sink, D: Disk>(
         report.new (S.told src.new)) }
     ensures absent { (s : Standing) → S.stands src.old s →
         IfErr result (IsAbsentHalt config.now.tables s.history) }
+    ensures gone { (s : Standing) → S.stands src.old s →
+        IsKeptBehind s.confirmed offsets.old.offset →
+        (asked first : _) → result ≢ Err (Halt.Gone asked first) }
 
     // What the sink gained, and that its report counts it, of every source.
     ensures grouped { (groups left : List (List SpecRecord)) → K.holds sink.old groups →

@@ -13,7 +13,7 @@ ghost use Rattle.dbl_exits.specs.Turns.{HasReadAllAt, IsCountedNext, IsDue, IsNe
 ghost use Rattle.dbl_causes.specs.Carried.{Beginning};
 ghost use Rattle.dbl_causes.specs.Sources.{GoesOn, IsUnderWay};
 ghost use Rattle.dbl_steps.specs.Sinks.{HasHaltedPut, IsPutting};
-ghost use Rattle.dbl_capture.specs.Caused.{Halts};
+ghost use Rattle.dbl_capture.specs.Caused.{Halts, IsNotGone};
 ghost use Rattle.dbl_capture.specs.Putting.{PutsOn};
 
 use dbl_disk::Disk;
@@ -90,6 +90,7 @@ pub(crate) fn next<S: Source, K: Sink, D: Disk>(
     ensures sink { result ≡ Err Halt.Sink → Rose (K.faults sink.old) (K.faults sink.new) }
     ensures offsets { result ≢ Err Halt.Offsets }
     ensures never { (value at : _) → result ≢ Err (Halt.WatermarkMissing value at) }
+    ensures reads { IfErr result IsNotGone }
 
     // What its report tells, by what the source told and stands for.
     ensures under_way { (at : Option Standing) (found : Option Told) (b : Beginning) →

@@ -14,7 +14,7 @@ ghost use Rattle.dbl_exits.specs.Turns.{HasReadAllAt, IsSettled, IsSettledWhole}
 ghost use Rattle.dbl_causes.specs.Carried.{Beginning};
 ghost use Rattle.dbl_causes.specs.Sources.{HasCommitted, HasSettledAll};
 ghost use Rattle.dbl_steps.specs.Sinks.{HasHaltedPut, HasPutCommit, IsPutting};
-ghost use Rattle.dbl_capture.specs.Caused.{Halts};
+ghost use Rattle.dbl_capture.specs.Caused.{Halts, IsNotGone};
 
 use dbl_disk::Disk;
 use dbl_offset::OffsetStore;
@@ -71,6 +71,7 @@ pub(crate) fn settle<S: Source, K: Sink, D: Disk>(
     ensures source { result ≡ Err Halt.Source → Rose (S.faults src.old) (S.faults src.new) }
     ensures sink { result ≢ Err Halt.Sink }
     ensures never { (value at : _) → result ≢ Err (Halt.WatermarkMissing value at) }
+    ensures reads { IfErr result IsNotGone }
     ensures offsets { result ≡ Err Halt.Offsets →
         Rose (D.faults (disk_of store.old)) (D.faults (disk_of store.new)) }
 

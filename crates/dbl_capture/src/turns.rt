@@ -18,7 +18,7 @@ ghost use Rattle.dbl_exits.specs.Turns.{HasReadAllAt, IsSettledWhole};
 ghost use Rattle.dbl_causes.specs.Carried.{Beginning};
 ghost use Rattle.dbl_causes.specs.Sources.{HasSettledAll, IsUnderWay};
 ghost use Rattle.dbl_steps.specs.Sinks.{HasHaltedPut, IsPutting};
-ghost use Rattle.dbl_capture.specs.Caused.{Halts};
+ghost use Rattle.dbl_capture.specs.Caused.{Halts, IsNotGone};
 
 use crate::messages::next;
 use crate::settle::settle;
@@ -72,6 +72,7 @@ fn arm_next<S: Source, K: Sink, D: Disk>(
     ensures failed { result ≡ Err Halt.Source → Rose (S.faults src.old) (S.faults src.new) }
     ensures others { (result ≢ Err Halt.Sink) × (result ≢ Err Halt.Offsets) }
     ensures never { (value at : _) → result ≢ Err (Halt.WatermarkMissing value at) }
+    ensures reads { IfErr result IsNotGone }
     ensures under_way { (at : Option Standing) (found : Option Told) (b : Beginning)
         (report : SpecReport) →
         IsUnderWay S.stands at found b store.now.offset work.old report src.old (S.told src.old) →
@@ -134,6 +135,7 @@ fn end<S: Source, K: Sink, D: Disk>(
     ensures store_later { D.faults (disk_of store.old) ≤ D.faults (disk_of store.new) }
     ensures source { result ≡ Err Halt.Source → Rose (S.faults src.old) (S.faults src.new) }
     ensures sink { result ≢ Err Halt.Sink }
+    ensures reads { IfErr result IsNotGone }
     ensures offsets { result ≡ Err Halt.Offsets →
         Rose (D.faults (disk_of store.old)) (D.faults (disk_of store.new)) }
 
@@ -213,6 +215,7 @@ fn turn<S: Source, K: Sink, D: Disk>(
     ensures ended { result ≡ Ok true → IsTrue (S.has_ended src.new) }
     ensures missed { (value at : _) → result ≡ Err (Halt.WatermarkMissing value at) →
         IsTrue (S.has_ended src.new) }
+    ensures reads { IfErr result IsNotGone }
     ensures loads { result ≡ Ok true → store.new.offset ≡ Some (next_of work.new) }
     ensures ready { OnOk result (IsReady work.new) }
     ensures since { OnOk result (work.new.since < work.new.every) }
@@ -332,6 +335,7 @@ pub(crate) fn run<S: Source, K: Sink, D: Disk>(
     ensures ended { result ≡ Ok Ending.Complete → IsTrue (S.has_ended src.new) }
     ensures missed { (value at : _) → result ≡ Err (Halt.WatermarkMissing value at) →
         IsTrue (S.has_ended src.new) }
+    ensures reads { IfErr result IsNotGone }
     ensures none { OnOk result (HasNoneNext work.new) }
     ensures waited { result ≡ Ok Ending.Complete → work.new.follower.window ≡ windows.Absent }
     ensures spent { result ≡ Ok Ending.Budget → report.new.messages ≡ budget }

@@ -13,7 +13,7 @@ ghost use Rattle.dbl_exits.specs.Sessions.{InSession, LeavesBy};
 ghost use Rattle.dbl_causes.specs.Carried.{Beginning};
 ghost use Rattle.dbl_causes.specs.Sources.{IsUnderWay};
 ghost use Rattle.dbl_steps.specs.Sinks.{HasHaltedPut, IsPutting};
-ghost use Rattle.dbl_capture.specs.Caused.{Halts};
+ghost use Rattle.dbl_capture.specs.Caused.{Halts, IsNotGone};
 
 use dbl_disk::Disk;
 use dbl_offset::OffsetStore;
@@ -55,6 +55,7 @@ pub(crate) fn arm<S: Source, K: Sink, D: Disk>(
     ensures failed { result ≡ Err Halt.Source → Rose (S.faults src.old) (S.faults src.new) }
     ensures others { (result ≢ Err Halt.Sink) × (result ≢ Err Halt.Offsets) }
     ensures never { (value at : _) → result ≢ Err (Halt.WatermarkMissing value at) }
+    ensures reads { IfErr result IsNotGone }
     ensures under_way { (at : Option Standing) (found : Option Told) (b : Beginning)
         (report : SpecReport) →
         IsUnderWay S.stands at found b store.now.offset work.old report src.old (S.told src.old) →

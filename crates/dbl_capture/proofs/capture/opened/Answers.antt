@@ -15,7 +15,7 @@ use Rattle.dbl_exits.proofs.Keeping.{answer_then, on_err, on_ok}
 use Rattle.dbl_exits.proofs.Openings.{start_left}
 use Rattle.dbl_work.specs.declared.halt.Halt.{Halt}
 use Rattle.dbl_causes.specs.Sources.{IsUnderWay}
-use Rattle.dbl_capture.specs.Caused.{Halts}
+use Rattle.dbl_capture.specs.Caused.{Halts, IsNotGone}
 use Rattle.dbl_causes.proofs.Sources.{begins, halts_unread}
 use Rattle.dbl_capture.specs.Begun.{beginning_at}
 use Rattle.dbl_capture.proofs.Telling.{anew_on, fell_on, read_none, start_opens}
@@ -25,6 +25,7 @@ use Rattle.dbl_steps.specs.Sinks.{IsPutting}
 use Rattle.dbl_steps.proofs.Sinks.{puts_begin}
 use Rattle.dbl_work.specs.Begins.{IsAbsentHalt}
 use Rattle.dbl_capture.proofs.Telling.{memory_absent, start_absent}
+use Rattle.dbl_capture.proofs.Going.{begin_reads, kept_low, memory_reads, not_gone}
 use Rattle.dbl_capture.proofs.capture.opened.Goals as goal
 
 pub returns-in_err-offset-clause-left : goal.returns-in_err-offset-clause-left
@@ -237,3 +238,15 @@ returns-in_err-start-clause-absent g c s is = residual_of c.from_residual-in_err
 
 pub returns-clause-absent : goal.returns-clause-absent
 returns-clause-absent g c s is = err_then c.make.result _ (IsAbsentHalt c.args.config.now.tables s.history) c.make.ensures.memory (λ h memory. memory_absent c.args.config.now.tables s.history h memory)
+
+pub returns-in_err-offset-clause-gone : goal.returns-in_err-offset-clause-gone
+returns-in_err-offset-clause-gone g c s is kept = residual_of c.from_residual.result _ IsNotGone c.from_residual.ensures.1 (begin_reads c.args.config.now c.args.store.now.offset (g.S.Source.told c.begun.new.src) _ c.in_err-offset.ensures.halt)
+
+pub returns-in_err-start-clause-gone : goal.returns-in_err-start-clause-gone
+returns-in_err-start-clause-gone g c s is kept =
+    let mid = c.in_ok-offset.ensures.stood s is in
+    residual_of c.from_residual-in_err-start.result _ IsNotGone c.from_residual-in_err-start.ensures.1
+    (not_gone c.in_err-start.field-0.0 (λ asked first gone. c.in_err-start.ensures.never mid.standing mid.is (kept_low c.args.config.now c.args.store.now.offset c.in_ok-offset.offset s.confirmed mid.standing.confirmed c.in_ok-offset.ensures.of kept mid.holds.confirmed) asked first (ap (λ (h : Halt). Err h) gone)))
+
+pub returns-clause-gone : goal.returns-clause-gone
+returns-clause-gone g c s is kept = err_then c.make.result _ IsNotGone c.make.ensures.memory (λ h memory. memory_reads h memory)

@@ -7,7 +7,7 @@ use Rattle.dbl_offset.specs.Stores.{disk_of}
 use Rattle.dbl_work.specs.Begins.{IsOffsetFor}
 use Rattle.dbl_work.specs.Works.{next_of}
 use Rattle.dbl_work.proofs.Exits.{later_on, rose_behind}
-use Rattle.dbl_capture.proofs.Causes.{err_then, residual_is, residual_of}
+use Rattle.dbl_capture.proofs.Causes.{err_at, err_then, residual_is, residual_of}
 use Rattle.dbl_exits.specs.Ends.{HasOwnStored}
 use Rattle.dbl_exits.specs.Found.{entry_at}
 use Rattle.dbl_exits.proofs.Endings.{complete_left, has_stored, own_first, position_is}
@@ -17,7 +17,7 @@ use Rattle.dbl_honest.specs.Standings.{Standing, Stood}
 use Rattle.dbl_causes.specs.Musts.{MustHaltStood, MustHaltTold}
 use Rattle.dbl_causes.specs.Reported.{HasReadMessages, HasSettled, HasStoodBehind, IsFollowed, StoodAtLast}
 use Rattle.dbl_causes.specs.Sources.{IsUnderWay}
-use Rattle.dbl_capture.specs.Caused.{Halts, IsCaused}
+use Rattle.dbl_capture.specs.Caused.{Halts, IsCaused, IsNotGone}
 use Rattle.dbl_causes.proofs.Sources.{ended_stood, ended_told}
 use Rattle.dbl_capture.specs.Begun.{beginning_at}
 use Rattle.dbl_capture.proofs.Telling.{answer_as, at_none, at_some, residual_as}
@@ -307,3 +307,9 @@ returns-clause-absent g c s is =
     let begun = c.in_ok-work.ensures.begun in
     let own = c.run.ensures.stored (subst (λ (o : Offset). HasOwnStored o c.opened.new.store.offset) (sym begun.2.offset_is) (own_first begun.0 c.opened.new.store.offset begun.1)) in
     err_then c.run.result _ (IsAbsentHalt c.args.config.now.tables s.history) halted (λ h x. caused_absent c.args.config.now.tables s.history c.args.config.now c.args.now_ms c.args.offsets.now.offset c.run.new.store.offset c.run.new.report (g.S.Source.told c.run.new.src) own.offset h own.is x.cause)
+
+pub returns-in_err-work-clause-gone : goal.returns-in_err-work-clause-gone
+returns-in_err-work-clause-gone g c s is kept asked first gone = err_at c.from_residual.result _ IsNotGone (residual_of c.from_residual.result _ IsNotGone c.from_residual.ensures.1 (c.in_err-work.ensures.gone s is kept)) gone
+
+pub returns-clause-gone : goal.returns-clause-gone
+returns-clause-gone g c s is kept asked first gone = err_at c.run.result _ IsNotGone c.run.ensures.reads gone

@@ -15,7 +15,7 @@ use Rattle.dbl_exits.proofs.Settles.{follow_fails}
 use Rattle.dbl_exits.proofs.Taken.{stepped_next, stepped_ready, stepped_since, taken_next, taken_ready}
 use Rattle.dbl_work.specs.declared.halt.Halt.{Halt}
 use Rattle.dbl_work.proofs.Exits.{dead_source}
-use Rattle.dbl_capture.specs.Caused.{Halts}
+use Rattle.dbl_capture.specs.Caused.{Halts, IsNotGone}
 use Rattle.dbl_causes.proofs.Sources.{at_rest, follows_at_rest, follows_on, halts_at, halts_between, rests_on, takes_on}
 use Rattle.dbl_capture.proofs.Telling.{follow_cause, goes_due, source_left, taken_cause, torn_counts}
 use Rattle.dbl_capture.proofs.Halting.{follow_caused, source_caused, taken_caused}
@@ -25,6 +25,7 @@ use Rattle.dbl_work.specs.declared.halt.Halt.TheVariants as halt
 use Rattle.dbl_steps.specs.Sinks.{HasHaltedPut}
 use Rattle.dbl_steps.proofs.Sinks.{commits_put, commits_put_at_rest, halts_put_nothing, messages_put_nothing, rests_put}
 use Rattle.dbl_capture.proofs.Sinking.{few_taken, follow_puts, none_other, puts_due, source_other}
+use Rattle.dbl_capture.proofs.Going.{follow_reads, source_reads, taken_reads}
 use Rattle.dbl_capture.proofs.messages.next.Goals as goal
 
 pub returns-in_err-bytes-clause-left : goal.returns-in_err-bytes-clause-left
@@ -251,3 +252,12 @@ returns-in-Some-clause-putting g c groups b u =
 
 pub returns-clause-putting : goal.returns-clause-putting
 returns-clause-putting g c groups b u = u
+
+pub returns-in_err-bytes-clause-reads : goal.returns-in_err-bytes-clause-reads
+returns-in_err-bytes-clause-reads g c = residual_of c.from_residual.result _ IsNotGone c.from_residual.ensures.1 (source_reads c.in_err-bytes.field-0.0)
+
+pub returns-in_err-commit-in-Some-clause-reads : goal.returns-in_err-commit-in-Some-clause-reads
+returns-in_err-commit-in-Some-clause-reads g c = residual_of c.from_residual-in_err-commit-in-Some.result _ IsNotGone c.from_residual-in_err-commit-in-Some.ensures.1 (taken_reads _ c.requires.ready.after c.requires.ready.messages c.in-Some.bytes c.args.work.now _ (c.in_err-commit-in-Some.ensures.halt c.requires.ready.after c.requires.ready.messages c.requires.ready.is))
+
+pub returns-in_err-closed-in-Some-2-clause-reads : goal.returns-in_err-closed-in-Some-2-clause-reads
+returns-in_err-closed-in-Some-2-clause-reads g c = residual_of c.from_residual-in_err-closed-in-Some-2.result _ IsNotGone c.from_residual-in_err-closed-in-Some-2.ensures.1 (follow_reads _ _ _ c.in_err-closed-in-Some-2.ensures.halt)

@@ -12,7 +12,7 @@ use Rattle.dbl_exits.proofs.Keeping.{on_err, rests, some_chunk}
 use Rattle.dbl_exits.proofs.Settles.{settled_on, settled_whole, settle_fails, store_fails}
 use Rattle.dbl_honest.specs.Standings.{Standing, Stood}
 use Rattle.dbl_work.proofs.Exits.{dead_source, none_taken}
-use Rattle.dbl_capture.specs.Caused.{Halts, IsCaused}
+use Rattle.dbl_capture.specs.Caused.{Halts, IsCaused, IsNotGone}
 use Rattle.dbl_causes.proofs.Sources.{halts_between, settles_on}
 use Rattle.dbl_capture.proofs.Telling.{memory_left, source_left, store_left}
 use Rattle.dbl_capture.proofs.Halting.{memory_caused, source_caused, store_caused}
@@ -21,6 +21,7 @@ use Rattle.dbl_work.specs.Begins.{IsTooLong}
 use Rattle.dbl_steps.specs.Sinks.{HasHaltedPut}
 use Rattle.dbl_steps.proofs.Sinks.{halts_put_nothing, stores_put_nothing}
 use Rattle.dbl_capture.proofs.Sinking.{none_other, source_other, store_other}
+use Rattle.dbl_capture.proofs.Going.{source_reads, store_reads}
 use Rattle.dbl_capture.proofs.settle.settle.Goals as goal
 
 -- nothing was asked of the three yet
@@ -171,3 +172,12 @@ returns-in_err-confirm-clause-put g c groups b u =
 
 pub returns-clause-putting : goal.returns-clause-putting
 returns-clause-putting g c groups b u = stores_put_nothing g.K.Sink.holds g.K.Sink.may_leave groups b c.args.store.now.offset c.args.sink.now c.put_offset.new.store.offset c.args.work.now (record c.args.work.now { since = 0 }) c.args.report.now (record c.args.report.now { position = c.in_ok-offset.offset.lsn.0 }) u (c.in_ok-put_offset.ensures.loads ∙ ap (λ (o : Offset). Some o) c.in_ok-offset.ensures.next) refl refl
+
+pub returns-in_err-offset-clause-reads : goal.returns-in_err-offset-clause-reads
+returns-in_err-offset-clause-reads g c = residual_of c.from_residual.result halt.Memory IsNotGone c.from_residual.ensures.1 tt
+
+pub returns-in_err-put_offset-clause-reads : goal.returns-in_err-put_offset-clause-reads
+returns-in_err-put_offset-clause-reads g c = residual_of c.from_residual-in_err-put_offset.result _ IsNotGone c.from_residual-in_err-put_offset.ensures.1 (store_reads _ _ c.in_err-put_offset.ensures.halt)
+
+pub returns-in_err-confirm-clause-reads : goal.returns-in_err-confirm-clause-reads
+returns-in_err-confirm-clause-reads g c = residual_of c.from_residual-in_err-confirm.result _ IsNotGone c.from_residual-in_err-confirm.ensures.1 (source_reads c.in_err-confirm.field-0.0)

@@ -7,7 +7,7 @@ use Rattle.dbl_exits.proofs.Keeping.{on_err, on_ok, rests, some_chunk}
 use Rattle.dbl_exits.proofs.Turning.{not_awaited}
 use Rattle.dbl_honest.specs.Standings.{Standing}
 use Rattle.dbl_work.proofs.Exits.{none_taken}
-use Rattle.dbl_capture.specs.Caused.{Halts}
+use Rattle.dbl_capture.specs.Caused.{Halts, IsNotGone}
 use Rattle.dbl_causes.proofs.Sources.{at_rest, halts_between}
 use Rattle.dbl_capture.proofs.Telling.{memory_left}
 use Rattle.dbl_capture.proofs.Halting.{memory_caused, missed_caused}
@@ -85,3 +85,12 @@ returns-in-None-clause-putting g c groups b u = c.settle.ensures.putting groups 
 
 pub returns-in-None-clause-put : goal.returns-in-None-clause-put
 returns-in-None-clause-put g c groups b u = c.settle.ensures.put groups b (rests_put g.K.Sink.holds g.K.Sink.may_leave groups b c.args.store.now.offset c.args.sink.now c.args.work.now c.args.report.now u)
+
+pub returns-in_err-copy-in-Some-clause-reads : goal.returns-in_err-copy-in-Some-clause-reads
+returns-in_err-copy-in-Some-clause-reads g c = residual_of c.from_residual.result halt.Memory IsNotGone c.from_residual.ensures.1 tt
+
+pub returns-in_ok-copy-in-Some-clause-reads : goal.returns-in_ok-copy-in-Some-clause-reads
+returns-in_ok-copy-in-Some-clause-reads g c = tt
+
+pub returns-in-None-clause-reads : goal.returns-in-None-clause-reads
+returns-in-None-clause-reads g c = c.settle.ensures.reads

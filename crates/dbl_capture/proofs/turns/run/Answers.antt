@@ -6,7 +6,7 @@ use Rattle.dbl_capture.proofs.Causes.{residual_is, residual_of}
 use Rattle.std.specs.Prelude.{MatchBool}
 use Rattle.dbl_exits.proofs.Keeping.{on_err}
 use Rattle.dbl_capture.proofs.Reporting.{at_stored, counts_stored, own_stored, placed_next, placed_on}
-use Rattle.dbl_capture.specs.Caused.{Halts}
+use Rattle.dbl_capture.specs.Caused.{Halts, IsNotGone}
 use Rattle.dbl_causes.proofs.Sources.{at_rest}
 use Rattle.dbl_capture.proofs.Marking.{none_settled}
 use Rattle.dbl_steps.specs.Sinks.{HasHaltedPut}
@@ -412,3 +412,12 @@ returns-clause-putting g c groups b u = c.in_ok-settle.ensures.putting groups b 
 
 pub returns-then-branch-clause-putting : goal.returns-then-branch-clause-putting
 returns-then-branch-clause-putting g c groups b u = c.in_ok-turn.ensures.putting groups b (c.turns.invariant.putting groups b u)
+
+pub returns-in_err-turn-clause-reads : goal.returns-in_err-turn-clause-reads
+returns-in_err-turn-clause-reads g c = residual_of c.from_residual.result _ IsNotGone c.from_residual.ensures.1 c.in_err-turn.ensures.reads
+
+pub returns-in_err-arm_next-clause-reads : goal.returns-in_err-arm_next-clause-reads
+returns-in_err-arm_next-clause-reads g c = residual_of c.from_residual-in_err-arm_next.result _ IsNotGone c.from_residual-in_err-arm_next.ensures.1 c.in_err-arm_next.ensures.reads
+
+pub returns-in_err-settle-clause-reads : goal.returns-in_err-settle-clause-reads
+returns-in_err-settle-clause-reads g c = residual_of c.from_residual-in_err-settle.result _ IsNotGone c.from_residual-in_err-settle.ensures.1 c.in_err-settle.ensures.reads

@@ -9,7 +9,7 @@ use Rattle.dbl_exits.specs.Turns.{IsCountedNext, IsDue}
 use Rattle.dbl_exits.proofs.Endings.{done_at}
 use Rattle.dbl_exits.proofs.Keeping.{on_err, settled_ready, settled_since}
 use Rattle.dbl_capture.proofs.Reporting.{IsPlacedOf, at_same, at_stored, counts_stored, not_due, own_stored, placed_on, placed_same}
-use Rattle.dbl_capture.specs.Caused.{Halts}
+use Rattle.dbl_capture.specs.Caused.{Halts, IsNotGone}
 use Rattle.dbl_causes.proofs.Sources.{settled_rests}
 use Rattle.dbl_capture.proofs.Telling.{goes_false, goes_none, goes_true}
 use Rattle.dbl_capture.proofs.Marking.{absent_settled, none_settled}
@@ -415,3 +415,15 @@ returns-in_ok-end-in-None-clause-putting g c groups b u = c.in_ok-end-in-None.en
 
 pub returns-in-Some-false-clause-putting : goal.returns-in-Some-false-clause-putting
 returns-in-Some-false-clause-putting g c groups b u = puts_false g.K.Sink.holds groups b c.args.store.now.offset c.next.new.work c.next.new.report c.next.new.sink _ c.in-Some-false.field-0 c.in-Some-false.is c.in-Some-false.field-0-test (c.in_ok-next.ensures.putting groups b (c.in_ok-arm_next.ensures.putting groups b c.args.report.now u))
+
+pub returns-in_err-arm_next-clause-reads : goal.returns-in_err-arm_next-clause-reads
+returns-in_err-arm_next-clause-reads g c = residual_of c.from_residual.result _ IsNotGone c.from_residual.ensures.1 c.in_err-arm_next.ensures.reads
+
+pub returns-in_err-next-clause-reads : goal.returns-in_err-next-clause-reads
+returns-in_err-next-clause-reads g c = residual_of c.from_residual-in_err-next.result _ IsNotGone c.from_residual-in_err-next.ensures.1 c.in_err-next.ensures.reads
+
+pub returns-in_err-settle-in-Some-true-clause-reads : goal.returns-in_err-settle-in-Some-true-clause-reads
+returns-in_err-settle-in-Some-true-clause-reads g c = residual_of c.from_residual-in_err-settle-in-Some-true.result _ IsNotGone c.from_residual-in_err-settle-in-Some-true.ensures.1 c.in_err-settle-in-Some-true.ensures.reads
+
+pub returns-in_err-end-in-None-clause-reads : goal.returns-in_err-end-in-None-clause-reads
+returns-in_err-end-in-None-clause-reads g c = residual_of c.from_residual-in_err-end-in-None.result _ IsNotGone c.from_residual-in_err-end-in-None.ensures.1 c.in_err-end-in-None.ensures.reads

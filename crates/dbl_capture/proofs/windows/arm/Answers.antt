@@ -3,13 +3,14 @@ use Rattle.dbl_exits.proofs.Arms.{arm_left, plan_here, plan_parts, window_on}
 use Rattle.dbl_capture.proofs.Causes.{OfSource, chunk_of, err_at, err_then}
 use Rattle.dbl_exits.proofs.Keeping.{ok_then, on_err}
 use Rattle.std.proofs.Common.{inl, refl}
-use Rattle.dbl_capture.specs.Caused.{Halts}
+use Rattle.dbl_capture.specs.Caused.{Halts, IsNotGone}
 use Rattle.dbl_causes.proofs.Sources.{arms_on, at_rest, halts_between}
 use Rattle.dbl_capture.proofs.Telling.{chunk_left, ok_both}
 use Rattle.dbl_capture.proofs.Halting.{chunk_caused}
 use Rattle.dbl_steps.specs.Sinks.{HasHaltedPut}
 use Rattle.dbl_steps.proofs.Sinks.{halts_put_nothing, rests_put, windows_put_nothing}
 use Rattle.dbl_capture.proofs.Sinking.{source_other}
+use Rattle.dbl_capture.proofs.Going.{chunk_reads}
 use Rattle.dbl_capture.proofs.windows.arm.Goals as goal
 
 pub returns-clause-armed : goal.returns-clause-armed
@@ -58,3 +59,6 @@ pub returns-clause-put : goal.returns-clause-put
 returns-clause-put g c groups b report u =
     err_then c.read_window.result _ (HasHaltedPut g.K.Sink.holds g.K.Sink.may_leave groups b.config b.now b.held c.args.store.now.offset report c.args.sink.now) c.read_window.ensures.halt
     (λ h chunk. halts_put_nothing g.K.Sink.holds g.K.Sink.may_leave groups b c.args.store.now.offset c.args.store.now.offset c.args.work.now report report c.args.sink.now h (rests_put g.K.Sink.holds g.K.Sink.may_leave groups b c.args.store.now.offset c.args.sink.now c.args.work.now report u) (g.met.K.Sink.only c.args.sink.now) (source_other h (chunk_of c.args.work.now c.args.table _ h chunk)) refl refl refl (inl refl))
+
+pub returns-clause-reads : goal.returns-clause-reads
+returns-clause-reads g c = err_then c.read_window.result _ IsNotGone c.read_window.ensures.halt (λ h is. chunk_reads c.args.work.now c.args.table _ h is)

@@ -13,6 +13,9 @@ use Rattle.dbl_reading.specs.declared.error.SourceError.{SourceError}
 use Rattle.dbl_reading.specs.declared.error.SourceError.TheVariants as source
 use Rattle.dbl_window.specs.declared.error.WindowError.{WindowError}
 use Rattle.dbl_window.specs.declared.error.WindowError.TheVariants as window
+use Rattle.dbl_follow.specs.declared.window.Window.{Window}
+use Rattle.dbl_follow.specs.declared.window.Window.TheVariants.{Absent}
+use Rattle.dbl_follow.specs.Followed.{awaited}
 use Rattle.dbl_session.specs.Entries.{IsKeptBehind}
 use Rattle.dbl_work.specs.declared.halt.Halt.{Halt}
 use Rattle.dbl_work.specs.declared.halt.Halt.TheVariants as halt
@@ -95,3 +98,7 @@ kept_low config (Some old) first before now for kept same =
 pub not_gone : (h : Halt) → ((asked first : Lsn) → h ≡ halt.Gone asked first → ⊥) → IsNotGone h
 not_gone (halt.Gone asked first) never = never asked first refl
 not_gone h never = tt
+
+-- a window that isn't there waits for nothing
+pub not_waiting : (w : Window) (value : List ℕ) → w ≡ Absent → awaited w ≡ Some value → ⊥
+not_waiting w value absent waits = let wrong : None ≡ Some value = ap awaited (sym absent) ∙ waits in cc

@@ -11,7 +11,7 @@ ghost use Rattle.dbl_honest.specs.Told.{IsTakenBy, Told};
 ghost use Rattle.dbl_offset.specs.declared.offset.Offset.{Offset as SpecOffset};
 ghost use Rattle.dbl_offset.specs.Offsets.{IsOffset};
 ghost use Rattle.dbl_offset.specs.Stores.{ComesOf, IsLive, disk_of};
-ghost use Rattle.dbl_session.specs.Entries.{Entry as SpecEntry, HadOwnTables, IsKeptBehind};
+ghost use Rattle.dbl_session.specs.Entries.{Entry as SpecEntry, HadOwnTables, IsKeptBehind, StoodInLog};
 ghost use Rattle.dbl_work.specs.Begins.{IsAbsentHalt, IsExhausted, IsOffsetFor, MayRest};
 ghost use Rattle.dbl_work.specs.Works.{IsBegun};
 ghost use Rattle.dbl_exits.specs.Ends.{AreAllDone, IsAtPosition, LeavesComplete};
@@ -296,6 +296,10 @@ pub fn session<S: Source, K: Sink, D: Disk>(
     ensures gone { (s : Standing) → S.stands src.old s →
         IsKeptBehind s.confirmed offsets.old.offset →
         (asked first : _) → result ≢ Err (Halt.Gone asked first) }
+    ensures missing { (s : Standing) → S.stands src.old s → S.honest src.new →
+        HadOwnTables (entry_at config.now now_ms s offsets.old.offset) →
+        StoodInLog (entry_at config.now now_ms s offsets.old.offset) →
+        (value at : _) → result ≢ Err (Halt.WatermarkMissing value at) }
 
     // What the sink gained, and that its report counts it, of every source.
     ensures grouped { (groups left : List (List SpecRecord)) → K.holds sink.old groups →

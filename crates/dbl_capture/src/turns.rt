@@ -9,7 +9,7 @@ ghost use Rattle.dbl_honest.specs.Told.{Read, Tells, Told};
 ghost use Rattle.dbl_offset.specs.declared.offset.Offset.{Offset as SpecOffset};
 ghost use Rattle.dbl_offset.specs.Stores.{ComesOf, IsLive, disk_of};
 ghost use Rattle.dbl_follow.specs.declared.window.Window.TheVariants as windows;
-ghost use Rattle.dbl_session.specs.Entries.{Entry as SpecEntry};
+ghost use Rattle.dbl_session.specs.Entries.{Entry as SpecEntry, StoodInLog};
 ghost use Rattle.dbl_work.specs.declared.report.Report.{Report as SpecReport};
 ghost use Rattle.dbl_work.specs.Works.{IsReady, next_of};
 ghost use Rattle.dbl_exits.specs.Ends.{AreAllDone, HasNoneNext, HasOwnStored, IsArmedNext, IsAtPosition, IsReportAt, IsTableOf};
@@ -120,6 +120,11 @@ fn end<S: Source, K: Sink, D: Disk>(
         S.honest src.new →
         OnErr result (LeavesBy tell S.may_leave K.may_leave D.may_leave entry
         src.new sink.now store.new) }
+    ensures unmissed { (tell : Bool) (entry : SpecEntry) →
+        HasReadAllAt tell S.stands K.holds D.seen D.may_leave entry
+        work.old src.old sink.now store.old →
+        StoodInLog entry →
+        (value at : _) → result ≢ Err (Halt.WatermarkMissing value at) }
     ensures waited { OnOk result (work.old.follower.window ≡ windows.Absent) }
     ensures same { OnOk result (work.new ≡ record work.old { since = 0 }) }
     ensures report { IsReportAt (is_ok result) store.old.offset store.new.offset
@@ -215,6 +220,11 @@ fn turn<S: Source, K: Sink, D: Disk>(
     ensures ended { result ≡ Ok true → IsTrue (S.has_ended src.new) }
     ensures missed { (value at : _) → result ≡ Err (Halt.WatermarkMissing value at) →
         IsTrue (S.has_ended src.new) }
+    ensures unmissed { (tell : Bool) (entry : SpecEntry) →
+        InSession tell S.stands K.holds D.seen D.may_leave entry
+        work.old src.old sink.old store.old →
+        S.honest src.new → StoodInLog entry →
+        (value at : _) → result ≢ Err (Halt.WatermarkMissing value at) }
     ensures reads { IfErr result IsNotGone }
     ensures loads { result ≡ Ok true → store.new.offset ≡ Some (next_of work.new) }
     ensures ready { OnOk result (IsReady work.new) }
@@ -335,6 +345,11 @@ pub(crate) fn run<S: Source, K: Sink, D: Disk>(
     ensures ended { result ≡ Ok Ending.Complete → IsTrue (S.has_ended src.new) }
     ensures missed { (value at : _) → result ≡ Err (Halt.WatermarkMissing value at) →
         IsTrue (S.has_ended src.new) }
+    ensures unmissed { (tell : Bool) (entry : SpecEntry) →
+        InSession tell S.stands K.holds D.seen D.may_leave entry
+        work.old src.old sink.old store.old →
+        S.honest src.new → StoodInLog entry →
+        (value at : _) → result ≢ Err (Halt.WatermarkMissing value at) }
     ensures reads { IfErr result IsNotGone }
     ensures none { OnOk result (HasNoneNext work.new) }
     ensures waited { result ≡ Ok Ending.Complete → work.new.follower.window ≡ windows.Absent }

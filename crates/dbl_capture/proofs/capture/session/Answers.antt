@@ -313,3 +313,12 @@ returns-in_err-work-clause-gone g c s is kept asked first gone = err_at c.from_r
 
 pub returns-clause-gone : goal.returns-clause-gone
 returns-clause-gone g c s is kept asked first gone = err_at c.run.result _ IsNotGone c.run.ensures.reads gone
+
+pub returns-in_err-work-clause-missing : goal.returns-in_err-work-clause-missing
+returns-in_err-work-clause-missing g c s was honest had stood value at is = c.opened.ensures.never value at (residual_is c.from_residual.result c.opened.result _ _ c.in_err-work.was c.from_residual.ensures.1 is)
+
+pub returns-clause-missing : goal.returns-clause-missing
+returns-clause-missing g c s was honest had stood value at is =
+    let entry = entry_at c.args.config.now c.args.now_ms s c.args.offsets.now.offset in
+    let in_session = c.in_ok-work.ensures.opened false entry refl (sym (to_z-of_z c.ranges.now_ms)) (source_found _ _ _ _ c.args.config.now c.args.now_ms s _ _ c.args.offsets.now was) (c.run.ensures.honest honest) had in
+    c.run.ensures.unmissed false entry in_session honest stood value at is

@@ -14,6 +14,7 @@ use Rattle.dbl_capture.proofs.Halting.{memory_caused, missed_caused}
 use Rattle.dbl_steps.specs.Sinks.{HasHaltedPut}
 use Rattle.dbl_steps.proofs.Sinks.{halts_put_nothing, rests_put}
 use Rattle.dbl_capture.proofs.Sinking.{none_other}
+use Rattle.dbl_capture.proofs.Going.{not_waiting}
 use Rattle.dbl_capture.proofs.turns.end.Goals as goal
 
 pub returns-in_err-copy-in-Some-clause-left : goal.returns-in_err-copy-in-Some-clause-left
@@ -94,3 +95,13 @@ returns-in_ok-copy-in-Some-clause-reads g c = tt
 
 pub returns-in-None-clause-reads : goal.returns-in-None-clause-reads
 returns-in-None-clause-reads g c = c.settle.ensures.reads
+
+pub returns-in_err-copy-in-Some-clause-unmissed : goal.returns-in_err-copy-in-Some-clause-unmissed
+returns-in_err-copy-in-Some-clause-unmissed g c tell entry h stood value at is = err_at c.from_residual.result _ OfNone (residual_of c.from_residual.result halt.Memory OfNone c.from_residual.ensures.1 tt) is
+
+pub returns-in_ok-copy-in-Some-clause-unmissed : goal.returns-in_ok-copy-in-Some-clause-unmissed
+returns-in_ok-copy-in-Some-clause-unmissed g c tell entry h stood value at is =
+    not_waiting c.args.work.now.follower.window _ (h.none stood) (sym c.in-Some.ensures.text)
+
+pub returns-in-None-clause-unmissed : goal.returns-in-None-clause-unmissed
+returns-in-None-clause-unmissed g c tell entry h stood = c.settle.ensures.never

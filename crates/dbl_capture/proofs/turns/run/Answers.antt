@@ -421,3 +421,18 @@ returns-in_err-arm_next-clause-reads g c = residual_of c.from_residual-in_err-ar
 
 pub returns-in_err-settle-clause-reads : goal.returns-in_err-settle-clause-reads
 returns-in_err-settle-clause-reads g c = residual_of c.from_residual-in_err-settle.result _ IsNotGone c.from_residual-in_err-settle.ensures.1 c.in_err-settle.ensures.reads
+
+pub returns-in_err-turn-clause-unmissed : goal.returns-in_err-turn-clause-unmissed
+returns-in_err-turn-clause-unmissed g c tell entry s honest stood value at is = c.turn.ensures.unmissed tell entry (c.turns.invariant.kept tell entry s (c.turn.ensures.honest honest)) honest stood value at (residual_is c.from_residual.result c.turn.result _ _ c.in_err-turn.was c.from_residual.ensures.1 is)
+
+pub returns-in_err-arm_next-clause-unmissed : goal.returns-in_err-arm_next-clause-unmissed
+returns-in_err-arm_next-clause-unmissed g c tell entry s honest stood value at is = c.arm_next.ensures.never value at (residual_is c.from_residual-in_err-arm_next.result c.arm_next.result _ _ c.in_err-arm_next.was c.from_residual-in_err-arm_next.ensures.1 is)
+
+pub returns-in_err-settle-clause-unmissed : goal.returns-in_err-settle-clause-unmissed
+returns-in_err-settle-clause-unmissed g c tell entry s honest stood value at is = c.settle.ensures.never value at (residual_is c.from_residual-in_err-settle.result c.settle.result _ _ c.in_err-settle.was c.from_residual-in_err-settle.ensures.1 is)
+
+pub returns-clause-unmissed : goal.returns-clause-unmissed
+returns-clause-unmissed g c tell entry s honest stood value at is = cc
+
+pub returns-then-branch-clause-unmissed : goal.returns-then-branch-clause-unmissed
+returns-then-branch-clause-unmissed g c tell entry s honest stood value at is = cc

@@ -427,3 +427,27 @@ returns-in_err-settle-in-Some-true-clause-reads g c = residual_of c.from_residua
 
 pub returns-in_err-end-in-None-clause-reads : goal.returns-in_err-end-in-None-clause-reads
 returns-in_err-end-in-None-clause-reads g c = residual_of c.from_residual-in_err-end-in-None.result _ IsNotGone c.from_residual-in_err-end-in-None.ensures.1 c.in_err-end-in-None.ensures.reads
+
+pub returns-in_err-arm_next-clause-unmissed : goal.returns-in_err-arm_next-clause-unmissed
+returns-in_err-arm_next-clause-unmissed g c tell entry s honest stood value at is = c.arm_next.ensures.never value at (residual_is c.from_residual.result c.arm_next.result _ _ c.in_err-arm_next.was c.from_residual.ensures.1 is)
+
+pub returns-in_err-next-clause-unmissed : goal.returns-in_err-next-clause-unmissed
+returns-in_err-next-clause-unmissed g c tell entry s honest stood value at is = c.next.ensures.never value at (residual_is c.from_residual-in_err-next.result c.next.result _ _ c.in_err-next.was c.from_residual-in_err-next.ensures.1 is)
+
+pub returns-in_err-settle-in-Some-true-clause-unmissed : goal.returns-in_err-settle-in-Some-true-clause-unmissed
+returns-in_err-settle-in-Some-true-clause-unmissed g c tell entry s honest stood value at is = c.settle.ensures.never value at (residual_is c.from_residual-in_err-settle-in-Some-true.result c.settle.result _ _ c.in_err-settle-in-Some-true.was c.from_residual-in_err-settle-in-Some-true.ensures.1 is)
+
+pub returns-in_err-end-in-None-clause-unmissed : goal.returns-in_err-end-in-None-clause-unmissed
+returns-in_err-end-in-None-clause-unmissed g c tell entry s honest stood value at is =
+    let before = c.end.ensures.honest honest in
+    c.end.ensures.unmissed tell entry (c.next.ensures.whole tell entry (c.in_ok-arm_next.ensures.armed tell entry s (c.next.ensures.honest before)) before (c.in_ok-next.was ∙ ap (λ o. Ok o) c.in-None.is)) stood value at
+    (residual_is c.from_residual-in_err-end-in-None.result c.end.result _ _ c.in_err-end-in-None.was c.from_residual-in_err-end-in-None.ensures.1 is)
+
+pub returns-in_ok-settle-in-Some-true-clause-unmissed : goal.returns-in_ok-settle-in-Some-true-clause-unmissed
+returns-in_ok-settle-in-Some-true-clause-unmissed g c tell entry s honest stood value at is = cc
+
+pub returns-in-Some-false-clause-unmissed : goal.returns-in-Some-false-clause-unmissed
+returns-in-Some-false-clause-unmissed g c tell entry s honest stood value at is = cc
+
+pub returns-in_ok-end-in-None-clause-unmissed : goal.returns-in_ok-end-in-None-clause-unmissed
+returns-in_ok-end-in-None-clause-unmissed g c tell entry s honest stood value at is = cc

@@ -5,3 +5,4 @@ pub mod Halting
 pub mod Marking
 pub mod Sinking
 pub mod Going
+mod Nevers

@@ -20,6 +20,7 @@ ghost use Rattle.dbl_exits.specs.Sessions.{AddsFew, InSession, LeavesBy, LeavesG
 ghost use Rattle.dbl_causes.specs.Gained.{Gains, IsReported};
 ghost use Rattle.dbl_causes.specs.Musts.{MustExhaust, MustHaltStood, MustHaltTold};
 ghost use Rattle.dbl_causes.specs.Reported.{HasReadMessages, HasSettled, HasStoodBehind, IsFollowed, StoodAtLast};
+ghost use Rattle.dbl_causes.specs.Nevers.{IsHonestHalt};
 ghost use Rattle.dbl_causes.specs.Sources.{IsUnderWay};
 ghost use Rattle.dbl_capture.specs.Caused.{Halts, IsCaused, IsNotGone};
 ghost use Rattle.dbl_causes.specs.Underway.{IsBeginHalt};
@@ -209,6 +210,7 @@ fn opened<S: Source, K: Sink, D: Disk>(
     ensures counts { (report.new.records ≡ report.old.records) ×
         (report.new.chunks ≡ report.old.chunks) ×
         (report.new.snapshot_rows ≡ report.old.snapshot_rows) }
+    ensures own { (entry : SpecEntry) → IfErr result (IsHonestHalt entry (S.stands src.new)) }
 {
     let offset = begun(alloc, config, src, sink, store)?;
     report.position = offset.lsn.0;
@@ -300,6 +302,12 @@ pub fn session<S: Source, K: Sink, D: Disk>(
         HadOwnTables (entry_at config.now now_ms s offsets.old.offset) →
         StoodInLog (entry_at config.now now_ms s offsets.old.offset) →
         (value at : _) → result ≢ Err (Halt.WatermarkMissing value at) }
+
+    // What an honest source with the stored tables never makes it halt for.
+    ensures own { (s : Standing) → S.stands src.old s → S.honest src.new →
+        HadOwnTables (entry_at config.now now_ms s offsets.old.offset) →
+        IfErr result (IsHonestHalt (entry_at config.now now_ms s offsets.old.offset)
+        (S.stands src.new)) }
 
     // What the sink gained, and that its report counts it, of every source.
     ensures grouped { (groups left : List (List SpecRecord)) → K.holds sink.old groups →

@@ -1,6 +1,6 @@
 //! The next message of a session.
 
-ghost use Rattle.std.specs.Prelude.{◌≡◌, ◌≢◌, ◌⊎◌, ◌^◌, ◌<◌, ◌≤◌, List, Option, None, Ok, Bool, false, true, IfErr, IfOk, IsTrue, OnErr, OnOk};
+ghost use Rattle.std.specs.Prelude.{◌≡◌, ◌≢◌, ◌⊎◌, ◌^◌, ◌<◌, ◌≤◌, List, Option, None, Ok, Some, Bool, false, true, IfErr, IfOk, IsTrue, OnErr, OnOk};
 ghost use Rattle.dbl_base.specs.Streams.{Rose};
 ghost use Rattle.dbl_record.specs.declared.record.Record.{Record as SpecRecord};
 ghost use Rattle.dbl_history.specs.Ranges.{IsMomentInRange};
@@ -11,6 +11,7 @@ ghost use Rattle.dbl_work.specs.Works.{IsReady};
 ghost use Rattle.dbl_exits.specs.Sessions.{InSession, LeavesBy};
 ghost use Rattle.dbl_exits.specs.Turns.{HasReadAllAt, IsCountedNext, IsDue, IsNextOf};
 ghost use Rattle.dbl_causes.specs.Carried.{Beginning};
+ghost use Rattle.dbl_causes.specs.Nevers.{IsHonestHalt};
 ghost use Rattle.dbl_causes.specs.Sources.{GoesOn, IsUnderWay};
 ghost use Rattle.dbl_steps.specs.Sinks.{HasHaltedPut, IsPutting};
 ghost use Rattle.dbl_capture.specs.Caused.{Halts, IsNotGone};
@@ -112,6 +113,12 @@ pub(crate) fn next<S: Source, K: Sink, D: Disk>(
         IsPutting K.holds groups b store.now.offset work.old report.old sink.old →
         IfErr result (HasHaltedPut K.holds K.may_leave groups b.config b.now b.held
         store.now.offset report.new sink.new) }
+    ensures own { (tell : Bool) (entry : SpecEntry) (at : Option Standing) (found : Option Told)
+        (b : Beginning) → InSession tell S.stands K.holds D.seen D.may_leave entry
+        work.old src.old sink.old store.now →
+        IsUnderWay S.stands at found b store.now.offset work.old report.old src.old
+        (S.told src.old) → (s : Standing) → at ≡ Some s → S.honest src.new →
+        IfErr result (IsHonestHalt entry (S.stands src.new)) }
 {
     match src.read()? {
         Some(bytes) => {

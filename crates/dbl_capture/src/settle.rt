@@ -12,6 +12,7 @@ ghost use Rattle.dbl_exits.specs.Ends.{IsReportAt};
 ghost use Rattle.dbl_exits.specs.Sessions.{InSession, LeavesBy};
 ghost use Rattle.dbl_exits.specs.Turns.{HasReadAllAt, IsSettled, IsSettledWhole};
 ghost use Rattle.dbl_causes.specs.Carried.{Beginning};
+ghost use Rattle.dbl_causes.specs.Nevers.{IsHonestHalt};
 ghost use Rattle.dbl_causes.specs.Sources.{HasCommitted, HasSettledAll};
 ghost use Rattle.dbl_steps.specs.Sinks.{HasHaltedPut, HasPutCommit, IsPutting};
 ghost use Rattle.dbl_capture.specs.Caused.{Halts, IsNotGone};
@@ -95,6 +96,7 @@ pub(crate) fn settle<S: Source, K: Sink, D: Disk>(
         HasPutCommit K.holds groups b store.old.offset work.old report.old sink.now →
         IfErr result (HasHaltedPut K.holds K.may_leave groups b.config b.now b.held
         store.new.offset report.new sink.now) }
+    ensures own { (entry : SpecEntry) → IfErr result (IsHonestHalt entry (S.stands src.new)) }
 {
     let offset = work.next_offset()?;
     let lsn = offset.lsn;

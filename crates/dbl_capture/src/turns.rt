@@ -16,6 +16,7 @@ ghost use Rattle.dbl_exits.specs.Ends.{AreAllDone, HasNoneNext, HasOwnStored, Is
 ghost use Rattle.dbl_exits.specs.Sessions.{InSession, LeavesBy};
 ghost use Rattle.dbl_exits.specs.Turns.{HasReadAllAt, IsSettledWhole};
 ghost use Rattle.dbl_causes.specs.Carried.{Beginning};
+ghost use Rattle.dbl_causes.specs.Nevers.{IsHonestHalt};
 ghost use Rattle.dbl_causes.specs.Sources.{HasSettledAll, IsUnderWay};
 ghost use Rattle.dbl_steps.specs.Sinks.{HasHaltedPut, IsPutting};
 ghost use Rattle.dbl_capture.specs.Caused.{Halts, IsNotGone};
@@ -90,6 +91,11 @@ fn arm_next<S: Source, K: Sink, D: Disk>(
         IsPutting K.holds groups b store.now.offset work.old report sink.now →
         IfErr result (HasHaltedPut K.holds K.may_leave groups b.config b.now b.held
         store.now.offset report sink.now) }
+    ensures own { (tell : Bool) (entry : SpecEntry) →
+        InSession tell S.stands K.holds D.seen D.may_leave entry
+        work.old src.old sink.now store.now →
+        S.honest src.new →
+        IfErr result (IsHonestHalt entry (S.stands src.new)) }
 {
     match table_of(work) {
         Some(table) => arm(work, table, src, sink, store),
@@ -164,6 +170,7 @@ fn end<S: Source, K: Sink, D: Disk>(
         IsPutting K.holds groups b store.old.offset work.old report.old sink.now →
         IfErr result (HasHaltedPut K.holds K.may_leave groups b.config b.now b.held
         store.new.offset report.new sink.now) }
+    ensures own { (entry : SpecEntry) → IfErr result (IsHonestHalt entry (S.stands src.new)) }
 {
     match work.follower.waits_for() {
         Some(value) => Err(Halt::WatermarkMissing {
@@ -284,6 +291,12 @@ fn turn<S: Source, K: Sink, D: Disk>(
         IsPutting K.holds groups b store.old.offset work.old report.old sink.old →
         IfErr result (HasHaltedPut K.holds K.may_leave groups b.config b.now b.held
         store.new.offset report.new sink.new) }
+    ensures own { (tell : Bool) (entry : SpecEntry) (at : Option Standing) (found : Option Told)
+        (b : Beginning) → InSession tell S.stands K.holds D.seen D.may_leave entry
+        work.old src.old sink.old store.old →
+        IsUnderWay S.stands at found b store.old.offset work.old report.old src.old
+        (S.told src.old) → (s : Standing) → at ≡ Some s → S.honest src.new →
+        IfErr result (IsHonestHalt entry (S.stands src.new)) }
 {
     arm_next(work, src, sink, store)?;
     match next(work, src, sink, store, report)? {
@@ -395,6 +408,12 @@ pub(crate) fn run<S: Source, K: Sink, D: Disk>(
         IsPutting K.holds groups b store.old.offset work.old report.old sink.old →
         IfErr result (HasHaltedPut K.holds K.may_leave groups b.config b.now b.held
         store.new.offset report.new sink.new) }
+    ensures own { (tell : Bool) (entry : SpecEntry) (at : Option Standing) (found : Option Told)
+        (b : Beginning) → InSession tell S.stands K.holds D.seen D.may_leave entry
+        work.old src.old sink.old store.old →
+        IsUnderWay S.stands at found b store.old.offset work.old report.old src.old
+        (S.told src.old) → (s : Standing) → at ≡ Some s → S.honest src.new →
+        IfErr result (IsHonestHalt entry (S.stands src.new)) }
 {
     'turns: for _count in 0..budget {
         if turn(work, src, sink, store, report)? {

@@ -11,6 +11,7 @@ ghost use Rattle.dbl_work.specs.declared.report.Report.{Report as SpecReport};
 ghost use Rattle.dbl_work.specs.Works.{IsArmedWork, IsOpenTable, IsReady};
 ghost use Rattle.dbl_exits.specs.Sessions.{InSession, LeavesBy};
 ghost use Rattle.dbl_causes.specs.Carried.{Beginning};
+ghost use Rattle.dbl_causes.specs.Nevers.{IsHonestHalt};
 ghost use Rattle.dbl_causes.specs.Sources.{IsUnderWay};
 ghost use Rattle.dbl_steps.specs.Sinks.{HasHaltedPut, IsPutting};
 ghost use Rattle.dbl_capture.specs.Caused.{Halts, IsNotGone};
@@ -73,6 +74,11 @@ pub(crate) fn arm<S: Source, K: Sink, D: Disk>(
         IsPutting K.holds groups b store.now.offset work.old report sink.now →
         IfErr result (HasHaltedPut K.holds K.may_leave groups b.config b.now b.held
         store.now.offset report sink.now) }
+    ensures own { (tell : Bool) (entry : SpecEntry) →
+        InSession tell S.stands K.holds D.seen D.may_leave entry
+        work.old src.old sink.now store.now →
+        S.honest src.new →
+        IfErr result (IsHonestHalt entry (S.stands src.new)) }
 {
     read_window(work, table, src)
 }

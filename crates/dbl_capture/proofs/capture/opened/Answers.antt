@@ -26,6 +26,8 @@ use Rattle.dbl_steps.proofs.Sinks.{puts_begin}
 use Rattle.dbl_work.specs.Begins.{IsAbsentHalt}
 use Rattle.dbl_capture.proofs.Telling.{memory_absent, start_absent}
 use Rattle.dbl_capture.proofs.Going.{begin_reads, kept_low, memory_reads, not_gone}
+use Rattle.dbl_capture.proofs.Nevers.{begin_honest, memory_honest, start_honest}
+use Rattle.dbl_causes.specs.Nevers.{IsHonestHalt}
 use Rattle.dbl_capture.proofs.capture.opened.Goals as goal
 
 pub returns-in_err-offset-clause-left : goal.returns-in_err-offset-clause-left
@@ -250,3 +252,14 @@ returns-in_err-start-clause-gone g c s is kept =
 
 pub returns-clause-gone : goal.returns-clause-gone
 returns-clause-gone g c s is kept = err_then c.make.result _ IsNotGone c.make.ensures.memory (λ h memory. memory_reads h memory)
+
+pub returns-in_err-offset-clause-own : goal.returns-in_err-offset-clause-own
+returns-in_err-offset-clause-own g c entry =
+    residual_of c.from_residual.result _ (IsHonestHalt entry (g.S.Source.stands c.begun.new.src)) c.from_residual.ensures.1 (begin_honest entry (g.S.Source.stands c.begun.new.src) c.args.config.now c.args.store.now.offset (g.S.Source.told c.begun.new.src) _ c.in_err-offset.ensures.halt)
+
+pub returns-in_err-start-clause-own : goal.returns-in_err-start-clause-own
+returns-in_err-start-clause-own g c entry =
+    residual_of c.from_residual-in_err-start.result _ (IsHonestHalt entry (g.S.Source.stands c.start.new.src)) c.from_residual-in_err-start.ensures.1 (start_honest entry (g.S.Source.stands c.start.new.src) _ _ c.in_err-start.ensures.halt)
+
+pub returns-clause-own : goal.returns-clause-own
+returns-clause-own g c entry = err_then c.make.result _ (IsHonestHalt entry (g.S.Source.stands c.start.new.src)) c.make.ensures.memory (λ h is. memory_honest entry (g.S.Source.stands c.start.new.src) h is)

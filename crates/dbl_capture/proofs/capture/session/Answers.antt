@@ -31,6 +31,7 @@ use Rattle.dbl_steps.proofs.Sinks.{left_gains, rests_put, still_counted}
 use Rattle.dbl_capture.proofs.Sinking.{counts_nothing, either_of, gains_nothing, reported_other}
 use Rattle.dbl_work.specs.Begins.{IsAbsentHalt}
 use Rattle.dbl_capture.proofs.Telling.{caused_absent}
+use Rattle.dbl_causes.specs.Nevers.{IsHonestHalt}
 use Rattle.dbl_capture.proofs.capture.session.Goals as goal
 
 -- it didn't begin
@@ -322,3 +323,17 @@ returns-clause-missing g c s was honest had stood value at is =
     let entry = entry_at c.args.config.now c.args.now_ms s c.args.offsets.now.offset in
     let in_session = c.in_ok-work.ensures.opened false entry refl (sym (to_z-of_z c.ranges.now_ms)) (source_found _ _ _ _ c.args.config.now c.args.now_ms s _ _ c.args.offsets.now was) (c.run.ensures.honest honest) had in
     c.run.ensures.unmissed false entry in_session honest stood value at is
+
+pub returns-in_err-work-clause-own : goal.returns-in_err-work-clause-own
+returns-in_err-work-clause-own g c s was honest had =
+    residual_of c.from_residual.result _ (IsHonestHalt (entry_at c.args.config.now c.args.now_ms s c.args.offsets.now.offset) (g.S.Source.stands c.opened.new.src)) c.from_residual.ensures.1
+    (c.in_err-work.ensures.own (entry_at c.args.config.now c.args.now_ms s c.args.offsets.now.offset))
+
+pub returns-clause-own : goal.returns-clause-own
+returns-clause-own g c s was honest had =
+    let entry = entry_at c.args.config.now c.args.now_ms s c.args.offsets.now.offset in
+    let in_session = c.in_ok-work.ensures.opened false entry refl (sym (to_z-of_z c.ranges.now_ms)) (source_found _ _ _ _ c.args.config.now c.args.now_ms s _ _ c.args.offsets.now was) (c.run.ensures.honest honest) had in
+    let way = c.in_ok-work.ensures.under_way (Some s) (at_some g.S.Source.stands c.args.src.now s was) (refl, refl, refl) in
+    let b = beginning_at c.args.config.now c.args.now_ms c.args.offsets.now.offset way.0 in
+    let u = subst (λ (n : ℤ). IsUnderWay g.S.Source.stands (Some s) (g.S.Source.told c.args.src.now) (beginning_at c.args.config.now n c.args.offsets.now.offset way.0) c.opened.new.store.offset c.in_ok-work.work c.opened.new.report c.opened.new.src (g.S.Source.told c.opened.new.src)) (to_z-of_z c.ranges.now_ms) way.1 in
+    c.run.ensures.own false entry (Some s) (g.S.Source.told c.args.src.now) b in_session u s refl honest

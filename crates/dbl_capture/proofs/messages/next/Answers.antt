@@ -8,7 +8,7 @@ use Rattle.dbl_work.specs.declared.work.Work.{Work}
 use Rattle.dbl_work.specs.Takes.{WasTaken}
 use Rattle.dbl_exits.specs.Sessions.{standing_at}
 use Rattle.dbl_capture.proofs.Causes.{OfNone, OfSink, OfSource, err_at, follow_of, residual_of, source_of, taken_of, residual_is, residual_source}
-use Rattle.dbl_exits.proofs.Keeping.{moved_on, on_err}
+use Rattle.dbl_exits.proofs.Keeping.{capturing, moved_on, on_err}
 use Rattle.dbl_exits.proofs.Nexts.{none_read, read_whole, some_read, step_fails, stepped_on, taken_on}
 use Rattle.dbl_capture.proofs.Reporting.{counted_fault, counted_none, counted_put, counted_torn}
 use Rattle.dbl_exits.proofs.Settles.{follow_fails}
@@ -26,6 +26,12 @@ use Rattle.dbl_steps.specs.Sinks.{HasHaltedPut}
 use Rattle.dbl_steps.proofs.Sinks.{commits_put, commits_put_at_rest, halts_put_nothing, messages_put_nothing, rests_put}
 use Rattle.dbl_capture.proofs.Sinking.{few_taken, follow_puts, none_other, puts_due, source_other}
 use Rattle.dbl_capture.proofs.Going.{follow_reads, source_reads, taken_reads}
+use Rattle.dbl_capture.proofs.Nevers.{follow_honest, many_at, one_longer, source_honest, taken_honest, took_at}
+use Rattle.dbl_table.specs.declared.table.TableInfo.{TableInfo}
+use Rattle.dbl_offset.specs.declared.offset.Offset.{Offset}
+use Rattle.dbl_commit.specs.Blocks.{IsAccepted}
+use Rattle.dbl_causes.specs.Nevers.{IsHonestHalt}
+use Rattle.dbl_window.proofs.HonestLemmas.{captured_stays}
 use Rattle.dbl_capture.proofs.messages.next.Goals as goal
 
 pub returns-in_err-bytes-clause-left : goal.returns-in_err-bytes-clause-left
@@ -261,3 +267,24 @@ returns-in_err-commit-in-Some-clause-reads g c = residual_of c.from_residual-in_
 
 pub returns-in_err-closed-in-Some-2-clause-reads : goal.returns-in_err-closed-in-Some-2-clause-reads
 returns-in_err-closed-in-Some-2-clause-reads g c = residual_of c.from_residual-in_err-closed-in-Some-2.result _ IsNotGone c.from_residual-in_err-closed-in-Some-2.ensures.1 (follow_reads _ _ _ c.in_err-closed-in-Some-2.ensures.halt)
+
+pub returns-in_err-bytes-clause-own : goal.returns-in_err-bytes-clause-own
+returns-in_err-bytes-clause-own g c tell entry at found b s u first is honest =
+    residual_of c.from_residual.result _ (IsHonestHalt entry (g.S.Source.stands c.read.new.self)) c.from_residual.ensures.1 (source_honest entry (g.S.Source.stands c.read.new.self) c.in_err-bytes.field-0.0)
+
+pub returns-in_err-commit-in-Some-clause-own : goal.returns-in_err-commit-in-Some-clause-own
+returns-in_err-commit-in-Some-clause-own g c tell entry at found b s u first is honest =
+    let T = some_read _ _ _ _ c.in-Some.is (c.in_ok-bytes.ensures.took (standing_at s.stage) s.source_is) in
+    let reading = took_at (standing_at s.stage) T.2.standing T.0 s.stage.first.lsn s.stage.messages T.2.holds refl in
+    let infos_are = ap (λ (o : Offset). o.infos) s.work_is.offset_is in
+    residual_of c.from_residual-in_err-commit-in-Some.result _ (IsHonestHalt entry (g.S.Source.stands c.read.new.self)) c.from_residual-in_err-commit-in-Some.ensures.1
+    (taken_honest entry (g.S.Source.stands c.read.new.self) s.stage.first.infos T.2.standing s.stage.first.lsn s.stage.messages T.0 c.in-Some.bytes (c.args.report.now.messages + 1) c.args.work.now _ (capturing s) T.2.is reading
+    (captured_stays s.stage.history T.2.standing.history s.stage.first.infos T.2.holds.grows.tables s.going.reading.infos)
+    (g.met.S.Source.right c.read.new.self T.2.standing _ T.2.is honest reading) infos_are (subst (λ (l : List TableInfo). IsAccepted l s.stage.first.lsn s.stage.messages) infos_are s.work_is.is.accepted) T.1
+    (let many = many_at g.S.Source.stands g.met.S.Source.one at found b c.args.store.now.offset c.args.work.now c.args.report.now c.args.src.now (g.S.Source.told c.args.src.now) first s.stage.first.lsn s.stage.messages u is (standing_at s.stage) s.source_is refl in sym (one_longer (length s.stage.messages) c.args.report.now.messages many))
+    (c.in_err-commit-in-Some.ensures.halt s.stage.first.lsn s.stage.messages s.work_is.is))
+
+pub returns-in_err-closed-in-Some-2-clause-own : goal.returns-in_err-closed-in-Some-2-clause-own
+returns-in_err-closed-in-Some-2-clause-own g c tell entry at found b s u first is honest =
+    residual_of c.from_residual-in_err-closed-in-Some-2.result _ (IsHonestHalt entry (g.S.Source.stands c.read.new.self)) c.from_residual-in_err-closed-in-Some-2.ensures.1
+    (follow_honest entry (g.S.Source.stands c.read.new.self) _ _ _ c.in_err-closed-in-Some-2.ensures.halt)

@@ -22,6 +22,8 @@ use Rattle.dbl_steps.specs.Sinks.{HasHaltedPut}
 use Rattle.dbl_steps.proofs.Sinks.{halts_put_nothing, stores_put_nothing}
 use Rattle.dbl_capture.proofs.Sinking.{none_other, source_other, store_other}
 use Rattle.dbl_capture.proofs.Going.{source_reads, store_reads}
+use Rattle.dbl_capture.proofs.Nevers.{source_honest, store_honest}
+use Rattle.dbl_causes.specs.Nevers.{IsHonestHalt}
 use Rattle.dbl_capture.proofs.settle.settle.Goals as goal
 
 -- nothing was asked of the three yet
@@ -181,3 +183,14 @@ returns-in_err-put_offset-clause-reads g c = residual_of c.from_residual-in_err-
 
 pub returns-in_err-confirm-clause-reads : goal.returns-in_err-confirm-clause-reads
 returns-in_err-confirm-clause-reads g c = residual_of c.from_residual-in_err-confirm.result _ IsNotGone c.from_residual-in_err-confirm.ensures.1 (source_reads c.in_err-confirm.field-0.0)
+
+pub returns-in_err-offset-clause-own : goal.returns-in_err-offset-clause-own
+returns-in_err-offset-clause-own g c entry = residual_of c.from_residual.result halt.Memory (IsHonestHalt entry (g.S.Source.stands c.args.src.now)) c.from_residual.ensures.1 tt
+
+pub returns-in_err-put_offset-clause-own : goal.returns-in_err-put_offset-clause-own
+returns-in_err-put_offset-clause-own g c entry =
+    residual_of c.from_residual-in_err-put_offset.result _ (IsHonestHalt entry (g.S.Source.stands c.args.src.now)) c.from_residual-in_err-put_offset.ensures.1 (store_honest entry (g.S.Source.stands c.args.src.now) _ _ c.in_err-put_offset.ensures.halt)
+
+pub returns-in_err-confirm-clause-own : goal.returns-in_err-confirm-clause-own
+returns-in_err-confirm-clause-own g c entry =
+    residual_of c.from_residual-in_err-confirm.result _ (IsHonestHalt entry (g.S.Source.stands c.confirm.new.self)) c.from_residual-in_err-confirm.ensures.1 (source_honest entry (g.S.Source.stands c.confirm.new.self) c.in_err-confirm.field-0.0)

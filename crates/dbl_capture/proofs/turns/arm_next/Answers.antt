@@ -52,3 +52,6 @@ returns-in-None-clause-putting g c groups b report u = u
 
 pub returns-in-Some-clause-reads : goal.returns-in-Some-clause-reads
 returns-in-Some-clause-reads g c = c.arm.ensures.reads
+
+pub returns-in-Some-clause-own : goal.returns-in-Some-clause-own
+returns-in-Some-clause-own g c = c.arm.ensures.own

@@ -15,6 +15,7 @@ use Rattle.dbl_steps.specs.Sinks.{HasHaltedPut}
 use Rattle.dbl_steps.proofs.Sinks.{halts_put_nothing, rests_put}
 use Rattle.dbl_capture.proofs.Sinking.{none_other}
 use Rattle.dbl_capture.proofs.Going.{not_waiting}
+use Rattle.dbl_causes.specs.Nevers.{IsHonestHalt}
 use Rattle.dbl_capture.proofs.turns.end.Goals as goal
 
 pub returns-in_err-copy-in-Some-clause-left : goal.returns-in_err-copy-in-Some-clause-left
@@ -105,3 +106,12 @@ returns-in_ok-copy-in-Some-clause-unmissed g c tell entry h stood value at is =
 
 pub returns-in-None-clause-unmissed : goal.returns-in-None-clause-unmissed
 returns-in-None-clause-unmissed g c tell entry h stood = c.settle.ensures.never
+
+pub returns-in_err-copy-in-Some-clause-own : goal.returns-in_err-copy-in-Some-clause-own
+returns-in_err-copy-in-Some-clause-own g c entry = residual_of c.from_residual.result halt.Memory (IsHonestHalt entry (g.S.Source.stands c.args.src.now)) c.from_residual.ensures.1 tt
+
+pub returns-in_ok-copy-in-Some-clause-own : goal.returns-in_ok-copy-in-Some-clause-own
+returns-in_ok-copy-in-Some-clause-own g c entry = tt
+
+pub returns-in-None-clause-own : goal.returns-in-None-clause-own
+returns-in-None-clause-own g c = c.settle.ensures.own

@@ -11,6 +11,7 @@ use Rattle.dbl_causes.proofs.Sources.{at_rest}
 use Rattle.dbl_capture.proofs.Marking.{none_settled}
 use Rattle.dbl_steps.specs.Sinks.{HasHaltedPut}
 use Rattle.dbl_steps.proofs.Sinks.{rests_put}
+use Rattle.dbl_causes.specs.Nevers.{IsHonestHalt}
 use Rattle.dbl_capture.proofs.turns.run.Goals as goal
 
 pub turns-init : goal.turns-init
@@ -436,3 +437,17 @@ returns-clause-unmissed g c tell entry s honest stood value at is = cc
 
 pub returns-then-branch-clause-unmissed : goal.returns-then-branch-clause-unmissed
 returns-then-branch-clause-unmissed g c tell entry s honest stood value at is = cc
+
+pub returns-in_err-turn-clause-own : goal.returns-in_err-turn-clause-own
+returns-in_err-turn-clause-own g c tell entry at found b s u first is honest =
+    residual_of c.from_residual.result _ (IsHonestHalt entry (g.S.Source.stands c.turn.new.src)) c.from_residual.ensures.1
+    (c.in_err-turn.ensures.own tell entry at found b (c.turns.invariant.kept tell entry s (c.turn.ensures.honest honest)) (c.turns.invariant.under_way at found b u) first is honest)
+
+pub returns-in_err-arm_next-clause-own : goal.returns-in_err-arm_next-clause-own
+returns-in_err-arm_next-clause-own g c tell entry at found b s u first is honest =
+    residual_of c.from_residual-in_err-arm_next.result _ (IsHonestHalt entry (g.S.Source.stands c.arm_next.new.src)) c.from_residual-in_err-arm_next.ensures.1
+    (c.in_err-arm_next.ensures.own tell entry (c.turns.invariant.kept tell entry s (c.arm_next.ensures.honest honest)) honest)
+
+pub returns-in_err-settle-clause-own : goal.returns-in_err-settle-clause-own
+returns-in_err-settle-clause-own g c tell entry at found b s u first is honest =
+    residual_of c.from_residual-in_err-settle.result _ (IsHonestHalt entry (g.S.Source.stands c.settle.new.src)) c.from_residual-in_err-settle.ensures.1 (c.in_err-settle.ensures.own entry)

@@ -15,6 +15,7 @@ use Rattle.dbl_capture.proofs.Telling.{goes_false, goes_none, goes_true}
 use Rattle.dbl_capture.proofs.Marking.{absent_settled, none_settled}
 use Rattle.dbl_steps.specs.Sinks.{HasHaltedPut}
 use Rattle.dbl_capture.proofs.Sinking.{puts_false, puts_none, puts_true}
+use Rattle.dbl_causes.specs.Nevers.{IsHonestHalt}
 use Rattle.dbl_capture.proofs.turns.turn.Goals as goal
 
 pub next-requires-clause-ready : goal.next-requires-clause-ready
@@ -451,3 +452,20 @@ returns-in-Some-false-clause-unmissed g c tell entry s honest stood value at is 
 
 pub returns-in_ok-end-in-None-clause-unmissed : goal.returns-in_ok-end-in-None-clause-unmissed
 returns-in_ok-end-in-None-clause-unmissed g c tell entry s honest stood value at is = cc
+
+pub returns-in_err-arm_next-clause-own : goal.returns-in_err-arm_next-clause-own
+returns-in_err-arm_next-clause-own g c tell entry at found b s u first is honest =
+    residual_of c.from_residual.result _ (IsHonestHalt entry (g.S.Source.stands c.arm_next.new.src)) c.from_residual.ensures.1 (c.in_err-arm_next.ensures.own tell entry s honest)
+
+pub returns-in_err-next-clause-own : goal.returns-in_err-next-clause-own
+returns-in_err-next-clause-own g c tell entry at found b s u first is honest =
+    residual_of c.from_residual-in_err-next.result _ (IsHonestHalt entry (g.S.Source.stands c.next.new.src)) c.from_residual-in_err-next.ensures.1
+    (c.in_err-next.ensures.own tell entry at found b (c.in_ok-arm_next.ensures.armed tell entry s (c.next.ensures.honest honest)) (c.in_ok-arm_next.ensures.under_way at found b c.args.report.now u) first is honest)
+
+pub returns-in_err-settle-in-Some-true-clause-own : goal.returns-in_err-settle-in-Some-true-clause-own
+returns-in_err-settle-in-Some-true-clause-own g c tell entry at found b s u first is honest =
+    residual_of c.from_residual-in_err-settle-in-Some-true.result _ (IsHonestHalt entry (g.S.Source.stands c.settle.new.src)) c.from_residual-in_err-settle-in-Some-true.ensures.1 (c.in_err-settle-in-Some-true.ensures.own entry)
+
+pub returns-in_err-end-in-None-clause-own : goal.returns-in_err-end-in-None-clause-own
+returns-in_err-end-in-None-clause-own g c tell entry at found b s u first is honest =
+    residual_of c.from_residual-in_err-end-in-None.result _ (IsHonestHalt entry (g.S.Source.stands c.end.new.src)) c.from_residual-in_err-end-in-None.ensures.1 (c.in_err-end-in-None.ensures.own entry)

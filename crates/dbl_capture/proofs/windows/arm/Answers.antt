@@ -1,7 +1,7 @@
 use Rattle.dbl_exits.specs.Sessions.{standing_at}
-use Rattle.dbl_exits.proofs.Arms.{arm_left, plan_here, plan_parts, window_on}
+use Rattle.dbl_exits.proofs.Arms.{arm_left, plan_captured, plan_here, plan_parts, window_on}
 use Rattle.dbl_capture.proofs.Causes.{OfSource, chunk_of, err_at, err_then}
-use Rattle.dbl_exits.proofs.Keeping.{ok_then, on_err}
+use Rattle.dbl_exits.proofs.Keeping.{capturing, ok_then, on_err}
 use Rattle.std.proofs.Common.{inl, refl}
 use Rattle.dbl_capture.specs.Caused.{Halts, IsNotGone}
 use Rattle.dbl_causes.proofs.Sources.{arms_on, at_rest, halts_between}
@@ -11,6 +11,10 @@ use Rattle.dbl_steps.specs.Sinks.{HasHaltedPut}
 use Rattle.dbl_steps.proofs.Sinks.{halts_put_nothing, rests_put, windows_put_nothing}
 use Rattle.dbl_capture.proofs.Sinking.{source_other}
 use Rattle.dbl_capture.proofs.Going.{chunk_reads}
+use Rattle.dbl_capture.proofs.Nevers.{window_honest}
+use Rattle.dbl_causes.specs.Nevers.{IsHonestHalt}
+use Rattle.dbl_honest.specs.Standings.{left_of}
+use Rattle.dbl_window.proofs.HonestLemmas.{captured_stays}
 use Rattle.dbl_capture.proofs.windows.arm.Goals as goal
 
 pub returns-clause-armed : goal.returns-clause-armed
@@ -62,3 +66,15 @@ returns-clause-put g c groups b report u =
 
 pub returns-clause-reads : goal.returns-clause-reads
 returns-clause-reads g c = err_then c.read_window.result _ IsNotGone c.read_window.ensures.halt (λ h is. chunk_reads c.args.work.now c.args.table _ h is)
+
+pub returns-clause-own : goal.returns-clause-own
+returns-clause-own g c tell entry s honest =
+    let planned = plan_here c.args.work.now c.args.table c.requires.ready c.requires.table in
+    let here = plan_captured s c.args.table planned.0 (plan_parts c.args.work.now c.args.table planned.0 planned.1) c.requires.table c.requires.number in
+    err_then c.read_window.result _ (IsHonestHalt entry (g.S.Source.stands c.read_window.new.src))
+    (c.read_window.ensures.never (standing_at s.stage) s.stage.first.infos planned.0 s.source_is honest planned.1 (record { are = s.going.reading.infos; here = here }))
+    (λ h fault. window_honest entry (g.S.Source.stands c.read_window.new.src) planned.0 s.stage.first.infos h (capturing s)
+    (λ t is. record {
+      are = captured_stays s.stage.history t.history s.stage.first.infos (c.read_window.ensures.left planned.0 planned.1 (standing_at s.stage) (left_of t) s.source_is (g.met.S.Source.may c.read_window.new.src t is)).grown.tables s.going.reading.infos;
+      here = here;
+    }) fault)

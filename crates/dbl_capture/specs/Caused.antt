@@ -10,8 +10,8 @@ use Rattle.dbl_work.specs.declared.report.Report.{Report}
 use Rattle.dbl_causes.specs.Halted.{IsHalt}
 use Rattle.dbl_causes.specs.Sources.{HasHalted}
 
--- The cause of each halt. That of a clash and of a record that is too long is told by the report but for its windows: of the mark that
--- closes the window whose records these are, the number isn't told.
+-- The cause of each halt. Of a window's clash, and of a record of a window that is too long, the number in the mark that closes it isn't
+-- told.
 abbrev pub IsCaused : Config → ℤ → Option Offset → Option Offset → Report → Option Told → Halt → Type 0
 IsCaused config now old new report told (halt.Clash table column) =
     (chunks : ℕ) × IsHalt config now old new (record report { chunks = chunks }) told (halt.Clash table column)

@@ -221,7 +221,8 @@ fn opened<S: Source, K: Sink, D: Disk>(
 /// Captures tables: reads them in windows, while it follows their log from the stored offset on,
 /// or from a first one. Each record goes to the sink, in groups, before the offset behind it is
 /// stored, and that is stored before it is confirmed. It ends where everything is read, or with
-/// its budget; and it may halt at any call, behind which another session goes on.
+/// its budget; and it may halt at any call. Behind a halt another session may go on, over a
+/// source, a sink and a store that were opened anew.
 ///
 /// `now_ms`, in milliseconds since 1970-01-01 UTC, is when its records are made. All fields of
 /// the report are set anew.

@@ -43,7 +43,7 @@ use Rattle.dbl_causes.specs.Reported.{AreSpelled, HasReadBehind, IsBehindOf}
 
 -- ---- what was read, as messages
 
--- So much was read behind the stored offset's start: who tells, tells bytes that spell these messages.
+-- So much was read from where the session began to read: who tells, tells bytes that spell these messages.
 pub record WasTold (config : Config) (old new : Option Offset) (report : Report) (told : Option Told) (reading : Reading) : Type 0 where
   pub stored : HasStored config old new
   pub behind : IsBehindOf old new stored.offset.infos reading.after
@@ -109,7 +109,7 @@ pub record IsWindowHalt (config : Config) (old new : Option Offset) (report : Re
   pub is : h ≡ window_halt table error
   pub rows : IsReadOf plan told (Err error)
 
--- A mark of this value closes a window with these rows: the session's last one, of the first table that isn't done.
+-- A mark of this value closes a window with these rows: the one that the report doesn't count yet, of the first table that isn't done.
 pub record ClosesAt (config : Config) (report : Report) (offset : Offset) (value : List ℕ) (closed : Closed) : Type 0 where
   pub mark : value ≡ mark_text offset.incarnation (report.chunks + 1) High
   pub table : position (λ cursor. not cursor.done) offset.cursors ≡ Some closed.table
@@ -131,8 +131,8 @@ IsLongOf config now report offset commit (Mark value) h =
     (closed : Closed) × ClosesAt config report offset value closed × (snapshot_clash offset.identity offset.infos closed ≡ None)
     × IsLongRecord (snapshot offset.identity offset.infos closed commit now) h
 
--- The newest message ends a commit. Its changes have this clash; or where it is the high mark of the next window, some rows of no more
--- than may be have it: which rows were read isn't said here.
+-- The newest message ends a commit. Its changes have this clash; or where it is the high mark of the window that the report doesn't count
+-- yet, some rows of no more than may be have it: which rows were read isn't said here.
 pub record HasClash (config : Config) (report : Report) (offset : Offset) (reading : Reading) (h : Halt) : Type 0 where
   pub commit : Commit
   pub ends : EndsCommit offset.infos reading commit

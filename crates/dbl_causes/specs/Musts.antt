@@ -81,6 +81,7 @@ pub record MustHalt (config : Config) (old new : Option Offset) (report : Report
       → HaltsOrFails (window_halt plan.info.name error) result
   pub described : (raw : RawTable) (error : ModelError) → old ≡ None → new ≡ None → t.answer ≡ Described (Some raw)
       → table_fault raw ≡ Some error → HaltsOrFails (halt.Model error) result
+  -- of one of the tables that were asked for: which one isn't told by the answer
   pub unknown : old ≡ None → new ≡ None → t.answer ≡ Described None
       → (name : TableName) × Contains config.tables name × HaltsOrFails (halt.UnknownTable name) result
   pub gone : (first : Lsn) (stored : HasStored config old new) → t.answer ≡ Began (Gone first)

@@ -6,8 +6,9 @@ ghost use Rattle.dbl_causes.specs.Underway.{SourcesStoodAtHalts, SourcesStoodAtO
 ghost use Rattle.dbl_causes.specs.Underway.{StepsMoveOneCursor, StepsOpenWindows};
 ghost use Rattle.dbl_causes.specs.Underway.{TakenMessagesAskNothing, WindowsHalt};
 
-/// Before a session reads, it halts for what it found, or because memory ran out, or a call of
-/// its source or its store failed.
+/// Before a session reads, it halts for what it found, for what was described, for the offset that
+/// it would store first, where that is too long, or because the log behind its offset is gone,
+/// memory ran out, or a call of its source or its store failed.
 pub fn sessions_halt_unread()
     ensures { SessionsHaltUnread }
 {}

@@ -3,12 +3,14 @@
 ghost use Rattle.dbl_causes.specs.Written.{FewMarksAreLeft, MarksAreExact, ReadWindowsWait};
 ghost use Rattle.dbl_causes.specs.Written.{StepsCloseWindows};
 
-/// A window that was read waits.
+/// Behind a window that is read, those that were read are the ones that were closed and one that
+/// waits.
 pub fn read_windows_wait()
     ensures { ReadWindowsWait }
 {}
 
-/// A commit that closes one is counted by a report, and no other is.
+/// A window that a commit closes is counted by a report, and no other is, while fewer than 2^64
+/// were read.
 pub fn steps_close_windows()
     ensures { StepsCloseWindows }
 {}

@@ -17,7 +17,7 @@ pub fn stated_commits_are_in_range()
     ensures { StatedCommitsAreInRange }
 {}
 
-/// Those that were put are counted, as far as 64 bits tell.
+/// The records that were put are counted, as far as 64 bits tell.
 pub fn puts_are_counted()
     ensures { PutsAreCounted }
 {}
@@ -37,17 +37,17 @@ pub fn sources_stand_behind()
     ensures { SourcesStandBehind }
 {}
 
-/// A session halts between two messages,
+/// Where a session halts between two messages, all that it read was followed,
 pub fn halts_between()
     ensures { HaltsBetween }
 {}
 
-/// or at one.
+/// and where it halts at one, all but that one. Where memory ran out, it isn't told which.
 pub fn halts_at_messages()
     ensures { HaltsAtMessages }
 {}
 
-/// So it does where its source still stands.
+/// So it is by the messages behind which a source still stands.
 pub fn sources_stood_so()
     ensures { SourcesStoodSo }
 {}

@@ -29,12 +29,13 @@ QuietAnswersAskNothing = (config : Config) (held : Option Offset) (stored : Offs
     → ((first : Lsn) → t.answer ≡ Began (Gone first) → ⊥)
     → MustHalt config held (Some stored) report t result
 
--- Where memory ran out, or a call of the source failed, no more is asked for than that a message is at fault.
+-- Behind the first store, where all that was told spells messages, and memory ran out or a call of the source failed, nothing more is
+-- asked for.
 abbrev pub FailuresExcuse : Type 0
 FailuresExcuse = (config : Config) (held : Option Offset) (stored : Offset) (report : Report) (t : Told) (ms : List Message) (h : Halt)
     → AreSpelled t.read ms → (h ≡ halt.Memory) ⊎ (h ≡ halt.Source) → MustHalt config held (Some stored) report t (Err h)
 
--- The rows of a window ask for their first fault.
+-- Where a session halts at the rows of its next window, what these ask for came.
 abbrev pub RowsAsk : Type 0
 RowsAsk = (config : Config) (now : ℤ) (held : Option Offset) (first stored : Offset) (work : Work) (report : Report) (table : ℕ) (t : Told)
     (ms : List Message) (h : Halt)
@@ -42,15 +43,15 @@ RowsAsk = (config : Config) (now : ℤ) (held : Option Offset) (first stored : O
     → IsOpenTable work table → AreSpelled t.read ms → IsChunkHalt work table (Some t) h
     → MustHalt config held (Some stored) report t (Err h)
 
--- The newest bytes ask for their fault.
+-- Where a step halts at the newest bytes, what these ask for came.
 abbrev pub NewestBytesAsk : Type 0
 NewestBytesAsk = (config : Config) (held : Option Offset) (stored : Offset) (report : Report) (t : Told) (after : Lsn) (earlier : List (List ℕ))
     (ms : List Message) (bytes : List ℕ) (work : Work) (h : Halt)
     → t.answer ≡ Read (Some bytes) → t.read ≡ bytes ∷ earlier → IsNewestCause report.messages after ms bytes work h
     → MustHalt config held (Some stored) report t (Err h)
 
--- Before a message is read, what was described, and a log that is gone, ask for their halt. A first offset that isn't stored is behind
--- the head.
+-- Where a session halts before it has read a message, what a description, or a log that is gone, asks for came. At least one table is
+-- asked for; and where it found no offset, and its first one is too long or a call of its store failed, the head was told last.
 abbrev pub UnreadAnswersAsk : Type 0
 UnreadAnswersAsk = (config : Config) (held stored : Option Offset) (report : Report) (t : Told) (h : Halt)
     → IsOpenHalt config held stored (Some t) h → 1 ≤ length config.tables → report.messages ≡ 0

@@ -59,7 +59,7 @@ CommitsGain = (after : Lsn) (ms : List Message) (bytes : List ℕ) (commit : Com
 
 -- ---- what is left
 
--- What the sink has gained, it gained by the stored offset,
+-- What the sink has gained while a session is under way, it gained by the stored offset too,
 abbrev pub RestsLeaveGains : Type 0
 RestsLeaveGains = (config : Config) (now : ℤ) (held : Option Offset) (first stored : Offset) (work : Work) (ms : List Message) (records : List Record)
     (groups left : List (List Record))

@@ -3,27 +3,30 @@
 ghost use Rattle.dbl_steps.specs.Answered.{FailuresExcuse, NewestBytesAsk, QuietAnswersAskNothing};
 ghost use Rattle.dbl_steps.specs.Answered.{RowsAsk, UnreadAnswersAsk};
 
-/// What spells messages, and isn't rows, asks for no halt.
+/// Behind the first store, what spells messages, and is neither rows nor that the log is gone, asks
+/// for no halt.
 pub fn quiet_answers_ask_nothing()
     ensures { QuietAnswersAskNothing }
 {}
 
-/// Where memory ran out, or the source failed, it asks for no other one.
+/// Where all that was told spells messages there, and memory ran out or a call of the source
+/// failed, nothing more is asked for.
 pub fn failures_excuse()
     ensures { FailuresExcuse }
 {}
 
-/// The rows of a window ask for their first fault.
+/// Where a session halts at the rows of its next window, what these ask for came.
 pub fn rows_ask()
     ensures { RowsAsk }
 {}
 
-/// The newest bytes ask for theirs.
+/// Where a step halts at the newest bytes, what these ask for came.
 pub fn newest_bytes_ask()
     ensures { NewestBytesAsk }
 {}
 
-/// Before a message is read, what was described asks for its fault, and so does a log that is gone.
+/// Where a session halts before it has read a message, what a description, or a log that is gone,
+/// asks for came.
 pub fn unread_answers_ask()
     ensures { UnreadAnswersAsk }
 {}

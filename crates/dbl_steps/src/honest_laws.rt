@@ -8,7 +8,7 @@ pub fn spelled_bytes_never_halt()
     ensures { SpelledBytesNeverHalt }
 {}
 
-/// A transaction is at fault by its content alone.
+/// A transaction of an honest source is at fault by its content alone.
 pub fn honest_transactions_fail()
     ensures { HonestTransactionsFail }
 {}

@@ -19,7 +19,8 @@ pub fn windows_leave_few_marks()
     ensures { WindowsLeaveFewMarks }
 {}
 
-/// Where the session ends as it should, they are told exactly.
+/// Where the session has stored its cursors, and every table is done unless a window waits, they
+/// are told exactly.
 pub fn ends_leave_exact_marks()
     ensures { EndsLeaveExactMarks }
 {}

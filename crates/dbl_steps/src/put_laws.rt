@@ -24,7 +24,7 @@ pub fn commits_gain()
     ensures { CommitsGain }
 {}
 
-/// What was gained is told by the stored offset,
+/// What was gained while a session is under way is so by the stored offset too,
 pub fn rests_leave_gains()
     ensures { RestsLeaveGains }
 {}

@@ -1,0 +1,10 @@
+//! A source that runs a workload, as its log and its store have it: what it is between its calls, and what they add to it.
+#![tactic(auto)]
+
+mod laws;
+
+pub use laws::{
+    calls_undo_nothing, entries_are_written_as_promised, groups_answer_as_promised,
+    reads_answer_as_promised, selects_answer_as_promised, sources_stand_well,
+    stops_leave_what_follows,
+};

@@ -1,0 +1,62 @@
+//! What each image of the disk is that a stop may leave, beside the sink's records.
+
+use crate::look;
+use crate::run::image;
+use anyhow::Result;
+use dbl_case_items::words;
+use dbl_disk::{Choice, MemDisk};
+use dbl_offset::Offset;
+use dbl_record::Record;
+use std::alloc::Global;
+use std::fmt::Write;
+
+// An offset stored by the same session at the same place, or none at all.
+fn is_same(one: Option<&Offset>, other: Option<&Offset>) -> bool {
+    match (one, other) {
+        (Some(one), Some(other)) => one.lsn == other.lsn && one.incarnation == other.incarnation,
+        (None, None) => true,
+        _ => false,
+    }
+}
+
+/// Adds what an offset is beside the records.
+pub fn image_text(
+    alloc: Global,
+    asked: &str,
+    script: &str,
+    word: &str,
+    offset: Option<&Offset>,
+    records: &Vec<Record>,
+    answers: &mut String,
+) -> Result<()> {
+    write!(answers, "; {word}: ")?;
+    if let Some(offset) = offset {
+        let (incarnation, lsn) = (offset.incarnation, offset.lsn);
+        write!(answers, "incarnation {incarnation}, lsn {lsn}, ")?;
+    }
+    if !look::is_asked(asked) {
+        return words::add(answers, "not looked at");
+    }
+    look::answer(alloc, asked, script, offset, records, answers)
+}
+
+/// Adds what each image comes to, or all of them at once where they are the same.
+pub fn images(
+    alloc: Global,
+    asked: &str,
+    script: &str,
+    disk: &MemDisk,
+    records: &Vec<Record>,
+    answers: &mut String,
+) -> Result<()> {
+    let old = image(alloc, disk, Choice::Old)?;
+    let new = image(alloc, disk, Choice::New)?;
+    let filled = image(alloc, disk, Choice::Fill(255))?;
+    let (old, new, filled) = (old.as_ref(), new.as_ref(), filled.as_ref());
+    if is_same(old, new) && is_same(filled, new) {
+        return image_text(alloc, asked, script, "each image", new, records, answers);
+    }
+    image_text(alloc, asked, script, "old", old, records, answers)?;
+    image_text(alloc, asked, script, "new", new, records, answers)?;
+    image_text(alloc, asked, script, "filled", filled, records, answers)
+}

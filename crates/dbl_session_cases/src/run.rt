@@ -1,0 +1,167 @@
+//! One session, and what it leaves.
+
+ghost use Rattle.std.specs.Prelude.{◌≡◌, None, Some, IsTrue, IfOk, IfSome};
+ghost use Rattle.dbl_table.specs.Configs.{IsGoodConfig};
+ghost use Rattle.dbl_offset.specs.Offsets.{IsOffset};
+ghost use Rattle.dbl_offset.specs.Stores.{IsLive};
+ghost use Rattle.dbl_exits.specs.Found.{IsAsked};
+
+use crate::{asked, look, shown};
+use anyhow::{Result, bail};
+use dbl_capture::{Ending, Halt, Report, session};
+use dbl_disk::{Choice, MemDisk};
+use dbl_offset::{Offset, OffsetStore};
+use dbl_play_items::script;
+use dbl_source::ScriptedSource;
+use dbl_table::Config;
+use dbl_topic::MemSink;
+use std::alloc::Global;
+
+/// How a session ended, in words, what it reports, and the sink and the disk that it leaves.
+#[derive(Drop)]
+pub struct Ran {
+    pub ending: String,
+    pub report: Report,
+    pub sink: MemSink,
+    pub disk: MemDisk,
+}
+
+/// A store without an offset, on a disk whose listed calls are to fail. It takes the first two of them.
+pub fn made(alloc: Global, fails: Vec<u64>) -> Result<OffsetStore<MemDisk>>
+    ensures live { IfOk result IsLive }
+    ensures empty { IfOk result (λ store. store.offset ≡ None) }
+{
+    match OffsetStore::make(alloc, MemDisk::make(alloc, fails)) {
+        Ok(store) => Ok(store),
+        Err(_) => bail!("no store"),
+    }
+}
+
+/// A report of nothing.
+pub fn unset() -> Report {
+    Report {
+        messages: 0,
+        commits: 0,
+        records: 0,
+        chunks: 0,
+        snapshot_rows: 0,
+        position: 0,
+    }
+}
+
+/// The word of an ending.
+pub fn word(ending: &Ending) -> &'static str {
+    match ending {
+        Ending::Complete => "complete",
+        Ending::Budget => "budget",
+    }
+}
+
+fn ending(alloc: Global, ended: &std::result::Result<Ending, Halt>) -> Result<String> {
+    match ended {
+        Ok(ending) => Ok(String::from_str(alloc, word(ending))?),
+        Err(halt) => Ok(format!(in alloc; "{halt}")?),
+    }
+}
+
+/// Runs a session over a source, a sink whose listed puts are to fail, and a store.
+pub fn run(
+    alloc: Global,
+    config: &Config,
+    now_ms: i64,
+    source: ScriptedSource,
+    puts: Vec<u64>,
+    store: OffsetStore<MemDisk>,
+) -> Result<Ran>
+    requires config { IsGoodConfig config.now }
+    requires source { IsTrue source.live }
+    requires store { IsLive store }
+    requires asked { IsAsked config.now store.offset }
+{
+    let mut source = source;
+    let mut store = store;
+    let mut sink = MemSink::make(alloc, puts);
+    let mut report = unset();
+    let ended = session(
+        alloc,
+        config,
+        now_ms,
+        &mut source,
+        &mut sink,
+        &mut store,
+        &mut report,
+    );
+    Ok(Ran {
+        ending: ending(alloc, &ended)?,
+        report,
+        sink,
+        disk: store.into_disk(),
+    })
+}
+
+/// Runs a first session.
+pub fn first(
+    alloc: Global,
+    config: &Config,
+    now_ms: i64,
+    script: &str,
+    puts: Vec<u64>,
+    calls: Vec<u64>,
+) -> Result<Ran>
+    requires { IsGoodConfig config.now }
+{
+    let store = made(alloc, calls)?;
+    run(
+        alloc,
+        config,
+        now_ms,
+        script::source(alloc, script)?,
+        puts,
+        store,
+    )
+}
+
+/// The offset of an image that a stop may leave of the disk.
+pub fn image(alloc: Global, disk: &MemDisk, choice: Choice) -> Result<Option<Offset>>
+    ensures { IfOk result (λ offset. IfSome offset IsOffset) }
+{
+    match OffsetStore::open(alloc, disk.crash(choice)?) {
+        Ok(store) => match store.load() {
+            Some(offset) => Ok(Some(offset.copy(alloc)?)),
+            None => Ok(None),
+        },
+        Err(_) => bail!("no store"),
+    }
+}
+
+/// Adds what the session of a case answers.
+pub fn answer(alloc: Global, asked: &str, script: &str, answers: &mut String) -> Result<()> {
+    let fields = asked::fields(asked)?;
+    let config = asked::config(alloc, asked, fields, script)?;
+    let now_ms = asked::now_ms(fields)?;
+    let ran = first(
+        alloc,
+        &config,
+        now_ms,
+        script,
+        Vec::new(alloc),
+        Vec::new(alloc),
+    )?;
+    let offset = image(alloc, &ran.disk, Choice::New)?;
+    shown::ending(answers, &ran)?;
+    shown::offset(alloc, answers, offset.as_ref())?;
+    shown::records(alloc, answers, ran.sink.records())?;
+    shown::held(alloc, answers, &config.identity, ran.sink.records())?;
+    if look::is_asked(asked) {
+        shown::line(answers)?;
+        look::answer(
+            alloc,
+            asked,
+            script,
+            offset.as_ref(),
+            ran.sink.records(),
+            answers,
+        )?;
+    }
+    Ok(())
+}

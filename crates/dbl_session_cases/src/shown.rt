@@ -1,0 +1,162 @@
+//! How a case shows what a session leaves.
+
+use crate::run::Ran;
+use anyhow::{Result, bail};
+use dbl_base::Text;
+use dbl_capture::Report;
+use dbl_case_items::{shown, words};
+use dbl_consume::{ConsumeError, Consumer, HeldCell, Row, Table};
+use dbl_history::Cursor;
+use dbl_offset::Offset;
+use dbl_record::Record;
+use dbl_table::{Identity, Key, TableInfo};
+use std::alloc::Global;
+use std::fmt::Write;
+
+/// Begins a line.
+pub fn line(answers: &mut String) -> Result<()> {
+    words::add(answers, "\n  ")
+}
+
+/// The counts of a report.
+pub fn report(answers: &mut String, report: &Report) -> Result<()> {
+    let (messages, commits, records) = (report.messages, report.commits, report.records);
+    let (chunks, rows, position) = (report.chunks, report.snapshot_rows, report.position);
+    write!(
+        answers,
+        "messages {messages}, commits {commits}, records {records}"
+    )?;
+    write!(
+        answers,
+        ", chunks {chunks}, snapshot rows {rows}, position {position}"
+    )?;
+    Ok(())
+}
+
+/// How a session ended, and its report.
+pub fn ending(answers: &mut String, ran: &Ran) -> Result<()> {
+    line(answers)?;
+    words::add(answers, ran.ending.as_str())?;
+    line(answers)?;
+    report(answers, &ran.report)
+}
+
+fn last(alloc: Global, answers: &mut String, key: &Option<Key>) -> Result<()> {
+    match key {
+        Some(key) => shown::row(alloc, answers, &key.cells),
+        None => words::add(answers, " nothing"),
+    }
+}
+
+fn cursor(alloc: Global, answers: &mut String, info: &TableInfo, cursor: &Cursor) -> Result<()> {
+    let name = &info.name;
+    write!(answers, "\n  {name} read to")?;
+    last(alloc, answers, &cursor.last)?;
+    if cursor.done {
+        words::add(answers, ", done")?;
+    }
+    Ok(())
+}
+
+fn stored(alloc: Global, answers: &mut String, offset: &Offset) -> Result<()> {
+    let (incarnation, start, lsn) = (offset.incarnation, offset.start, offset.lsn);
+    let end = offset.end_lsn;
+    write!(
+        answers,
+        "\n  incarnation {incarnation}, start {start}, lsn {lsn}, end {end}"
+    )?;
+    let cursors = offset.cursors.items();
+    for (place, info) in offset.infos.items().iter().enumerate() {
+        if let Some(each) = cursors.get(place) {
+            cursor(alloc, answers, info, each)?;
+        }
+    }
+    Ok(())
+}
+
+/// An offset, and how far each table was read.
+pub fn offset(alloc: Global, answers: &mut String, offset: Option<&Offset>) -> Result<()> {
+    match offset {
+        Some(offset) => stored(alloc, answers, offset),
+        None => words::add(answers, "\n  no offset"),
+    }
+}
+
+/// The lines of records.
+pub fn records(alloc: Global, answers: &mut String, list: &Vec<Record>) -> Result<()> {
+    for each in list {
+        line(answers)?;
+        words::add(answers, dbl_record::line(alloc, each)?.as_str())?;
+    }
+    Ok(())
+}
+
+fn text_or_null(alloc: Global, text: &Option<Text>) -> Result<Text> {
+    match text {
+        Some(text) => Ok(text.copy(alloc)?),
+        None => Ok(Text::of(alloc, "null")?),
+    }
+}
+
+// A record that the consumer refuses changes nothing that it holds.
+fn deliver(alloc: Global, consumer: &mut Consumer, item: &Record) -> Result<()> {
+    let key = text_or_null(alloc, &item.key)?;
+    let value = text_or_null(alloc, &item.value)?;
+    if let Err(ConsumeError::Memory) = consumer.apply(&item.topic, &key, &value) {
+        bail!("out of memory");
+    }
+    Ok(())
+}
+
+/// A consumer of the first records, so many.
+pub fn consumer(
+    alloc: Global,
+    identity: &Identity,
+    records: &Vec<Record>,
+    count: usize,
+) -> Result<Consumer> {
+    let mut consumer = Consumer::make(alloc, identity.placeholder.copy(alloc)?)?;
+    for (place, item) in records.iter().enumerate() {
+        if place < count {
+            deliver(alloc, &mut consumer, item)?;
+        }
+    }
+    Ok(consumer)
+}
+
+fn cell_text(cell: &HeldCell) -> &str {
+    match cell {
+        HeldCell::Known(text) => text.as_str(),
+        HeldCell::Unknown => "unknown",
+    }
+}
+
+fn row(answers: &mut String, topic: &Text, key: &Text, row: &Row) -> Result<()> {
+    write!(answers, "\n  holds {topic} {key}:")?;
+    for (column, cell) in row.iter() {
+        let text = cell_text(cell);
+        write!(answers, " {column} {text}")?;
+    }
+    Ok(())
+}
+
+fn table(answers: &mut String, topic: &Text, table: &Table) -> Result<()> {
+    for (key, each) in table.iter() {
+        row(answers, topic, key, each)?;
+    }
+    Ok(())
+}
+
+/// The rows that a consumer of the records holds.
+pub fn held(
+    alloc: Global,
+    answers: &mut String,
+    identity: &Identity,
+    records: &Vec<Record>,
+) -> Result<()> {
+    let consumer = consumer(alloc, identity, records, records.len())?;
+    for (topic, each) in consumer.tables().iter() {
+        table(answers, topic, each)?;
+    }
+    Ok(())
+}

@@ -40,6 +40,25 @@ pub fn image_text(
     look::answer(alloc, asked, script, offset, records, answers)
 }
 
+/// Adds whether each cell is aged behind each record of a session, where an offset is stored.
+pub fn each(
+    alloc: Global,
+    asked: &str,
+    script: &str,
+    entry: Option<&Offset>,
+    disk: &MemDisk,
+    records: &Vec<Record>,
+    before: usize,
+    answers: &mut String,
+) -> Result<()> {
+    match image(alloc, disk, Choice::New)? {
+        Some(offset) => look::each(
+            alloc, asked, script, entry, &offset, records, before, answers,
+        ),
+        None => Ok(()),
+    }
+}
+
 /// Adds what each image comes to, or all of them at once where they are the same.
 pub fn images(
     alloc: Global,

@@ -243,11 +243,10 @@ fn agrees_on(
     moment: u64,
     asked: &Question,
 ) -> Result<bool> {
-    let known = known(alloc, left, records, said, moment, asked)?;
-    if !known {
+    if agrees_at(alloc, left, consumer, moment, asked)? {
         return Ok(true);
     }
-    agrees_at(alloc, left, consumer, moment, asked)
+    Ok(!known(alloc, left, records, said, moment, asked)?)
 }
 
 fn is_before(a: &Record, b: &Record) -> bool {
@@ -315,7 +314,7 @@ fn agrees(
 
 // ---- ageing
 
-// The cell's texts at the moments up to one.
+// The cell's texts at the moments of the span that ends with one. Those before it aren't looked at.
 fn life(
     alloc: Global,
     left: &Left<'_>,
@@ -326,7 +325,11 @@ fn life(
     let end = to.checked_add(1).context("no such moment")?;
     let mut texts = Vec::new(alloc);
     for moment in 0..end {
-        texts.push(source_text(alloc, left, moment, asked, column)?)?;
+        texts.push(if moment < left.from {
+            None
+        } else {
+            source_text(alloc, left, moment, asked, column)?
+        })?;
     }
     Ok(texts)
 }
@@ -375,6 +378,31 @@ fn seen_key(
     })
 }
 
+// The same of each key, where the records end with one of them. A key that is aged as a known one is aged if it isn't known, too.
+fn is_aged_behind(
+    alloc: Global,
+    left: &Left<'_>,
+    said: &Vec<Cursor>,
+    asked: &Vec<Question>,
+    count: usize,
+) -> Result<bool> {
+    let records = first_records(alloc, left.records, count)?;
+    let consumer = shown::consumer(alloc, left.identity, &records, count)?;
+    let (infos, commits) = (left.infos, &left.commits);
+    let to = span_end(alloc, infos, commits, left.start, &records, left.from)?;
+    for each in asked {
+        if is_aged(alloc, left, &consumer, true, to, each)? {
+            continue;
+        }
+        if known(alloc, left, &records, said, to, each)?
+            || !is_aged(alloc, left, &consumer, false, to, each)?
+        {
+            return Ok(false);
+        }
+    }
+    Ok(true)
+}
+
 fn look_at(alloc: Global, left: &Left<'_>, asked: &Vec<Question>) -> Result<Seen> {
     let said = sayings(alloc, asked)?;
     let consumer = shown::consumer(alloc, left.identity, left.records, left.records.len())?;
@@ -404,6 +432,27 @@ fn told(answers: &mut String, seen: Seen) -> Result<()> {
     Ok(())
 }
 
+// The same with a span that begins at a position.
+fn left_since<'a>(
+    alloc: Global,
+    script: &str,
+    offset: &'a Offset,
+    position: u64,
+    records: &'a Vec<Record>,
+) -> Result<Left<'a>> {
+    let commits = history::commits(alloc, script, offset.infos.items())?;
+    let start = moment_at(&commits, offset.start.0);
+    let from = moment_at(&commits, position);
+    Ok(Left {
+        identity: &offset.identity,
+        infos: offset.infos.items(),
+        commits,
+        records,
+        start,
+        from,
+    })
+}
+
 fn stored(
     alloc: Global,
     case: &str,
@@ -412,19 +461,38 @@ fn stored(
     records: &Vec<Record>,
     answers: &mut String,
 ) -> Result<()> {
-    let commits = history::commits(alloc, script, offset.infos.items())?;
-    let start = moment_at(&commits, offset.start.0);
-    let from = moment_at(&commits, offset.lsn.0);
-    let left = Left {
-        identity: &offset.identity,
-        infos: offset.infos.items(),
-        commits,
-        records,
-        start,
-        from,
-    };
+    let left = left_since(alloc, script, offset, offset.lsn.0, records)?;
     let asked = questions(alloc, case, offset)?;
     told(answers, look_at(alloc, &left, &asked)?)
+}
+
+/// Adds whether each cell is aged behind each of the records from one on, since the offset with which their session began. `offset`
+/// is one that it stored.
+pub fn each(
+    alloc: Global,
+    case: &str,
+    script: &str,
+    entry: Option<&Offset>,
+    offset: &Offset,
+    records: &Vec<Record>,
+    before: usize,
+    answers: &mut String,
+) -> Result<()> {
+    let position = match entry {
+        Some(entry) => entry.lsn.0,
+        None => offset.start.0,
+    };
+    let left = left_since(alloc, script, offset, position, records)?;
+    let asked = questions(alloc, case, offset)?;
+    let said = sayings(alloc, &asked)?;
+    for place in before..records.len() {
+        let count = place.saturating_add(1);
+        if !is_aged_behind(alloc, &left, &said, &asked, count)? {
+            write!(answers, "; not aged behind record {count}")?;
+            return Ok(());
+        }
+    }
+    words::add(answers, "; aged behind each record")
 }
 
 /// Adds what an offset and records come to beside the log of a case. Where no offset is stored, there are no records.

@@ -8,20 +8,24 @@ ghost use Rattle.dbl_exits.specs.Found.{IsAsked};
 
 use crate::{asked, look, shown};
 use anyhow::{Result, bail};
+use dbl_base::Lsn;
 use dbl_capture::{Ending, Halt, Report, session};
 use dbl_disk::{Choice, MemDisk};
+use dbl_honest::Started;
 use dbl_offset::{Offset, OffsetStore};
 use dbl_play_items::script;
-use dbl_source::ScriptedSource;
+use dbl_source::{ScriptedSource, Source};
 use dbl_table::Config;
 use dbl_topic::MemSink;
 use std::alloc::Global;
 
-/// How a session ended, in words, what it reports, and the sink and the disk that it leaves.
+/// How a session ended, in words, what it reports, the position that the source was confirmed to, where it can tell, and the sink and
+/// the disk that it leaves.
 #[derive(Drop)]
 pub struct Ran {
     pub ending: String,
     pub report: Report,
+    pub confirmed: Option<u64>,
     pub sink: MemSink,
     pub disk: MemDisk,
 }
@@ -64,6 +68,17 @@ fn ending(alloc: Global, ended: &std::result::Result<Ending, Halt>) -> Result<St
     }
 }
 
+// The first position that reading can still begin behind. None where the call is one that is to fail.
+fn first_left(source: &mut ScriptedSource) -> Option<u64>
+    requires { IsTrue source.old.live }
+{
+    match source.start(Lsn(0)) {
+        Ok(Started::Ready) => Some(0),
+        Ok(Started::Gone { first }) => Some(first.0),
+        Err(_) => None,
+    }
+}
+
 /// Runs a session over a source, a sink whose listed puts are to fail, and a store.
 pub fn run(
     alloc: Global,
@@ -91,9 +106,14 @@ pub fn run(
         &mut store,
         &mut report,
     );
+    let confirmed = match ended {
+        Ok(_) => first_left(&mut source),
+        Err(_) => None,
+    };
     Ok(Ran {
         ending: ending(alloc, &ended)?,
         report,
+        confirmed,
         sink,
         disk: store.into_disk(),
     })

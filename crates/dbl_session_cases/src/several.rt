@@ -213,19 +213,27 @@ fn choice(script: &str, number: usize) -> Result<Choice> {
     Ok(Choice::New)
 }
 
+// What is left of a session, whose records stand behind so many others.
 fn show(
     alloc: Global,
     asked: &str,
     script: &str,
     ran: &Ran,
-    records: &Vec<Record>,
+    past: &Past,
+    before: usize,
     answers: &mut String,
 ) -> Result<()> {
+    let (records, entry) = (&past.records, past.offset.as_ref());
     let count = records.len();
     write!(answers, "\n  {}; ", ran.ending)?;
-    shown::report(answers, &ran.report)?;
+    shown::reported(answers, ran)?;
     write!(answers, "; {count} records")?;
     left::images(alloc, asked, script, &ran.disk, records, answers)?;
+    if has(asked, "each/") {
+        left::each(
+            alloc, asked, script, entry, &ran.disk, records, before, answers,
+        )?;
+    }
     if has(asked, "held/") {
         shown::held(alloc, answers, &asked::identity(alloc)?, records)?;
     }
@@ -246,8 +254,9 @@ fn one_more(
     ensures { OnOk result (IfSome past.new.offset IsOffset) }
 {
     let ran = ran(alloc, asked, fields, script, stops, past.offset.as_ref())?;
+    let before = past.records.len();
     gather(alloc, &mut past.records, ran.sink.records())?;
-    show(alloc, asked, script, &ran, &past.records, answers)?;
+    show(alloc, asked, script, &ran, past, before, answers)?;
     past.offset = image(alloc, &ran.disk, choice(script, stops)?)?;
     Ok(())
 }

@@ -33,12 +33,21 @@ pub fn report(answers: &mut String, report: &Report) -> Result<()> {
     Ok(())
 }
 
+/// The report of a session, and the position that the source was confirmed to.
+pub fn reported(answers: &mut String, ran: &Ran) -> Result<()> {
+    report(answers, &ran.report)?;
+    if let Some(confirmed) = ran.confirmed {
+        write!(answers, ", confirmed {confirmed}")?;
+    }
+    Ok(())
+}
+
 /// How a session ended, and its report.
 pub fn ending(answers: &mut String, ran: &Ran) -> Result<()> {
     line(answers)?;
     words::add(answers, ran.ending.as_str())?;
     line(answers)?;
-    report(answers, &ran.report)
+    reported(answers, ran)
 }
 
 fn last(alloc: Global, answers: &mut String, key: &Option<Key>) -> Result<()> {

@@ -1,10 +1,10 @@
 //! What each image of the disk is that a stop may leave, beside the sink's records.
 
-use crate::look;
 use crate::run::image;
 use anyhow::Result;
 use dbl_case_items::words;
 use dbl_disk::{Choice, MemDisk};
+use dbl_look_items::look;
 use dbl_offset::Offset;
 use dbl_record::Record;
 use std::alloc::Global;

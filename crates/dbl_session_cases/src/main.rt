@@ -35,10 +35,7 @@
 #![tactic(auto)]
 
 mod asked;
-mod calls;
-mod history;
 mod left;
-mod look;
 mod run;
 mod several;
 mod shown;

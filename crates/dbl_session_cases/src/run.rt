@@ -6,12 +6,13 @@ ghost use Rattle.dbl_offset.specs.Offsets.{IsOffset};
 ghost use Rattle.dbl_offset.specs.Stores.{IsLive};
 ghost use Rattle.dbl_exits.specs.Found.{IsAsked};
 
-use crate::{asked, look, shown};
+use crate::{asked, shown};
 use anyhow::{Result, bail};
 use dbl_base::Lsn;
 use dbl_capture::{Ending, Halt, Report, session};
 use dbl_disk::{Choice, MemDisk};
 use dbl_honest::Started;
+use dbl_look_items::look;
 use dbl_offset::{Offset, OffsetStore};
 use dbl_play_items::script;
 use dbl_source::{ScriptedSource, Source};

@@ -7,11 +7,12 @@ ghost use Rattle.dbl_offset.specs.Stores.{IsLive};
 ghost use Rattle.dbl_exits.specs.Found.{IsAsked};
 
 use crate::run::{Ran, image, made, run, unset, word};
-use crate::{asked, calls, left, shown};
+use crate::{asked, left, shown};
 use anyhow::{Result, bail};
 use dbl_capture::{Ending, Report, session};
 use dbl_case_items::{items, words};
 use dbl_disk::{Choice, Disk, MemDisk};
+use dbl_look_items::calls;
 use dbl_offset::{Offset, OffsetStore};
 use dbl_play_items::script;
 use dbl_record::Record;

@@ -1,12 +1,13 @@
 //! How a case shows what a session leaves.
 
 use crate::run::Ran;
-use anyhow::{Result, bail};
+use anyhow::Result;
 use dbl_base::Text;
 use dbl_capture::Report;
 use dbl_case_items::{shown, words};
-use dbl_consume::{ConsumeError, Consumer, HeldCell, Row, Table};
+use dbl_consume::{HeldCell, Row, Table};
 use dbl_history::Cursor;
+use dbl_look_items::holding::consumer;
 use dbl_offset::Offset;
 use dbl_record::Record;
 use dbl_table::{Identity, Key, TableInfo};
@@ -98,39 +99,6 @@ pub fn records(alloc: Global, answers: &mut String, list: &Vec<Record>) -> Resul
         words::add(answers, dbl_record::line(alloc, each)?.as_str())?;
     }
     Ok(())
-}
-
-fn text_or_null(alloc: Global, text: &Option<Text>) -> Result<Text> {
-    match text {
-        Some(text) => Ok(text.copy(alloc)?),
-        None => Ok(Text::of(alloc, "null")?),
-    }
-}
-
-// A record that the consumer refuses changes nothing that it holds.
-fn deliver(alloc: Global, consumer: &mut Consumer, item: &Record) -> Result<()> {
-    let key = text_or_null(alloc, &item.key)?;
-    let value = text_or_null(alloc, &item.value)?;
-    if let Err(ConsumeError::Memory) = consumer.apply(&item.topic, &key, &value) {
-        bail!("out of memory");
-    }
-    Ok(())
-}
-
-/// A consumer of the first records, so many.
-pub fn consumer(
-    alloc: Global,
-    identity: &Identity,
-    records: &Vec<Record>,
-    count: usize,
-) -> Result<Consumer> {
-    let mut consumer = Consumer::make(alloc, identity.placeholder.copy(alloc)?)?;
-    for (place, item) in records.iter().enumerate() {
-        if place < count {
-            deliver(alloc, &mut consumer, item)?;
-        }
-    }
-    Ok(consumer)
 }
 
 fn cell_text(cell: &HeldCell) -> &str {

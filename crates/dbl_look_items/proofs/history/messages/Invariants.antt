@@ -1,5 +1,5 @@
 use Rattle.std.proofs.Common.{IsTrue, is_some}
-use Rattle.dbl_session_cases.proofs.history.messages.Given as goal
+use Rattle.dbl_look_items.proofs.history.messages.Given as goal
 
 abbrev pub invariant-loop-turn : goal.invariant-loop-turn
 invariant-loop-turn l = record {

@@ -62,10 +62,20 @@ pub fn word(ending: &Ending) -> &'static str {
     }
 }
 
+// A halt, with what it keeps beside its text.
+fn halted(alloc: Global, halt: &Halt) -> Result<String> {
+    Ok(match halt {
+        Halt::Gone { asked, first: _ } => format!(in alloc; "{halt}, asked for {asked}")?,
+        Halt::WatermarkMissing { value: _, position } => format!(in alloc; "{halt} at {position}")?,
+        Halt::Exhausted { incarnation } => format!(in alloc; "{halt} at {incarnation}")?,
+        _ => format!(in alloc; "{halt}")?,
+    })
+}
+
 fn ending(alloc: Global, ended: &std::result::Result<Ending, Halt>) -> Result<String> {
     match ended {
         Ok(ending) => Ok(String::from_str(alloc, word(ending))?),
-        Err(halt) => Ok(format!(in alloc; "{halt}")?),
+        Err(halt) => halted(alloc, halt),
     }
 }
 

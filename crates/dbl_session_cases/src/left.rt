@@ -59,6 +59,49 @@ pub fn each(
     }
 }
 
+// The offsets of the images that a stop may leave.
+#[derive(Drop)]
+struct Images {
+    old: Option<Offset>,
+    new: Option<Offset>,
+    filled: Option<Offset>,
+}
+
+fn all_images(alloc: Global, disk: &MemDisk) -> Result<Images> {
+    Ok(Images {
+        old: image(alloc, disk, Choice::Old)?,
+        new: image(alloc, disk, Choice::New)?,
+        filled: image(alloc, disk, Choice::Fill(255))?,
+    })
+}
+
+fn are_same(images: &Images) -> bool {
+    let new = images.new.as_ref();
+    is_same(images.old.as_ref(), new) && is_same(images.filled.as_ref(), new)
+}
+
+fn image_texts(
+    alloc: Global,
+    asked: &str,
+    script: &str,
+    images: &Images,
+    records: &Vec<Record>,
+    answers: &mut String,
+) -> Result<()> {
+    let (old, new, filled) = (&images.old, &images.new, &images.filled);
+    image_text(alloc, asked, script, "old", old.as_ref(), records, answers)?;
+    image_text(alloc, asked, script, "new", new.as_ref(), records, answers)?;
+    image_text(
+        alloc,
+        asked,
+        script,
+        "filled",
+        filled.as_ref(),
+        records,
+        answers,
+    )
+}
+
 /// Adds what each image comes to, or all of them at once where they are the same.
 pub fn images(
     alloc: Global,
@@ -68,14 +111,10 @@ pub fn images(
     records: &Vec<Record>,
     answers: &mut String,
 ) -> Result<()> {
-    let old = image(alloc, disk, Choice::Old)?;
-    let new = image(alloc, disk, Choice::New)?;
-    let filled = image(alloc, disk, Choice::Fill(255))?;
-    let (old, new, filled) = (old.as_ref(), new.as_ref(), filled.as_ref());
-    if is_same(old, new) && is_same(filled, new) {
+    let images = all_images(alloc, disk)?;
+    if are_same(&images) {
+        let new = images.new.as_ref();
         return image_text(alloc, asked, script, "each image", new, records, answers);
     }
-    image_text(alloc, asked, script, "old", old, records, answers)?;
-    image_text(alloc, asked, script, "new", new, records, answers)?;
-    image_text(alloc, asked, script, "filled", filled, records, answers)
+    image_texts(alloc, asked, script, &images, records, answers)
 }

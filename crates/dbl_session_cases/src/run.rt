@@ -1,6 +1,6 @@
 //! One session, and what it leaves.
 
-ghost use Rattle.std.specs.Prelude.{◌≡◌, None, Some, IsTrue, IfOk, IfSome};
+ghost use Rattle.std.specs.Prelude.{◌≡◌, None, Some, IsTrue, IfOk, IfSome, OnOk};
 ghost use Rattle.dbl_table.specs.Configs.{IsGoodConfig};
 ghost use Rattle.dbl_offset.specs.Offsets.{IsOffset};
 ghost use Rattle.dbl_offset.specs.Stores.{IsLive};
@@ -90,6 +90,33 @@ fn first_left(source: &mut ScriptedSource) -> Option<u64>
     }
 }
 
+// The position that the source is confirmed to, behind an ending without a halt.
+fn confirmed(ended: &std::result::Result<Ending, Halt>, source: &mut ScriptedSource) -> Option<u64>
+    requires { OnOk ended.now (IsTrue source.old.live) }
+{
+    match ended {
+        Ok(_) => first_left(source),
+        Err(_) => None,
+    }
+}
+
+fn left_by(
+    alloc: Global,
+    ended: &std::result::Result<Ending, Halt>,
+    report: Report,
+    confirmed: Option<u64>,
+    sink: MemSink,
+    store: OffsetStore<MemDisk>,
+) -> Result<Ran> {
+    Ok(Ran {
+        ending: ending(alloc, ended)?,
+        report,
+        confirmed,
+        sink,
+        disk: store.into_disk(),
+    })
+}
+
 /// Runs a session over a source, a sink whose listed puts are to fail, and a store.
 pub fn run(
     alloc: Global,
@@ -117,17 +144,8 @@ pub fn run(
         &mut store,
         &mut report,
     );
-    let confirmed = match ended {
-        Ok(_) => first_left(&mut source),
-        Err(_) => None,
-    };
-    Ok(Ran {
-        ending: ending(alloc, &ended)?,
-        report,
-        confirmed,
-        sink,
-        disk: store.into_disk(),
-    })
+    let confirmed = confirmed(&ended, &mut source);
+    left_by(alloc, &ended, report, confirmed, sink, store)
 }
 
 /// Runs a first session.

@@ -1,6 +1,6 @@
 //! Sessions of one case, one behind the other.
 
-ghost use Rattle.std.specs.Prelude.{◌≡◌, ◌+◌, ◌≤◌, ◌<◌, ◌^◌, IsTrue, IfOk, IfSome, OnOk, option_map};
+ghost use Rattle.std.specs.Prelude.{◌≡◌, ◌≤◌, IsTrue, IfOk, IfSome, OnOk, option_copied};
 ghost use Rattle.dbl_table.specs.Configs.{IsGoodConfig};
 ghost use Rattle.dbl_offset.specs.Offsets.{IsOffset};
 ghost use Rattle.dbl_offset.specs.Stores.{IsLive};
@@ -81,7 +81,7 @@ fn config(
     requires { IfSome offset (λ offset. IsOffset offset.now) }
     ensures good { IfOk result IsGoodConfig }
     ensures asked { IfOk result
-        (λ config. IsAsked config (option_map (λ offset. offset.now) offset)) }
+        (λ config. IsAsked config (option_copied offset.entry)) }
 {
     match offset {
         Some(offset) => asked::resumed(alloc, fields, offset),
@@ -148,7 +148,7 @@ fn store(alloc: Global, fields: &str, offset: Option<&Offset>) -> Result<OffsetS
     requires { IfSome offset (λ offset. IsOffset offset.now) }
     ensures live { IfOk result IsLive }
     ensures stored { IfOk result
-        (λ store. store.offset ≡ option_map (λ offset. offset.now) offset) }
+        (λ store. store.offset ≡ option_copied offset.entry) }
 {
     match offset {
         Some(offset) => stored(

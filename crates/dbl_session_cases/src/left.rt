@@ -61,21 +61,21 @@ pub fn each(
 
 // The offsets of the images that a stop may leave.
 #[derive(Drop)]
-struct Images {
+struct ImageOffsets {
     old: Option<Offset>,
     new: Option<Offset>,
     filled: Option<Offset>,
 }
 
-fn all_images(alloc: Global, disk: &MemDisk) -> Result<Images> {
-    Ok(Images {
+fn all_images(alloc: Global, disk: &MemDisk) -> Result<ImageOffsets> {
+    Ok(ImageOffsets {
         old: image(alloc, disk, Choice::Old)?,
         new: image(alloc, disk, Choice::New)?,
         filled: image(alloc, disk, Choice::Fill(255))?,
     })
 }
 
-fn are_same(images: &Images) -> bool {
+fn are_same(images: &ImageOffsets) -> bool {
     let new = images.new.as_ref();
     is_same(images.old.as_ref(), new) && is_same(images.filled.as_ref(), new)
 }
@@ -84,7 +84,7 @@ fn image_texts(
     alloc: Global,
     asked: &str,
     script: &str,
-    images: &Images,
+    images: &ImageOffsets,
     records: &Vec<Record>,
     answers: &mut String,
 ) -> Result<()> {

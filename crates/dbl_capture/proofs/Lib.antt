@@ -5,4 +5,3 @@ pub mod Halting
 pub mod Marking
 pub mod Sinking
 pub mod Going
-mod Nevers

@@ -20,11 +20,12 @@ ghost use Rattle.dbl_exits.specs.Sessions.{AddsFew, InSession, LeavesBy, LeavesG
 ghost use Rattle.dbl_causes.specs.Gained.{Gains, IsReported};
 ghost use Rattle.dbl_causes.specs.Musts.{MustExhaust, MustHaltStood, MustHaltTold};
 ghost use Rattle.dbl_causes.specs.Reported.{HasReadMessages, HasSettled, HasStoodBehind, IsFollowed, StoodAtLast};
+ghost use Rattle.dbl_honest.specs.Growth.{marks_in};
 ghost use Rattle.dbl_causes.specs.Nevers.{IsHonestHalt};
 ghost use Rattle.dbl_causes.specs.Sources.{IsUnderWay};
 ghost use Rattle.dbl_capture.specs.Caused.{Halts, IsCaused, IsNotGone};
 ghost use Rattle.dbl_causes.specs.Underway.{IsBeginHalt};
-ghost use Rattle.dbl_causes.specs.Written.{AddsExactly, marks_more};
+ghost use Rattle.dbl_causes.specs.Written.{AddsAtMost, AddsExactly, marks_more};
 ghost use Rattle.dbl_steps.specs.Sinks.{IsPutting};
 ghost use Rattle.dbl_capture.specs.Begun.{beginning_at};
 
@@ -115,6 +116,7 @@ fn begun<S: Source, K: Sink, D: Disk>(
     ensures source { result ≡ Err Halt.Source → Rose (S.faults src.old) (S.faults src.new) }
     ensures sink { result ≢ Err Halt.Sink }
     ensures never { (value at : _) → result ≢ Err (Halt.WatermarkMissing value at) }
+    ensures rests { Leaves S.stands S.may_leave src.old src.new MayRest }
     ensures stood { Leads S.stands src.old src.new result (λ offset. Moved) }
     ensures halt { IfErr result (IsBeginHalt config.now store.old.offset (S.told src.new)) }
     ensures absent { (s : Standing) → S.stands src.old s →
@@ -211,6 +213,8 @@ fn opened<S: Source, K: Sink, D: Disk>(
         (report.new.chunks ≡ report.old.chunks) ×
         (report.new.snapshot_rows ≡ report.old.snapshot_rows) }
     ensures own { (entry : SpecEntry) → IfErr result (IsHonestHalt entry (S.stands src.new)) }
+    ensures unmarked { (s : Standing) (left : Left) → S.stands src.old s → S.may_leave src.new left →
+        marks_in left.history.commits ≡ marks_in s.history.commits }
 {
     let offset = begun(alloc, config, src, sink, store)?;
     report.position = offset.lsn.0;
@@ -265,6 +269,12 @@ pub fn session<S: Source, K: Sink, D: Disk>(
         IfOk result (λ ending. (left : Left) → S.may_leave src.new left →
         AddsExactly report.new.chunks (marks_more ending offsets.new.offset)
         s.history left.history) }
+
+    // And wherever it ends, at most two for each window that is reported, and two more.
+    ensures most { (s : Standing) → S.stands src.old s → S.honest src.new →
+        HadOwnTables (entry_at config.now now_ms s offsets.old.offset) →
+        (left : Left) → S.may_leave src.new left →
+        AddsAtMost offsets.new.offset report.new.chunks s.history left.history }
 
     // What it stores, and where it ends, of every source, sink and disk.
     ensures stores { (offsets.new.offset ≡ offsets.old.offset)

@@ -4,13 +4,14 @@ ghost use Rattle.std.specs.Prelude.{◌≡◌, ◌≢◌, ◌⊎◌, ◌^◌, �
 ghost use Rattle.dbl_base.specs.Streams.{Rose};
 ghost use Rattle.dbl_record.specs.declared.record.Record.{Record as SpecRecord};
 ghost use Rattle.dbl_history.specs.Ranges.{IsMomentInRange};
-ghost use Rattle.dbl_honest.specs.Standings.{Standing};
+ghost use Rattle.dbl_honest.specs.Standings.{Left, Standing};
 ghost use Rattle.dbl_honest.specs.Told.{Read, Tells, Told};
 ghost use Rattle.dbl_session.specs.Entries.{Entry as SpecEntry};
 ghost use Rattle.dbl_work.specs.Works.{IsReady};
 ghost use Rattle.dbl_exits.specs.Sessions.{InSession, LeavesBy};
 ghost use Rattle.dbl_exits.specs.Turns.{HasReadAllAt, IsCountedNext, IsDue, IsNextOf};
 ghost use Rattle.dbl_causes.specs.Carried.{Beginning};
+ghost use Rattle.dbl_causes.specs.Written.{AddsNoMore, AreClosed};
 ghost use Rattle.dbl_causes.specs.Nevers.{IsHonestHalt};
 ghost use Rattle.dbl_causes.specs.Sources.{GoesOn, IsUnderWay};
 ghost use Rattle.dbl_steps.specs.Sinks.{HasHaltedPut, IsPutting};
@@ -119,6 +120,11 @@ pub(crate) fn next<S: Source, K: Sink, D: Disk>(
         IsUnderWay S.stands at found b store.now.offset work.old report.old src.old
         (S.told src.old) → (s : Standing) → at ≡ Some s → S.honest src.new →
         IfErr result (IsHonestHalt entry (S.stands src.new)) }
+    ensures most { (tell : Bool) (entry : SpecEntry) →
+        InSession tell S.stands K.holds D.seen D.may_leave entry
+        work.old src.old sink.old store.now → AreClosed work.old report.old.chunks →
+        OnErr result ((left : Left) → S.may_leave src.new left →
+        AddsNoMore report.new.chunks entry.history left.history) }
 {
     match src.read()? {
         Some(bytes) => {

@@ -1,10 +1,10 @@
 //! The turns of a session, each of which reads one message.
 
-ghost use Rattle.std.specs.Prelude.{◌≡◌, ◌≢◌, ◌+◌, ◌^◌, ◌≤◌, ◌<◌, true, List, Option, Some, None, Ok, Bool, IfErr, IfOk, IsTrue, MatchBool, OnErr, OnOk, is_ok};
+ghost use Rattle.std.specs.Prelude.{◌≡◌, ◌≢◌, ◌+◌, ◌^◌, ◌≤◌, ◌<◌, true, List, Option, Some, None, Ok, Bool, IfErr, IfOk, IsTrue, MatchBool, OnErr, OnOk, is_ok, ℕ};
 ghost use Rattle.dbl_base.specs.Streams.{Rose};
 ghost use Rattle.dbl_record.specs.declared.record.Record.{Record as SpecRecord};
 ghost use Rattle.dbl_history.specs.Ranges.{IsMomentInRange};
-ghost use Rattle.dbl_honest.specs.Standings.{Standing};
+ghost use Rattle.dbl_honest.specs.Standings.{Left, Standing};
 ghost use Rattle.dbl_honest.specs.Told.{Read, Tells, Told};
 ghost use Rattle.dbl_offset.specs.declared.offset.Offset.{Offset as SpecOffset};
 ghost use Rattle.dbl_offset.specs.Stores.{ComesOf, IsLive, disk_of};
@@ -16,6 +16,7 @@ ghost use Rattle.dbl_exits.specs.Ends.{AreAllDone, HasNoneNext, HasOwnStored, Is
 ghost use Rattle.dbl_exits.specs.Sessions.{InSession, LeavesBy};
 ghost use Rattle.dbl_exits.specs.Turns.{HasReadAllAt, IsSettledWhole};
 ghost use Rattle.dbl_causes.specs.Carried.{Beginning};
+ghost use Rattle.dbl_causes.specs.Written.{AddsNoMore, AreClosed};
 ghost use Rattle.dbl_causes.specs.Nevers.{IsHonestHalt};
 ghost use Rattle.dbl_causes.specs.Sources.{HasSettledAll, IsUnderWay};
 ghost use Rattle.dbl_steps.specs.Sinks.{HasHaltedPut, IsPutting};
@@ -96,6 +97,11 @@ fn arm_next<S: Source, K: Sink, D: Disk>(
         work.old src.old sink.now store.now →
         S.honest src.new →
         IfErr result (IsHonestHalt entry (S.stands src.new)) }
+    ensures most { (tell : Bool) (entry : SpecEntry) (chunks : ℕ) →
+        InSession tell S.stands K.holds D.seen D.may_leave entry
+        work.old src.old sink.now store.now → AreClosed work.old chunks →
+        OnErr result ((left : Left) → S.may_leave src.new left →
+        AddsNoMore chunks entry.history left.history) }
 {
     match table_of(work) {
         Some(table) => arm(work, table, src, sink, store),
@@ -171,6 +177,11 @@ fn end<S: Source, K: Sink, D: Disk>(
         IfErr result (HasHaltedPut K.holds K.may_leave groups b.config b.now b.held
         store.new.offset report.new sink.now) }
     ensures own { (entry : SpecEntry) → IfErr result (IsHonestHalt entry (S.stands src.new)) }
+    ensures most { (tell : Bool) (entry : SpecEntry) →
+        InSession tell S.stands K.holds D.seen D.may_leave entry
+        work.old src.old sink.now store.old → AreClosed work.old report.old.chunks →
+        OnErr result ((left : Left) → S.may_leave src.new left →
+        AddsNoMore report.new.chunks entry.history left.history) }
 {
     match work.follower.waits_for() {
         Some(value) => Err(Halt::WatermarkMissing {
@@ -297,6 +308,12 @@ fn turn<S: Source, K: Sink, D: Disk>(
         IsUnderWay S.stands at found b store.old.offset work.old report.old src.old
         (S.told src.old) → (s : Standing) → at ≡ Some s → S.honest src.new →
         IfErr result (IsHonestHalt entry (S.stands src.new)) }
+    ensures most { (tell : Bool) (entry : SpecEntry) (at : Option Standing) (found : Option Told)
+        (b : Beginning) → InSession tell S.stands K.holds D.seen D.may_leave entry
+        work.old src.old sink.old store.old →
+        IsUnderWay S.stands at found b store.old.offset work.old report.old src.old
+        (S.told src.old) → S.honest src.new → OnErr result ((left : Left) →
+        S.may_leave src.new left → AddsNoMore report.new.chunks entry.history left.history) }
 {
     arm_next(work, src, sink, store)?;
     match next(work, src, sink, store, report)? {
@@ -414,6 +431,12 @@ pub(crate) fn run<S: Source, K: Sink, D: Disk>(
         IsUnderWay S.stands at found b store.old.offset work.old report.old src.old
         (S.told src.old) → (s : Standing) → at ≡ Some s → S.honest src.new →
         IfErr result (IsHonestHalt entry (S.stands src.new)) }
+    ensures most { (tell : Bool) (entry : SpecEntry) (at : Option Standing) (found : Option Told)
+        (b : Beginning) → InSession tell S.stands K.holds D.seen D.may_leave entry
+        work.old src.old sink.old store.old →
+        IsUnderWay S.stands at found b store.old.offset work.old report.old src.old
+        (S.told src.old) → S.honest src.new → OnErr result ((left : Left) →
+        S.may_leave src.new left → AddsNoMore report.new.chunks entry.history left.history) }
 {
     'turns: for _count in 0..budget {
         if turn(work, src, sink, store, report)? {

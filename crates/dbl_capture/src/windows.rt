@@ -1,9 +1,9 @@
 //! Windows of a session: rows that are read between two marks.
 
-ghost use Rattle.std.specs.Prelude.{◌≡◌, ◌≢◌, ◌+◌, ◌^◌, ◌<◌, ◌≤◌, List, Option, Bool, IfErr, IsTrue, OnErr, OnOk};
+ghost use Rattle.std.specs.Prelude.{◌≡◌, ◌≢◌, ◌+◌, ◌^◌, ◌<◌, ◌≤◌, List, Option, Bool, IfErr, IsTrue, OnErr, OnOk, ℕ};
 ghost use Rattle.dbl_base.specs.Streams.{Rose};
 ghost use Rattle.dbl_record.specs.declared.record.Record.{Record as SpecRecord};
-ghost use Rattle.dbl_honest.specs.Standings.{Standing};
+ghost use Rattle.dbl_honest.specs.Standings.{Left, Standing};
 ghost use Rattle.dbl_honest.specs.Told.{Told};
 ghost use Rattle.dbl_follow.specs.declared.window.Window.TheVariants as windows;
 ghost use Rattle.dbl_session.specs.Entries.{Entry as SpecEntry};
@@ -11,6 +11,7 @@ ghost use Rattle.dbl_work.specs.declared.report.Report.{Report as SpecReport};
 ghost use Rattle.dbl_work.specs.Works.{IsArmedWork, IsOpenTable, IsReady};
 ghost use Rattle.dbl_exits.specs.Sessions.{InSession, LeavesBy};
 ghost use Rattle.dbl_causes.specs.Carried.{Beginning};
+ghost use Rattle.dbl_causes.specs.Written.{AddsNoMore, AreClosed};
 ghost use Rattle.dbl_causes.specs.Nevers.{IsHonestHalt};
 ghost use Rattle.dbl_causes.specs.Sources.{IsUnderWay};
 ghost use Rattle.dbl_steps.specs.Sinks.{HasHaltedPut, IsPutting};
@@ -79,6 +80,11 @@ pub(crate) fn arm<S: Source, K: Sink, D: Disk>(
         work.old src.old sink.now store.now →
         S.honest src.new →
         IfErr result (IsHonestHalt entry (S.stands src.new)) }
+    ensures most { (tell : Bool) (entry : SpecEntry) (chunks : ℕ) →
+        InSession tell S.stands K.holds D.seen D.may_leave entry
+        work.old src.old sink.now store.now → AreClosed work.old chunks →
+        OnErr result ((left : Left) → S.may_leave src.new left →
+        AddsNoMore chunks entry.history left.history) }
 {
     read_window(work, table, src)
 }

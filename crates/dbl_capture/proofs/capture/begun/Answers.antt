@@ -14,6 +14,7 @@ use Rattle.dbl_capture.proofs.Telling.{store_begins}
 use Rattle.dbl_capture.proofs.Telling.{not_both, residual_on}
 use Rattle.dbl_work.specs.Begins.{IsAbsentHalt}
 use Rattle.dbl_capture.proofs.Telling.{memory_absent, store_absent}
+use Rattle.dbl_steps.proofs.Lasting.{moved_rest}
 use Rattle.dbl_capture.proofs.capture.begun.Goals as goal
 
 -- before the store
@@ -135,3 +136,21 @@ returns-in_err-stored-clause-absent g c s is = residual_of c.from_residual-in_er
 
 pub returns-in_err-put_offset-clause-absent : goal.returns-in_err-put_offset-clause-absent
 returns-in_err-put_offset-clause-absent g c s is = residual_of c.from_residual-in_err-put_offset.result _ (IsAbsentHalt c.args.config.now.tables s.history) c.from_residual-in_err-put_offset.ensures.1 (store_absent c.args.config.now.tables s.history _ _ c.in_err-put_offset.ensures.halt)
+
+pub returns-in_err-offset-clause-rests : goal.returns-in_err-offset-clause-rests
+returns-in_err-offset-clause-rests g c = c.offset_of.ensures.left
+
+pub returns-in_err-stored-clause-rests : goal.returns-in_err-stored-clause-rests
+returns-in_err-stored-clause-rests g c s left was may =
+    let mid = c.in_ok-offset.ensures.stood s was in
+    moved_rest s mid.standing left mid.holds (g.met.S.Source.only c.offset_of.new.src mid.standing left mid.is may)
+
+pub returns-in_err-put_offset-clause-rests : goal.returns-in_err-put_offset-clause-rests
+returns-in_err-put_offset-clause-rests g c s left was may =
+    let mid = c.in_ok-offset.ensures.stood s was in
+    moved_rest s mid.standing left mid.holds (g.met.S.Source.only c.offset_of.new.src mid.standing left mid.is may)
+
+pub returns-clause-rests : goal.returns-clause-rests
+returns-clause-rests g c s left was may =
+    let mid = c.in_ok-offset.ensures.stood s was in
+    moved_rest s mid.standing left mid.holds (g.met.S.Source.only c.offset_of.new.src mid.standing left mid.is may)

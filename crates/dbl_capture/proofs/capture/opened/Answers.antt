@@ -26,8 +26,10 @@ use Rattle.dbl_steps.proofs.Sinks.{puts_begin}
 use Rattle.dbl_work.specs.Begins.{IsAbsentHalt}
 use Rattle.dbl_capture.proofs.Telling.{memory_absent, start_absent}
 use Rattle.dbl_capture.proofs.Going.{begin_reads, kept_low, memory_reads, not_gone}
-use Rattle.dbl_capture.proofs.Nevers.{begin_honest, memory_honest, start_honest}
+use Rattle.dbl_steps.proofs.Nevers.{begin_honest, memory_honest, start_honest}
 use Rattle.dbl_causes.specs.Nevers.{IsHonestHalt}
+use Rattle.dbl_steps.proofs.Lasting.{rest_unmarked}
+use Rattle.dbl_steps.proofs.Marks.{others_add_no_marks}
 use Rattle.dbl_capture.proofs.capture.opened.Goals as goal
 
 pub returns-in_err-offset-clause-left : goal.returns-in_err-offset-clause-left
@@ -263,3 +265,16 @@ returns-in_err-start-clause-own g c entry =
 
 pub returns-clause-own : goal.returns-clause-own
 returns-clause-own g c entry = err_then c.make.result _ (IsHonestHalt entry (g.S.Source.stands c.start.new.src)) c.make.ensures.memory (λ h is. memory_honest entry (g.S.Source.stands c.start.new.src) h is)
+
+pub returns-in_err-offset-clause-unmarked : goal.returns-in_err-offset-clause-unmarked
+returns-in_err-offset-clause-unmarked g c s left was may = rest_unmarked s left (c.begun.ensures.rests s left was may)
+
+pub returns-in_err-start-clause-unmarked : goal.returns-in_err-start-clause-unmarked
+returns-in_err-start-clause-unmarked g c s left was may =
+    let mid = c.in_ok-offset.ensures.stood s was in
+    others_add_no_marks mid.standing.history left.history (c.start.ensures.left mid.standing left mid.is may).grows ∙ others_add_no_marks s.history mid.standing.history mid.holds.grows
+
+pub returns-clause-unmarked : goal.returns-clause-unmarked
+returns-clause-unmarked g c s left was may =
+    let mid = c.in_ok-offset.ensures.stood s was in
+    others_add_no_marks mid.standing.history left.history (c.start.ensures.left mid.standing left mid.is may).grows ∙ others_add_no_marks s.history mid.standing.history mid.holds.grows

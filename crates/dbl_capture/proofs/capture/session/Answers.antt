@@ -23,6 +23,7 @@ use Rattle.dbl_capture.specs.Begun.{beginning_at}
 use Rattle.dbl_capture.proofs.Telling.{answer_as, at_none, at_some, residual_as}
 use Rattle.dbl_exits.specs.Sessions.{standing_at}
 use Rattle.dbl_capture.proofs.Marking.{exact_budget, exact_complete, exact_left, exactly_by}
+use Rattle.dbl_steps.proofs.Lasting.{left_rests, none_most, same_most, stored_most, either_most}
 use Rattle.dbl_capture.proofs.Telling.{not_both, residual_on}
 use Rattle.dbl_work.specs.declared.halt.Halt.{Halt}
 use Rattle.dbl_causes.specs.Gained.{IsReported}
@@ -32,6 +33,8 @@ use Rattle.dbl_capture.proofs.Sinking.{counts_nothing, either_of, gains_nothing,
 use Rattle.dbl_work.specs.Begins.{IsAbsentHalt}
 use Rattle.dbl_capture.proofs.Telling.{caused_absent}
 use Rattle.dbl_causes.specs.Nevers.{IsHonestHalt}
+use Rattle.dbl_steps.proofs.Marks.{others_leave_few_marks}
+use Rattle.dbl_causes.specs.Written.{AddsNoMore}
 use Rattle.dbl_capture.proofs.capture.session.Goals as goal
 
 -- it didn't begin
@@ -337,3 +340,21 @@ returns-clause-own g c s was honest had =
     let b = beginning_at c.args.config.now c.args.now_ms c.args.offsets.now.offset way.0 in
     let u = subst (λ (n : ℤ). IsUnderWay g.S.Source.stands (Some s) (g.S.Source.told c.args.src.now) (beginning_at c.args.config.now n c.args.offsets.now.offset way.0) c.opened.new.store.offset c.in_ok-work.work c.opened.new.report c.opened.new.src (g.S.Source.told c.opened.new.src)) (to_z-of_z c.ranges.now_ms) way.1 in
     c.run.ensures.own false entry (Some s) (g.S.Source.told c.args.src.now) b in_session u s refl honest
+
+pub returns-in_err-work-clause-most : goal.returns-in_err-work-clause-most
+returns-in_err-work-clause-most g c s was honest had left may = none_most c.opened.new.store.offset c.opened.new.report.chunks s.history left.history (c.opened.ensures.unmarked s left was may)
+
+pub returns-clause-most : goal.returns-clause-most
+returns-clause-most g c s was honest had left may =
+    let entry = entry_at c.args.config.now c.args.now_ms s c.args.offsets.now.offset in
+    let in_session = c.in_ok-work.ensures.opened false entry refl (sym (to_z-of_z c.ranges.now_ms)) (source_found _ _ _ _ c.args.config.now c.args.now_ms s _ _ c.args.offsets.now was) (c.run.ensures.honest honest) had in
+    let way = c.in_ok-work.ensures.under_way None (at_none g.S.Source.stands c.args.src.now) (refl, refl, refl) in
+    let b = beginning_at c.args.config.now c.args.now_ms c.args.offsets.now.offset way.0 in
+    let u = subst (λ (n : ℤ). IsUnderWay g.S.Source.stands None (g.S.Source.told c.args.src.now) (beginning_at c.args.config.now n c.args.offsets.now.offset way.0) c.opened.new.store.offset c.in_ok-work.work c.opened.new.report c.opened.new.src (g.S.Source.told c.opened.new.src)) (to_z-of_z c.ranges.now_ms) way.1 in
+    let begins = c.in_ok-work.ensures.begun in
+    let own = c.run.ensures.stored (subst (λ (o : Offset). HasOwnStored o c.opened.new.store.offset) (sym begins.2.offset_is) (own_first begins.0 c.opened.new.store.offset begins.1)) in
+    stored_most c.in_ok-work.work.offset c.run.new.store.offset c.run.new.report.chunks s.history left.history own
+    (either_most c.run.result _ _ (AddsNoMore c.run.new.report.chunks s.history left.history) (c.run.ensures.ran false entry in_session honest) (c.run.ensures.all None (g.S.Source.told c.args.src.now) b u) (c.run.ensures.most false entry None (g.S.Source.told c.args.src.now) b in_session u honest)
+    (λ t e. others_leave_few_marks entry t.stage c.run.new.work left.history c.run.new.report.chunks c.run.new.report.chunks t.work_is t.going e.is.is.windows (same_most c.run.new.report.chunks)
+    (left_rests t.stage.history (standing_at t.stage) left t.going.reading.fit.rising refl (g.met.S.Source.only c.run.new.src (standing_at t.stage) left t.source_is may)))
+    (λ few. few left may))

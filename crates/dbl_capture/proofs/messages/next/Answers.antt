@@ -26,12 +26,14 @@ use Rattle.dbl_steps.specs.Sinks.{HasHaltedPut}
 use Rattle.dbl_steps.proofs.Sinks.{commits_put, commits_put_at_rest, halts_put_nothing, messages_put_nothing, rests_put}
 use Rattle.dbl_capture.proofs.Sinking.{few_taken, follow_puts, none_other, puts_due, source_other}
 use Rattle.dbl_capture.proofs.Going.{follow_reads, source_reads, taken_reads}
-use Rattle.dbl_capture.proofs.Nevers.{follow_honest, many_at, one_longer, source_honest, taken_honest, took_at}
+use Rattle.dbl_steps.proofs.Nevers.{follow_honest, many_at, one_longer, source_honest, taken_honest, took_at}
 use Rattle.dbl_table.specs.declared.table.TableInfo.{TableInfo}
 use Rattle.dbl_offset.specs.declared.offset.Offset.{Offset}
 use Rattle.dbl_commit.specs.Blocks.{IsAccepted}
 use Rattle.dbl_causes.specs.Nevers.{IsHonestHalt}
 use Rattle.dbl_window.proofs.HonestLemmas.{captured_stays}
+use Rattle.dbl_steps.proofs.Marks.{others_leave_few_marks}
+use Rattle.dbl_steps.proofs.Lasting.{leaves_most, left_grows, same_most, torn_more}
 use Rattle.dbl_capture.proofs.messages.next.Goals as goal
 
 pub returns-in_err-bytes-clause-left : goal.returns-in_err-bytes-clause-left
@@ -288,3 +290,20 @@ pub returns-in_err-closed-in-Some-2-clause-own : goal.returns-in_err-closed-in-S
 returns-in_err-closed-in-Some-2-clause-own g c tell entry at found b s u first is honest =
     residual_of c.from_residual-in_err-closed-in-Some-2.result _ (IsHonestHalt entry (g.S.Source.stands c.read.new.self)) c.from_residual-in_err-closed-in-Some-2.ensures.1
     (follow_honest entry (g.S.Source.stands c.read.new.self) _ _ _ c.in_err-closed-in-Some-2.ensures.halt)
+
+pub returns-in_err-bytes-clause-most : goal.returns-in_err-bytes-clause-most
+returns-in_err-bytes-clause-most g c tell entry s closed =
+    leaves_most _ g.S.Source.may_leave c.read.new.self c.args.report.now.chunks entry.history (λ left may. others_leave_few_marks entry s.stage c.args.work.now left.history c.args.report.now.chunks c.args.report.now.chunks s.work_is s.going closed (same_most c.args.report.now.chunks) (c.read.ensures.left (standing_at s.stage) left s.source_is may).grows)
+
+pub returns-in_err-commit-in-Some-clause-most : goal.returns-in_err-commit-in-Some-clause-most
+returns-in_err-commit-in-Some-clause-most g c tell entry s closed =
+    let T = some_read _ _ _ _ c.in-Some.is (c.in_ok-bytes.ensures.took (standing_at s.stage) s.source_is) in
+    leaves_most _ g.S.Source.may_leave c.read.new.self c.args.report.now.chunks entry.history (λ left may. others_leave_few_marks entry s.stage c.args.work.now left.history c.args.report.now.chunks c.args.report.now.chunks s.work_is s.going closed (same_most c.args.report.now.chunks)
+    (left_grows s.stage.history T.2.standing left T.2.holds.grows (g.met.S.Source.only c.read.new.self T.2.standing left T.2.is may)))
+
+pub returns-in_err-closed-in-Some-2-clause-most : goal.returns-in_err-closed-in-Some-2-clause-most
+returns-in_err-closed-in-Some-2-clause-most g c tell entry s closed =
+    let T = some_read _ _ _ _ c.in-Some.is (c.in_ok-bytes.ensures.took (standing_at s.stage) s.source_is) in
+    leaves_most _ g.S.Source.may_leave c.read.new.self c.follow.new.report.chunks entry.history (λ left may. others_leave_few_marks entry s.stage c.args.work.now left.history c.args.report.now.chunks c.follow.new.report.chunks s.work_is s.going closed
+    (torn_more c.in-Some-2.commit c.args.work.now c.taken.new.work c.args.report.now c.follow.new.report closed c.requires.number c.in_err-closed-in-Some-2.ensures.noted)
+    (left_grows s.stage.history T.2.standing left T.2.holds.grows (g.met.S.Source.only c.read.new.self T.2.standing left T.2.is may)))

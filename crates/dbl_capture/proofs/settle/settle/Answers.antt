@@ -22,8 +22,10 @@ use Rattle.dbl_steps.specs.Sinks.{HasHaltedPut}
 use Rattle.dbl_steps.proofs.Sinks.{halts_put_nothing, stores_put_nothing}
 use Rattle.dbl_capture.proofs.Sinking.{none_other, source_other, store_other}
 use Rattle.dbl_capture.proofs.Going.{source_reads, store_reads}
-use Rattle.dbl_capture.proofs.Nevers.{source_honest, store_honest}
+use Rattle.dbl_steps.proofs.Nevers.{source_honest, store_honest}
 use Rattle.dbl_causes.specs.Nevers.{IsHonestHalt}
+use Rattle.dbl_steps.proofs.Marks.{others_leave_few_marks}
+use Rattle.dbl_steps.proofs.Lasting.{leaves_most, left_rests, same_most}
 use Rattle.dbl_capture.proofs.settle.settle.Goals as goal
 
 -- nothing was asked of the three yet
@@ -194,3 +196,17 @@ returns-in_err-put_offset-clause-own g c entry =
 pub returns-in_err-confirm-clause-own : goal.returns-in_err-confirm-clause-own
 returns-in_err-confirm-clause-own g c entry =
     residual_of c.from_residual-in_err-confirm.result _ (IsHonestHalt entry (g.S.Source.stands c.confirm.new.self)) c.from_residual-in_err-confirm.ensures.1 (source_honest entry (g.S.Source.stands c.confirm.new.self) c.in_err-confirm.field-0.0)
+
+pub returns-in_err-offset-clause-most : goal.returns-in_err-offset-clause-most
+returns-in_err-offset-clause-most g c tell entry s closed =
+    leaves_most _ g.S.Source.may_leave c.args.src.now c.args.report.now.chunks entry.history (λ left may. others_leave_few_marks entry s.stage c.args.work.now left.history c.args.report.now.chunks c.args.report.now.chunks s.work_is s.going closed (same_most c.args.report.now.chunks)
+    (left_rests s.stage.history (standing_at s.stage) left s.going.reading.fit.rising refl (g.met.S.Source.only c.args.src.now (standing_at s.stage) left s.source_is may)))
+
+pub returns-in_err-put_offset-clause-most : goal.returns-in_err-put_offset-clause-most
+returns-in_err-put_offset-clause-most g c tell entry s closed =
+    leaves_most _ g.S.Source.may_leave c.args.src.now c.args.report.now.chunks entry.history (λ left may. others_leave_few_marks entry s.stage c.args.work.now left.history c.args.report.now.chunks c.args.report.now.chunks s.work_is s.going closed (same_most c.args.report.now.chunks)
+    (left_rests s.stage.history (standing_at s.stage) left s.going.reading.fit.rising refl (g.met.S.Source.only c.args.src.now (standing_at s.stage) left s.source_is may)))
+
+pub returns-in_err-confirm-clause-most : goal.returns-in_err-confirm-clause-most
+returns-in_err-confirm-clause-most g c tell entry s closed =
+    leaves_most _ g.S.Source.may_leave c.confirm.new.self c.args.report.now.chunks entry.history (λ left may. others_leave_few_marks entry s.stage c.args.work.now left.history c.args.report.now.chunks c.args.report.now.chunks s.work_is s.going closed (same_most c.args.report.now.chunks) (c.confirm.ensures.left (standing_at s.stage) left s.source_is may).grows)

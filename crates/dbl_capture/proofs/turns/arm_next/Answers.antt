@@ -55,3 +55,6 @@ returns-in-Some-clause-reads g c = c.arm.ensures.reads
 
 pub returns-in-Some-clause-own : goal.returns-in-Some-clause-own
 returns-in-Some-clause-own g c = c.arm.ensures.own
+
+pub returns-in-Some-clause-most : goal.returns-in-Some-clause-most
+returns-in-Some-clause-most g c = c.arm.ensures.most

@@ -16,6 +16,9 @@ use Rattle.dbl_steps.proofs.Sinks.{halts_put_nothing, rests_put}
 use Rattle.dbl_capture.proofs.Sinking.{none_other}
 use Rattle.dbl_capture.proofs.Going.{not_waiting}
 use Rattle.dbl_causes.specs.Nevers.{IsHonestHalt}
+use Rattle.dbl_steps.proofs.Marks.{others_leave_few_marks}
+use Rattle.dbl_steps.proofs.Lasting.{leaves_most, left_rests, same_most}
+use Rattle.dbl_exits.specs.Sessions.{standing_at}
 use Rattle.dbl_capture.proofs.turns.end.Goals as goal
 
 pub returns-in_err-copy-in-Some-clause-left : goal.returns-in_err-copy-in-Some-clause-left
@@ -115,3 +118,16 @@ returns-in_ok-copy-in-Some-clause-own g c entry = tt
 
 pub returns-in-None-clause-own : goal.returns-in-None-clause-own
 returns-in-None-clause-own g c = c.settle.ensures.own
+
+pub returns-in_err-copy-in-Some-clause-most : goal.returns-in_err-copy-in-Some-clause-most
+returns-in_err-copy-in-Some-clause-most g c tell entry s closed =
+    leaves_most _ g.S.Source.may_leave c.args.src.now c.args.report.now.chunks entry.history (λ left may. others_leave_few_marks entry s.stage c.args.work.now left.history c.args.report.now.chunks c.args.report.now.chunks s.work_is s.going closed (same_most c.args.report.now.chunks)
+    (left_rests s.stage.history (standing_at s.stage) left s.going.reading.fit.rising refl (g.met.S.Source.only c.args.src.now (standing_at s.stage) left s.source_is may)))
+
+pub returns-in_ok-copy-in-Some-clause-most : goal.returns-in_ok-copy-in-Some-clause-most
+returns-in_ok-copy-in-Some-clause-most g c tell entry s closed left may =
+    others_leave_few_marks entry s.stage c.args.work.now left.history c.args.report.now.chunks c.args.report.now.chunks s.work_is s.going closed (same_most c.args.report.now.chunks)
+    (left_rests s.stage.history (standing_at s.stage) left s.going.reading.fit.rising refl (g.met.S.Source.only c.args.src.now (standing_at s.stage) left s.source_is may))
+
+pub returns-in-None-clause-most : goal.returns-in-None-clause-most
+returns-in-None-clause-most g c = c.settle.ensures.most

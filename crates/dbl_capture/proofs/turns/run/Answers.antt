@@ -451,3 +451,17 @@ returns-in_err-arm_next-clause-own g c tell entry at found b s u first is honest
 pub returns-in_err-settle-clause-own : goal.returns-in_err-settle-clause-own
 returns-in_err-settle-clause-own g c tell entry at found b s u first is honest =
     residual_of c.from_residual-in_err-settle.result _ (IsHonestHalt entry (g.S.Source.stands c.settle.new.src)) c.from_residual-in_err-settle.ensures.1 (c.in_err-settle.ensures.own entry)
+
+pub returns-in_err-turn-clause-most : goal.returns-in_err-turn-clause-most
+returns-in_err-turn-clause-most g c tell entry at found b s u honest =
+    on_err _ _ (c.in_err-turn.ensures.most tell entry at found b (c.turns.invariant.kept tell entry s (c.turn.ensures.honest honest)) (c.turns.invariant.under_way at found b u) honest)
+
+pub returns-in_err-arm_next-clause-most : goal.returns-in_err-arm_next-clause-most
+returns-in_err-arm_next-clause-most g c tell entry at found b s u honest =
+    on_err _ _ (c.in_err-arm_next.ensures.most tell entry c.turns.report.chunks (c.turns.invariant.kept tell entry s (c.arm_next.ensures.honest honest)) (c.turns.invariant.under_way at found b u).is.is.windows)
+
+pub returns-in_err-settle-clause-most : goal.returns-in_err-settle-clause-most
+returns-in_err-settle-clause-most g c tell entry at found b s u honest =
+    let before = c.settle.ensures.honest honest in
+    on_err _ _ (c.in_err-settle.ensures.most tell entry (c.in_ok-arm_next.ensures.armed tell entry (c.turns.invariant.kept tell entry s (c.arm_next.ensures.honest before)) before)
+    (c.in_ok-arm_next.ensures.under_way at found b c.turns.report (c.turns.invariant.under_way at found b u)).is.is.windows)

@@ -469,3 +469,22 @@ returns-in_err-settle-in-Some-true-clause-own g c tell entry at found b s u firs
 pub returns-in_err-end-in-None-clause-own : goal.returns-in_err-end-in-None-clause-own
 returns-in_err-end-in-None-clause-own g c tell entry at found b s u first is honest =
     residual_of c.from_residual-in_err-end-in-None.result _ (IsHonestHalt entry (g.S.Source.stands c.end.new.src)) c.from_residual-in_err-end-in-None.ensures.1 (c.in_err-end-in-None.ensures.own entry)
+
+pub returns-in_err-arm_next-clause-most : goal.returns-in_err-arm_next-clause-most
+returns-in_err-arm_next-clause-most g c tell entry at found b s u honest = on_err _ _ (c.in_err-arm_next.ensures.most tell entry c.args.report.now.chunks s u.is.is.windows)
+
+pub returns-in_err-next-clause-most : goal.returns-in_err-next-clause-most
+returns-in_err-next-clause-most g c tell entry at found b s u honest =
+    on_err _ _ (c.in_err-next.ensures.most tell entry (c.in_ok-arm_next.ensures.armed tell entry s (c.next.ensures.honest honest)) (c.in_ok-arm_next.ensures.under_way at found b c.args.report.now u).is.is.windows)
+
+pub returns-in_err-settle-in-Some-true-clause-most : goal.returns-in_err-settle-in-Some-true-clause-most
+returns-in_err-settle-in-Some-true-clause-most g c tell entry at found b s u honest =
+    let before = c.settle.ensures.honest honest in
+    on_err _ _ (c.in_err-settle-in-Some-true.ensures.most tell entry (c.in_ok-next.ensures.next tell entry (c.in_ok-arm_next.ensures.armed tell entry s (c.next.ensures.honest before)) before)
+    (goes_true g.S.Source.stands at found b c.args.store.now.offset c.next.new.work c.next.new.report c.next.new.src (g.S.Source.told c.next.new.src) _ c.in-Some-true.field-0 c.in-Some-true.is c.in-Some-true.field-0-test (c.in_ok-next.ensures.under_way at found b (c.in_ok-arm_next.ensures.under_way at found b c.args.report.now u))).is.windows)
+
+pub returns-in_err-end-in-None-clause-most : goal.returns-in_err-end-in-None-clause-most
+returns-in_err-end-in-None-clause-most g c tell entry at found b s u honest =
+    let before = c.end.ensures.honest honest in
+    on_err _ _ (c.in_err-end-in-None.ensures.most tell entry (c.in_ok-next.ensures.next tell entry (c.in_ok-arm_next.ensures.armed tell entry s (c.next.ensures.honest before)) before)
+    (goes_none g.S.Source.stands at found b c.args.store.now.offset c.next.new.work c.next.new.report c.next.new.src (g.S.Source.told c.next.new.src) _ c.in-None.is (c.in_ok-next.ensures.under_way at found b (c.in_ok-arm_next.ensures.under_way at found b c.args.report.now u))).is.is.windows)

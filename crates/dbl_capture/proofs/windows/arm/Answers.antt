@@ -11,10 +11,12 @@ use Rattle.dbl_steps.specs.Sinks.{HasHaltedPut}
 use Rattle.dbl_steps.proofs.Sinks.{halts_put_nothing, rests_put, windows_put_nothing}
 use Rattle.dbl_capture.proofs.Sinking.{source_other}
 use Rattle.dbl_capture.proofs.Going.{chunk_reads}
-use Rattle.dbl_capture.proofs.Nevers.{window_honest}
+use Rattle.dbl_steps.proofs.Nevers.{window_honest}
 use Rattle.dbl_causes.specs.Nevers.{IsHonestHalt}
 use Rattle.dbl_honest.specs.Standings.{left_of}
 use Rattle.dbl_window.proofs.HonestLemmas.{captured_stays}
+use Rattle.dbl_steps.proofs.Marks.{windows_leave_few_marks}
+use Rattle.dbl_steps.proofs.Lasting.{leaves_most}
 use Rattle.dbl_capture.proofs.windows.arm.Goals as goal
 
 pub returns-clause-armed : goal.returns-clause-armed
@@ -78,3 +80,8 @@ returns-clause-own g c tell entry s honest =
       are = captured_stays s.stage.history t.history s.stage.first.infos (c.read_window.ensures.left planned.0 planned.1 (standing_at s.stage) (left_of t) s.source_is (g.met.S.Source.may c.read_window.new.src t is)).grown.tables s.going.reading.infos;
       here = here;
     }) fault)
+
+pub returns-clause-most : goal.returns-clause-most
+returns-clause-most g c tell entry chunks s closed =
+    let planned = plan_here c.args.work.now c.args.table c.requires.ready c.requires.table in
+    leaves_most _ g.S.Source.may_leave c.read_window.new.src chunks entry.history (λ left may. windows_leave_few_marks entry s.stage c.args.work.now planned.0 left chunks s.work_is s.going closed c.requires.absent (c.read_window.ensures.left planned.0 planned.1 (standing_at s.stage) left s.source_is may))

@@ -154,62 +154,54 @@ fn names_room(room: usize, namespace: &Text, name: &Text) -> Option<usize>
     }
 }
 
-fn begin_room(room: usize, lsn: &Lsn, time: &i64, xid: &u32) -> Option<usize>
-    ensures { Leaves room 21 (FitsFields (Message.Begin lsn.now time.now xid.now)) result }
+fn begin_room(room: usize, lsn: Lsn, time: &i64, xid: u32) -> Option<usize>
+    ensures { Leaves room 21 (FitsFields (Message.Begin lsn time.now xid)) result }
 {
-    let _lsn = lsn.0;
     let _time = *time;
-    let _xid = *xid;
     room.checked_sub(21)
 }
 
-fn commit_room(room: usize, flags: &u8, lsn: &Lsn, end_lsn: &Lsn, time: &i64) -> Option<usize>
+fn commit_room(room: usize, flags: u8, lsn: Lsn, end_lsn: Lsn, time: &i64) -> Option<usize>
     ensures { Leaves room 26
-        (FitsFields (Message.Commit flags.now lsn.now end_lsn.now time.now)) result }
+        (FitsFields (Message.Commit flags lsn end_lsn time.now)) result }
 {
-    let _flags = *flags;
-    let _lsn = lsn.0;
-    let _end_lsn = end_lsn.0;
     let _time = *time;
     room.checked_sub(26)
 }
 
-fn origin_room(room: usize, lsn: &Lsn, name: &Text) -> Option<usize>
+fn origin_room(room: usize, lsn: Lsn, name: &Text) -> Option<usize>
     ensures { Leaves room (9 + length (string name.now))
-        (FitsFields (Message.Origin lsn.now name.now)) result }
+        (FitsFields (Message.Origin lsn name.now)) result }
 {
-    let _lsn = lsn.0;
     match room.checked_sub(9) {
         Some(left) => string_room(left, name),
         None => None,
     }
 }
 
-fn type_room(room: usize, oid: &u32, namespace: &Text, name: &Text) -> Option<usize>
+fn type_room(room: usize, oid: u32, namespace: &Text, name: &Text) -> Option<usize>
     ensures { Leaves room (5 + (length (string namespace.now) + length (string name.now)))
-        (FitsFields (Message.TypeName oid.now namespace.now name.now)) result }
+        (FitsFields (Message.TypeName oid namespace.now name.now)) result }
 {
-    let _oid = *oid;
     match room.checked_sub(5) {
         Some(left) => names_room(left, namespace, name),
         None => None,
     }
 }
 
-fn insert_room(room: usize, oid: &u32, row: &Tuple) -> Option<usize>
+fn insert_room(room: usize, oid: u32, row: &Tuple) -> Option<usize>
     ensures { Leaves room (6 + length (tuple row.now))
-        (FitsFields (Message.Insert oid.now row.now)) result }
+        (FitsFields (Message.Insert oid row.now)) result }
 {
-    let _oid = *oid;
     match room.checked_sub(6) {
         Some(left) => tuple_room(left, row),
         None => None,
     }
 }
 
-fn update_room(room: usize, oid: &u32, before: &Option<OldTuple>, row: &Tuple) -> Option<usize>
+fn update_room(room: usize, oid: u32, before: &Option<OldTuple>, row: &Tuple) -> Option<usize>
     ensures { Leaves room (length (optional_tuple before.now) + (6 + length (tuple row.now)))
-        (FitsFields (Message.Update oid.now before.now row.now)) result }
+        (FitsFields (Message.Update oid before.now row.now)) result }
 {
     match optional_room(room, before) {
         Some(left) => insert_room(left, oid, row),
@@ -217,22 +209,20 @@ fn update_room(room: usize, oid: &u32, before: &Option<OldTuple>, row: &Tuple) -
     }
 }
 
-fn delete_room(room: usize, oid: &u32, before: &OldTuple) -> Option<usize>
+fn delete_room(room: usize, oid: u32, before: &OldTuple) -> Option<usize>
     ensures { Leaves room (5 + length (old_tuple before.now))
-        (FitsFields (Message.Delete oid.now before.now)) result }
+        (FitsFields (Message.Delete oid before.now)) result }
 {
-    let _oid = *oid;
     match room.checked_sub(5) {
         Some(left) => old_room(left, before),
         None => None,
     }
 }
 
-fn truncate_room(room: usize, options: &u8, oids: &Vec<u32>) -> Option<usize>
+fn truncate_room(room: usize, options: u8, oids: &Vec<u32>) -> Option<usize>
     ensures { Leaves room (6 + 4 * length oids.now.items)
-        (FitsFields (Message.Truncate options.now oids.now.items)) result }
+        (FitsFields (Message.Truncate options oids.now.items)) result }
 {
-    let _options = *options;
     if oids.len() >= ITEMS {
         return None;
     }
@@ -249,18 +239,10 @@ fn content_room(room: usize, content: &Vec<u8>) -> Option<usize>
     room.checked_sub(4 + content.len())
 }
 
-fn logical_room(
-    room: usize,
-    flags: &u8,
-    lsn: &Lsn,
-    prefix: &Text,
-    content: &Vec<u8>,
-) -> Option<usize>
+fn logical_room(room: usize, flags: u8, lsn: Lsn, prefix: &Text, content: &Vec<u8>) -> Option<usize>
     ensures { Leaves room (10 + (length (string prefix.now) + (4 + length content.now.items)))
-        (FitsFields (Message.Logical flags.now lsn.now prefix.now content.now.items)) result }
+        (FitsFields (Message.Logical flags lsn prefix.now content.now.items)) result }
 {
-    let _flags = *flags;
-    let _lsn = lsn.0;
     let Some(left) = room.checked_sub(10) else {
         return None;
     };
@@ -272,18 +254,18 @@ fn logical_room(
 
 fn table_room(
     room: usize,
-    oid: &u32,
+    oid: u32,
     namespace: &Text,
     name: &Text,
-    identity: &u8,
+    identity: u8,
     columns: &Vec<RelationColumn>,
 ) -> Option<usize>
     ensures { Leaves room (5 + (length (string namespace.now) + length (string name.now)) +
         (3 + length (flat_map column columns.now.items))) (FitsFields
-        (Message.Relation oid.now namespace.now name.now identity.now columns.now.items)) result }
+        (Message.Relation oid namespace.now name.now identity columns.now.items)) result }
 {
     match type_room(room, oid, namespace, name) {
-        Some(left) => relation_room(left, *identity, columns),
+        Some(left) => relation_room(left, identity, columns),
         None => None,
     }
 }
@@ -293,36 +275,36 @@ pub fn message_room(room: usize, message: &Message) -> Option<usize>
     ensures { Leaves room (length (spelling message.now)) (FitsFields message.now) result }
 {
     match message {
-        Message::Begin { lsn, time, xid } => begin_room(room, lsn, time, xid),
+        Message::Begin { lsn, time, xid } => begin_room(room, *lsn, time, *xid),
         Message::Commit {
             flags,
             lsn,
             end_lsn,
             time,
-        } => commit_room(room, flags, lsn, end_lsn, time),
-        Message::Origin { lsn, name } => origin_room(room, lsn, name),
+        } => commit_room(room, *flags, *lsn, *end_lsn, time),
+        Message::Origin { lsn, name } => origin_room(room, *lsn, name),
         Message::TypeName {
             oid,
             namespace,
             name,
-        } => type_room(room, oid, namespace, name),
+        } => type_room(room, *oid, namespace, name),
         Message::Relation {
             oid,
             namespace,
             name,
             identity,
             columns,
-        } => table_room(room, oid, namespace, name, identity, columns.items()),
-        Message::Insert { oid, row } => insert_room(room, oid, row),
-        Message::Update { oid, before, row } => update_room(room, oid, before, row),
-        Message::Delete { oid, before } => delete_room(room, oid, before),
-        Message::Truncate { options, oids } => truncate_room(room, options, oids.items()),
+        } => table_room(room, *oid, namespace, name, *identity, columns.items()),
+        Message::Insert { oid, row } => insert_room(room, *oid, row),
+        Message::Update { oid, before, row } => update_room(room, *oid, before, row),
+        Message::Delete { oid, before } => delete_room(room, *oid, before),
+        Message::Truncate { options, oids } => truncate_room(room, *options, oids.items()),
         Message::Logical {
             flags,
             lsn,
             prefix,
             content,
-        } => logical_room(room, flags, lsn, prefix, content.items()),
+        } => logical_room(room, *flags, *lsn, prefix, content.items()),
     }
 }
 

@@ -139,16 +139,10 @@ fn all_tables(alloc: Global, words: &[&str]) -> Result<Vec<TableName>, CliError>
     Ok(tables)
 }
 
-fn is_same(a: &TableName, b: &TableName) -> bool
-    ensures { result ≡ same_name a.now b.now }
-{
-    a.schema.as_str() == b.schema.as_str() && a.name.as_str() == b.name.as_str()
-}
-
 fn has_table(table: &TableName, others: &[TableName]) -> bool
     ensures { result ≡ list_any (same_name table.now) others.now }
 {
-    others.iter().any(|other| is_same(table, other))
+    others.iter().any(|other| *table == *other)
 }
 
 fn are_distinct_tables(tables: &[TableName]) -> bool
@@ -225,7 +219,7 @@ fn has_key(table: &TableName, others: &[TableKey]) -> bool
     ensures { result ≡ list_any (same_name table.now) (tables_in others.now) }
 {
     for other in others {
-        if is_same(table, &other.table) {
+        if *table == other.table {
             return true;
         }
     }

@@ -157,12 +157,6 @@ fn table(alloc: Global, fields: &str) -> Result<RawTable>
     Ok(raw)
 }
 
-fn is_same(a: &RawTable, b: &RawTable) -> bool
-    ensures { result ≡ same_name a.now.name b.now.name }
-{
-    a.name == b.name
-}
-
 fn one(alloc: Global, first: RawTable) -> Result<Vec<RawTable>>
     requires { first.name.schema ≢ [] }
     ensures few { IfOk result (λ tables. length tables.items < 2 ^ 31) }
@@ -185,7 +179,7 @@ fn two(alloc: Global, first: RawTable, other: RawTable) -> Result<Vec<RawTable>>
     ensures schemas { IfOk result (λ tables.
         AllByRecursion (λ raw. raw.name.schema ≢ []) tables.items) }
 {
-    if is_same(&first, &other) {
+    if first.name == other.name {
         bail!("no other table");
     }
     let mut list = Vec::new(alloc);

@@ -25,18 +25,10 @@ pub(crate) fn keyed_tables(
     Ok(keyed)
 }
 
-fn is_same_name(a: &TableName, b: &TableName) -> bool
-    ensures { result ≡ same_name a.now b.now }
-{
-    a.schema.as_str() == b.schema.as_str() && a.name.as_str() == b.name.as_str()
-}
-
 fn place_named(tables: &[LogTable], name: &TableName) -> Option<usize>
     ensures { result ≡ position_from (λ table. same_name table.raw.name name.now) 0 tables.now }
 {
-    tables
-        .iter()
-        .position(|table| is_same_name(&table.raw.name, name))
+    tables.iter().position(|table| table.raw.name == *name)
 }
 
 /// The place of the table of this name. The table of the watermarks is none of the catalogue's.

@@ -29,20 +29,12 @@ pub struct Tables {
     pub(crate) sessions: BTreeMap<Text, Session>,
 }
 
-fn is_same_name(a: &TableName, b: &TableName) -> bool
-    ensures { result ≡ same_name a.now b.now }
-{
-    a.schema.as_str() == b.schema.as_str() && a.name.as_str() == b.name.as_str()
-}
-
 /// The place of the table of a name.
 pub fn place_of(tables: &Vec<Rows>, name: &TableName) -> Option<usize>
     ensures { result ≡ position_from (λ rows. same_name rows.table.info.name name.now) 0
         tables.now.items }
 {
-    tables
-        .iter()
-        .position(|rows| is_same_name(&rows.table.info.name, name))
+    tables.iter().position(|rows| rows.table.info.name == *name)
 }
 
 /// The OID of the table at a place.

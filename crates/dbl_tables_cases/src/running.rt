@@ -12,12 +12,6 @@ use dbl_tables::{DemoTable, StepError, Tables};
 use std::alloc::Global;
 use std::fmt::Write;
 
-fn is_same_name(a: &TableName, b: &TableName) -> bool
-    ensures { result ≡ same_name a.now b.now }
-{
-    a.schema.as_str() == b.schema.as_str() && a.name.as_str() == b.name.as_str()
-}
-
 fn one(alloc: Global, first: DemoTable) -> Result<Vec<DemoTable>>
     ensures few { IfOk result (λ tables. length tables.items ≤ 64) }
     ensures distinct { IfOk result (λ tables. IsTrue (are_distinct same_name
@@ -33,7 +27,7 @@ fn two(alloc: Global, first: DemoTable, other: DemoTable) -> Result<Vec<DemoTabl
     ensures distinct { IfOk result (λ tables. IsTrue (are_distinct same_name
         (map (λ table. table.info.name) tables.items))) }
 {
-    if is_same_name(&first.info.name, &other.info.name) {
+    if first.info.name == other.info.name {
         bail!("no other table");
     }
     let mut list = Vec::new(alloc);

@@ -2,7 +2,6 @@
 
 ghost use Rattle.std.specs.Prelude.{◌≡◌, Ok, IfOk, Some};
 ghost use Rattle.std.specs.List.{list_all, zip};
-ghost use Rattle.dbl_table.specs.Tables.{same_name};
 ghost use Rattle.dbl_table.specs.Infos.{number_of};
 ghost use Rattle.dbl_commit.specs.Past.{named};
 ghost use Rattle.dbl_commit.specs.Stated.{target, same_column, same_columns, columns_fault, schema_fault};
@@ -27,18 +26,10 @@ pub fn named(alloc: Global, namespace: Text, name: Text) -> Result<TableName, Al
     Ok(TableName { schema, name })
 }
 
-fn is_same_name(a: &TableName, b: &TableName) -> bool
-    ensures { result ≡ same_name a.now b.now }
-{
-    a.schema.as_str() == b.schema.as_str() && a.name.as_str() == b.name.as_str()
-}
-
 fn place_of(infos: &Vec<TableInfo>, table: &TableName) -> Option<usize>
     ensures { result ≡ number_of infos.now.items table.now }
 {
-    infos
-        .iter()
-        .position(|info| is_same_name(&info.name, table))
+    infos.iter().position(|info| info.name == *table)
 }
 
 /// What the table of a name is. A place above 2^32 counts as out of memory.

@@ -4,6 +4,8 @@ use Rattle.std.specs.Char.{is_ascii_digit, is_ascii_lowercase, digit_value}
 use Rattle.std.specs.List.{list_all, starts_with}
 use Rattle.std.specs.Str.{is_utf8}
 use Rattle.std.specs.Str.Parse.{digits_value}
+use Rattle.dbl_value.specs.declared.column_type.PgType.TheVariants as type
+use Rattle.dbl_value.specs.Types.{oid_of as type_oid}
 use Rattle.dbl_table.specs.declared.table.TableName.{TableName}
 use Rattle.dbl_script.specs.Words.{cut_at, parts_at}
 use Rattle.dbl_script.specs.Reads.{◌>>=◌}
@@ -49,31 +51,31 @@ column_name_of word = if nat_lt 0 (length word) && nat_le (length word) 63 && li
 unfoldable pub number_of : List ℕ → Option ℕ
 number_of word = if nat_lt 0 (length word) && nat_le (length word) 9 && list_all is_ascii_digit word then Some (digits_value 10 word) else None
 
--- the OIDs of PostgreSQL's types of numbers, truth values and moments (catalog `pg_type`)
+-- the OIDs of PostgreSQL's types of numbers, truth values and moments (catalog `pg_type`); floats are no type of a value
 unfoldable pub measured_oid_of : List ℕ → Option ℕ
 measured_oid_of word =
-    if bytes_eq word (codes "bool") then Some 16
-    else (if bytes_eq word (codes "int2") then Some 21
-    else (if bytes_eq word (codes "int4") then Some 23
-    else (if bytes_eq word (codes "int8") then Some 20
+    if bytes_eq word (codes "bool") then Some (type_oid type.Bool)
+    else (if bytes_eq word (codes "int2") then Some (type_oid type.Int2)
+    else (if bytes_eq word (codes "int4") then Some (type_oid type.Int4)
+    else (if bytes_eq word (codes "int8") then Some (type_oid type.Int8)
     else (if bytes_eq word (codes "float4") then Some 700
     else (if bytes_eq word (codes "float8") then Some 701
-    else (if bytes_eq word (codes "date") then Some 1082
-    else (if bytes_eq word (codes "time") then Some 1083
-    else (if bytes_eq word (codes "timestamp") then Some 1114
-    else (if bytes_eq word (codes "timestamptz") then Some 1184 else None)))))))))
+    else (if bytes_eq word (codes "date") then Some (type_oid type.Date)
+    else (if bytes_eq word (codes "time") then Some (type_oid type.Time)
+    else (if bytes_eq word (codes "timestamp") then Some (type_oid type.Timestamp)
+    else (if bytes_eq word (codes "timestamptz") then Some (type_oid type.Timestamptz) else None)))))))))
 
 -- the OIDs of the other types that have a name
 unfoldable pub listed_oid_of : List ℕ → Option ℕ
 listed_oid_of word =
-    if bytes_eq word (codes "text") then Some 25
-    else (if bytes_eq word (codes "varchar") then Some 1043
-    else (if bytes_eq word (codes "bpchar") then Some 1042
-    else (if bytes_eq word (codes "json") then Some 114
-    else (if bytes_eq word (codes "jsonb") then Some 3802
-    else (if bytes_eq word (codes "numeric") then Some 1700
-    else (if bytes_eq word (codes "uuid") then Some 2950
-    else (if bytes_eq word (codes "bytea") then Some 17
+    if bytes_eq word (codes "text") then Some (type_oid type.Text)
+    else (if bytes_eq word (codes "varchar") then Some (type_oid type.Varchar)
+    else (if bytes_eq word (codes "bpchar") then Some (type_oid type.Bpchar)
+    else (if bytes_eq word (codes "json") then Some (type_oid type.Json)
+    else (if bytes_eq word (codes "jsonb") then Some (type_oid type.Jsonb)
+    else (if bytes_eq word (codes "numeric") then Some (type_oid type.Numeric)
+    else (if bytes_eq word (codes "uuid") then Some (type_oid type.Uuid)
+    else (if bytes_eq word (codes "bytea") then Some (type_oid type.Bytea)
     else measured_oid_of word)))))))
 
 -- a type's OID, by its name or written out, as `oid600`

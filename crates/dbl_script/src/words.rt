@@ -12,6 +12,7 @@ use crate::fault::Fault;
 use crate::parts::{Parts, cut};
 use dbl_base::Text;
 use dbl_table::TableName;
+use dbl_value::PgType;
 use std::alloc::Global;
 
 /// Whether a word is this one.
@@ -123,25 +124,25 @@ fn measured_oid(word: &[u8]) -> Option<u32>
     ensures { result ≡ measured_oid_of word.now }
 {
     if is_word(word, "bool") {
-        Some(16)
+        Some(dbl_value::oid(PgType::Bool))
     } else if is_word(word, "int2") {
-        Some(21)
+        Some(dbl_value::oid(PgType::Int2))
     } else if is_word(word, "int4") {
-        Some(23)
+        Some(dbl_value::oid(PgType::Int4))
     } else if is_word(word, "int8") {
-        Some(20)
+        Some(dbl_value::oid(PgType::Int8))
     } else if is_word(word, "float4") {
         Some(700)
     } else if is_word(word, "float8") {
         Some(701)
     } else if is_word(word, "date") {
-        Some(1082)
+        Some(dbl_value::oid(PgType::Date))
     } else if is_word(word, "time") {
-        Some(1083)
+        Some(dbl_value::oid(PgType::Time))
     } else if is_word(word, "timestamp") {
-        Some(1114)
+        Some(dbl_value::oid(PgType::Timestamp))
     } else if is_word(word, "timestamptz") {
-        Some(1184)
+        Some(dbl_value::oid(PgType::Timestamptz))
     } else {
         None
     }
@@ -152,21 +153,21 @@ fn listed_oid(word: &[u8]) -> Option<u32>
     ensures { result ≡ listed_oid_of word.now }
 {
     if is_word(word, "text") {
-        Some(25)
+        Some(dbl_value::oid(PgType::Text))
     } else if is_word(word, "varchar") {
-        Some(1043)
+        Some(dbl_value::oid(PgType::Varchar))
     } else if is_word(word, "bpchar") {
-        Some(1042)
+        Some(dbl_value::oid(PgType::Bpchar))
     } else if is_word(word, "json") {
-        Some(114)
+        Some(dbl_value::oid(PgType::Json))
     } else if is_word(word, "jsonb") {
-        Some(3802)
+        Some(dbl_value::oid(PgType::Jsonb))
     } else if is_word(word, "numeric") {
-        Some(1700)
+        Some(dbl_value::oid(PgType::Numeric))
     } else if is_word(word, "uuid") {
-        Some(2950)
+        Some(dbl_value::oid(PgType::Uuid))
     } else if is_word(word, "bytea") {
-        Some(17)
+        Some(dbl_value::oid(PgType::Bytea))
     } else {
         measured_oid(word)
     }

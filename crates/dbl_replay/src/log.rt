@@ -125,11 +125,11 @@ fn put_ended<O: Output>(
 fn take_bytes(
     alloc: Global,
     replayer: &mut Replayer,
-    number: &u64,
+    number: u64,
     bytes: Bytes,
 ) -> Result<Option<Commit>, LogFault>
     ensures { (options : ReplayOptions) (ms : List Message) → Follows options ms replayer.old
-        → number.now ≡ length ms + 1 → Takes options ms bytes replayer.new result }
+        → number ≡ length ms + 1 → Takes options ms bytes replayer.new result }
 {
     replayer.take(alloc, number, bytes.items().as_slice())
 }
@@ -139,15 +139,15 @@ fn take_bytes(
 fn put_message<O: Output>(
     alloc: Global,
     replayer: &mut Replayer,
-    number: &u64,
+    number: u64,
     bytes: Bytes,
     now_ms: &i64,
     output: &mut O,
     lines: &mut LineWriter,
 ) -> Result<Option<LogFault>, PrintError>
-    requires { IsFollowing replayer.old number.now }
+    requires { IsFollowing replayer.old number }
     ensures steps { (options : ReplayOptions) (ms : List Message) →
-        Follows options ms replayer.old → number.now ≡ length ms + 1
+        Follows options ms replayer.old → number ≡ length ms + 1
         → Steps options now_ms.now ms bytes lines.old lines.new replayer.new result
         (O.written output.old) (O.written output.new) }
     ensures failed { result ≡ Err PrintError.OutputFailed →
@@ -181,7 +181,7 @@ fn put_messages<O: Output>(
     let mut number = 0u64;
     'messages: for bytes in messages {
         number += 1;
-        match put_message(alloc, replayer, &number, bytes, now_ms, output, lines) {
+        match put_message(alloc, replayer, number, bytes, now_ms, output, lines) {
             Ok(None) => {}
             Ok(Some(fault)) => return Ok(Some(fault)),
             Err(error) => return Err(error),

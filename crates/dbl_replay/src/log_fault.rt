@@ -136,8 +136,8 @@ fn transaction_status(error: &TxnError) -> u8
 }
 
 // The line of a message's fault where it stands. Only a malformed log's has the message's number.
-fn transaction_line(alloc: Global, number: &u64, error: &TxnError) -> Result<String, AllocError>
-    ensures { IfOk result (λ text. string_bytes text ≡ transaction_line number.now error.now) }
+fn transaction_line(alloc: Global, number: u64, error: &TxnError) -> Result<String, AllocError>
+    ensures { IfOk result (λ text. string_bytes text ≡ transaction_line number error.now) }
 {
     let text = transaction_text(alloc, error)?;
     if transaction_status(error) == 5 {
@@ -173,7 +173,7 @@ impl LogFault {
                 return format!(in alloc; "dblog: message {number}: {text}");
             }
             LogFault::Transaction { number, error } => {
-                return transaction_line(alloc, number, error);
+                return transaction_line(alloc, *number, error);
             }
             LogFault::Table { error } => {
                 let text = table_text(alloc, error)?;

@@ -39,17 +39,14 @@ fn learn_in(writer: &mut EventWriter, alloc: Global, info: TableInfo) -> Result<
     }
 }
 
-fn decode_message(alloc: Global, number: &u64, bytes: &[u8]) -> Result<Message, LogFault>
+fn decode_message(alloc: Global, number: u64, bytes: &[u8]) -> Result<Message, LogFault>
     ensures spelled { IfOk result (Spells bytes.now) }
-    ensures refused { IfErr result (ReadFails number.now bytes.now) }
+    ensures refused { IfErr result (ReadFails number bytes.now) }
 {
     match decode(alloc, bytes) {
         Ok(message) => Ok(message),
         Err(MsgError::Memory) => Err(LogFault::Memory),
-        Err(error) => Err(LogFault::Message {
-            number: *number,
-            error,
-        }),
+        Err(error) => Err(LogFault::Message { number, error }),
     }
 }
 
@@ -139,20 +136,17 @@ impl Replayer {
     fn append(
         &mut self,
         alloc: Global,
-        number: &u64,
+        number: u64,
         message: Message,
     ) -> Result<Option<Commit>, LogFault>
         ensures { (options : ReplayOptions) (infos : List TableInfo) (ms : List Message) →
-            IsBehind options infos ms self.old → number.now ≡ length ms + 1 →
+            IsBehind options infos ms self.old → number ≡ length ms + 1 →
             Appends options infos ms message self.new result }
     {
         match self.assembler.take(alloc, message) {
             Ok(ended) => Ok(ended),
             Err(TxnError::Memory) => Err(LogFault::Memory),
-            Err(error) => Err(LogFault::Transaction {
-                number: *number,
-                error,
-            }),
+            Err(error) => Err(LogFault::Transaction { number, error }),
         }
     }
 
@@ -160,11 +154,11 @@ impl Replayer {
     pub fn take(
         &mut self,
         alloc: Global,
-        number: &u64,
+        number: u64,
         bytes: &[u8],
     ) -> Result<Option<Commit>, LogFault>
         ensures { (options : ReplayOptions) (ms : List Message) → Follows options ms self.old →
-            number.now ≡ length ms + 1 → Takes options ms bytes.now self.new result }
+            number ≡ length ms + 1 → Takes options ms bytes.now self.new result }
     {
         let message = decode_message(alloc, number, bytes)?;
         self.prepare(alloc, &message)?;

@@ -5,7 +5,7 @@ use Rattle.dbl_replay.proofs.replay.Replayer.take.Goals as goal
 pub returns-in_err-message : goal.returns-in_err-message
 returns-in_err-message c = λ options ms follows count. (
     let p = err_from_is_err_and c.from_residual.result c.from_residual.ensures.1 in
-    rw (p.1, p.2) (read_fails options ms c.args.number.now c.args.bytes.now c.in_err-message.field-0.0 count c.in_err-message.ensures.refused))
+    rw (p.1, p.2) (read_fails options ms c.args.number c.args.bytes.now c.in_err-message.field-0.0 count c.in_err-message.ensures.refused))
 
 pub returns-in_err-prepare : goal.returns-in_err-prepare
 returns-in_err-prepare c = λ options ms follows count. (

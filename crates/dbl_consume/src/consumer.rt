@@ -117,7 +117,8 @@ impl Consumer {
         ensures prints { (taken : List Reading) → Took taken self.now →
             PrintsRows (consumer_of (placeholder_of self.now) taken) result
             (O.written output.old) (O.written output.new) }
-        ensures cause { result ≡ Err OutputFailed → Rose (O.faults output.old) (O.faults output.new) }
+        ensures cause { result ≡ Err OutputFailed →
+            Rose (O.faults output.old) (O.faults output.new) }
         ensures later { O.faults output.old ≤ O.faults output.new }
     {
         look_at_order(&self.tables);

@@ -30,11 +30,17 @@ fn add_names(before: u64, identity: &Identity) -> u64
     add_text(db, &identity.placeholder)
 }
 
+fn add_oid(before: u64, oid: u32) -> u64
+    ensures { Measures before 4 (oid < 2 ^ 32) result }
+{
+    before.saturating_add(4)
+}
+
 fn add_column(before: u64, item: &Column) -> u64
     ensures { Measures before (length (column item.now)) (FitsColumn item.now) result }
 {
-    let _oid = dbl_value::oid(item.ty);
-    add_text(before, &item.name).saturating_add(4)
+    let name = add_text(before, &item.name);
+    add_oid(name, dbl_value::oid(item.ty))
 }
 
 fn add_columns(before: u64, columns: &[Column]) -> u64
@@ -127,7 +133,6 @@ fn add_entries(before: u64, infos: &[TableInfo], cursors: &[Cursor]) -> u64
 fn add_numbers(before: u64, start: u64, lsn: u64, end_lsn: u64) -> u64
     ensures { Measures before 36 ((start < 2 ^ 64) × (lsn < 2 ^ 64) × (end_lsn < 2 ^ 64)) result }
 {
-    let _numbers = (start, lsn, end_lsn);
     before.saturating_add(36)
 }
 

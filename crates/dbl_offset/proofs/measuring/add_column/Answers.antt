@@ -4,6 +4,7 @@ use Rattle.dbl_offset.proofs.measuring.add_column.Goals as goal
 
 pub returns : goal.returns
 returns c = record {
-  long = omega (arith, column_size c.args.item.now, c.add_text.ensures.long, c.saturating_add.ensures);
-  fits = λ le. record { name = c.add_text.ensures.fits (omega (arith, c.add_text.ensures.long, c.saturating_add.ensures, le)); oid = omega (arith, c.oid-oid.ensures, c.oid-oid.type_inv) };
+  long = omega (arith, column_size c.args.item.now, c.add_text-name.ensures.long, c.add_oid.ensures.long);
+  fits = λ le. (let oid = c.add_oid.ensures.fits le in
+      record { name = c.add_text-name.ensures.fits (omega (arith, c.add_text-name.ensures.long, c.add_oid.ensures.long, le)); oid = omega (arith, c.oid.ensures, oid) });
 }

@@ -9,8 +9,8 @@ ghost use Rattle.dbl_event_text.specs.Frames.{Framed, Tells, TellsMove};
 
 use dbl_base::Seq;
 use dbl_event_text::{
-    Frame, Side, Stamp, created, deleted, is_key_of, moved_from, moved_to, tombstone, truncated,
-    updated,
+    Frame, Side, Stamp, created_record, deleted_record, is_key_of, moved_from, moved_to, tombstone,
+    truncated_record, updated_record,
 };
 use dbl_record::Record;
 use dbl_table::{Cell, Change, Key, Row};
@@ -28,7 +28,7 @@ fn tell_insert(
     ensures { OnOk result
         (Tells frame.now stamp.now (Insert 0 row.now) out.old.items out.new.items) }
 {
-    out.push(created(alloc, frame, stamp, row)?)?;
+    out.push(created_record(alloc, frame, stamp, row)?)?;
     Ok(())
 }
 
@@ -83,7 +83,7 @@ fn tell_update(
         (Update 0 key.now old.now cells.now) out.old.items out.new.items) }
 {
     if is_key_of(frame.info, key, cells) {
-        out.push(updated(alloc, frame, stamp, key, old, cells)?)?;
+        out.push(updated_record(alloc, frame, stamp, key, old, cells)?)?;
         Ok(())
     } else {
         tell_move(out, alloc, frame, stamp, key, old, cells)
@@ -112,7 +112,7 @@ fn tell_delete(
         ordinal: stamp.ordinal + 1,
         last: stamp.last,
     };
-    out.push(deleted(alloc, frame, &first, key, &Side::Row(&old.cells))?)?;
+    out.push(deleted_record(alloc, frame, &first, key, &Side::Row(&old.cells))?)?;
     out.push(tombstone(alloc, frame, &behind, key)?)?;
     Ok(())
 }
@@ -126,7 +126,7 @@ fn tell_clear(
     requires framed { Framed frame.now }
     ensures { OnOk result (Tells frame.now stamp.now (Clear 0) out.old.items out.new.items) }
 {
-    out.push(truncated(alloc, frame, stamp)?)?;
+    out.push(truncated_record(alloc, frame, stamp)?)?;
     Ok(())
 }
 

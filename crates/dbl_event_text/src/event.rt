@@ -42,7 +42,7 @@ pub fn plain_record(
 }
 
 /// The record of a row that came to be: the Debezium PostgreSQL connector's "create events", `op` of `c`.
-pub fn created(
+pub fn created_record(
     alloc: Global,
     frame: &Frame<'_>,
     stamp: &Stamp,
@@ -73,7 +73,7 @@ fn old_side(old: &Option<Row>) -> Side<'_>
 }
 
 /// The record of an update that leaves the key as it is: the connector's "update events", `op` of `u`.
-pub fn updated(
+pub fn updated_record(
     alloc: Global,
     frame: &Frame<'_>,
     stamp: &Stamp,
@@ -95,7 +95,7 @@ pub fn updated(
 }
 
 /// The record of a delete, whose value tells this of the old row: the connector's "delete events", `op` of `d`.
-pub fn deleted(
+pub fn deleted_record(
     alloc: Global,
     frame: &Frame<'_>,
     stamp: &Stamp,
@@ -130,7 +130,11 @@ pub fn tombstone(
 }
 
 /// The record of a table that was emptied: the connector's "truncate events", `op` of `t`.
-pub fn truncated(alloc: Global, frame: &Frame<'_>, stamp: &Stamp) -> Result<Record, AllocError>
+pub fn truncated_record(
+    alloc: Global,
+    frame: &Frame<'_>,
+    stamp: &Stamp,
+) -> Result<Record, AllocError>
     requires framed { Framed frame.now }
     ensures { IfOk result (λ made. made ≡ printed frame.now stamp.now
         (notice 0 frame.now.info.now None Content.Truncated)) }
@@ -160,7 +164,7 @@ pub fn moved_from(
     let newkey = sent_key(alloc, frame, cells)?;
     Ok(Record {
         newkey: Some(newkey),
-        ..deleted(alloc, frame, stamp, key, &old_side(old))?
+        ..deleted_record(alloc, frame, stamp, key, &old_side(old))?
     })
 }
 

@@ -14,7 +14,8 @@ mod tokens;
 mod value;
 
 pub use event::{
-    created, deleted, moved_from, moved_to, plain_record, tombstone, truncated, updated,
+    created_record, deleted_record, moved_from, moved_to, plain_record, tombstone,
+    truncated_record, updated_record,
 };
 pub use frame::Frame;
 pub use keys::{framed_key, is_key_of};

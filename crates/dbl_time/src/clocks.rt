@@ -88,7 +88,7 @@ fn fraction(text: &[u8]) -> Option<u32>
     }
 }
 
-fn joined(seconds: Option<u32>, micros: Option<u32>) -> Option<u64>
+fn joined_clock(seconds: Option<u32>, micros: Option<u32>) -> Option<u64>
     requires seconds { IfSome seconds (λ n. n < 86400) }
     requires micros { IfSome micros (λ n. n < 30000000) }
     ensures value { result ≡ joined_clock seconds micros }
@@ -105,7 +105,7 @@ pub fn clock(text: &[u8]) -> Option<u64>
     ensures value { result ≡ clock_of text.now }
     ensures bound { IfSome result (λ n. n < 90000000000) }
 {
-    joined(
+    joined_clock(
         seconds(bytes_before(text, 8)),
         fraction(bytes_from(text, 8)),
     )

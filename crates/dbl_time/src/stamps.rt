@@ -16,7 +16,7 @@ const FIRST_INSTANT: i64 = -62_135_596_800_000_000;
 
 const LAST_INSTANT: i64 = 253_402_300_799_999_999;
 
-fn joined(day: Option<i32>, clock: Option<u64>) -> Option<i64>
+fn joined_stamp(day: Option<i32>, clock: Option<u64>) -> Option<i64>
     requires day { IfSome day (λ n. IsEpochDay n) }
     requires clock { IfSome clock (λ n. n < 90000000000) }
     ensures value { result ≡ joined_stamp day clock }
@@ -35,7 +35,7 @@ pub fn parse_timestamp(text: &[u8]) -> Option<i64>
     ensures bound { IfSome result (λ z. IsWithin (2 ^ 60) z) }
 {
     if byte_at(text, 10) == b' ' {
-        joined(
+        joined_stamp(
             parse_date(bytes_before(text, 10)),
             clock(bytes_from(text, 11)),
         )
@@ -70,7 +70,7 @@ fn size_of_offset(text: &[u8]) -> Option<u32>
     }
 }
 
-fn signed(sign: u8, size: Option<u32>) -> Option<i32>
+fn signed_offset(sign: u8, size: Option<u32>) -> Option<i32>
     requires { IfSome size (λ n. n < 86400) }
     ensures value { result ≡ signed_offset sign size }
     ensures bound { IfSome result (λ z. IsWithin 86400 z) }
@@ -87,10 +87,10 @@ fn offset(text: &[u8]) -> Option<i32>
     ensures value { result ≡ offset_of text.now }
     ensures bound { IfSome result (λ z. IsWithin 86400 z) }
 {
-    signed(byte_at(text, 0), size_of_offset(bytes_from(text, 1)))
+    signed_offset(byte_at(text, 0), size_of_offset(bytes_from(text, 1)))
 }
 
-fn moved(moment: Option<i64>, offset: Option<i32>) -> Option<i64>
+fn joined_instant(moment: Option<i64>, offset: Option<i32>) -> Option<i64>
     requires moment { IfSome moment (λ z. IsWithin (2 ^ 60) z) }
     requires offset { IfSome offset (λ z. IsWithin 86400 z) }
     ensures { result ≡ joined_instant moment offset }
@@ -118,7 +118,7 @@ pub fn parse_instant(text: &[u8]) -> Option<i64>
     ensures { result ≡ instant_of text.now }
 {
     match place_of_sign(text) {
-        Some(place) => moved(
+        Some(place) => joined_instant(
             parse_timestamp(bytes_before(text, 19 + place)),
             offset(bytes_from(text, 19 + place)),
         ),

@@ -6,5 +6,5 @@ pub returns : goal.returns
 returns c =
     let old = c.args.out.now.items in
     c.in_ok-push-2.ensures.items
-    ∙ ap₂ (λ rs (r : Record). rs ++ r ∷ []) (c.in_ok-push.ensures.items ∙ ap (λ (r : Record). old ++ r ∷ []) c.in_ok-deleted.ensures) c.in_ok-tombstone.ensures
+    ∙ ap₂ (λ rs (r : Record). rs ++ r ∷ []) (c.in_ok-push.ensures.items ∙ ap (λ (r : Record). old ++ r ∷ []) c.in_ok-deleted_record.ensures) c.in_ok-tombstone.ensures
     ∙ append_assoc old _ _

@@ -4,7 +4,7 @@ use Rattle.serde_json.specs.Data.{Data}
 use Rattle.serde_json.specs.Written.{compact_text}
 use Rattle.dbl_event.specs.EventJson.{row_data, sent}
 use Rattle.dbl_event_text.specs.Frames.{plain_record, event_of}
-use Rattle.dbl_event_text.proofs.event.updated.Goals as goal
+use Rattle.dbl_event_text.proofs.event.updated_record.Goals as goal
 
 pub returns : goal.returns
 returns c =

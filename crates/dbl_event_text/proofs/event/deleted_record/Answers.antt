@@ -1,7 +1,7 @@
 use Rattle.std.proofs.Common.{◌∙◌, List, ℕ, Some, ap₂}
 use Rattle.std.proofs.lemmas.Result.{IfOk-weaker}
 use Rattle.dbl_event_text.specs.Frames.{plain_record}
-use Rattle.dbl_event_text.proofs.event.created.Goals as goal
+use Rattle.dbl_event_text.proofs.event.deleted_record.Goals as goal
 
 pub returns : goal.returns
 returns c =

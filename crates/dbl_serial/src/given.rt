@@ -208,7 +208,7 @@ fn has_text(cell: Option<&NamedCell>) -> bool
 }
 
 // What a fault says of a text: that it spells nothing, unless memory ran out.
-fn faulted(error: ValueError) -> Result<bool, AllocError>
+fn judge_fault(error: ValueError) -> Result<bool, AllocError>
     ensures { IfOk result (λ spelled. (spelled ≡ false) × (error ≢ ValueError.Memory)) }
 {
     match error {
@@ -222,7 +222,7 @@ fn spells_text(alloc: Global, ty: PgType, text: &Text) -> Result<bool, AllocErro
 {
     match read(alloc, ty, text) {
         Ok(_value) => Ok(true),
-        Err(error) => faulted(error),
+        Err(error) => judge_fault(error),
     }
 }
 

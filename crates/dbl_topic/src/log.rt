@@ -203,7 +203,7 @@ impl<D: Disk> TopicLog<D> {
             IsSteady D.seen D.faults disk refused.disk) }
     {
         match Journal::open(alloc, disk) {
-            Ok(journal) => checked(alloc, journal),
+            Ok(journal) => check_log(alloc, journal),
             Err(Refused { disk, error }) => Err(Refused {
                 disk,
                 error: TopicError::from(error),
@@ -260,7 +260,7 @@ impl<D: Disk> TopicLog<D> {
 }
 
 // The topic log over a journal whose entries are groups.
-fn checked<D: Disk>(
+fn check_log<D: Disk>(
     alloc: Global,
     mut journal: Journal<D>,
 ) -> Result<TopicLog<D>, Refused<D, TopicError>>

@@ -159,7 +159,7 @@ fn has_no_memory(ty: PgType) -> bool
 }
 
 /// The value that a text spells, if it spells one.
-fn spelled(alloc: Global, ty: PgType, text: &Text) -> Result<Option<Val>, AllocError>
+fn parse_value(alloc: Global, ty: PgType, text: &Text) -> Result<Option<Val>, AllocError>
     ensures value { IfOk result (λ o. o ≡ value_of ty text.now) }
     ensures fixed { is_fixed ty ≡ true → result ≡ Ok (value_of ty text.now) }
 {
@@ -180,7 +180,7 @@ pub fn read(alloc: Global, ty: PgType, text: &Text) -> Result<Val, ValueError>
         (λ e. (e ≡ ValueError.Memory) ⊎ (value_fault ty text.now ≡ Some e)) }
     ensures fixed { is_fixed ty ≡ true → result ≢ Err ValueError.Memory }
 {
-    match spelled(alloc, ty, text) {
+    match parse_value(alloc, ty, text) {
         Ok(Some(val)) => Ok(val),
         Ok(None) => Err(fault(ty, text.as_str())),
         Err(_) => Err(ValueError::Memory),

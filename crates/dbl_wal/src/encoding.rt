@@ -70,7 +70,7 @@ fn commit_room(messages: &[Message]) -> usize
 }
 
 // An empty entry behind its room, with the tag. So many bytes more and the journal's gate are added without a copy.
-fn tagged(alloc: Global, tag: u8, room: usize) -> Result<Vec<u8>, AllocError>
+fn begin_entry(alloc: Global, tag: u8, room: usize) -> Result<Vec<u8>, AllocError>
     requires { room ≤ 2 ^ 28 }
     ensures { IfOk result (λ bytes. bytes.items ≡ 0 ∷ 0 ∷ 0 ∷ 0 ∷ tag ∷ []) }
 {
@@ -87,7 +87,7 @@ pub fn workload_entry(alloc: Global, workload: &[u8]) -> Result<Vec<u8>, AllocEr
     ensures room { IfOk result (λ bytes. 4 ≤ length bytes.items) }
     ensures entry { IfOk result (λ bytes. drop 4 bytes.items ≡ workload_form workload.now) }
 {
-    let mut bytes = tagged(alloc, b'S', workload.len())?;
+    let mut bytes = begin_entry(alloc, b'S', workload.len())?;
     bytes.extend_from_slice(workload)?;
     Ok(bytes)
 }
@@ -101,7 +101,7 @@ pub fn commit_entry(alloc: Global, steps: u64, messages: &[Message]) -> Result<V
     ensures entry { IfOk result
         (λ bytes. Spells (drop 4 bytes.items) (Commits steps messages.now)) }
 {
-    let mut bytes = tagged(alloc, b'C', commit_room(messages))?;
+    let mut bytes = begin_entry(alloc, b'C', commit_room(messages))?;
     append_number64(&mut bytes, steps)?;
     append_changes(&mut bytes, messages)?;
     Ok(bytes)
@@ -114,7 +114,7 @@ pub fn mark_entry(alloc: Global, steps: u64, value: &Text) -> Result<Vec<u8>, Al
     ensures room { IfOk result (λ bytes. 4 ≤ length bytes.items) }
     ensures entry { IfOk result (λ bytes. Spells (drop 4 bytes.items) (Marks steps value.now)) }
 {
-    let mut bytes = tagged(alloc, b'M', 12 + value.as_str().len())?;
+    let mut bytes = begin_entry(alloc, b'M', 12 + value.as_str().len())?;
     append_number64(&mut bytes, steps)?;
     append_text(&mut bytes, value)?;
     Ok(bytes)
@@ -126,7 +126,7 @@ pub fn confirm_entry(alloc: Global, upto: Lsn) -> Result<Vec<u8>, AllocError>
     ensures room { IfOk result (λ bytes. 4 ≤ length bytes.items) }
     ensures entry { IfOk result (λ bytes. Spells (drop 4 bytes.items) (Confirms upto)) }
 {
-    let mut bytes = tagged(alloc, b'F', 8)?;
+    let mut bytes = begin_entry(alloc, b'F', 8)?;
     append_number64(&mut bytes, upto.0)?;
     Ok(bytes)
 }

@@ -29,7 +29,7 @@ use dbl_topic::Sink;
 use std::alloc::Global;
 
 // The message that bytes spell.
-fn decoded(alloc: Global, number: u64, bytes: &Bytes) -> Result<Message, Halt>
+fn decode_message(alloc: Global, number: u64, bytes: &Bytes) -> Result<Message, Halt>
     ensures read { IfOk result (Spells bytes.now) }
     ensures halt { IfErr result (λ h. (h ≡ Halt.Memory) ⊎ IsMessageHalt number bytes.now h) }
 {
@@ -41,7 +41,7 @@ fn decoded(alloc: Global, number: u64, bytes: &Bytes) -> Result<Message, Halt>
 }
 
 // The commit that a message ends.
-fn assembled(work: &mut Work, number: u64, message: Message) -> Result<Option<Commit>, Halt>
+fn assemble(work: &mut Work, number: u64, message: Message) -> Result<Option<Commit>, Halt>
     ensures taken { (after : SpecLsn) (ms : List SpecMessage) →
         StandsWhole work.old.offset.infos after ms work.old.assembler →
         IfOk result (Taken work.old.offset.infos after message ms work.new.assembler) }
@@ -72,8 +72,8 @@ pub fn taken(work: &mut Work, number: u64, bytes: &Bytes) -> Result<Option<Commi
         All (FitsInfos work.new.follower.infos) (changes_of c))) }
     ensures same { work.new ≡ record work.old { assembler = work.new.assembler } }
 {
-    let message = decoded(work.alloc, number, bytes)?;
-    assembled(work, number, message)
+    let message = decode_message(work.alloc, number, bytes)?;
+    assemble(work, number, message)
 }
 
 fn is_mark(commit: &Commit) -> bool

@@ -103,7 +103,7 @@ fn between_marks<S: Source>(idle: Idle, src: &mut S) -> Result<Armed, WindowErro
     rows_and_high(marked, src)
 }
 
-fn copied(alloc: Global, last: &Option<Key>) -> Result<Option<Key>, AllocError>
+fn copy_last(alloc: Global, last: &Option<Key>) -> Result<Option<Key>, AllocError>
     ensures { IfOk result (λ key. key ≡ last.now) }
 {
     match last {
@@ -120,7 +120,7 @@ fn window_of(work: &Work, table: u32) -> Result<Idle, AllocError>
     ensures { IfOk result (λ idle. plan_at work.now table ≡ Some idle) }
 {
     let info = work.offset.infos.items()[table as usize].copy(work.alloc)?;
-    let above = copied(work.alloc, &work.follower.cursors()[table as usize].last)?;
+    let above = copy_last(work.alloc, &work.follower.cursors()[table as usize].last)?;
     Ok(dbl_window::new(
         work.alloc,
         info,

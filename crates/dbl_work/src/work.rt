@@ -31,7 +31,7 @@ pub struct Work {
     pub number: u64,
 }
 
-fn copied(alloc: Global, cursors: &Vec<Cursor>) -> Result<Seq<Cursor>, AllocError>
+fn copy_cursors(alloc: Global, cursors: &Vec<Cursor>) -> Result<Seq<Cursor>, AllocError>
     ensures { IfOk result (λ copies. copies ≡ cursors.now.items) }
 {
     let mut copies = Vec::with_capacity(alloc, cursors.len())?;
@@ -57,7 +57,7 @@ fn follower_of(alloc: Global, offset: &Offset) -> Result<Follower, Halt>
     ensures memory { IfErr result (λ h. h ≡ Halt.Memory) }
 {
     let identity = offset.identity.copy(alloc)?;
-    let cursors = copied(alloc, offset.cursors.items())?;
+    let cursors = copy_cursors(alloc, offset.cursors.items())?;
     let follower = Follower::make(
         alloc,
         identity,
@@ -75,7 +75,7 @@ impl Work {
         ensures asked { IfOk result IsOffset }
     {
         let mut offset = self.offset.copy(self.alloc)?;
-        offset.cursors = copied(self.alloc, self.follower.cursors())?;
+        offset.cursors = copy_cursors(self.alloc, self.follower.cursors())?;
         Ok(offset)
     }
 

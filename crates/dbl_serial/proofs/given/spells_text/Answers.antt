@@ -21,4 +21,4 @@ unread ty text (Ok spelled) e told (inl memory) = absurd (told.1 memory)
 unread ty text (Ok spelled) e told (inr fault) = told.0 ∙ sym (no_value ty text e fault)
 
 pub returns-in-Err : goal.returns-in-Err
-returns-in-Err c = unread c.args.ty c.args.text.now c.faulted.result c.in-Err.error c.faulted.ensures c.in-Err.ensures.fault
+returns-in-Err c = unread c.args.ty c.args.text.now c.judge_fault.result c.in-Err.error c.judge_fault.ensures c.in-Err.ensures.fault

@@ -1,4 +1,4 @@
-use Rattle.dbl_topic.proofs.log.checked.Goals as goal
+use Rattle.dbl_topic.proofs.log.check_log.Goals as goal
 
 pub returns-in-Ok-clause-good : goal.returns-in-Ok-clause-good
 returns-in-Ok-clause-good g c entries lists =

@@ -112,7 +112,15 @@ number_in (text ∷ texts) = digits_value 10 text
 
 abbrev pub capture_of : Option (List ℕ) → Option (List ℕ) → Option (List ℕ) → Option (List ℕ) → Option (List ℕ) → Option (List ℕ) → List (List ℕ) → Command
 capture_of prefix db placeholder chunk every messages texts =
-    command.Capture (name_or_demo prefix) (name_or_demo db) (placeholder_or_own placeholder) (number_or 1000 chunk) (number_or 100 every) (number_or 999999999 messages) (map table_in texts)
+    command.Capture (record {
+      prefix = name_or_demo prefix;
+      db = name_or_demo db;
+      placeholder = placeholder_or_own placeholder;
+      chunk = number_or 1000 chunk;
+      every = number_or 100 every;
+      messages = number_or 999999999 messages;
+      tables = map table_in texts;
+    })
 
 abbrev pub resume_of : Option (List ℕ) → Option (List ℕ) → Option (List ℕ) → Command
 resume_of chunk every messages = command.Resume (number_or 1000 chunk) (number_or 100 every) (number_or 999999999 messages)

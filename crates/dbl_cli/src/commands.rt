@@ -1,6 +1,18 @@
 use dbl_base::{Seq, Text};
 use dbl_table::{TableKey, TableName};
 
+/// How a capture goes.
+#[derive(Debug, Drop)]
+pub struct CaptureOptions {
+    pub prefix: Text,
+    pub db: Text,
+    pub placeholder: Text,
+    pub chunk: u32,
+    pub every: u32,
+    pub messages: u64,
+    pub tables: Seq<TableName>,
+}
+
 /// What the words of a command line ask for. An option that isn't given has its default.
 #[derive(Debug, Drop)]
 pub enum Command {
@@ -8,13 +20,7 @@ pub enum Command {
     Topics,
     Offsets,
     Capture {
-        prefix: Text,
-        db: Text,
-        placeholder: Text,
-        chunk: u32,
-        every: u32,
-        messages: u64,
-        tables: Seq<TableName>,
+        options: CaptureOptions,
     },
     Resume {
         chunk: u32,

@@ -13,7 +13,7 @@ ghost use Rattle.dbl_cli.specs.Found.{option_in, places_in, SaysFlag, Finds};
 use crate::parser::PLACE;
 use crate::values::{keys, name_or_demo, number, number_or, placeholder_or_own, tables};
 use crate::verbs::Verb;
-use crate::{CliError, Command};
+use crate::{CaptureOptions, CliError, Command};
 use clap::ArgMatches;
 use dbl_base::{Seq, Text};
 use dbl_table::{TableKey, TableName};
@@ -108,13 +108,15 @@ fn capture(alloc: Global, found: &ArgMatches<'_>) -> Result<Command, CliError>
     let pacing = pacing(found)?;
     let tables = tables_in(alloc, found)?;
     Ok(Command::Capture {
-        prefix,
-        db,
-        placeholder,
-        chunk: pacing.chunk,
-        every: pacing.every,
-        messages: u64::from(pacing.messages),
-        tables,
+        options: CaptureOptions {
+            prefix,
+            db,
+            placeholder,
+            chunk: pacing.chunk,
+            every: pacing.every,
+            messages: u64::from(pacing.messages),
+            tables,
+        },
     })
 }
 

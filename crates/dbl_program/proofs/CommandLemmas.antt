@@ -34,7 +34,7 @@ pub answers_one : (c : Command) (now : ℤ) (given : Given) (a b : Answer) → A
 answers_one command.Init now given a b is is' = is ∙ sym is'
 answers_one command.Topics now given a b is is' = stores_one (AnswersTopics given.topics) (topics_once given.topics) a b is is'
 answers_one command.Offsets now given a b is is' = stores_one (AnswersOffsets given.offsets) (offsets_once given.offsets) a b is is'
-answers_one (command.Capture prefix db placeholder chunk every messages tables) now given a b is is' = is ∙ sym is'
+answers_one (command.Capture options) now given a b is is' = is ∙ sym is'
 answers_one (command.Resume chunk every messages) now given a b is is' = is ∙ sym is'
 answers_one (command.Apply true placeholder) now given a b is is' = applies_one placeholder given.input a b is is'
 answers_one (command.Apply false placeholder) now given a b is is' = stores_one (AnswersApply given.topics given.offsets) (apply_once given.topics given.offsets) a b is is'
@@ -135,7 +135,7 @@ pub memory_status : (c : Command) (status : ℕ) (before after : Option (List �
 memory_status command.Init status before after says = inr (cut_short status before after says)
 memory_status command.Topics status before after says = inr (inr (inr (cut_short status before after says)))
 memory_status command.Offsets status before after says = inr (inr (inr (inr (cut_short status before after says))))
-memory_status (command.Capture prefix db placeholder chunk every messages tables) status before after says = inr (cut_short status before after says)
+memory_status (command.Capture options) status before after says = inr (cut_short status before after says)
 memory_status (command.Resume chunk every messages) status before after says = inr (cut_short status before after says)
 memory_status (command.Apply true placeholder) status before after says = inr (inr (memory_outside status before after says))
 memory_status (command.Apply false placeholder) status before after says = inr (inr (inr (inr (inr (cut_short status before after says)))))
@@ -153,7 +153,7 @@ pub memory_tells : (c : Command) (status : ℕ) (before after : Option (List ℕ
 memory_tells command.Init status before after says told = told
 memory_tells command.Topics status before after says told = told
 memory_tells command.Offsets status before after says told = told
-memory_tells (command.Capture prefix db placeholder chunk every messages tables) status before after says told = told
+memory_tells (command.Capture options) status before after says told = told
 memory_tells (command.Resume chunk every messages) status before after says told = told
 memory_tells (command.Apply true placeholder) status before after says told = apply_apart status (cut_short status before after says) told
 memory_tells (command.Apply false placeholder) status before after says told = told

@@ -62,7 +62,7 @@ forth words now given answer command.Topics spells is refuses =
     stores_told (AnswersTopics given.topics) answer (IsRefused words given answer) (λ e told same. (e, record { command = command.Topics; spells = spells; tells = told; answer_is = same })) refuses is.0 is.1 is.2
 forth words now given answer command.Offsets spells is refuses =
     stores_told (AnswersOffsets given.offsets) answer (IsRefused words given answer) (λ e told same. (e, record { command = command.Offsets; spells = spells; tells = told; answer_is = same })) refuses is.0 is.1 is.2
-forth words now given answer (command.Capture prefix db placeholder chunk every messages tables) spells is refuses = unbuilt_refuses answer (IsRefused words given answer) is refuses
+forth words now given answer (command.Capture options) spells is refuses = unbuilt_refuses answer (IsRefused words given answer) is refuses
 forth words now given answer (command.Resume chunk every messages) spells is refuses = unbuilt_refuses answer (IsRefused words given answer) is refuses
 forth words now given answer (command.Apply true placeholder) spells is refuses = absurd (lines_refuse placeholder given.input answer is refuses)
 forth words now given answer (command.Apply false placeholder) spells is refuses =
@@ -77,7 +77,7 @@ tells_refusal : (given : Given) (c : Command) (e : RunError) → StoresTell c gi
 tells_refusal given command.Init e tells = absurd tells
 tells_refusal given command.Topics e tells = topics_refuse given.topics e tells
 tells_refusal given command.Offsets e tells = offsets_refuse given.offsets e tells
-tells_refusal given (command.Capture prefix db placeholder chunk every messages tables) e tells = absurd tells
+tells_refusal given (command.Capture options) e tells = absurd tells
 tells_refusal given (command.Resume chunk every messages) e tells = absurd tells
 tells_refusal given (command.Apply true placeholder) e tells = absurd tells
 tells_refusal given (command.Apply false placeholder) e tells = apply_refuses given.topics given.offsets e tells

@@ -189,7 +189,7 @@ command_stands : (c : Command) (now : ℤ) (given : Given) → AreBytes given.to
 command_stands command.Init now given t f = (not_built, refl)
 command_stands command.Topics now given t f = let found = topics_stand given.topics t in stores_stand (AnswersTopics given.topics) found.0 found.1
 command_stands command.Offsets now given t f = let found = offsets_stand given.offsets f in stores_stand (AnswersOffsets given.offsets) found.0 found.1
-command_stands (command.Capture prefix db placeholder chunk every messages tables) now given t f = (not_built, refl)
+command_stands (command.Capture options) now given t f = (not_built, refl)
 command_stands (command.Resume chunk every messages) now given t f = (not_built, refl)
 command_stands (command.Apply true placeholder) now given t f = apply_stands placeholder given.input
 command_stands (command.Apply false placeholder) now given t f =

@@ -106,7 +106,7 @@ pub no_wal : (c : Command) (status : ℕ) → IsStatusOf c status → status ≡
 no_wal command.Init status known same = one_other 16 7 status (λ e. cc) (λ e. cc, λ e. cc) known same
 no_wal command.Topics status known same = topics_other 7 status (λ e. cc, λ e. cc, λ e. cc) (λ e. cc, λ e. cc) known same
 no_wal command.Offsets status known same = offsets_other 7 status (λ e. cc, λ e. cc, λ e. cc, λ e. cc) (λ e. cc, λ e. cc) known same
-no_wal (command.Capture prefix db placeholder chunk every messages tables) status known same = one_other 16 7 status (λ e. cc) (λ e. cc, λ e. cc) known same
+no_wal (command.Capture options) status known same = one_other 16 7 status (λ e. cc) (λ e. cc, λ e. cc) known same
 no_wal (command.Resume chunk every messages) status known same = one_other 16 7 status (λ e. cc) (λ e. cc, λ e. cc) known same
 no_wal (command.Apply true placeholder) status known same = lines_other 7 status (λ e. cc, λ e. cc) (λ e. cc, λ e. cc, λ e. cc) known same
 no_wal (command.Apply false placeholder) status known same = rows_other 7 status (λ e. cc) (λ e. cc, λ e. cc, λ e. cc, λ e. cc) (λ e. cc, λ e. cc) known same
@@ -119,7 +119,7 @@ pub no_topics : (c : Command) (status : ℕ) → IsStatusOf c status → opens_t
 no_topics command.Init status known shut same = one_other 16 8 status (λ e. cc) (λ e. cc, λ e. cc) known same
 no_topics command.Topics status known shut same = switched shut
 no_topics command.Offsets status known shut same = offsets_other 8 status (λ e. cc, λ e. cc, λ e. cc, λ e. cc) (λ e. cc, λ e. cc) known same
-no_topics (command.Capture prefix db placeholder chunk every messages tables) status known shut same = one_other 16 8 status (λ e. cc) (λ e. cc, λ e. cc) known same
+no_topics (command.Capture options) status known shut same = one_other 16 8 status (λ e. cc) (λ e. cc, λ e. cc) known same
 no_topics (command.Resume chunk every messages) status known shut same = one_other 16 8 status (λ e. cc) (λ e. cc, λ e. cc) known same
 no_topics (command.Apply true placeholder) status known shut same = lines_other 8 status (λ e. cc, λ e. cc) (λ e. cc, λ e. cc, λ e. cc) known same
 no_topics (command.Apply false placeholder) status known shut same = switched shut
@@ -131,7 +131,7 @@ pub no_offsets : (c : Command) (status : ℕ) → IsStatusOf c status → opens_
 no_offsets command.Init status known shut same = one_other 16 9 status (λ e. cc) (λ e. cc, λ e. cc) known same
 no_offsets command.Topics status known shut same = topics_other 9 status (λ e. cc, λ e. cc, λ e. cc) (λ e. cc, λ e. cc) known same
 no_offsets command.Offsets status known shut same = switched shut
-no_offsets (command.Capture prefix db placeholder chunk every messages tables) status known shut same = one_other 16 9 status (λ e. cc) (λ e. cc, λ e. cc) known same
+no_offsets (command.Capture options) status known shut same = one_other 16 9 status (λ e. cc) (λ e. cc, λ e. cc) known same
 no_offsets (command.Resume chunk every messages) status known shut same = one_other 16 9 status (λ e. cc) (λ e. cc, λ e. cc) known same
 no_offsets (command.Apply true placeholder) status known shut same = lines_other 9 status (λ e. cc, λ e. cc) (λ e. cc, λ e. cc, λ e. cc) known same
 no_offsets (command.Apply false placeholder) status known shut same = switched shut
@@ -171,7 +171,7 @@ built_other : (c : Command) (status : ℕ) → IsStatusOf c status → is_built 
 built_other command.Init status known built same = switched (sym built)
 built_other command.Topics status known built same = topics_other 16 status (no_zero, no_eight, no_fourteen) no_outside known same
 built_other command.Offsets status known built same = offsets_other 16 status no_offset no_outside known same
-built_other (command.Capture prefix db placeholder chunk every messages tables) status known built same = switched (sym built)
+built_other (command.Capture options) status known built same = switched (sym built)
 built_other (command.Resume chunk every messages) status known built same = switched (sym built)
 built_other (command.Apply true placeholder) status known built same = lines_other 16 status (no_zero, no_bad) no_stream known same
 built_other (command.Apply false placeholder) status known built same = rows_other 16 status no_eight no_offset no_outside known same

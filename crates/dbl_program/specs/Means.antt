@@ -99,7 +99,7 @@ SpellSome words holds = (command : Command) × Spells words command × (holds co
 -- the command is built
 abbrev pub is_built : Command → Bool
 is_built Init = false
-is_built (Capture prefix db placeholder chunk every messages tables) = false
+is_built (Capture options) = false
 is_built (Resume chunk every messages) = false
 is_built (Gen number rows groups true) = false
 is_built command = true

@@ -69,7 +69,7 @@ returns-in-Offsets-clause-told g c = λ given told.
 pub returns-in-Capture-clause-told : goal.returns-in-Capture-clause-told
 returns-in-Capture-clause-told g c = λ given told.
     let here = c.in-Capture in
-    inl (alone_command c.args.command (command.Capture here.prefix here.db here.placeholder here.chunk here.every here.messages here.tables) c.args.now_ms.now given _ not_built _ _ _ here.is refl c.say_not_built-in-Capture.ensures.ends)
+    inl (alone_command c.args.command (command.Capture here.options) c.args.now_ms.now given _ not_built _ _ _ here.is refl c.say_not_built-in-Capture.ensures.ends)
 
 pub returns-in-Resume-clause-told : goal.returns-in-Resume-clause-told
 returns-in-Resume-clause-told g c = λ given told.

@@ -39,7 +39,7 @@ fn count(faults: &mut u64) -> Failed
 }
 
 // Counts an error of the system as a fault.
-fn counted<T: Drop>(outcome: io::Result<T>, faults: &mut u64) -> Result<T, Failed>
+fn count_fault<T: Drop>(outcome: io::Result<T>, faults: &mut u64) -> Result<T, Failed>
     ensures later { faults.old ≤ faults.new }
     ensures cause { OnErr result (Rose faults.old faults.new) }
 {
@@ -126,7 +126,7 @@ impl<'a, R: Files> FileDisk<'a, R> {
     {
         match self.file.take() {
             Some(file) => Ok(file),
-            None => counted(open(self.files, self.path), &mut self.faults),
+            None => count_fault(open(self.files, self.path), &mut self.faults),
         }
     }
 }
@@ -146,7 +146,7 @@ impl<'a, R: Files> Disk for FileDisk<'a, R> {
 
     fn len(&mut self) -> Result<u64, Failed> {
         let file = self.take_file()?;
-        let metadata = counted(file.metadata(), &mut self.faults);
+        let metadata = count_fault(file.metadata(), &mut self.faults);
         self.file = Some(file);
         let length = metadata?.len();
         if length >= DISK_LIMIT {
@@ -157,7 +157,7 @@ impl<'a, R: Files> Disk for FileDisk<'a, R> {
 
     fn read_at(&mut self, at: u64, buffer: &mut [u8]) -> Result<usize, Failed> {
         let mut file = self.take_file()?;
-        let result = match counted(file.seek(SeekFrom::Start(at)), &mut self.faults) {
+        let result = match count_fault(file.seek(SeekFrom::Start(at)), &mut self.faults) {
             Ok(_) => read_all(&mut file, &mut self.faults, buffer),
             Err(failed) => Err(failed),
         };
@@ -170,7 +170,7 @@ impl<'a, R: Files> Disk for FileDisk<'a, R> {
             return Err(count(&mut self.faults));
         }
         let mut file = self.take_file()?;
-        let result = match counted(file.seek(SeekFrom::Start(at)), &mut self.faults) {
+        let result = match count_fault(file.seek(SeekFrom::Start(at)), &mut self.faults) {
             Ok(_) => write_all(&mut file, &mut self.faults, bytes),
             Err(failed) => Err(failed),
         };
@@ -180,7 +180,7 @@ impl<'a, R: Files> Disk for FileDisk<'a, R> {
 
     fn sync(&mut self) -> Result<(), Failed> {
         let file = self.take_file()?;
-        let result = counted(file.sync_all(), &mut self.faults);
+        let result = count_fault(file.sync_all(), &mut self.faults);
         self.file = Some(file);
         result
     }

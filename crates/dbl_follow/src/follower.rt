@@ -114,8 +114,8 @@ impl Follower {
     {
         match &self.window {
             Window::Absent => None,
-            Window::Armed(armed) => Some(armed.awaited()),
-            Window::Open(opened) => Some(opened.awaited()),
+            Window::Armed(armed) => Some(armed.awaited_mark()),
+            Window::Open(opened) => Some(opened.awaited_mark()),
         }
     }
 

@@ -129,10 +129,10 @@ fn toast(word: &[u8], size: &[u8]) -> Option<u32>
 pub fn table(alloc: Global, line: u32, words: &mut Parts<'_>) -> Result<ScriptTable, Fault>
     ensures { Reads (table_in line words.old) result }
 {
-    let name = words.wanted()?;
-    let identity = words.wanted()?;
-    let word = words.wanted()?;
-    let size = words.wanted()?;
+    let name = words.expect_part()?;
+    let identity = words.expect_part()?;
+    let word = words.expect_part()?;
+    let size = words.expect_part()?;
     let name = table_name(alloc, name)?;
     let Some(full) = is_full(identity) else {
         return Err(Fault::Bad);

@@ -28,7 +28,7 @@ fn worded_line(alloc: Global, number: u32, bytes: &[u8]) -> Result<Line, Fault>
     ensures { Reads (worded number (words_of bytes.now)) result }
 {
     let mut words = Parts::of(b' ', bytes);
-    let first = words.wanted()?;
+    let first = words.expect_part()?;
     if is_word(first, "table") {
         let table = table(alloc, number, &mut words)?;
         Ok(Line::Table(table))

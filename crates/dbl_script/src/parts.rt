@@ -59,7 +59,7 @@ impl<'a> Parts<'a> {
     }
 
     /// Takes the next part, which has to be there.
-    pub fn wanted(&mut self) -> Result<&'a [u8], Fault>
+    pub fn expect_part(&mut self) -> Result<&'a [u8], Fault>
         ensures { MatchResult result (λ part. self.old ≡ part.now ∷ self.new) (λ _. self.old ≡ []) }
     {
         match self.next_part() {

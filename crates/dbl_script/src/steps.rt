@@ -19,7 +19,7 @@ use std::alloc::Global;
 pub fn row(alloc: Global, line: u32, words: &mut Parts<'_>) -> Result<ScriptRow, Fault>
     ensures { Reads (row_in line words.old) result }
 {
-    let word = words.wanted()?;
+    let word = words.expect_part()?;
     let table = table_name(alloc, word)?;
     let cells = cells(alloc, words)?;
     Ok(ScriptRow { table, cells, line })
@@ -39,7 +39,7 @@ pub fn alone(step: Step, words: &mut Parts<'_>) -> Result<Step, Fault>
 fn insert(alloc: Global, session: Text, words: &mut Parts<'_>) -> Result<Step, Fault>
     ensures { Reads (insert_in session words.old) result }
 {
-    let word = words.wanted()?;
+    let word = words.expect_part()?;
     let table = table_name(alloc, word)?;
     let cells = cells(alloc, words)?;
     Ok(Step::Insert {
@@ -53,7 +53,7 @@ fn insert(alloc: Global, session: Text, words: &mut Parts<'_>) -> Result<Step, F
 fn update(alloc: Global, session: Text, words: &mut Parts<'_>) -> Result<Step, Fault>
     ensures { Reads (update_in session words.old) result }
 {
-    let word = words.wanted()?;
+    let word = words.expect_part()?;
     let table = table_name(alloc, word)?;
     let key = key_cells(alloc, words)?;
     let set = cells(alloc, words)?;
@@ -69,7 +69,7 @@ fn update(alloc: Global, session: Text, words: &mut Parts<'_>) -> Result<Step, F
 fn delete(alloc: Global, session: Text, words: &mut Parts<'_>) -> Result<Step, Fault>
     ensures { Reads (delete_in session words.old) result }
 {
-    let word = words.wanted()?;
+    let word = words.expect_part()?;
     let table = table_name(alloc, word)?;
     let key = cells(alloc, words)?;
     Ok(Step::Delete {
@@ -132,7 +132,7 @@ fn act(alloc: Global, session: Text, verb: &[u8], words: &mut Parts<'_>) -> Resu
 pub fn step(alloc: Global, first: &[u8], words: &mut Parts<'_>) -> Result<Step, Fault>
     ensures { Reads (step_in first.now words.old) result }
 {
-    let verb = words.wanted()?;
+    let verb = words.expect_part()?;
     let session = session(alloc, first)?;
     act(alloc, session, verb, words)
 }

@@ -401,7 +401,7 @@ impl Held {
 
 impl Armed {
     /// The text of the mark that opens it.
-    pub fn awaited(&self) -> &Text
+    pub fn awaited_mark(&self) -> &Text
         ensures text { result.now ≡ low_text self.now.plan }
         ensures fits { FitsChunk self.now.plan.info (closed_of self.now) }
     {
@@ -426,7 +426,7 @@ impl Armed {
 
 impl Open {
     /// The text of the mark that closes it.
-    pub fn awaited(&self) -> &Text
+    pub fn awaited_mark(&self) -> &Text
         ensures text { result.now ≡ high_text self.now.plan }
         ensures few { length self.now.rows ≤ self.now.plan.limit }
         ensures fits { FitsChunk self.now.plan.info (closed_of self.now) }

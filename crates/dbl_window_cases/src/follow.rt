@@ -195,7 +195,7 @@ fn run(
 
 // Opens the window, clears it, and closes it.
 fn cleared(alloc: Global, armed: Armed, answers: &mut String) -> Result<()> {
-    let low = armed.awaited().copy(alloc)?;
+    let low = armed.awaited_mark().copy(alloc)?;
     match armed.see(&low) {
         Seen::Opened(mut opened) => {
             opened.clear();

@@ -3,6 +3,7 @@ pub mod SentLemmas
 pub mod PlaceLemmas
 pub mod RelationLemmas
 pub mod CellTexts
+pub mod KeyTexts
 pub mod ThemselvesLemmas
 pub mod ChangeLemmas
 pub mod FairLemmas

@@ -2,7 +2,7 @@
 -- the others.
 use Rattle.std.proofs.Common.{◌≡◌, ◌∙◌, inl, inr, ℕ, zero, suc, Bool, true, false, cond, Option, Some, None, List, [], ◌∷◌, length, map, refl, sym, ap, subst, arith}
 use Rattle.std.specs.Prelude.{◌==◌, not, IsSome, IsSomeAnd, IfSome, if◌then◌else◌, is_some, option_map, option_and_then, unwrap_or, find, slice_get}
-use Rattle.std.specs.List.{AllByRecursion, AllZip, list_any}
+use Rattle.std.specs.List.{AllByRecursion, list_any}
 use Rattle.std.specs.Str.{IsUtf8}
 use Rattle.std.proofs.lemmas.Bool.{eqb-true, eqb-false}
 use Rattle.std.proofs.lemmas.Bool.Decides.{nat_tests}
@@ -11,7 +11,6 @@ use Rattle.dbl_value.specs.declared.column_type.PgType.{PgType}
 use Rattle.dbl_value.specs.declared.column_type.PgType.TheVariants as type
 use Rattle.dbl_value.specs.declared.value.Val.{Val}
 use Rattle.dbl_value.specs.declared.value.Val.TheVariants as val
-use Rattle.dbl_value.specs.Values.{value_of, IsOf}
 use Rattle.dbl_table.specs.declared.table.TableName.{TableName}
 use Rattle.dbl_table.specs.declared.table.Column.{Column}
 use Rattle.dbl_table.specs.declared.table.RawRow.{RawRow}
@@ -33,16 +32,17 @@ use Rattle.dbl_history.specs.History as raw
 use Rattle.dbl_history.specs.History.RawCell.{Given, Unchanged}
 use Rattle.dbl_history.specs.Ranges.{AreTextsInRange, IsRawCellInRange, IsRawChangeInRange}
 use Rattle.dbl_history.specs.Typed.{types_of, typed_cell, typed_cells, typed_update, typed_row, typed_key, typed_change}
-use Rattle.dbl_history.specs.Fit.{AreOf, IsKeyOf, IsFitInsert, IsFitUpdate, IsFitDelete, IsFit, AreInfosOf}
+use Rattle.dbl_history.specs.Fit.{IsKeyOf, IsFitInsert, IsFitUpdate, IsFitDelete, IsFit, AreInfosOf}
 use Rattle.dbl_history.proofs.RowLemmas.{effect_of-other_table}
 use Rattle.dbl_feed.specs.declared.logged.LogTable.{LogTable}
 use Rattle.dbl_feed.specs.Relations.{catalogue}
-use Rattle.dbl_feed.specs.Texts.{Texts, text_named, raw_key, raw_key_types, key_from, key_in, given_text, all_texts, overlaid}
+use Rattle.dbl_feed.specs.Texts.{Texts, text_named, raw_key, key_from, key_in, given_text, all_texts, overlaid}
 use Rattle.dbl_feed.specs.TextRows.{TextRows, updated_texts, text_row_after, text_row_in, table_named, text_rows_after}
 use Rattle.dbl_feed.specs.Histories.{history_of}
-use Rattle.dbl_feed.specs.FitLogs.{IsTextKey, IsFitTextInsert, IsFitTextUpdate, IsFitTextDelete, IsFitText, IsFitChange}
+use Rattle.dbl_feed.specs.FitLogs.{IsFitTextInsert, IsFitTextUpdate, IsFitTextDelete, IsFitText, IsFitChange}
 use Rattle.dbl_feed.proofs.RelationLemmas.{all_at}
-use Rattle.dbl_feed.proofs.CellTexts.{types_in, wide, key_typed, types_named}
+use Rattle.dbl_feed.proofs.KeyTexts.{key_is, key_fit}
+use Rattle.dbl_feed.proofs.CellTexts.{types_in, wide, types_named}
 use Rattle.dbl_feed.proofs.ThemselvesLemmas.{name_same, name_itself}
 
 -- ---- cells
@@ -98,21 +98,7 @@ some_map : {A B : Type 0} (f : A → B) (o : Option A) → IsSome o → IsSome (
 some_map f None some = cc
 some_map f (Some x) some = refl
 
--- ---- the values of a key
-
-value_one : (ty : PgType) (text : Option (List ℕ)) → IsSomeAnd text (λ t. IsSome (value_of ty t)) → IfSome text IsUtf8 → IsOf ty (typed_cell ty text)
-value_one ty None spells utf8 = absurd spells
-value_one ty (Some t) spells utf8 = by (value_of ty t) refl spells
-  where
-    by : (o : Option Val) → value_of ty t ≡ o → IsSome o → IsOf ty (unwrap_or (value_of ty t) (val.Text t))
-    by None is some = cc
-    by (Some v) is some = record { text = t; utf8 = utf8; spells = is ∙ sym (ap (λ (o : Option Val). Some (unwrap_or o (val.Text t))) is) }
-
-values_of : (types : List PgType) (texts : RawKey) → AllZip (λ ty text. IsSomeAnd text (λ t. IsSome (value_of ty t))) types texts → AreTextsInRange texts → AreOf types (typed_cells types texts)
-values_of [] [] spells utf8 = tt
-values_of [] (text ∷ texts) spells utf8 = absurd spells
-values_of (ty ∷ types) [] spells utf8 = absurd spells
-values_of (ty ∷ types) (text ∷ texts) spells utf8 = (value_one ty text spells.0 utf8.0, values_of types texts spells.1 utf8.1)
+-- ---- texts in range
 
 cell_in_range : (cells : Texts) (place : ℕ) → AreTextsInRange cells → IfSome (unwrap_or (slice_get cells place) None) IsUtf8
 cell_in_range [] place all = tt
@@ -225,16 +211,11 @@ module _ (infos : List TableInfo) (t : ℕ) (info : TableInfo) (there : slice_ge
       ∙ ap (λ (places : List ℕ). let k : Key = record { cells = typed_cells (map (type_at info.columns) places) texts } in k) places_here
       ∙ ap (λ (ts : List PgType). let k : Key = record { cells = typed_cells ts texts } in k) (sym (types_named table info is_info))
 
-  key_is : (texts : Texts) → key_of info (typed_cells types texts) ≡ key_in table.raw texts
-  key_is texts =
-      ap (λ (cells : List Val). let k : Key = record { cells = cells } in k)
-      (sym (key_typed table info is_info texts) ∙ ap (λ (ts : List PgType). typed_cells ts (raw_key table.raw texts)) (sym (types_named table info is_info)))
-
   key_placed : (texts : Texts) → key_at (key_places infos t) (typed_cells types texts) ≡ key_in table.raw texts
-  key_placed texts = ap (λ (places : List ℕ). key_at places (typed_cells types texts)) places_here ∙ key_is texts
+  key_placed texts = ap (λ (places : List ℕ). key_at places (typed_cells types texts)) places_here ∙ key_is table info is_info texts
 
   new_key : (cells : List RawCell) → new_key_of info (typed_update types cells) ≡ key_in table.raw (map given_text cells)
-  new_key cells = ap (key_of info) (givens types cells) ∙ key_is (map given_text cells)
+  new_key cells = ap (key_of info) (givens types cells) ∙ key_is table info is_info (map given_text cells)
 
   new_key_placed : (cells : List RawCell) → key_at (key_places infos t) (map given_or_null (typed_update types cells)) ≡ key_in table.raw (map given_text cells)
   new_key_placed cells = ap (key_at (key_places infos t)) (givens types cells) ∙ key_placed (map given_text cells)
@@ -328,14 +309,11 @@ module _ (infos : List TableInfo) (t : ℕ) (info : TableInfo) (there : slice_ge
   wide_as : (n : ℕ) → n ≡ length table.raw.columns → n ≡ width info
   wide_as n is = is ∙ wide table info is_info
 
-  key_fit : (texts : RawKey) → IsTextKey table.raw texts → AreTextsInRange texts → IsKeyOf info (key_from table.raw texts)
-  key_fit texts spells utf8 = subst (λ (ts : List PgType). AreOf ts (typed_cells (raw_key_types table.raw) texts)) (types_named table info is_info) (values_of (raw_key_types table.raw) texts spells utf8)
-
   insert_fit : (row : RawRow) (rows : Rows) (here : Key → Option Texts) → AgreeHere rows here → AreTextsInRange row.cells → IsFitTextInsert table.raw here row → IsFitInsert info (rows t) (row_as row)
   insert_fit row rows here agree utf8 fit = record {
     wide = length-typed_cells types row.cells ∙ wide_as (length row.cells) fit.wide;
-    key = subst (IsKeyOf info) (sym (key_is row.cells)) (key_fit (raw_key table.raw row.cells) fit.key (key_in_range table.raw row.cells utf8));
-    absent = ap (rows t) (key_is row.cells) ∙ agree (key_in table.raw row.cells) ∙ ap (option_map (typed_cells types)) fit.absent;
+    key = subst (IsKeyOf info) (sym (key_is table info is_info row.cells)) (key_fit table info is_info (raw_key table.raw row.cells) fit.key (key_in_range table.raw row.cells utf8));
+    absent = ap (rows t) (key_is table info is_info row.cells) ∙ agree (key_in table.raw row.cells) ∙ ap (option_map (typed_cells types)) fit.absent;
   }
 
   update_fit : (name : TableName) (from : RawKey) (old : Option RawRow) (cells : List RawCell) (rows : Rows) (here : Key → Option Texts) → AgreeHere rows here → IsRawChangeInRange (raw.Update name from old cells)
@@ -345,8 +323,8 @@ module _ (infos : List TableInfo) (t : ℕ) (info : TableInfo) (there : slice_ge
       record {
         wide = length-typed_update types cells ∙ wide_as (length cells) fit.wide;
         old_wide = old_too old fit.old_wide;
-        old_key = key_fit from fit.old_key range.key;
-        new_key = subst (IsKeyOf info) (sym (new_key cells)) (key_fit (raw_key table.raw (map given_text cells)) fit.new_key (key_in_range table.raw (map given_text cells) gives));
+        old_key = key_fit table info is_info from fit.old_key range.key;
+        new_key = subst (IsKeyOf info) (sym (new_key cells)) (key_fit table info is_info (raw_key table.raw (map given_text cells)) fit.new_key (key_in_range table.raw (map given_text cells) gives));
         present = subst IsSome (sym (agree (key_from table.raw from))) (some_map (typed_cells types) (here (key_from table.raw from)) fit.present);
         stays_or_moves = elim fit.stays_or_moves [ inl same ↦ inl (same ∙ sym (new_key cells)) | inr moves ↦ inr (moved moves) ];
       }
@@ -364,7 +342,7 @@ module _ (infos : List TableInfo) (t : ℕ) (info : TableInfo) (there : slice_ge
   delete_fit : (from : RawKey) (old : RawRow) (rows : Rows) (here : Key → Option Texts) → AgreeHere rows here → AreTextsInRange from → IsFitTextDelete table.raw here from old → IsFitDelete info (rows t) (key_from table.raw from) (row_as old)
   delete_fit from old rows here agree utf8 fit = record {
     old_wide = length-typed_cells types old.cells ∙ wide_as (length old.cells) fit.old_wide;
-    old_key = key_fit from fit.old_key utf8;
+    old_key = key_fit table info is_info from fit.old_key utf8;
     present = subst IsSome (sym (agree (key_from table.raw from))) (some_map (typed_cells types) (here (key_from table.raw from)) fit.present);
   }
 

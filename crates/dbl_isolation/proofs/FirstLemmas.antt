@@ -28,11 +28,11 @@ module _ (raw : RawTable) where
   abbrev key_of : RawRow → Key
   key_of row = key_in raw row.cells
 
-  last_up : (bound : Key) (rows : List RawRow) (key : Key) → AreRising raw (Some bound) rows → IsUpTo (Some bound) key → IsUpTo (last_shown raw (Some bound) rows) key
+  pub last_up : (bound : Key) (rows : List RawRow) (key : Key) → AreRising raw (Some bound) rows → IsUpTo (Some bound) key → IsUpTo (last_shown raw (Some bound) rows) key
   last_up bound [] key rising up = up
   last_up bound (row ∷ rows) key rising up = last_up (key_of row) rows key rising.1 (up_to_more (Some bound) (key_of row) key up rising.0)
 
-  shown_apart : (row : RawRow) (rows : List RawRow) (key : Key) → same_key (key_of row) key ≡ false → row_shown raw (row ∷ rows) key ≡ row_shown raw rows key
+  pub shown_apart : (row : RawRow) (rows : List RawRow) (key : Key) → same_key (key_of row) key ≡ false → row_shown raw (row ∷ rows) key ≡ row_shown raw rows key
   shown_apart row rows key apart = ap (λ (b : Bool). if b then Some row.cells else row_shown raw rows key) apart
 
   -- rows above a bound have none up to it
@@ -42,7 +42,7 @@ module _ (raw : RawTable) where
       let other : key_of row ≢ key = λ same. (bounds_part bound key).not_both (subst (IsAbove bound) same rising.0) up in
       shown_apart row rows key (same_key-other (key_of row) key other) ∙ shown_up_to (Some (key_of row)) rows key rising.1 (up_to_more bound (key_of row) key up rising.0)
 
-  shown_first : (row : RawRow) (rows : List RawRow) → row_shown raw (row ∷ rows) (key_of row) ≡ Some row.cells
+  pub shown_first : (row : RawRow) (rows : List RawRow) → row_shown raw (row ∷ rows) (key_of row) ≡ Some row.cells
   shown_first row rows = ap (λ (b : Bool). if b then Some row.cells else row_shown raw rows (key_of row)) (same_key-itself (key_of row))
 
   module _ (at : Key → Option Texts) where

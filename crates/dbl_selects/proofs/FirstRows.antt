@@ -12,7 +12,7 @@ use Rattle.dbl_table.specs.declared.table.RawRow.{RawRow}
 use Rattle.dbl_table.specs.declared.table.RawTable.{RawTable}
 use Rattle.dbl_table.specs.declared.table.TableInfo.{TableInfo}
 use Rattle.dbl_table.specs.Keys.{key_cmp, same_key}
-use Rattle.dbl_table.proofs.KeyLemmas.{key_total, same_key-itself, same_key-other}
+use Rattle.dbl_table.proofs.KeyLemmas.{same_key-other}
 use Rattle.dbl_history.specs.Fit.{IsKeyOf}
 use Rattle.dbl_history.specs.KeyBounds.{IsAbove, IsUpTo}
 use Rattle.dbl_history.specs.KeyedRows.{AreAbove, AreFirst, last_key, row_in}
@@ -20,11 +20,8 @@ use Rattle.dbl_history.specs.Typed.{typed_cells}
 use Rattle.dbl_history.proofs.BoundLemmas.{not_below_itself, above_goes_on}
 use Rattle.dbl_feed.specs.Texts.{Texts, key_in}
 use Rattle.dbl_serial.specs.Selects.{AreFirstRows, AreRising, last_shown, row_shown}
+use Rattle.dbl_isolation.proofs.FirstLemmas.{last_up, shown_apart, shown_first}
 use Rattle.dbl_selects.proofs.KeyTexts.{entry_as}
-
-up_to_more : (bound more key : Key) → IsUpTo (Some bound) key → key_cmp bound more ≡ Less → IsUpTo (Some more) key
-up_to_more bound more key (inl same) above = inr (subst (λ (k : Key). key_cmp k more ≡ Less) (sym same) above)
-up_to_more bound more key (inr below) above = inr (key_total.trans key bound more below above)
 
 module _ (raw : RawTable) where
   abbrev key_as : RawRow → Key
@@ -32,23 +29,16 @@ module _ (raw : RawTable) where
 
   -- ---- each row stands in the table
 
-  last_up : (bound : Key) (rows : List RawRow) (key : Key) → AreRising raw (Some bound) rows → IsUpTo (Some bound) key → IsUpTo (last_shown raw (Some bound) rows) key
-  last_up bound [] key rising up = up
-  last_up bound (row ∷ rows) key rising up = last_up (key_as row) rows key rising.1 (up_to_more bound (key_as row) key up rising.0)
-
-  shown_first : (row : RawRow) (rows : List RawRow) → row_shown raw (row ∷ rows) (key_as row) ≡ Some row.cells
-  shown_first row rows = ap (λ (b : Bool). if b then Some row.cells else row_shown raw rows (key_as row)) (same_key-itself (key_as row))
-
   shown_behind : (row : RawRow) (rows : List RawRow) (key : Key) → IsAbove (Some (key_as row)) key → row_shown raw (row ∷ rows) key ≡ row_shown raw rows key
   shown_behind row rows key behind =
       let other : key_as row ≢ key = λ same. not_below_itself key (subst (λ (k : Key). key_cmp k key ≡ Less) same behind) in
-      ap (λ (b : Bool). if b then Some row.cells else row_shown raw rows key) (same_key-other (key_as row) key other)
+      shown_apart raw row rows key (same_key-other (key_as row) key other)
 
   pub each_there : (at : Key → Option Texts) (bound : Option Key) (rows : List RawRow) → AreRising raw bound rows → ((key : Key) → IsAbove bound key → IsUpTo (last_shown raw bound rows) key → row_shown raw rows key ≡ at key)
       → AllByRecursion (λ row. at (key_as row) ≡ Some row.cells) rows
   each_there at bound [] rising right = tt
   each_there at bound (row ∷ rows) rising right = (
-    sym (right (key_as row) rising.0 (last_up (key_as row) rows (key_as row) rising.1 (inl refl))) ∙ shown_first row rows,
+    sym (right (key_as row) rising.0 (last_up raw (key_as row) rows (key_as row) rising.1 (inl refl))) ∙ shown_first raw row rows,
     each_there at (Some (key_as row)) rows rising.1 (λ key behind up. sym (shown_behind row rows key behind) ∙ right key (above_goes_on bound (key_as row) key rising.0 behind) up),
   )
 

@@ -1,12 +1,7 @@
--- Keys that are given as texts are keys of their table, and a row that is answered as texts has the key of its texts.
-use Rattle.std.proofs.Common.{◌≡◌, ◌∙◌, ℕ, Option, Some, None, List, [], ◌∷◌, map, refl, sym, ap, subst}
-use Rattle.std.specs.Prelude.{IsSome, IsSomeAnd, IfSome, option_map, slice_get, unwrap_or}
-use Rattle.std.specs.List.{AllZip}
-use Rattle.std.specs.Str.{IsUtf8}
+-- Rows that a select answers as texts are rows of their table, with the keys of their texts.
+use Rattle.std.proofs.Common.{◌≡◌, ◌∙◌, ℕ, Option, Some, List, [], ◌∷◌, map, refl, ap}
+use Rattle.std.specs.Prelude.{option_map, slice_get, unwrap_or}
 use Rattle.dbl_value.specs.declared.column_type.PgType.{PgType}
-use Rattle.dbl_value.specs.declared.value.Val.{Val}
-use Rattle.dbl_value.specs.declared.value.Val.TheVariants as val
-use Rattle.dbl_value.specs.Values.{value_of, IsOf}
 use Rattle.dbl_table.specs.declared.row.Key.{Key}
 use Rattle.dbl_table.specs.declared.row.Row.{Row}
 use Rattle.dbl_table.specs.declared.table.Column.{Column}
@@ -15,33 +10,11 @@ use Rattle.dbl_table.specs.declared.table.RawTable.{RawTable}
 use Rattle.dbl_table.specs.declared.table.TableInfo.{TableInfo}
 use Rattle.dbl_table.specs.Infos.{IsInfoOf, column_types}
 use Rattle.dbl_table.specs.Keys.{key_of}
-use Rattle.dbl_history.specs.History.{RawKey}
-use Rattle.dbl_history.specs.Ranges.{AreTextsInRange}
-use Rattle.dbl_history.specs.Typed.{types_of, typed_cell, typed_cells}
-use Rattle.dbl_history.specs.Fit.{AreOf, IsKeyOf}
+use Rattle.dbl_history.specs.Typed.{types_of, typed_cells}
 use Rattle.dbl_honest.specs.Selected.{keyed_row}
 use Rattle.dbl_feed.specs.declared.logged.LogTable.{LogTable}
-use Rattle.dbl_feed.specs.Texts.{Texts, raw_key, raw_key_types, key_from, key_in}
-use Rattle.dbl_feed.specs.FitLogs.{IsTextKey}
-use Rattle.dbl_feed.proofs.CellTexts.{key_typed, types_named}
-
--- ---- the values of a key
-
-value_one : (ty : PgType) (text : Option (List ℕ)) → IsSomeAnd text (λ t. IsSome (value_of ty t)) → IfSome text IsUtf8 → IsOf ty (typed_cell ty text)
-value_one ty None spells utf8 = absurd spells
-value_one ty (Some t) spells utf8 = by (value_of ty t) refl spells
-  where
-    by : (o : Option Val) → value_of ty t ≡ o → IsSome o → IsOf ty (unwrap_or (value_of ty t) (val.Text t))
-    by None is some = cc
-    by (Some v) is some = record { text = t; utf8 = utf8; spells = is ∙ sym (ap (λ (o : Option Val). Some (unwrap_or o (val.Text t))) is) }
-
-values_of : (types : List PgType) (texts : RawKey) → AllZip (λ ty text. IsSomeAnd text (λ t. IsSome (value_of ty t))) types texts → AreTextsInRange texts → AreOf types (typed_cells types texts)
-values_of [] [] spells utf8 = tt
-values_of [] (text ∷ texts) spells utf8 = absurd spells
-values_of (ty ∷ types) [] spells utf8 = absurd spells
-values_of (ty ∷ types) (text ∷ texts) spells utf8 = (value_one ty text spells.0 utf8.0, values_of types texts spells.1 utf8.1)
-
--- ---- rows
+use Rattle.dbl_feed.specs.Texts.{key_in}
+use Rattle.dbl_feed.proofs.KeyTexts.{key_is}
 
 -- a row with its key, by its texts
 abbrev pub entry_as : RawTable → List PgType → RawRow → Key × Row
@@ -52,15 +25,6 @@ abbrev entry_by : TableInfo → List PgType → RawRow → Key × Row
 entry_by info types row = (key_of info (typed_cells types row.cells), record { cells = typed_cells types row.cells })
 
 module _ (table : LogTable) (info : TableInfo) (is_info : IsInfoOf table.raw info) where
-  -- texts that spell values of the key's types are a key of the table
-  pub key_fit : (texts : RawKey) → IsTextKey table.raw texts → AreTextsInRange texts → IsKeyOf info (key_from table.raw texts)
-  key_fit texts spells utf8 = subst (λ (ts : List PgType). AreOf ts (typed_cells (raw_key_types table.raw) texts)) (types_named table info is_info) (values_of (raw_key_types table.raw) texts spells utf8)
-
-  key_is : (texts : Texts) → key_of info (typed_cells (column_types info) texts) ≡ key_in table.raw texts
-  key_is texts =
-      ap (λ (cells : List Val). let k : Key = record { cells = cells } in k)
-      (sym (key_typed table info is_info texts) ∙ ap (λ (ts : List PgType). typed_cells ts (raw_key table.raw texts)) (sym (types_named table info is_info)))
-
   module _ (infos : List TableInfo) (t : ℕ) (there : slice_get infos t ≡ Some info) where
     types_here : types_of infos t ≡ column_types info
     types_here = ap (λ (o : Option TableInfo). map (λ (column : Column). column.ty) (unwrap_or (option_map (λ (x : TableInfo). x.columns) o) [])) there
@@ -68,7 +32,7 @@ module _ (table : LogTable) (info : TableInfo) (is_info : IsInfoOf table.raw inf
     row_is : (row : RawRow) → keyed_row infos t info row ≡ entry_as table.raw (column_types info) row
     row_is row =
         ap (λ (types : List PgType). entry_by info types row) types_here
-        ∙ ap (λ (k : Key). let e : Key × Row = (k, record { cells = typed_cells (column_types info) row.cells }) in e) (key_is row.cells)
+        ∙ ap (λ (k : Key). let e : Key × Row = (k, record { cells = typed_cells (column_types info) row.cells }) in e) (key_is table info is_info row.cells)
 
     pub rows_are : (rows : List RawRow) → map (keyed_row infos t info) rows ≡ map (entry_as table.raw (column_types info)) rows
     rows_are [] = refl

@@ -32,7 +32,8 @@ use Rattle.dbl_isolation.proofs.KeyedLemmas.{keyed_none}
 use Rattle.dbl_isolation.proofs.RangeLemmas.{raw_key_ranged}
 use Rattle.dbl_selects.specs.Shown.{ShownAt}
 use Rattle.dbl_selects.proofs.FirstRows.{first_values}
-use Rattle.dbl_selects.proofs.KeyTexts.{key_fit, rows_are}
+use Rattle.dbl_feed.proofs.KeyTexts.{key_fit}
+use Rattle.dbl_selects.proofs.KeyTexts.{rows_are}
 use Rattle.dbl_selects.proofs.LogRows.{log_keyed, log_ranged}
 
 -- ---- tables by their names

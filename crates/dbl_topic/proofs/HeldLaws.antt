@@ -2,7 +2,7 @@
 use Rattle.std.proofs.Common.{◌≡◌, ◌⊎◌, ℕ, ◌+◌, ◌^◌, ◌≤◌, Some, List, [], ◌∷◌, ◌++◌, length, Option, refl, sym, ap, subst, ◌∙◌, arith, inl, inr}
 use Rattle.std.proofs.lemmas.List.{take_all}
 use Rattle.dbl_record.specs.declared.record.Record.{Record}
-use Rattle.std.specs.Prelude.{max}
+use Rattle.std.specs.Prelude.{false, max, IsTrue}
 use Rattle.dbl_journal.specs.Form.{IsJournal, front}
 use Rattle.dbl_journal.specs.Growth.{ComesOf}
 use Rattle.dbl_journal.specs.Stored.{LeavesEntries, OnDisk, count_of, size}
@@ -12,8 +12,8 @@ use Rattle.dbl_journal.specs.declared.error.JournalError.{JournalError}
 use Rattle.dbl_journal.specs.declared.error.JournalError.TheVariants as journal
 use Rattle.dbl_topic.specs.declared.error.SinkError.TheVariants as sink
 use Rattle.dbl_topic.specs.Faults.{sink_fault}
-use Rattle.dbl_topic.specs.Held.{HoldsGroups, LeavesGroups, MayLeaveGroups}
-use Rattle.dbl_topic.specs.SinkLaws.{log_of, one_log}
+use Rattle.dbl_topic.specs.Held.{HasGroups, HoldsGroups, LeavesGroups, MayLeaveGroups}
+use Rattle.dbl_topic.specs.SinkLaws.{leaves_held, log_of, one_log}
 use Rattle.dbl_topic.specs.Logs.{AreLogEntries, IsLog, IsLogEntry, log_size}
 use Rattle.dbl_topic.specs.Sinks.{IsLeftByPut, IsLeftByWhole}
 use Rattle.dbl_topic.proofs.LogLaws.{entries-push, forms_of, length-entries}
@@ -37,6 +37,17 @@ module _ {D : Type 0} (seen : D → Option (List ℕ)) (may_leave : D → List �
         | inl e ↦ (groups, record { entries = here.0; journal = here.1; are = subst (λ (es : List (List ℕ)). AreLogEntries es groups) (sym e) are }, inl refl)
         | inr e ↦ (groups ++ group ∷ [], record { entries = here.0; journal = here.1; are = subst (λ (es : List (List ℕ)). AreLogEntries es (groups ++ group ∷ [])) (sym e) (entries-push entries groups entry group are is) }, inr refl)
       ]
+
+-- a log that holds groups is kept
+pub has_groups : {D : Type 0} (seen : D → Option (List ℕ)) (may_leave : D → List ℕ → Type 0) (log : OnDisk D) (groups : List (List Record)) → HoldsGroups seen may_leave log groups → HasGroups seen may_leave log
+has_groups seen may_leave log groups held = record { holds = λ live. (groups, held); leaves = leaves_held seen may_leave log groups held }
+
+-- where an append failed, a journal that can be used is as it was
+pub still_there : {D : Type 0} (P : OnDisk D → Type 0) (e : JournalError) (old new : OnDisk D) → (e ≡ journal.Failed → new.live ≡ false) → ((e ≡ journal.Failed → ⊥) → new ≡ old) → IsTrue new.live → P old → P new
+still_there P journal.Failed old new dead same live p = let not = dead refl in cc
+still_there P (journal.NotAJournal at) old new dead same live p = subst P (sym (same (λ is. cc))) p
+still_there P (journal.EntryTooLong len) old new dead same live p = subst P (sym (same (λ is. cc))) p
+still_there P journal.Memory old new dead same live p = subst P (sym (same (λ is. cc))) p
 
 -- all of a group is some first records of it
 pub part_of_whole : (groups : List (List Record)) (group : List Record) (left : List (List Record)) → 1 ≤ length group → IsLeftByWhole groups group left → IsLeftByPut groups group left

@@ -1,11 +1,10 @@
 //! Laws of topic logs. The functions do nothing: their contracts are the laws.
 
-ghost use Rattle.std.specs.Prelude.{◌≡◌, ◌⊎◌, ◌+◌, ◌^◌, ◌≤◌, ◌++◌, ◌∷◌, [], ℕ, Some, List, length, max};
+ghost use Rattle.std.specs.Prelude.{◌≡◌, ◌⊎◌, ◌+◌, ◌^◌, ◌≤◌, ◌++◌, ◌∷◌, [], ℕ, Some, IsTrue, List, length, max};
 ghost use Rattle.dbl_journal.specs.Form.{IsFaultAt, IsJournal, front};
-ghost use Rattle.dbl_journal.specs.Growth.{ComesOf};
 ghost use Rattle.dbl_journal.specs.Stored.{OnDisk, count_of, size};
 ghost use Rattle.dbl_record.specs.declared.record.Record.{Record};
-ghost use Rattle.dbl_topic.specs.Held.{HoldsGroups, LeavesGroups, MayLeaveGroups};
+ghost use Rattle.dbl_topic.specs.Held.{ComesOf, HoldsGroups, LeavesGroups, MayLeaveGroups};
 ghost use Rattle.dbl_topic.specs.Logs.{HasBadEntry, HoldRecords, IsLog, log_size};
 ghost use Rattle.dbl_topic.specs.Sinks.{IsLeftByWhole};
 
@@ -56,7 +55,8 @@ pub fn held_groups_are_one<D: Disk>()
 {}
 
 /// Of a log that comes of one with groups, the disk tells its bytes. They are a journal, whose closed gate stands no earlier
-/// than behind these groups, and they are no more than they were, or than 2^30 past that gate.
+/// than behind these groups, and they are no more than they were, or than 2^30 past that gate. Where it can be used it holds some
+/// groups, and whatever a crash leaves of it is a topic log.
 pub fn logs_come_of_logs<D: Disk>()
     ensures told { (old new : OnDisk D) (groups : List (List Record)) →
         ComesOf D.seen D.may_leave old new → HoldsGroups D.seen D.may_leave old groups →
@@ -66,4 +66,10 @@ pub fn logs_come_of_logs<D: Disk>()
         D.seen old.disk ≡ Some before → D.seen new.disk ≡ Some after →
         (entries : List (List ℕ)) × IsJournal after entries × (log_size groups ≤ size entries) ×
         (length after ≤ max (length before) (length (front entries) + 2 ^ 30)) }
+    ensures holds { (old new : OnDisk D) (groups : List (List Record)) →
+        ComesOf D.seen D.may_leave old new → HoldsGroups D.seen D.may_leave old groups →
+        IsTrue new.live → (now : List (List Record)) × HoldsGroups D.seen D.may_leave new now }
+    ensures leaves { (old new : OnDisk D) (groups : List (List Record)) →
+        ComesOf D.seen D.may_leave old new → HoldsGroups D.seen D.may_leave old groups →
+        LeavesGroups D.may_leave new.disk (λ left. Unit {0}) }
 {}

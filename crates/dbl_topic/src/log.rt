@@ -2,12 +2,11 @@ ghost use Rattle.std.specs.Prelude.{◌≡◌, ◌≢◌, ◌⊎◌, ◌↔◌, 
 ghost use Rattle.dbl_base.specs.Streams.{Rose};
 ghost use Rattle.dbl_disk.specs.Disks.{Follows, IsOnly, Torn};
 ghost use Rattle.dbl_journal.specs.Form.{IsFaultAt, IsJournal};
-ghost use Rattle.dbl_journal.specs.Growth.{ComesOf};
 ghost use Rattle.dbl_journal.specs.Stored.{IsSteady, Lists, count_of};
 ghost use Rattle.dbl_record.specs.declared.record.Record.{Record};
 ghost use Rattle.dbl_record.specs.Cuts.{IsHandful};
 ghost use Rattle.dbl_record.specs.Groups.{group_form};
-ghost use Rattle.dbl_topic.specs.Held.{HoldsGroups, LeavesGroups, MayLeaveGroups};
+ghost use Rattle.dbl_topic.specs.Held.{ComesOf, HoldsGroups, LeavesGroups, MayLeaveGroups};
 ghost use Rattle.dbl_topic.specs.Logs.{AreLogEntries, HasBadEntry, IsLog, IsLogEntry, log_size};
 ghost use Rattle.dbl_topic.specs.Sinks.{IsLeftByPut, IsLeftByWhole, told_length};
 
@@ -303,8 +302,7 @@ fn check_log<D: Disk>(
 }
 
 impl<D: Disk> Sink for TopicLog<D> {
-    ghost use Rattle.dbl_journal.specs.Growth.{ComesOf};
-    ghost use Rattle.dbl_topic.specs.Held.{HoldsGroups, LeavesGroups, MayLeaveGroups};
+    ghost use Rattle.dbl_topic.specs.Held.{ComesOf, HoldsGroups, LeavesGroups, MayLeaveGroups};
     ghost use Rattle.dbl_topic.specs.SinkLaws.{leaves_held, may_leave_held, only_held};
 
     ghost holds = { λ log groups. HoldsGroups D.seen D.may_leave log groups };
@@ -325,9 +323,12 @@ impl<D: Disk> Sink for TopicLog<D> {
 
     ghost whole = { λ log groups held. leaves_held D.seen D.may_leave log groups held };
 
-    ghost comes_self = { λ log gate most has. has };
+    ghost comes_self = { λ log. record { journal = λ gate most has. has; groups = λ kept. kept } };
 
-    ghost comes_on = { λ first second third before after gate most has. after gate most (before gate most has) };
+    ghost comes_on = { λ first second third before after. record {
+      journal = λ gate most has. after.journal gate most (before.journal gate most has);
+      groups = λ kept. after.groups (before.groups kept);
+    } };
 
     fn put(&mut self, group: &Vec<Record>) -> Result<(), SinkError>
         requires live { IsTrue self.old.live }

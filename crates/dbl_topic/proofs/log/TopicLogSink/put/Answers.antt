@@ -10,7 +10,7 @@ use Rattle.dbl_topic.specs.declared.error.SinkError.TheVariants.{TooLong}
 use Rattle.dbl_topic.specs.Held.{HoldsGroups, LeavesGroups}
 use Rattle.dbl_topic.specs.SinkLaws.{may_leave_held, only_held}
 use Rattle.dbl_topic.specs.Sinks.{IsLeftByWhole}
-use Rattle.dbl_topic.proofs.HeldLaws.{leaves_any, leaves_put, left_by_put, some_left, too_long_of}
+use Rattle.dbl_topic.proofs.HeldLaws.{leaves_any, leaves_put, left_by_put, some_left, still_there, too_long_of}
 use Rattle.dbl_journal.proofs.Growth.{comes_at}
 use Rattle.dbl_topic.proofs.LogLaws.{entries-push, size_of}
 use Rattle.dbl_topic.proofs.log.TopicLogSink.put.Goals as goal
@@ -120,11 +120,41 @@ returns-clause-some g c groups holds =
     let told = c.append_built.ensures.told held.lists.bytes held.lists.told in
     some_left g.D.Disk.seen g.D.Disk.may_leave g.met.D.Disk.seen_is_image c.append_built.new.self.disk told.0 told.1 (IsLeftByWhole groups c.args.group.now.items) (returns-clause-one_of g c groups holds)
 
+abbrev failure : JournalError → Result (Unit {0}) JournalError
+failure e = Err e
+
+failure_is : (d e : JournalError) → failure d ≡ failure e → d ≡ e
+failure_is d e same = cc
+
+pub returns-then-len-gt-GROUP_LIMIT-clause-comes : goal.returns-then-len-gt-GROUP_LIMIT-clause-comes
+returns-then-len-gt-GROUP_LIMIT-clause-comes g c = record { journal = λ gate most has. has; groups = λ kept. kept }
+
+pub returns-in_err-bytes-clause-comes : goal.returns-in_err-bytes-clause-comes
+returns-in_err-bytes-clause-comes g c = record { journal = λ gate most has. has; groups = λ kept. kept }
+
 pub returns-in_err-append_built-clause-comes : goal.returns-in_err-append_built-clause-comes
-returns-in_err-append_built-clause-comes g c = comes_at g.D.Disk.seen g.D.Disk.may_leave c.self.inside.journal c.args.self.now c.append_built.new.self c.self.view_is c.append_built.ensures.comes
+returns-in_err-append_built-clause-comes g c = record {
+  journal = comes_at g.D.Disk.seen g.D.Disk.may_leave c.self.inside.journal c.args.self.now c.append_built.new.self c.self.view_is c.append_built.ensures.comes;
+  groups = λ kept.
+      let held = kept.holds c.requires.live in
+      let inside = subst (λ (log : OnDisk _). HoldsGroups g.D.Disk.seen g.D.Disk.may_leave log held.0) (sym c.self.view_is) held.1 in
+      record {
+        holds = λ live. (
+          held.0,
+          still_there (λ (log : OnDisk _). HoldsGroups g.D.Disk.seen g.D.Disk.may_leave log held.0) c.in_err-append_built.field-0.0 c.self.inside.journal c.append_built.new.self
+              (λ is. c.in_err-append_built.ensures.dead (ap (λ (e : JournalError). Err e) is)) (λ not. c.in_err-append_built.ensures.unchanged (λ is. not (failure_is _ _ is))) live inside,
+        );
+        leaves = returns-in_err-append_built-clause-whole g c held.0 held.1;
+      };
+}
 
 pub returns-clause-comes : goal.returns-clause-comes
-returns-clause-comes g c = comes_at g.D.Disk.seen g.D.Disk.may_leave c.self.inside.journal c.args.self.now c.append_built.new.self c.self.view_is c.append_built.ensures.comes
+returns-clause-comes g c = record {
+  journal = comes_at g.D.Disk.seen g.D.Disk.may_leave c.self.inside.journal c.args.self.now c.append_built.new.self c.self.view_is c.append_built.ensures.comes;
+  groups = λ kept.
+      let held = kept.holds c.requires.live in
+      record { holds = λ live. (_, returns-clause-added g c held.0 held.1); leaves = returns-clause-whole g c held.0 held.1 };
+}
 
 pub returns-clause-steady : goal.returns-clause-steady
 returns-clause-steady g c answered old told =

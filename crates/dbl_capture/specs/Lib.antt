@@ -1,3 +1,1 @@
 pub mod Begun
-pub mod Caused
-pub mod Putting

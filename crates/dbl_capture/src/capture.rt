@@ -23,7 +23,7 @@ ghost use Rattle.dbl_causes.specs.Reported.{HasReadMessages, HasSettled, HasStoo
 ghost use Rattle.dbl_honest.specs.Growth.{marks_in};
 ghost use Rattle.dbl_causes.specs.Nevers.{IsHonestHalt};
 ghost use Rattle.dbl_causes.specs.Sources.{IsUnderWay};
-ghost use Rattle.dbl_capture.specs.Caused.{Halts, IsCaused, IsNotGone};
+ghost use Rattle.dbl_steps.specs.Caused.{Halts, IsCaused, IsNotGone};
 ghost use Rattle.dbl_causes.specs.Underway.{IsBeginHalt};
 ghost use Rattle.dbl_causes.specs.Written.{AddsAtMost, AddsExactly, marks_more};
 ghost use Rattle.dbl_steps.specs.Sinks.{IsPutting};

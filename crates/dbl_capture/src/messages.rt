@@ -15,8 +15,8 @@ ghost use Rattle.dbl_causes.specs.Written.{AddsNoMore, AreClosed};
 ghost use Rattle.dbl_causes.specs.Nevers.{IsHonestHalt};
 ghost use Rattle.dbl_causes.specs.Sources.{GoesOn, IsUnderWay};
 ghost use Rattle.dbl_steps.specs.Sinks.{HasHaltedPut, IsPutting};
-ghost use Rattle.dbl_capture.specs.Caused.{Halts, IsNotGone};
-ghost use Rattle.dbl_capture.specs.Putting.{PutsOn};
+ghost use Rattle.dbl_steps.specs.Caused.{Halts, IsNotGone};
+ghost use Rattle.dbl_steps.specs.Putting.{PutsOn};
 
 use dbl_disk::Disk;
 use dbl_offset::OffsetStore;

@@ -5,3 +5,10 @@ pub mod Answered
 pub mod Honest
 pub mod Nevers
 pub mod Lasting
+pub mod Reporting
+pub mod Causes
+pub mod Telling
+pub mod Halting
+pub mod Marking
+pub mod Sinking
+pub mod Going

@@ -3,3 +3,5 @@ pub mod Sinks
 pub mod Marks
 pub mod Answered
 pub mod Honest
+pub mod Caused
+pub mod Putting

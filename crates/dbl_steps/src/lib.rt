@@ -1,5 +1,6 @@
 //! What the sink of a session gains, step by step, how many marks may be left where it ends, and what
-//! a source's last answer asks for: laws over lists. No source, sink or store is named.
+//! a source's last answer asks for: laws over lists. No source, sink or store is named. Its proofs hold
+//! besides what a session's functions make of these laws.
 #![tactic(auto)]
 
 mod answer_laws;

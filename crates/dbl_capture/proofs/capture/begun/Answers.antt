@@ -4,16 +4,16 @@ use Rattle.dbl_honest.specs.Standings.{left_of}
 use Rattle.dbl_offset.specs.declared.offset.Offset.{Offset}
 use Rattle.dbl_offset.specs.Stores.{Holds, LeavesOffset, disk_of}
 use Rattle.dbl_work.specs.declared.halt.Halt.TheVariants as halt
-use Rattle.dbl_capture.proofs.Causes.{OfNone, OfStore, err_at, residual_is, residual_of, store_of}
+use Rattle.dbl_steps.proofs.Causes.{OfNone, OfStore, err_at, residual_is, residual_of, store_of}
 use Rattle.dbl_exits.proofs.Keeping.{on_err}
 use Rattle.dbl_exits.proofs.Openings.{began_at, rest_left, store_left}
 use Rattle.dbl_offset.specs.Offsets.{IsOffset}
 use Rattle.dbl_work.specs.Begins.{IsOffsetFor}
 use Rattle.dbl_causes.specs.Underway.{IsBeginHalt}
-use Rattle.dbl_capture.proofs.Telling.{store_begins}
-use Rattle.dbl_capture.proofs.Telling.{not_both, residual_on}
+use Rattle.dbl_steps.proofs.Telling.{store_begins}
+use Rattle.dbl_steps.proofs.Telling.{not_both, residual_on}
 use Rattle.dbl_work.specs.Begins.{IsAbsentHalt}
-use Rattle.dbl_capture.proofs.Telling.{memory_absent, store_absent}
+use Rattle.dbl_steps.proofs.Telling.{memory_absent, store_absent}
 use Rattle.dbl_steps.proofs.Lasting.{moved_rest}
 use Rattle.dbl_capture.proofs.capture.begun.Goals as goal
 

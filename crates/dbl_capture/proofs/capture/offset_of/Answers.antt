@@ -5,14 +5,14 @@ use Rattle.dbl_honest.specs.Standings.{Standing, left_of}
 use Rattle.dbl_offset.specs.declared.offset.Offset.{Offset}
 use Rattle.dbl_work.specs.Begins.{IsAgain, IsOffsetFor}
 use Rattle.dbl_exits.proofs.Beginnings.{again_for, begins_again, begins_first, none_again}
-use Rattle.dbl_capture.proofs.Causes.{OfNone, OfSource, again_of, err_at, err_then, first_of, residual_of}
+use Rattle.dbl_steps.proofs.Causes.{OfNone, OfSource, again_of, err_at, err_then, first_of, residual_of}
 use Rattle.dbl_exits.proofs.Keeping.{answer_then}
 use Rattle.dbl_work.proofs.Exits.{none_taken}
 use Rattle.dbl_causes.specs.Underway.{IsBeginHalt}
-use Rattle.dbl_capture.proofs.Telling.{again_begins, first_begins}
-use Rattle.dbl_capture.proofs.Telling.{again_exhausted, not_exhausted}
+use Rattle.dbl_steps.proofs.Telling.{again_begins, first_begins}
+use Rattle.dbl_steps.proofs.Telling.{again_exhausted, not_exhausted}
 use Rattle.dbl_work.specs.Begins.{IsAbsentHalt}
-use Rattle.dbl_capture.proofs.Telling.{again_absent}
+use Rattle.dbl_steps.proofs.Telling.{again_absent}
 use Rattle.dbl_capture.proofs.capture.offset_of.Goals as goal
 
 -- nothing was asked of the source yet

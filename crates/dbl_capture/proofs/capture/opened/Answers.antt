@@ -7,7 +7,7 @@ use Rattle.dbl_faithful.proofs.Items.{first_some}
 use Rattle.dbl_offset.specs.declared.offset.Offset.{Offset}
 use Rattle.dbl_work.specs.Works.{IsBegun}
 use Rattle.dbl_work.proofs.Exits.{later_on, rose_behind}
-use Rattle.dbl_capture.proofs.Causes.{OfNone, OfSource, err_at, err_then, residual_is, residual_of, start_of}
+use Rattle.dbl_steps.proofs.Causes.{OfNone, OfSource, err_at, err_then, residual_is, residual_of, start_of}
 use Rattle.dbl_exits.specs.Ends.{IsAtPosition}
 use Rattle.dbl_exits.proofs.Beginnings.{begun_session}
 use Rattle.dbl_exits.proofs.Endings.{has_stored, own_first, position_is, position_none}
@@ -15,17 +15,17 @@ use Rattle.dbl_exits.proofs.Keeping.{answer_then, on_err, on_ok}
 use Rattle.dbl_exits.proofs.Openings.{start_left}
 use Rattle.dbl_work.specs.declared.halt.Halt.{Halt}
 use Rattle.dbl_causes.specs.Sources.{IsUnderWay}
-use Rattle.dbl_capture.specs.Caused.{Halts, IsNotGone}
+use Rattle.dbl_steps.specs.Caused.{Halts, IsNotGone}
 use Rattle.dbl_causes.proofs.Sources.{begins, halts_unread}
 use Rattle.dbl_capture.specs.Begun.{beginning_at}
-use Rattle.dbl_capture.proofs.Telling.{anew_on, fell_on, read_none, start_opens}
-use Rattle.dbl_capture.proofs.Halting.{open_caused}
-use Rattle.dbl_capture.proofs.Telling.{not_both, residual_on}
+use Rattle.dbl_steps.proofs.Telling.{anew_on, fell_on, read_none, start_opens}
+use Rattle.dbl_steps.proofs.Halting.{open_caused}
+use Rattle.dbl_steps.proofs.Telling.{not_both, residual_on}
 use Rattle.dbl_steps.specs.Sinks.{IsPutting}
 use Rattle.dbl_steps.proofs.Sinks.{puts_begin}
 use Rattle.dbl_work.specs.Begins.{IsAbsentHalt}
-use Rattle.dbl_capture.proofs.Telling.{memory_absent, start_absent}
-use Rattle.dbl_capture.proofs.Going.{begin_reads, kept_low, memory_reads, not_gone}
+use Rattle.dbl_steps.proofs.Telling.{memory_absent, start_absent}
+use Rattle.dbl_steps.proofs.Going.{begin_reads, kept_low, memory_reads, not_gone}
 use Rattle.dbl_steps.proofs.Nevers.{begin_honest, memory_honest, start_honest}
 use Rattle.dbl_causes.specs.Nevers.{IsHonestHalt}
 use Rattle.dbl_steps.proofs.Lasting.{rest_unmarked}

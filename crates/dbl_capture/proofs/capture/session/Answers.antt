@@ -7,7 +7,7 @@ use Rattle.dbl_offset.specs.Stores.{disk_of}
 use Rattle.dbl_work.specs.Begins.{IsOffsetFor}
 use Rattle.dbl_work.specs.Works.{next_of}
 use Rattle.dbl_work.proofs.Exits.{later_on, rose_behind}
-use Rattle.dbl_capture.proofs.Causes.{err_at, err_then, residual_is, residual_of}
+use Rattle.dbl_steps.proofs.Causes.{err_at, err_then, residual_is, residual_of}
 use Rattle.dbl_exits.specs.Ends.{HasOwnStored}
 use Rattle.dbl_exits.specs.Found.{entry_at}
 use Rattle.dbl_exits.proofs.Endings.{complete_left, has_stored, own_first, position_is}
@@ -17,21 +17,21 @@ use Rattle.dbl_honest.specs.Standings.{Standing, Stood}
 use Rattle.dbl_causes.specs.Musts.{MustHaltStood, MustHaltTold}
 use Rattle.dbl_causes.specs.Reported.{HasReadMessages, HasSettled, HasStoodBehind, IsFollowed, StoodAtLast}
 use Rattle.dbl_causes.specs.Sources.{IsUnderWay}
-use Rattle.dbl_capture.specs.Caused.{Halts, IsCaused, IsNotGone}
+use Rattle.dbl_steps.specs.Caused.{Halts, IsCaused, IsNotGone}
 use Rattle.dbl_causes.proofs.Sources.{ended_stood, ended_told}
 use Rattle.dbl_capture.specs.Begun.{beginning_at}
-use Rattle.dbl_capture.proofs.Telling.{answer_as, at_none, at_some, residual_as}
+use Rattle.dbl_steps.proofs.Telling.{answer_as, at_none, at_some, residual_as}
 use Rattle.dbl_exits.specs.Sessions.{standing_at}
-use Rattle.dbl_capture.proofs.Marking.{exact_budget, exact_complete, exact_left, exactly_by}
+use Rattle.dbl_steps.proofs.Marking.{exact_budget, exact_complete, exact_left, exactly_by}
 use Rattle.dbl_steps.proofs.Lasting.{left_rests, none_most, same_most, stored_most, either_most}
-use Rattle.dbl_capture.proofs.Telling.{not_both, residual_on}
+use Rattle.dbl_steps.proofs.Telling.{not_both, residual_on}
 use Rattle.dbl_work.specs.declared.halt.Halt.{Halt}
 use Rattle.dbl_causes.specs.Gained.{IsReported}
 use Rattle.dbl_steps.specs.Sinks.{IsPutting}
 use Rattle.dbl_steps.proofs.Sinks.{left_gains, rests_put, still_counted}
-use Rattle.dbl_capture.proofs.Sinking.{counts_nothing, either_of, gains_nothing, reported_other}
+use Rattle.dbl_steps.proofs.Sinking.{counts_nothing, either_of, gains_nothing, reported_other}
 use Rattle.dbl_work.specs.Begins.{IsAbsentHalt}
-use Rattle.dbl_capture.proofs.Telling.{caused_absent}
+use Rattle.dbl_steps.proofs.Telling.{caused_absent}
 use Rattle.dbl_causes.specs.Nevers.{IsHonestHalt}
 use Rattle.dbl_steps.proofs.Marks.{others_leave_few_marks}
 use Rattle.dbl_causes.specs.Written.{AddsNoMore}

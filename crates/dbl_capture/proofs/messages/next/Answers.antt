@@ -7,25 +7,25 @@ use Rattle.dbl_history.specs.FitsInfos.{FitsInfos}
 use Rattle.dbl_work.specs.declared.work.Work.{Work}
 use Rattle.dbl_work.specs.Takes.{WasTaken}
 use Rattle.dbl_exits.specs.Sessions.{standing_at}
-use Rattle.dbl_capture.proofs.Causes.{OfNone, OfSink, OfSource, err_at, follow_of, residual_of, source_of, taken_of, residual_is, residual_source}
+use Rattle.dbl_steps.proofs.Causes.{OfNone, OfSink, OfSource, err_at, follow_of, residual_of, source_of, taken_of, residual_is, residual_source}
 use Rattle.dbl_exits.proofs.Keeping.{capturing, moved_on, on_err}
 use Rattle.dbl_exits.proofs.Nexts.{none_read, read_whole, some_read, step_fails, stepped_on, taken_on}
-use Rattle.dbl_capture.proofs.Reporting.{counted_fault, counted_none, counted_put, counted_torn}
+use Rattle.dbl_steps.proofs.Reporting.{counted_fault, counted_none, counted_put, counted_torn}
 use Rattle.dbl_exits.proofs.Settles.{follow_fails}
 use Rattle.dbl_exits.proofs.Taken.{stepped_next, stepped_ready, stepped_since, taken_next, taken_ready}
 use Rattle.dbl_work.specs.declared.halt.Halt.{Halt}
 use Rattle.dbl_work.proofs.Exits.{dead_source}
-use Rattle.dbl_capture.specs.Caused.{Halts, IsNotGone}
+use Rattle.dbl_steps.specs.Caused.{Halts, IsNotGone}
 use Rattle.dbl_causes.proofs.Sources.{at_rest, follows_at_rest, follows_on, halts_at, halts_between, rests_on, takes_on}
-use Rattle.dbl_capture.proofs.Telling.{follow_cause, goes_due, source_left, taken_cause, torn_counts}
-use Rattle.dbl_capture.proofs.Halting.{follow_caused, source_caused, taken_caused}
+use Rattle.dbl_steps.proofs.Telling.{follow_cause, goes_due, source_left, taken_cause, torn_counts}
+use Rattle.dbl_steps.proofs.Halting.{follow_caused, source_caused, taken_caused}
 use Rattle.dbl_honest.specs.Told.{Read, Tells}
 use Rattle.dbl_record.specs.Cuts.{cut}
 use Rattle.dbl_work.specs.declared.halt.Halt.TheVariants as halt
 use Rattle.dbl_steps.specs.Sinks.{HasHaltedPut}
 use Rattle.dbl_steps.proofs.Sinks.{commits_put, commits_put_at_rest, halts_put_nothing, messages_put_nothing, rests_put}
-use Rattle.dbl_capture.proofs.Sinking.{few_taken, follow_puts, none_other, puts_due, source_other}
-use Rattle.dbl_capture.proofs.Going.{follow_reads, source_reads, taken_reads}
+use Rattle.dbl_steps.proofs.Sinking.{few_taken, follow_puts, none_other, puts_due, source_other}
+use Rattle.dbl_steps.proofs.Going.{follow_reads, source_reads, taken_reads}
 use Rattle.dbl_steps.proofs.Nevers.{follow_honest, many_at, one_longer, source_honest, taken_honest, took_at}
 use Rattle.dbl_table.specs.declared.table.TableInfo.{TableInfo}
 use Rattle.dbl_offset.specs.declared.offset.Offset.{Offset}

@@ -5,23 +5,23 @@ use Rattle.dbl_offset.specs.declared.offset.Offset.{Offset}
 use Rattle.dbl_offset.specs.Stores.{Holds, LeavesOffset, disk_of}
 use Rattle.std.proofs.lemmas.Result.{err_from_is_err_and}
 use Rattle.dbl_work.specs.declared.halt.Halt.TheVariants as halt
-use Rattle.dbl_capture.proofs.Reporting.{report_err}
-use Rattle.dbl_capture.proofs.Causes.{OfNone, OfSource, OfStore, err_at, residual_is, residual_of, residual_source, source_of, store_of}
+use Rattle.dbl_steps.proofs.Reporting.{report_err}
+use Rattle.dbl_steps.proofs.Causes.{OfNone, OfSource, OfStore, err_at, residual_is, residual_of, residual_source, source_of, store_of}
 use Rattle.dbl_exits.specs.Sessions.{standing_at}
 use Rattle.dbl_exits.proofs.Keeping.{on_err, rests, some_chunk}
 use Rattle.dbl_exits.proofs.Settles.{settled_on, settled_whole, settle_fails, store_fails}
 use Rattle.dbl_honest.specs.Standings.{Standing, Stood}
 use Rattle.dbl_work.proofs.Exits.{dead_source, none_taken}
-use Rattle.dbl_capture.specs.Caused.{Halts, IsCaused, IsNotGone}
+use Rattle.dbl_steps.specs.Caused.{Halts, IsCaused, IsNotGone}
 use Rattle.dbl_causes.proofs.Sources.{halts_between, settles_on}
-use Rattle.dbl_capture.proofs.Telling.{memory_left, source_left, store_left}
-use Rattle.dbl_capture.proofs.Halting.{memory_caused, source_caused, store_caused}
+use Rattle.dbl_steps.proofs.Telling.{memory_left, source_left, store_left}
+use Rattle.dbl_steps.proofs.Halting.{memory_caused, source_caused, store_caused}
 use Rattle.dbl_offset.specs.Offsets.{IsOffset}
 use Rattle.dbl_work.specs.Begins.{IsTooLong}
 use Rattle.dbl_steps.specs.Sinks.{HasHaltedPut}
 use Rattle.dbl_steps.proofs.Sinks.{halts_put_nothing, stores_put_nothing}
-use Rattle.dbl_capture.proofs.Sinking.{none_other, source_other, store_other}
-use Rattle.dbl_capture.proofs.Going.{source_reads, store_reads}
+use Rattle.dbl_steps.proofs.Sinking.{none_other, source_other, store_other}
+use Rattle.dbl_steps.proofs.Going.{source_reads, store_reads}
 use Rattle.dbl_steps.proofs.Nevers.{source_honest, store_honest}
 use Rattle.dbl_causes.specs.Nevers.{IsHonestHalt}
 use Rattle.dbl_steps.proofs.Marks.{others_leave_few_marks}

@@ -1,20 +1,20 @@
 use Rattle.std.proofs.Common.{◌∙◌, ℕ, List, Some, ap, inl, refl, sym}
 use Rattle.std.proofs.lemmas.Result.{err_from_is_err_and}
 use Rattle.dbl_work.specs.declared.halt.Halt.TheVariants as halt
-use Rattle.dbl_capture.proofs.Reporting.{report_err}
-use Rattle.dbl_capture.proofs.Causes.{OfNone, err_at, residual_of}
+use Rattle.dbl_steps.proofs.Reporting.{report_err}
+use Rattle.dbl_steps.proofs.Causes.{OfNone, err_at, residual_of}
 use Rattle.dbl_exits.proofs.Keeping.{on_err, on_ok, rests, some_chunk}
 use Rattle.dbl_exits.proofs.Turning.{not_awaited}
 use Rattle.dbl_honest.specs.Standings.{Standing}
 use Rattle.dbl_work.proofs.Exits.{none_taken}
-use Rattle.dbl_capture.specs.Caused.{Halts, IsNotGone}
+use Rattle.dbl_steps.specs.Caused.{Halts, IsNotGone}
 use Rattle.dbl_causes.proofs.Sources.{at_rest, halts_between}
-use Rattle.dbl_capture.proofs.Telling.{memory_left}
-use Rattle.dbl_capture.proofs.Halting.{memory_caused, missed_caused}
+use Rattle.dbl_steps.proofs.Telling.{memory_left}
+use Rattle.dbl_steps.proofs.Halting.{memory_caused, missed_caused}
 use Rattle.dbl_steps.specs.Sinks.{HasHaltedPut}
 use Rattle.dbl_steps.proofs.Sinks.{halts_put_nothing, rests_put}
-use Rattle.dbl_capture.proofs.Sinking.{none_other}
-use Rattle.dbl_capture.proofs.Going.{not_waiting}
+use Rattle.dbl_steps.proofs.Sinking.{none_other}
+use Rattle.dbl_steps.proofs.Going.{not_waiting}
 use Rattle.dbl_causes.specs.Nevers.{IsHonestHalt}
 use Rattle.dbl_steps.proofs.Marks.{others_leave_few_marks}
 use Rattle.dbl_steps.proofs.Lasting.{leaves_most, left_rests, same_most}

@@ -2,13 +2,13 @@ use Rattle.std.proofs.Common.{◌≡◌, ◌∙◌, ◌+◌, ℕ, Bool, Ok, IsTr
 use Rattle.dbl_history.specs.Ranges.{IsMomentInRange}
 use Rattle.dbl_offset.specs.Stores.{disk_of}
 use Rattle.dbl_work.proofs.Exits.{rose_behind, later_on}
-use Rattle.dbl_capture.proofs.Causes.{residual_is, residual_of}
+use Rattle.dbl_steps.proofs.Causes.{residual_is, residual_of}
 use Rattle.std.specs.Prelude.{MatchBool}
 use Rattle.dbl_exits.proofs.Keeping.{on_err}
-use Rattle.dbl_capture.proofs.Reporting.{at_stored, counts_stored, own_stored, placed_next, placed_on}
-use Rattle.dbl_capture.specs.Caused.{Halts, IsNotGone}
+use Rattle.dbl_steps.proofs.Reporting.{at_stored, counts_stored, own_stored, placed_next, placed_on}
+use Rattle.dbl_steps.specs.Caused.{Halts, IsNotGone}
 use Rattle.dbl_causes.proofs.Sources.{at_rest}
-use Rattle.dbl_capture.proofs.Marking.{none_settled}
+use Rattle.dbl_steps.proofs.Marking.{none_settled}
 use Rattle.dbl_steps.specs.Sinks.{HasHaltedPut}
 use Rattle.dbl_steps.proofs.Sinks.{rests_put}
 use Rattle.dbl_causes.specs.Nevers.{IsHonestHalt}

@@ -4,17 +4,17 @@ use Rattle.dbl_work.specs.declared.report.Report.{Report}
 use Rattle.dbl_work.specs.declared.work.Work.{Work}
 use Rattle.dbl_work.specs.Works.{next_of}
 use Rattle.dbl_work.proofs.Exits.{rose_behind, later_on}
-use Rattle.dbl_capture.proofs.Causes.{residual_is, residual_of}
+use Rattle.dbl_steps.proofs.Causes.{residual_is, residual_of}
 use Rattle.dbl_exits.specs.Turns.{IsCountedNext, IsDue}
 use Rattle.dbl_exits.proofs.Endings.{done_at}
 use Rattle.dbl_exits.proofs.Keeping.{on_err, settled_ready, settled_since}
-use Rattle.dbl_capture.proofs.Reporting.{IsPlacedOf, at_same, at_stored, counts_stored, not_due, own_stored, placed_on, placed_same}
-use Rattle.dbl_capture.specs.Caused.{Halts, IsNotGone}
+use Rattle.dbl_steps.proofs.Reporting.{IsPlacedOf, at_same, at_stored, counts_stored, not_due, own_stored, placed_on, placed_same}
+use Rattle.dbl_steps.specs.Caused.{Halts, IsNotGone}
 use Rattle.dbl_causes.proofs.Sources.{settled_rests}
-use Rattle.dbl_capture.proofs.Telling.{goes_false, goes_none, goes_true}
-use Rattle.dbl_capture.proofs.Marking.{absent_settled, none_settled}
+use Rattle.dbl_steps.proofs.Telling.{goes_false, goes_none, goes_true}
+use Rattle.dbl_steps.proofs.Marking.{absent_settled, none_settled}
 use Rattle.dbl_steps.specs.Sinks.{HasHaltedPut}
-use Rattle.dbl_capture.proofs.Sinking.{puts_false, puts_none, puts_true}
+use Rattle.dbl_steps.proofs.Sinking.{puts_false, puts_none, puts_true}
 use Rattle.dbl_causes.specs.Nevers.{IsHonestHalt}
 use Rattle.dbl_capture.proofs.turns.turn.Goals as goal
 

@@ -1,16 +1,16 @@
 use Rattle.dbl_exits.specs.Sessions.{standing_at}
 use Rattle.dbl_exits.proofs.Arms.{arm_left, plan_captured, plan_here, plan_parts, window_on}
-use Rattle.dbl_capture.proofs.Causes.{OfSource, chunk_of, err_at, err_then}
+use Rattle.dbl_steps.proofs.Causes.{OfSource, chunk_of, err_at, err_then}
 use Rattle.dbl_exits.proofs.Keeping.{capturing, ok_then, on_err}
 use Rattle.std.proofs.Common.{inl, refl}
-use Rattle.dbl_capture.specs.Caused.{Halts, IsNotGone}
+use Rattle.dbl_steps.specs.Caused.{Halts, IsNotGone}
 use Rattle.dbl_causes.proofs.Sources.{arms_on, at_rest, halts_between}
-use Rattle.dbl_capture.proofs.Telling.{chunk_left, ok_both}
-use Rattle.dbl_capture.proofs.Halting.{chunk_caused}
+use Rattle.dbl_steps.proofs.Telling.{chunk_left, ok_both}
+use Rattle.dbl_steps.proofs.Halting.{chunk_caused}
 use Rattle.dbl_steps.specs.Sinks.{HasHaltedPut}
 use Rattle.dbl_steps.proofs.Sinks.{halts_put_nothing, rests_put, windows_put_nothing}
-use Rattle.dbl_capture.proofs.Sinking.{source_other}
-use Rattle.dbl_capture.proofs.Going.{chunk_reads}
+use Rattle.dbl_steps.proofs.Sinking.{source_other}
+use Rattle.dbl_steps.proofs.Going.{chunk_reads}
 use Rattle.dbl_steps.proofs.Nevers.{window_honest}
 use Rattle.dbl_causes.specs.Nevers.{IsHonestHalt}
 use Rattle.dbl_honest.specs.Standings.{left_of}

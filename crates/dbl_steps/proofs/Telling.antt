@@ -32,8 +32,8 @@ use Rattle.dbl_causes.specs.Underway.{IsBeginHalt, IsOpenHalt}
 use Rattle.dbl_causes.specs.Carried.{Beginning, IsNewestCause}
 use Rattle.dbl_causes.specs.Sources.{GoesOn, HasCommitted, IsUnderWay}
 use Rattle.dbl_exits.specs.Found.{HasStored}
-use Rattle.dbl_capture.specs.Caused.{IsCaused}
-use Rattle.dbl_capture.proofs.Reporting.{HasStepped, step_counts}
+use Rattle.dbl_steps.specs.Caused.{IsCaused}
+use Rattle.dbl_steps.proofs.Reporting.{HasStepped, step_counts}
 
 -- ---- results
 

@@ -21,8 +21,8 @@ use Rattle.dbl_causes.specs.Gained.{Gains, HasCounted, IsReported}
 use Rattle.dbl_causes.specs.Carried.{Beginning}
 use Rattle.dbl_steps.specs.Sinks.{HasHaltedPut, HasPutCommit, IsPutting}
 use Rattle.dbl_steps.proofs.Sinks.{commits_halt, puts_fail}
-use Rattle.dbl_capture.specs.Putting.{PutsOn}
-use Rattle.dbl_capture.proofs.Causes.{OfNone, OfSource, OfStore}
+use Rattle.dbl_steps.specs.Putting.{PutsOn}
+use Rattle.dbl_steps.proofs.Causes.{OfNone, OfSource, OfStore}
 
 -- ---- halts that aren't the sink's
 

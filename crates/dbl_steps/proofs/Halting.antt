@@ -28,7 +28,7 @@ use Rattle.dbl_causes.specs.Carried.{AreTold, Beginning, IsBehind, IsResting}
 use Rattle.dbl_causes.proofs.Causes.{bytes_halt, marks_are_missed, messages_halt, offsets_halt, windows_halt}
 use Rattle.dbl_causes.proofs.Ended.{has_taken}
 use Rattle.dbl_causes.proofs.Unread.{sessions_halt_unread}
-use Rattle.dbl_capture.specs.Caused.{IsCaused}
+use Rattle.dbl_steps.specs.Caused.{IsCaused}
 
 -- a clash, or a record that is too long
 abbrev IsOfRecords : Halt → Type 0

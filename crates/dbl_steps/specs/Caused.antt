@@ -1,4 +1,4 @@
--- Why a session halts.
+-- Why a session halts, for the contracts of a session and of its functions.
 use Rattle.std.specs.Prelude.{ℕ, ℤ, Option}
 use Rattle.dbl_table.specs.declared.config.Config.{Config}
 use Rattle.dbl_honest.specs.Standings.{Standing}

@@ -25,7 +25,7 @@ use Rattle.dbl_work.specs.Causes.{IsChunkHalt, IsLongRecord, IsOfRows}
 use Rattle.dbl_work.specs.Halts.{source_halt, window_halt}
 use Rattle.dbl_work.specs.Takes.{IsClashIn, IsMessageHalt, IsTxnHalt}
 use Rattle.dbl_causes.specs.Underway.{IsBeginHalt}
-use Rattle.dbl_capture.specs.Caused.{IsNotGone}
+use Rattle.dbl_steps.specs.Caused.{IsNotGone}
 
 pub memory_reads : (h : Halt) → h ≡ halt.Memory → IsNotGone h
 memory_reads h is = subst IsNotGone (sym is) tt

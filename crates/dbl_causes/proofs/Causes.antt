@@ -142,7 +142,7 @@ module _ (config : Config) (now : ℤ) (held : Option Offset) (first stored : Of
   open_now : (low high : List ℕ) → IsOpenAmong low high (commits_of work.offset.infos ms) → IsOpenAmong low high (commits_of stored.infos ms)
   open_now low high has = subst (λ (l : List TableInfo). IsOpenAmong low high (commits_of l ms)) (infos_stored config now held first stored work o) has
 
-  missed : (value : List ℕ) (w : Window) → IsOwnWaiting work.offset.incarnation work.number work.offset.infos work.follower.cursors work.chunk w → awaited w ≡ Some value → work.number ≡ report.chunks + waiting w → IsOpenedBy w (commits_of work.offset.infos ms)
+  pub missed : (value : List ℕ) (w : Window) → IsOwnWaiting work.offset.incarnation work.number work.offset.infos work.follower.cursors work.chunk w → awaited w ≡ Some value → work.number ≡ report.chunks + waiting w → IsOpenedBy w (commits_of work.offset.infos ms)
       → MissesMark report stored (record { after = first.lsn; messages = ms }) value work.offset.lsn
   missed value Absent own waits counted was = cc
   missed value (Armed chunk) own waits counted was = record {

@@ -126,12 +126,6 @@ pub record IsGained (after : Lsn) (ms : List Message) (work : Work) (records : L
   pub behind : AllByRecursion (λ commit. commit.lsn.0 ≤ work.offset.lsn.0) (commits_of work.offset.infos ms)
   pub order : after.0 ≤ work.offset.lsn.0
 
--- The sink has gained these, in the groups of their cut.
-pub record HasGained {K : Type 0} (holds : K → List (List Record) → Type 0) (groups : List (List Record)) (after : Lsn) (ms : List Message) (work : Work) (sink : K) : Type 0 where
-  pub records : List Record
-  pub held : holds sink (groups ++ cut records)
-  pub is : IsGained after ms work records
-
 -- ---- laws
 
 -- A commit that is followed next is sent behind all others: its groups are cut there, wherever a put ends them.

@@ -1,6 +1,5 @@
 -- What never makes a session halt, over a source that stands, and one that is honest.
-use Rattle.std.specs.Prelude.{◌≡◌, ◌≢◌, ◌⊎◌, ℕ, ◌+◌, ◌≤◌, not, position, map, Contains, Option, Some, None, IfSome, IfErr, Result, Err, List, slice_get}
-use Rattle.dbl_base.specs.declared.lsn.Lsn.{Lsn}
+use Rattle.std.specs.Prelude.{◌≡◌, ◌⊎◌, ℕ, ◌+◌, not, position, map, Contains, Option, Some, List, slice_get}
 use Rattle.dbl_value.specs.declared.error.ValueError.{ValueError}
 use Rattle.dbl_record.specs.declared.record.Record.{Record}
 use Rattle.dbl_record.specs.Cuts.{joined}
@@ -21,7 +20,6 @@ use Rattle.dbl_event.specs.Clashes.{clash_of, snapshot_clash}
 use Rattle.dbl_event.specs.EventJson.{envelopes}
 use Rattle.dbl_event.specs.Snapshots.{AreInKeyOrder, snapshot}
 use Rattle.dbl_ageing.specs.Windows.{IsRightWindow}
-use Rattle.dbl_honest.specs.Calls.{head_of}
 use Rattle.dbl_honest.specs.Standings.{Reading, Standing}
 use Rattle.dbl_honest.specs.Stated.{IsOfContent}
 use Rattle.dbl_offset.specs.declared.offset.Offset.{Offset}
@@ -29,13 +27,12 @@ use Rattle.dbl_stores.specs.Behind.{IsOffsetOf}
 use Rattle.dbl_window.specs.Plans.{Plan}
 use Rattle.dbl_window.specs.Promise.{moment_after_first}
 use Rattle.dbl_window.specs.Selected.{HasUnreadable, IsCaptured}
-use Rattle.dbl_session.specs.Entries.{Entry, HadOwnTables, WasKept}
+use Rattle.dbl_session.specs.Entries.{Entry}
 use Rattle.dbl_session.specs.Marked.{IsMarkAt}
 use Rattle.dbl_work.specs.declared.halt.Halt.{Halt}
 use Rattle.dbl_work.specs.declared.halt.Halt.TheVariants as halt
-use Rattle.dbl_work.specs.declared.report.Ending.{Ending}
 use Rattle.dbl_work.specs.declared.report.Report.{Report}
-use Rattle.dbl_work.specs.Begins.{IsAbsentHalt, IsFirst, IsTooLong}
+use Rattle.dbl_work.specs.Begins.{IsFirst, IsTooLong}
 use Rattle.dbl_work.specs.Causes.{IsLongRecord}
 use Rattle.dbl_work.specs.Takes.{IsClashIn}
 use Rattle.dbl_exits.specs.Sessions.{IsCapturing}
@@ -129,17 +126,3 @@ pub record IsFirstLong (config : Config) (history : History) (h : Halt) : Type 0
   pub offset : Offset
   pub first : IsFirst config infos offset.start offset
   pub long : IsTooLong offset h
-
--- What a source that stands keeps from halting a session, by what it stood for and by the stored offset alone.
-pub record NeverHalts (entry : Entry) (stored : Option Offset) (honest : Type 0) (stands : Standing → Type 0) (result : Result Ending Halt) : Type 0 where
-  -- of an honest source whose catalogue has what is captured
-  pub own : honest → HadOwnTables entry → IfErr result (IsHonestHalt entry stands)
-  -- no log is gone where nothing behind the offset was confirmed
-  pub gone : WasKept entry → (asked first : Lsn) → result ≢ Err (halt.Gone asked first)
-  -- no mark is missing in the log of an honest source, where the offset isn't above its last commit
-  pub missing : honest → IfSome entry.offset (λ offset. offset.lsn.0 ≤ (head_of entry.history.commits).0) → (value : List ℕ) (at : Lsn) → result ≢ Err (halt.WatermarkMissing value at)
-  -- no table is unknown, and none can't be captured, but by the catalogue, which never changes
-  pub absent : IfErr result (IsAbsentHalt entry.config.tables entry.history)
-  -- before the first store an offset is too long only by the catalogue
-  pub long : entry.offset ≡ None → stored ≡ None → (len : ℕ) → result ≡ Err (halt.OffsetTooLong len)
-      → IsFirstLong entry.config entry.history (halt.OffsetTooLong len)

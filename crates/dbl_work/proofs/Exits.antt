@@ -6,7 +6,7 @@ use Rattle.dbl_table.specs.declared.table.TableName.{TableName}
 use Rattle.dbl_history.specs.History.{History}
 use Rattle.dbl_honest.specs.Calls.{Moved}
 use Rattle.dbl_honest.specs.Standings.{Standing}
-use Rattle.dbl_honest.specs.Told.{Told, Done, Selected, IsTakenBy, Tells}
+use Rattle.dbl_honest.specs.Told.{Told, IsTakenBy}
 use Rattle.dbl_honest.proofs.GrowthLemmas.{grows_on}
 use Rattle.dbl_offset.specs.declared.error.OffsetError.{OffsetError}
 use Rattle.dbl_offset.specs.declared.error.OffsetError.TheVariants as offset
@@ -18,7 +18,6 @@ use Rattle.dbl_reading.specs.declared.error.SourceError.TheVariants as source
 use Rattle.dbl_work.specs.declared.halt.Halt.TheVariants as halt
 use Rattle.dbl_work.specs.Begins.{IsAbsentHalt, IsTooLong}
 use Rattle.dbl_work.specs.Halts.{offset_halt, source_halt}
-use Rattle.dbl_work.specs.Works.{IsCalm}
 
 -- ---- which halt it is
 
@@ -75,10 +74,6 @@ raised_on most a b c le rose = omega (arith, le, rose)
 -- a count that rose behind a call rose
 pub rose_behind : (a b c : ℕ) → a ≤ b → Rose b c → Rose a c
 rose_behind a b c le rose = raised_on (2 ^ 64 - 1) a b c le rose
-
--- a source whose last call was a mark tells no rows
-pub calm_done : (told : Option Told) → Tells told Done → IsCalm told
-calm_done told done t rows is answer = let wrong : Done ≡ Selected rows = sym (done t is) ∙ answer in cc
 
 -- ---- answers
 

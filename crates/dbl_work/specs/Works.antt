@@ -10,7 +10,6 @@ use Rattle.dbl_table.specs.declared.change.Body.{Body}
 use Rattle.dbl_table.specs.declared.change.Body.TheVariants.{Changes, Mark}
 use Rattle.dbl_table.specs.declared.change.Commit.{Commit}
 use Rattle.dbl_table.specs.declared.identity.Identity.{Identity}
-use Rattle.dbl_table.specs.declared.table.RawRow.{RawRow}
 use Rattle.dbl_table.specs.declared.table.TableInfo.{TableInfo}
 use Rattle.dbl_history.specs.declared.cursor.Cursor.{Cursor}
 use Rattle.dbl_history.specs.Cursors.{AreCursorsOf}
@@ -21,7 +20,6 @@ use Rattle.dbl_commit.specs.Stated.{commits_of}
 use Rattle.dbl_event.specs.Clashes.{clash_of}
 use Rattle.dbl_event.specs.EventJson.{envelopes}
 use Rattle.dbl_txn.specs.Stands.{StandsWhole}
-use Rattle.dbl_honest.specs.Told.{Told, Selected}
 use Rattle.dbl_offset.specs.declared.offset.Offset.{Offset}
 use Rattle.dbl_offset.specs.Offsets.{IsOffset}
 use Rattle.dbl_window.specs.Plans.{Plan, Chunk}
@@ -96,10 +94,6 @@ pub record IsBegun (offset : Offset) (now : ℤ) (chunk every : ℕ) (work : Wor
   pub every_is : work.every ≡ every
   pub none : work.since ≡ 0
   pub unread : work.number ≡ 0
-
--- the last answer that is told, if any, isn't rows
-abbrev pub IsCalm : Option Told → Type 0
-IsCalm told = (t : Told) (rows : List RawRow) → told ≡ Some t → t.answer ≡ Selected rows → ⊥
 
 -- ---- windows
 

@@ -5,14 +5,14 @@ ghost use Rattle.dbl_base.specs.Streams.{Rose};
 ghost use Rattle.dbl_table.specs.declared.table.TableInfo.{TableInfo as SpecInfo};
 ghost use Rattle.dbl_honest.specs.Leaves.{Leaves, LeavesSome};
 ghost use Rattle.dbl_honest.specs.Standings.{Standing, Leads};
-ghost use Rattle.dbl_honest.specs.Told.{IsTakenBy};
+ghost use Rattle.dbl_honest.specs.Told.{Done, IsTakenBy, Tells};
 ghost use Rattle.dbl_window.specs.Plans.{Plan, high_text};
 ghost use Rattle.dbl_window.specs.Selected.{IsCaptured};
 ghost use Rattle.dbl_follow.specs.declared.window.Window.TheVariants as windows;
 ghost use Rattle.dbl_work.specs.Causes.{IsChunkHalt, IsHonestChunkHalt, IsHonestFault, IsOfRows};
 ghost use Rattle.dbl_work.specs.Halts.{window_halt};
 ghost use Rattle.dbl_work.specs.Windowed.{HasReadWindow, MayHaveMarks, WasLooked, WasWindowed, own_marks};
-ghost use Rattle.dbl_work.specs.Works.{IsArmedWork, IsCalm, IsChunkOf, IsOpenTable, IsReady, plan_at};
+ghost use Rattle.dbl_work.specs.Works.{IsArmedWork, IsChunkOf, IsOpenTable, IsReady, plan_at};
 
 use crate::Halt;
 use crate::work::Work;
@@ -61,7 +61,7 @@ fn rows_and_high<S: Source>(marked: Marked, src: &mut S) -> Result<Armed, Window
     ensures still { (s t : Standing) → S.stands src.old s → S.stands src.new t →
         t.reading ≡ s.reading }
     ensures taken { IsTakenBy [] (S.told src.old) (S.told src.new) }
-    ensures calm { OnOk result (IsCalm (S.told src.new)) }
+    ensures told { OnOk result (Tells (S.told src.new) Done) }
     ensures reading { S.is_reading src.new ≡ S.is_reading src.old }
     ensures live { OnOk result (IsTrue (S.is_live src.new)) }
     ensures honest { S.honest src.new → S.honest src.old }
@@ -90,7 +90,7 @@ fn between_marks<S: Source>(idle: Idle, src: &mut S) -> Result<Armed, WindowErro
     ensures still { (s t : Standing) → S.stands src.old s → S.stands src.new t →
         t.reading ≡ s.reading }
     ensures taken { IsTakenBy [] (S.told src.old) (S.told src.new) }
-    ensures calm { OnOk result (IsCalm (S.told src.new)) }
+    ensures told { OnOk result (Tells (S.told src.new) Done) }
     ensures reading { S.is_reading src.new ≡ S.is_reading src.old }
     ensures live { OnOk result (IsTrue (S.is_live src.new)) }
     ensures honest { S.honest src.new → S.honest src.old }
@@ -158,7 +158,7 @@ pub fn read_window<S: Source>(work: &mut Work, table: u32, src: &mut S) -> Resul
     ensures left { (plan : Plan) → plan_at work.old table ≡ Some plan →
         Leaves S.stands S.may_leave src.old src.new (MayHaveMarks (own_marks plan)) }
     ensures some { LeavesSome S.stands S.may_leave src.old src.new }
-    ensures calm { OnOk result (IsCalm (S.told src.new)) }
+    ensures told { OnOk result (Tells (S.told src.new) Done) }
     ensures still { (s t : Standing) → S.stands src.old s → S.stands src.new t →
         t.reading ≡ s.reading }
     ensures taken { IsTakenBy [] (S.told src.old) (S.told src.new) }

@@ -1,6 +1,6 @@
 use Rattle.std.proofs.Common.{◌≡◌, ◌⊎◌, [], ◌∷◌, inr, sym, ap, subst}
 use Rattle.std.specs.Prelude.{Err}
-use Rattle.std.proofs.lemmas.Result.{IfErr-weaker, IfOk-weaker, err_from_is_err_and, on_ok_weaker}
+use Rattle.std.proofs.lemmas.Result.{IfErr-weaker, IfOk-weaker, err_from_is_err_and}
 use Rattle.dbl_honest.specs.Calls.{IsMarked}
 use Rattle.dbl_honest.specs.Standings.{Stood}
 use Rattle.dbl_window.specs.declared.error.WindowError.{WindowError}
@@ -9,7 +9,7 @@ use Rattle.dbl_window.specs.Plans.{Chunk, Plan, high_text}
 use Rattle.dbl_work.specs.Causes.{IsHonestFault, IsOfRows}
 use Rattle.dbl_work.specs.Windowed.{MayHaveMarks, WasLooked}
 use Rattle.dbl_work.specs.Works.{IsChunkOf}
-use Rattle.dbl_work.proofs.Exits.{both_ok, calm_done, rose_behind, taken_on}
+use Rattle.dbl_work.proofs.Exits.{both_ok, rose_behind, taken_on}
 use Rattle.dbl_work.proofs.Looking.{mark_left, moved_left, others_left, was_looked}
 use Rattle.dbl_work.proofs.WindowFaults.{mark_fault, mark_honest, rows_fault, select_honest}
 use Rattle.dbl_work.proofs.windows.rows_and_high.Goals as goal
@@ -70,8 +70,8 @@ returns-clause-left g c s l stands may =
 pub returns-clause-taken : goal.returns-clause-taken
 returns-clause-taken g c = taken_on (g.S.Source.told c.args.src.now) (g.S.Source.told c.select.new.src) (g.S.Source.told c.high.new.src) c.select.ensures.taken c.high.ensures.taken
 
-pub returns-clause-calm : goal.returns-clause-calm
-returns-clause-calm g c = on_ok_weaker c.high.result (calm_done (g.S.Source.told c.high.new.src)) c.high.ensures.told
+pub returns-clause-told : goal.returns-clause-told
+returns-clause-told g c = c.high.ensures.told
 
 pub returns-clause-failed : goal.returns-clause-failed
 returns-clause-failed g c is =

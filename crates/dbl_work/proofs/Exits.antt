@@ -77,6 +77,9 @@ rose_behind a b c le rose = raised_on (2 ^ 64 - 1) a b c le rose
 
 -- ---- answers
 
+pub same_error : {T E : Type 0} (r : Result T E) (x y : E) → r ≡ Err x → r ≡ Err y → x ≡ y
+same_error r x y one two = let both : Err x ≡ Err y = sym one ∙ two in cc
+
 -- what two clauses of an answer say together
 pub both_ok : {T E : Type 0} (r : Result T E) (P Q R : T → Type 0) → ((x : T) → P x → Q x → R x) → IfOk r P → IfOk r Q → IfOk r R
 both_ok (Ok x) P Q R f p q = f x p q

@@ -1,14 +1,22 @@
 -- What a window that is read does to a source, and what may be left of it.
-use Rattle.std.proofs.Common.{◌≡◌, ◌∙◌, ◌⊎◌, inl, inr, ℕ, zero, suc, List, [], ◌∷◌, ◌++◌, length, refl, sym, ap, subst, append-nil, append_assoc}
+use Rattle.std.proofs.Common.{◌≡◌, ◌∙◌, ◌⊎◌, inl, inr, ℕ, zero, suc, Option, Some, Ok, List, [], ◌∷◌, ◌++◌, length, refl, sym, ap, subst, append-nil, append_assoc}
+use Rattle.std.specs.Prelude.{slice_get}
+use Rattle.dbl_table.specs.declared.row.Key.{Key}
+use Rattle.dbl_table.specs.declared.row.Row.{Row}
+use Rattle.dbl_table.specs.declared.table.TableInfo.{TableInfo}
+use Rattle.dbl_event.specs.Snapshots.{AreInKeyOrder}
 use Rattle.dbl_history.specs.History.{RawBody, RawCommit, History}
 use Rattle.dbl_history.specs.History.RawBody.{Changes, Mark}
 use Rattle.dbl_honest.specs.Calls.{Moved, IsMarked}
 use Rattle.dbl_honest.specs.Growth.{AreOthers, Grows, HasChanges, Marks, mark_in_body, marks_in}
 use Rattle.dbl_honest.specs.Leaves.{MayFollow}
 use Rattle.dbl_honest.specs.Standings.{Standing, Left, left_of}
+use Rattle.dbl_honest.specs.Told.{Told}
 use Rattle.dbl_window.specs.Leaving.{MayStayOrMark}
 use Rattle.dbl_window.specs.Plans.{Plan, Chunk, low_text, high_text}
-use Rattle.dbl_window.specs.Selected.{IsCaptured, IsSelected, SelectsChunk}
+use Rattle.dbl_window.specs.Selected.{IsCaptured, IsReadOf, IsSelected, SelectsChunk}
+use Rattle.dbl_window.proofs.LawLemmas.{above_in_order}
+use Rattle.dbl_window.proofs.ReadLemmas.{read_answered}
 use Rattle.dbl_work.specs.Windowed.{MayHaveMarks, WasLooked, WasWindowed}
 use Rattle.dbl_work.specs.Works.{IsChunkOf}
 
@@ -133,3 +141,11 @@ marked_left value rest s mid left marked may = record {
 -- by the plan that it has
 pub chunk_own : (plan : Plan) (chunk : Chunk) → IsChunkOf plan chunk → IsChunkOf chunk.plan chunk
 chunk_own plan chunk is = subst (λ (p : Plan). IsChunkOf p chunk) (sym is.plan_is) is
+
+info_at : (place : ℕ) (info : TableInfo) → (infos : List TableInfo) × (slice_get infos place ≡ Some info)
+info_at zero info = (info ∷ [], refl)
+info_at (suc place) info = (info ∷ (info_at place info).0, (info_at place info).1)
+
+-- rows that were read are in the order of their keys
+pub read_order : (plan : Plan) (told : Option Told) (rows : List (Key × Row)) → IsReadOf plan told (Ok rows) → AreInKeyOrder rows
+read_order plan told rows is = let infos = info_at plan.table plan.info in above_in_order plan.above rows (read_answered infos.0 plan is.rows rows infos.1 is.read_is).ordered

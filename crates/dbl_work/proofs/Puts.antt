@@ -153,10 +153,19 @@ report_twice snapshot xs ys report =
     let three = counted_twice report.snapshot_rows (rows_of snapshot xs) (rows_of snapshot ys) (rows_of snapshot (xs ++ ys)) (2 ^ 64 - 1) (rows_append snapshot xs ys) in
     λ i. record report { records = one i; chunks = two i; snapshot_rows = three i }
 
-within : (a most : ℕ) → a ≤ most → min (a + 0) most ≡ a
+pub within : (a most : ℕ) → a ≤ most → min (a + 0) most ≡ a
 within a most le = omega (arith, le)
 
 -- and no records count nothing
 pub report_none : (snapshot : Bool) (report : Report) → report.records ≤ 2 ^ 64 - 1 → report.chunks ≤ 2 ^ 64 - 1 → report.snapshot_rows ≤ 2 ^ 64 - 1 → report_with snapshot [] report ≡ report
 report_none true report one two three = λ i. record report { records = within report.records (2 ^ 64 - 1) one i; chunks = within report.chunks (2 ^ 64 - 1) two i; snapshot_rows = within report.snapshot_rows (2 ^ 64 - 1) three i }
 report_none false report one two three = λ i. record report { records = within report.records (2 ^ 64 - 1) one i; chunks = within report.chunks (2 ^ 64 - 1) two i; snapshot_rows = within report.snapshot_rows (2 ^ 64 - 1) three i }
+
+-- before the last record none is the last of its commit
+pub none_last : (xs : List Record) (y : Record) (ys : List Record) → HasLastsAtItsEnd (xs ++ y ∷ ys) → lasts xs ≡ 0
+none_last [] y ys ends = refl
+none_last (x ∷ xs) y ys ends = by x.last refl (none_last xs y ys (record { each = λ place item at last. (let end : suc place + 1 ≡ suc (length (xs ++ y ∷ ys)) = ends.each (suc place) item at last in omega (arith, end)) }))
+  where
+    by : (b : Bool) → x.last ≡ b → lasts xs ≡ 0 → length (cond b (x ∷ filter (λ (item : Record). item.last) xs) (filter (λ (item : Record). item.last) xs)) ≡ 0
+    by true is none = let end : 0 + 1 ≡ suc (length (xs ++ y ∷ ys)) = ends.each 0 x refl is in absurd (omega (arith, end, length-append xs (y ∷ ys)))
+    by false is none = none

@@ -15,8 +15,8 @@ use Rattle.dbl_work.specs.declared.report.Report.{Report}
 use Rattle.dbl_work.specs.declared.halt.Halt.{Halt}
 use Rattle.dbl_work.specs.declared.halt.Halt.TheVariants as halt
 use Rattle.dbl_work.specs.Causes.{HasPutBefore, IsLongRecord}
-use Rattle.dbl_work.specs.Groups.{report_with, IsLeftByCut, HasLastsAtItsEnd, HoldsPut, WasTorn, WerePut}
-use Rattle.dbl_work.proofs.Puts.{IsNextGroup, front_cut, group_lasts, joined_push, left_cut, next_handful, report_none, report_twice, take_more}
+use Rattle.dbl_work.specs.Groups.{chunks_of, counted, report_with, IsLeftByCut, HasLastsAtItsEnd, HoldsPut, WasTorn, WerePut}
+use Rattle.dbl_work.proofs.Puts.{IsNextGroup, front_cut, group_lasts, joined_push, left_cut, next_handful, none_last, report_none, report_twice, take_more, within}
 
 -- a sink takes a group of so many bytes
 pub record IsShortGroup (group : List Record) : Type 0 where
@@ -104,6 +104,15 @@ module _ {K : Type 0} (holds : K → List (List Record) → Type 0) (snapshot : 
         ∙ (report_twice snapshot (joined p.put) gathered before ∙ ap (λ (l : List Record). report_with snapshot l before) (sym (joined_push p.put gathered))));
     short = all_snoc p.put gathered p.short (record { short = m.short });
   }
+
+  -- no window was counted, since a record is gathered yet
+  pub counts_stay : (records : List Record) (item : Record) (rest : List Record) (old new : K) (before after : Report) → before.chunks ≤ 2 ^ 64 - 1
+      → IsPut holds snapshot records (item ∷ []) rest old new before after → HasLastsAtItsEnd records → after.chunks ≡ before.chunks
+  counts_stay records item rest old new before after le p lasts = ap (λ (r : Report). r.chunks) (p.counted lasts) ∙ (ap (counted before.chunks) (by snapshot) ∙ within before.chunks (2 ^ 64 - 1) le)
+    where
+      by : (b : Bool) → chunks_of b (joined p.put) ≡ 0
+      by true = none_last (joined p.put) item rest (subst HasLastsAtItsEnd p.whole lasts)
+      by false = refl
 
   -- it has one record more
   pub gather_on : (records gathered : List Record) (item : Record) (rest : List Record) (old new : K) (before after : Report) → begins_behind gathered item ≡ false

@@ -19,6 +19,7 @@ use Rattle.dbl_commit.specs.Blocks.{IsAccepted}
 use Rattle.dbl_commit.specs.Stated.{commits_of}
 use Rattle.dbl_event.specs.Clashes.{clash_of}
 use Rattle.dbl_event.specs.EventJson.{envelopes}
+use Rattle.dbl_event.specs.Snapshots.{AreInKeyOrder}
 use Rattle.dbl_txn.specs.Stands.{StandsWhole}
 use Rattle.dbl_offset.specs.declared.offset.Offset.{Offset}
 use Rattle.dbl_offset.specs.Offsets.{IsOffset}
@@ -120,10 +121,12 @@ pub record IsOpenTable (work : Work) (table : ℕ) : Type 0 where
   pub cursor_is : slice_get work.follower.cursors table ≡ Some cursor
   pub not_done : cursor.done ≡ false
 
--- What was read by a plan: no more rows than it may, up to the last key of them; and it is done where they are fewer.
+-- What was read by a plan: no more rows than it may, in the order of their keys, up to the last of these; and it is done where they are
+-- fewer.
 pub record IsChunkOf (plan : Plan) (chunk : Chunk) : Type 0 where
   pub plan_is : chunk.plan ≡ plan
   pub few : length chunk.rows ≤ plan.limit
+  pub ordered : AreInKeyOrder chunk.rows
   pub through : chunk.through ≡ last_key plan.above chunk.rows
   pub done : chunk.done ≡ nat_lt (length chunk.rows) plan.limit
 
@@ -132,6 +135,7 @@ pub record IsArmedWork (table : ℕ) (old new : Work) : Type 0 where
   pub chunk : Chunk
   pub plan : plan_at old table ≡ Some chunk.plan
   pub few : length chunk.rows ≤ chunk.plan.limit
+  pub ordered : AreInKeyOrder chunk.rows
   pub through : chunk.through ≡ last_key chunk.plan.above chunk.rows
   pub done : chunk.done ≡ nat_lt (length chunk.rows) chunk.plan.limit
   pub is : new ≡ record old { follower = record old.follower { window = Armed chunk }; number = old.number + 1 }

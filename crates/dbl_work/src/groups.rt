@@ -147,6 +147,9 @@ pub fn put_all<K: Sink>(
         (left : List (List SpecRecord)) × K.may_leave sink.new left }
     ensures noted { HasLastsAtItsEnd records.items →
         WerePut snapshot records.items report.old report.new }
+    // A window is counted with its last record alone.
+    ensures counts { HasLastsAtItsEnd records.items →
+        OnErr result (report.new.chunks ≡ report.old.chunks) }
     ensures whole { OnOk result (HasLastsAtItsEnd records.items →
         report.new ≡ report_with snapshot records.items report.old) }
     ensures kept { (groups : List (List SpecRecord)) → K.holds sink.old groups →

@@ -121,6 +121,7 @@ pub fn follow<K: Sink>(
     ensures stepped { OnOk result (WasStepped commit.now work.old work.new) }
     ensures closes { IfOk result (λ closed. closed ≡ closes work.old commit.now) }
     ensures noted { ReportsStep commit.now work.old report.old report.new (is_ok result) }
+    ensures counts { OnErr result (report.new.chunks ≡ report.old.chunks) }
     ensures halt { IfErr result (λ h. (h ≡ Halt.Memory) ⊎ ((h ≡ Halt.Sink)
         ⊎ (IsClashIn (clash_by work.old.follower commit.now) h
         ⊎ ((clash_by work.old.follower commit.now ≡ None)

@@ -1,4 +1,4 @@
-use Rattle.std.proofs.Common.{◌≡◌, ◌∙◌, inl, inr, List, [], ◌∷◌, ◌++◌, sym, ap, subst, arith, le_refl}
+use Rattle.std.proofs.Common.{◌≡◌, ◌∙◌, inl, inr, List, [], ◌∷◌, ◌++◌, refl, sym, ap, subst, arith, le_refl}
 use Rattle.std.specs.Prelude.{Err}
 use Rattle.std.specs.Vec.Iter.{into_iter_items}
 use Rattle.std.proofs.lemmas.Result.{err_from_is_err_and}
@@ -8,9 +8,9 @@ use Rattle.dbl_work.specs.declared.halt.Halt.{Halt}
 use Rattle.dbl_work.specs.declared.halt.Halt.TheVariants as halt
 use Rattle.dbl_work.specs.declared.report.Report.{Report}
 use Rattle.dbl_work.specs.Groups.{WerePut}
-use Rattle.dbl_work.proofs.Exits.{later_on, rose_behind}
+use Rattle.dbl_work.proofs.Exits.{later_on, rose_behind, same_error}
 use Rattle.dbl_work.proofs.Puts.{left_cut, next_handful}
-use Rattle.dbl_work.proofs.Putting.{IsGroupHalt, IsPut, all_counted, all_held, all_put, all_short, gather_on, holds_put, last_group, left_still, long_group, long_put, next_begins, none_holds, none_left_over, none_long, none_put, put_at, put_begins, put_kept, put_more, put_on, torn_put, were_put}
+use Rattle.dbl_work.proofs.Putting.{IsGroupHalt, IsPut, all_counted, all_held, all_put, all_short, counts_stay, gather_on, holds_put, last_group, left_still, long_group, long_put, next_begins, none_holds, none_left_over, none_long, none_put, put_at, put_begins, put_kept, put_more, put_on, torn_put, were_put}
 use Rattle.dbl_work.proofs.groups.put_all.Goals as goal
 
 pub returns-in_err-gathered-clause-left : goal.returns-in_err-gathered-clause-left
@@ -30,14 +30,14 @@ records-init g c =
     let report = c.args.report.now in
     let records = c.args.records.items in
     let first = c.in-Some.first in
-    let rest = into_iter_items c.next.new.self in
     let same : c.into_iter-item-iterator.result ≡ c.next.new.self = c.into_iter-item-iterator.ensures.into_iter_gives in
-    let are : records ≡ first ∷ rest = sym c.into_iter-rest.ensures.rest ∙ c.in-Some.ensures.items in
+    let are : records ≡ first ∷ into_iter_items c.next.new.self = sym c.into_iter-rest.ensures.rest ∙ c.in-Some.ensures.items in
     record {
       is_gathered = c.in_ok-gathered.ensures.gathered;
       put = subst (λ (l : List Record). IsPut g.K.Sink.holds c.args.snapshot records l (into_iter_items c.into_iter-item-iterator.result) sink sink report report) (sym c.in_ok-gathered.ensures.items)
           (subst (λ (l : List Record). IsPut g.K.Sink.holds c.args.snapshot records (first ∷ []) l sink sink report report) (sym (ap into_iter_items same))
-          (put_begins g.K.Sink.holds c.args.snapshot records first rest sink report are (omega arith) (omega arith) (omega arith)));
+          (put_begins g.K.Sink.holds c.args.snapshot records first _ sink report are (omega arith) (omega arith) (omega arith)));
+      counts = λ lasts. refl;
       is_live = c.requires.live;
       comes = g.met.K.Sink.comes_self sink;
       later = le_refl (g.K.Sink.faults sink);
@@ -45,8 +45,7 @@ records-init g c =
 
 pub put_group-requires-clause-handful : goal.put_group-requires-clause-handful
 put_group-requires-clause-handful g c =
-    let here = put_at _ _ _ _ _ _ _ _ _ _ c.in-Some-item.ensures.steps.0 c.records.invariant.put in
-    next_handful _ _ _ (next_begins _ _ _ _ _ _ _ _ _ _ (sym c.begins.ensures ∙ c.if-begins.true) here)
+    next_handful _ _ _ (next_begins _ _ _ _ _ _ _ _ _ _ (sym c.begins.ensures ∙ c.if-begins.true) (put_at _ _ _ _ _ _ _ _ _ _ c.in-Some-item.ensures.steps.0 c.records.invariant.put))
 
 pub returns-in_err-put_group-clause-left : goal.returns-in_err-put_group-clause-left
 returns-in_err-put_group-clause-left g c groups left held may =
@@ -61,24 +60,14 @@ returns-in_err-put_group-clause-some g c groups held =
 
 pub returns-in_err-put_group-clause-noted : goal.returns-in_err-put_group-clause-noted
 returns-in_err-put_group-clause-noted g c lasts =
-    let records = c.args.records.items in
-    let before = c.args.report.now in
-    subst (λ (r : Report). WerePut c.args.snapshot records before r) (sym c.in_err-put_group.ensures.unnoted)
-    (were_put g.K.Sink.holds c.args.snapshot records c.records.gathered.items.items (into_iter_items c.records.item-iterator) c.args.sink.now c.records.sink before c.records.report c.records.invariant.put lasts)
+    subst (λ (r : Report). WerePut c.args.snapshot c.args.records.items c.args.report.now r) (sym c.in_err-put_group.ensures.unnoted) (were_put _ _ _ _ _ _ _ _ _ c.records.invariant.put lasts)
 
 pub returns-in_err-put_group-clause-kept : goal.returns-in_err-put_group-clause-kept
 returns-in_err-put_group-clause-kept g c groups held lasts =
     let p = err_from_is_err_and c.from_residual-in_err-put_group.result c.from_residual-in_err-put_group.ensures.1 in
-    let records = c.args.records.items in
-    let gathered = c.records.gathered.items.items in
-    let rest = into_iter_items c.records.item-iterator in
-    let old = c.args.sink.now in
-    let mid = c.records.sink in
-    let new = c.put_group.new.sink in
-    let before = c.args.report.now in
-    rw (p.1, p.2) (λ other. holds_put g.K.Sink.holds c.args.snapshot groups records gathered rest old new before c.put_group.new.report
-    (put_kept g.K.Sink.holds c.args.snapshot records gathered rest old mid new before c.records.report c.put_group.new.report c.records.invariant.put
-    (λ held_groups h. c.in_err-put_group.ensures.kept held_groups h (λ failed. let is : c.in_err-put_group.field-0.0 ≡ halt.Sink = cc in other (ap (λ (x : Halt). Err x) is))) c.in_err-put_group.ensures.unnoted) held lasts)
+    let is = c.in_err-put_group.ensures in
+    rw (p.1, p.2) (λ other. holds_put _ _ groups _ _ _ _ c.put_group.new.sink _ _ (put_kept _ _ _ _ _ _ _ c.put_group.new.sink _ _ _ c.records.invariant.put
+    (λ held_groups h. is.kept held_groups h (λ failed. let is : c.in_err-put_group.field-0.0 ≡ halt.Sink = cc in other (ap (λ (x : Halt). Err x) is))) is.unnoted) held lasts)
 
 pub returns-in_err-put_group-clause-torn : goal.returns-in_err-put_group-clause-torn
 returns-in_err-put_group-clause-torn g c groups held lasts is =
@@ -89,9 +78,7 @@ returns-in_err-put_group-clause-torn g c groups held lasts is =
 pub returns-in_err-put_group-clause-before : goal.returns-in_err-put_group-clause-before
 returns-in_err-put_group-clause-before g c groups held lasts len is =
     let p = err_from_is_err_and c.from_residual-in_err-put_group.result c.from_residual-in_err-put_group.ensures.1 in
-    let both : Err p.0 ≡ Err (halt.RecordTooLong len) = sym p.1 ∙ is in
-    let halted : p.0 ≡ halt.RecordTooLong len = cc in
-    let same : c.in_err-put_group.field-0.0 ≡ halt.RecordTooLong len = sym p.2 ∙ halted in
+    let same : c.in_err-put_group.field-0.0 ≡ halt.RecordTooLong len = sym p.2 ∙ same_error _ _ _ p.1 is in
     let here = put_at _ _ _ _ _ _ _ _ _ _ c.in-Some-item.ensures.steps.0 c.records.invariant.put in
     long_put _ _ groups _ _ _ _ _ _ c.put_group.new.sink _ _ c.put_group.new.report len here (next_begins _ _ _ _ _ _ _ _ _ _ (sym c.begins.ensures ∙ c.if-begins.true) here) lasts c.in_err-put_group.ensures.unnoted
     (c.in_err-put_group.ensures.kept (groups ++ here.put) (here.held groups held) (λ failed. let wrong : halt.RecordTooLong len ≡ halt.Sink = cc in cc))
@@ -101,20 +88,17 @@ pub returns-in_err-put_group-clause-halt : goal.returns-in_err-put_group-clause-
 returns-in_err-put_group-clause-halt g c =
     let p = err_from_is_err_and c.from_residual-in_err-put_group.result c.from_residual-in_err-put_group.ensures.1 in
     let here = put_at _ _ _ _ _ _ _ _ _ _ c.in-Some-item.ensures.steps.0 c.records.invariant.put in
-    let next = next_begins _ _ _ _ _ _ _ _ _ _ (sym c.begins.ensures ∙ c.if-begins.true) here in
     rw (p.1, p.2) (elim c.in_err-put_group.ensures.halt [
       | inl memory ↦ inl memory
       | inr (inl failed) ↦ inr (inl failed)
-      | inr (inr long) ↦ inr (inr (long_group _ _ _ c.in_err-put_group.field-0.0 next here.short long.0 long.1))
+      | inr (inr long) ↦ inr (inr (long_group _ _ _ c.in_err-put_group.field-0.0 (next_begins _ _ _ _ _ _ _ _ _ _ (sym c.begins.ensures ∙ c.if-begins.true) here) here.short long.0 long.1))
     ])
 
 pub returns-in_err-put_group-clause-failed : goal.returns-in_err-put_group-clause-failed
 returns-in_err-put_group-clause-failed g c is =
     let p = err_from_is_err_and c.from_residual-in_err-put_group.result c.from_residual-in_err-put_group.ensures.1 in
-    let both : Err p.0 ≡ Err halt.Sink = sym p.1 ∙ is in
-    let halted : p.0 ≡ halt.Sink = cc in
     rose_behind (g.K.Sink.faults c.args.sink.now) (g.K.Sink.faults c.records.sink) (g.K.Sink.faults c.put_group.new.sink) c.records.invariant.later
-    (c.in_err-put_group.ensures.failed (ap (λ (x : Halt). Err x) (sym p.2 ∙ halted)))
+    (c.in_err-put_group.ensures.failed (ap (λ (x : Halt). Err x) (sym p.2 ∙ same_error _ _ _ p.1 is)))
 
 pub returns-in_err-gathered-2-clause-left : goal.returns-in_err-gathered-2-clause-left
 returns-in_err-gathered-2-clause-left g c groups left held may =
@@ -134,16 +118,21 @@ pub returns-in_err-gathered-2-clause-noted : goal.returns-in_err-gathered-2-clau
 returns-in_err-gathered-2-clause-noted g c lasts =
     let here = put_at _ _ _ _ _ _ _ _ _ _ c.in-Some-item.ensures.steps.0 c.records.invariant.put in
     let more = put_more g.K.Sink.holds c.args.snapshot c.records.gathered.items.items c.records.sink c.put_group.new.sink c.records.report c.put_group.new.report c.in_ok-put_group.ensures.put c.in_ok-put_group.ensures.noted c.in_ok-put_group.ensures.long in
-    let there = put_on _ _ _ _ _ _ _ _ _ _ _ _ (sym c.begins.ensures ∙ c.if-begins.true) here more in
-    were_put _ _ _ _ _ _ _ _ _ there lasts
+    were_put _ _ _ _ _ _ _ _ _ (put_on _ _ _ _ _ _ _ _ _ _ _ _ (sym c.begins.ensures ∙ c.if-begins.true) here more) lasts
 
 pub returns-in_err-gathered-2-clause-kept : goal.returns-in_err-gathered-2-clause-kept
 returns-in_err-gathered-2-clause-kept g c groups held lasts =
     let p = err_from_is_err_and c.from_residual-in_err-gathered-2.result c.from_residual-in_err-gathered-2.ensures.1 in
     let here = put_at _ _ _ _ _ _ _ _ _ _ c.in-Some-item.ensures.steps.0 c.records.invariant.put in
     let more = put_more g.K.Sink.holds c.args.snapshot c.records.gathered.items.items c.records.sink c.put_group.new.sink c.records.report c.put_group.new.report c.in_ok-put_group.ensures.put c.in_ok-put_group.ensures.noted c.in_ok-put_group.ensures.long in
-    let there = put_on _ _ _ _ _ _ _ _ _ _ _ _ (sym c.begins.ensures ∙ c.if-begins.true) here more in
-    rw p.1 (λ other. holds_put _ _ groups _ _ _ _ _ _ _ there held lasts)
+    rw p.1 (λ other. holds_put _ _ groups _ _ _ _ _ _ _ (put_on _ _ _ _ _ _ _ _ _ _ _ _ (sym c.begins.ensures ∙ c.if-begins.true) here more) held lasts)
+
+pub returns-in_err-gathered-2-clause-counts : goal.returns-in_err-gathered-2-clause-counts
+returns-in_err-gathered-2-clause-counts g c lasts =
+    let p = err_from_is_err_and c.from_residual-in_err-gathered-2.result c.from_residual-in_err-gathered-2.ensures.1 in
+    let here = put_at _ _ _ _ _ _ _ _ _ _ c.in-Some-item.ensures.steps.0 c.records.invariant.put in
+    let more = put_more g.K.Sink.holds c.args.snapshot c.records.gathered.items.items c.records.sink c.put_group.new.sink c.records.report c.put_group.new.report c.in_ok-put_group.ensures.put c.in_ok-put_group.ensures.noted c.in_ok-put_group.ensures.long in
+    rw p.1 (counts_stay _ _ _ _ _ _ _ _ _ (omega arith) (put_on _ _ _ _ _ _ _ _ _ _ _ _ (sym c.begins.ensures ∙ c.if-begins.true) here more) lasts)
 
 pub records-preserved-then-begins : goal.records-preserved-then-begins
 records-preserved-then-begins g c =
@@ -153,6 +142,7 @@ records-preserved-then-begins g c =
     record {
       is_gathered = c.in_ok-gathered-2.ensures.gathered;
       put = subst (λ (l : List Record). IsPut g.K.Sink.holds c.args.snapshot c.args.records.items l (into_iter_items c.next-in-records.new.self) c.args.sink.now c.put_group.new.sink c.args.report.now c.put_group.new.report) (sym c.in_ok-gathered-2.ensures.items) there;
+      counts = counts_stay _ _ _ _ _ _ _ _ _ (omega arith) there;
       is_live = c.in_ok-put_group.ensures.live;
       comes = g.met.K.Sink.comes_on c.args.sink.now c.records.sink c.put_group.new.sink c.records.invariant.comes c.put_group.ensures.comes;
       later = later_on (g.K.Sink.faults c.args.sink.now) (g.K.Sink.faults c.records.sink) (g.K.Sink.faults c.put_group.new.sink) c.records.invariant.later c.put_group.ensures.later;
@@ -187,6 +177,7 @@ records-preserved g c =
       is_gathered = c.in_ok-gather.ensures.gathered;
       put = subst (λ (l : List Record). IsPut g.K.Sink.holds c.args.snapshot c.args.records.items l (into_iter_items c.next-in-records.new.self) c.args.sink.now c.records.sink c.args.report.now c.records.report) (sym c.in_ok-gather.ensures.items)
           (gather_on _ _ _ _ _ _ _ _ _ _ (sym c.begins.ensures ∙ c.if-begins.false) here);
+      counts = inv.counts;
       is_live = inv.is_live;
       comes = inv.comes;
       later = inv.later;
@@ -195,8 +186,7 @@ records-preserved g c =
 pub put_group-requires-2-clause-handful : goal.put_group-requires-2-clause-handful
 put_group-requires-2-clause-handful g c =
     let none : into_iter_items c.records.item-iterator ≡ [] = no_items (into_iter_items c.records.item-iterator) (omega (arith, c.in-None.ensures.steps.0, c.records.item-iterator.rest.ok)) in
-    let here = put_at _ _ _ _ _ _ _ _ _ _ none c.records.invariant.put in
-    next_handful _ _ _ (last_group _ _ _ _ _ _ _ _ here)
+    next_handful _ _ _ (last_group _ _ _ _ _ _ _ _ (put_at _ _ _ _ _ _ _ _ _ _ none c.records.invariant.put))
 
 pub returns-in_err-put_group-2-clause-left : goal.returns-in_err-put_group-2-clause-left
 returns-in_err-put_group-2-clause-left g c groups left held may =
@@ -212,24 +202,14 @@ returns-in_err-put_group-2-clause-some g c groups held =
 
 pub returns-in_err-put_group-2-clause-noted : goal.returns-in_err-put_group-2-clause-noted
 returns-in_err-put_group-2-clause-noted g c lasts =
-    let records = c.args.records.items in
-    let before = c.args.report.now in
-    subst (λ (r : Report). WerePut c.args.snapshot records before r) (sym c.in_err-put_group-2.ensures.unnoted)
-    (were_put g.K.Sink.holds c.args.snapshot records c.records.gathered.items.items (into_iter_items c.records.item-iterator) c.args.sink.now c.records.sink before c.records.report c.records.invariant.put lasts)
+    subst (λ (r : Report). WerePut c.args.snapshot c.args.records.items c.args.report.now r) (sym c.in_err-put_group-2.ensures.unnoted) (were_put _ _ _ _ _ _ _ _ _ c.records.invariant.put lasts)
 
 pub returns-in_err-put_group-2-clause-kept : goal.returns-in_err-put_group-2-clause-kept
 returns-in_err-put_group-2-clause-kept g c groups held lasts =
     let p = err_from_is_err_and c.from_residual-in_err-put_group-2.result c.from_residual-in_err-put_group-2.ensures.1 in
-    let records = c.args.records.items in
-    let gathered = c.records.gathered.items.items in
-    let rest = into_iter_items c.records.item-iterator in
-    let old = c.args.sink.now in
-    let mid = c.records.sink in
-    let new = c.put_group-2.new.sink in
-    let before = c.args.report.now in
-    rw (p.1, p.2) (λ other. holds_put g.K.Sink.holds c.args.snapshot groups records gathered rest old new before c.put_group-2.new.report
-    (put_kept g.K.Sink.holds c.args.snapshot records gathered rest old mid new before c.records.report c.put_group-2.new.report c.records.invariant.put
-    (λ held_groups h. c.in_err-put_group-2.ensures.kept held_groups h (λ failed. let is : c.in_err-put_group-2.field-0.0 ≡ halt.Sink = cc in other (ap (λ (x : Halt). Err x) is))) c.in_err-put_group-2.ensures.unnoted) held lasts)
+    let is = c.in_err-put_group-2.ensures in
+    rw (p.1, p.2) (λ other. holds_put _ _ groups _ _ _ _ c.put_group-2.new.sink _ _ (put_kept _ _ _ _ _ _ _ c.put_group-2.new.sink _ _ _ c.records.invariant.put
+    (λ held_groups h. is.kept held_groups h (λ failed. let is : c.in_err-put_group-2.field-0.0 ≡ halt.Sink = cc in other (ap (λ (x : Halt). Err x) is))) is.unnoted) held lasts)
 
 pub returns-in_err-put_group-2-clause-torn : goal.returns-in_err-put_group-2-clause-torn
 returns-in_err-put_group-2-clause-torn g c groups held lasts is =
@@ -241,9 +221,7 @@ returns-in_err-put_group-2-clause-torn g c groups held lasts is =
 pub returns-in_err-put_group-2-clause-before : goal.returns-in_err-put_group-2-clause-before
 returns-in_err-put_group-2-clause-before g c groups held lasts len is =
     let p = err_from_is_err_and c.from_residual-in_err-put_group-2.result c.from_residual-in_err-put_group-2.ensures.1 in
-    let both : Err p.0 ≡ Err (halt.RecordTooLong len) = sym p.1 ∙ is in
-    let halted : p.0 ≡ halt.RecordTooLong len = cc in
-    let same : c.in_err-put_group-2.field-0.0 ≡ halt.RecordTooLong len = sym p.2 ∙ halted in
+    let same : c.in_err-put_group-2.field-0.0 ≡ halt.RecordTooLong len = sym p.2 ∙ same_error _ _ _ p.1 is in
     let none : into_iter_items c.records.item-iterator ≡ [] = no_items (into_iter_items c.records.item-iterator) (omega (arith, c.in-None.ensures.steps.0, c.records.item-iterator.rest.ok)) in
     let here = put_at _ _ _ _ _ _ _ _ _ _ none c.records.invariant.put in
     long_put _ _ groups _ _ _ _ _ _ c.put_group-2.new.sink _ _ c.put_group-2.new.report len here (last_group _ _ _ _ _ _ _ _ here) lasts c.in_err-put_group-2.ensures.unnoted
@@ -255,20 +233,17 @@ returns-in_err-put_group-2-clause-halt g c =
     let p = err_from_is_err_and c.from_residual-in_err-put_group-2.result c.from_residual-in_err-put_group-2.ensures.1 in
     let none : into_iter_items c.records.item-iterator ≡ [] = no_items (into_iter_items c.records.item-iterator) (omega (arith, c.in-None.ensures.steps.0, c.records.item-iterator.rest.ok)) in
     let here = put_at _ _ _ _ _ _ _ _ _ _ none c.records.invariant.put in
-    let next = last_group _ _ _ _ _ _ _ _ here in
     rw (p.1, p.2) (elim c.in_err-put_group-2.ensures.halt [
       | inl memory ↦ inl memory
       | inr (inl failed) ↦ inr (inl failed)
-      | inr (inr long) ↦ inr (inr (long_group _ _ _ c.in_err-put_group-2.field-0.0 next here.short long.0 long.1))
+      | inr (inr long) ↦ inr (inr (long_group _ _ _ c.in_err-put_group-2.field-0.0 (last_group _ _ _ _ _ _ _ _ here) here.short long.0 long.1))
     ])
 
 pub returns-in_err-put_group-2-clause-failed : goal.returns-in_err-put_group-2-clause-failed
 returns-in_err-put_group-2-clause-failed g c is =
     let p = err_from_is_err_and c.from_residual-in_err-put_group-2.result c.from_residual-in_err-put_group-2.ensures.1 in
-    let both : Err p.0 ≡ Err halt.Sink = sym p.1 ∙ is in
-    let halted : p.0 ≡ halt.Sink = cc in
     rose_behind (g.K.Sink.faults c.args.sink.now) (g.K.Sink.faults c.records.sink) (g.K.Sink.faults c.put_group-2.new.sink) c.records.invariant.later
-    (c.in_err-put_group-2.ensures.failed (ap (λ (x : Halt). Err x) (sym p.2 ∙ halted)))
+    (c.in_err-put_group-2.ensures.failed (ap (λ (x : Halt). Err x) (sym p.2 ∙ same_error _ _ _ p.1 is)))
 
 pub returns-clause-put : goal.returns-clause-put
 returns-clause-put g c groups held =

@@ -12,6 +12,7 @@ use Rattle.dbl_work.specs.Causes.{HasPutBefore, IsLongRecord}
 use Rattle.dbl_work.specs.Groups.{HasLastsAtItsEnd, HoldsPut, WasTorn}
 use Rattle.dbl_work.specs.Halts.{follow_halt}
 use Rattle.dbl_work.specs.Works.{AreShort}
+use Rattle.dbl_work.proofs.Exits.{same_error}
 use Rattle.dbl_work.proofs.Following.{clash_halt, clash_kinds, follow_not_long, follow_not_sink, put_halt}
 use Rattle.dbl_work.proofs.Putting.{none_holds}
 use Rattle.dbl_work.proofs.Taking.{closes_mark, lasts_by, none_by_changes, reports_all, reports_none, reports_some, short_by_place, step_are, step_left, step_listed}
@@ -26,46 +27,33 @@ returns-in_err-records-clause-noted g c =
 pub returns-in_err-records-clause-halt : goal.returns-in_err-records-clause-halt
 returns-in_err-records-clause-halt g c =
     let p = err_from_is_err_and c.from_residual.result c.from_residual.ensures.1 in
-    let work = c.args.work.now in
-    let commit = c.args.commit.now in
-    let error = c.in_err-records.field-0.0 in
-    let clash = clash_by work.follower commit in
-    rw (p.1, p.2) (clash_halt clash (records_by work.follower commit work.now_ms) (follow_halt error) (clash_kinds clash error c.in_err-records.ensures.err))
+    let clash = clash_by c.args.work.now.follower c.args.commit.now in
+    rw (p.1, p.2) (clash_halt clash _ (follow_halt c.in_err-records.field-0.0) (clash_kinds clash c.in_err-records.field-0.0 c.in_err-records.ensures.err))
 
 pub returns-in_err-records-clause-kept : goal.returns-in_err-records-clause-kept
 returns-in_err-records-clause-kept g c groups held =
     let p = err_from_is_err_and c.from_residual.result c.from_residual.ensures.1 in
-    let work = c.args.work.now in
-    let commit = c.args.commit.now in
-    rw p.1 (λ other. none_holds g.K.Sink.holds (is_some (mark_of commit)) groups (records_by work.follower commit work.now_ms) c.args.sink.now c.args.report.now (omega arith) (omega arith) (omega arith) held)
+    rw p.1 (λ other. none_holds g.K.Sink.holds _ groups _ c.args.sink.now c.args.report.now (omega arith) (omega arith) (omega arith) held)
 
 pub returns-in_err-records-clause-torn : goal.returns-in_err-records-clause-torn
 returns-in_err-records-clause-torn g c groups held is =
     let p = err_from_is_err_and c.from_residual.result c.from_residual.ensures.1 in
-    let both : Err p.0 ≡ Err halt.Sink = sym p.1 ∙ is in
-    let halted : p.0 ≡ halt.Sink = cc in
-    absurd (follow_not_sink c.in_err-records.field-0.0 (sym p.2 ∙ halted))
+    absurd (follow_not_sink c.in_err-records.field-0.0 (sym p.2 ∙ same_error _ _ _ p.1 is))
 
 pub returns-in_err-records-clause-before : goal.returns-in_err-records-clause-before
 returns-in_err-records-clause-before g c groups held len is =
     let p = err_from_is_err_and c.from_residual.result c.from_residual.ensures.1 in
-    let both : Err p.0 ≡ Err (halt.RecordTooLong len) = sym p.1 ∙ is in
-    let halted : p.0 ≡ halt.RecordTooLong len = cc in
-    absurd (follow_not_long c.in_err-records.field-0.0 len (sym p.2 ∙ halted))
+    absurd (follow_not_long c.in_err-records.field-0.0 len (sym p.2 ∙ same_error _ _ _ p.1 is))
 
 pub returns-in_err-records-clause-sink : goal.returns-in_err-records-clause-sink
 returns-in_err-records-clause-sink g c is =
     let p = err_from_is_err_and c.from_residual.result c.from_residual.ensures.1 in
-    let both : Err p.0 ≡ Err halt.Sink = sym p.1 ∙ is in
-    let halted : p.0 ≡ halt.Sink = cc in
-    absurd (follow_not_sink c.in_err-records.field-0.0 (sym p.2 ∙ halted))
+    absurd (follow_not_sink c.in_err-records.field-0.0 (sym p.2 ∙ same_error _ _ _ p.1 is))
 
 pub returns-in_err-records-clause-failed : goal.returns-in_err-records-clause-failed
 returns-in_err-records-clause-failed g c is =
     let p = err_from_is_err_and c.from_residual.result c.from_residual.ensures.1 in
-    let both : Err p.0 ≡ Err halt.Sink = sym p.1 ∙ is in
-    let halted : p.0 ≡ halt.Sink = cc in
-    absurd (follow_not_sink c.in_err-records.field-0.0 (sym p.2 ∙ halted))
+    absurd (follow_not_sink c.in_err-records.field-0.0 (sym p.2 ∙ same_error _ _ _ p.1 is))
 
 pub returns-in_err-put_all-clause-left : goal.returns-in_err-put_all-clause-left
 returns-in_err-put_all-clause-left g c groups left held may =
@@ -94,8 +82,6 @@ returns-in_err-put_all-clause-kept g c groups held =
 pub returns-in_err-put_all-clause-torn : goal.returns-in_err-put_all-clause-torn
 returns-in_err-put_all-clause-torn g c groups held is =
     let p = err_from_is_err_and c.from_residual-in_err-put_all.result c.from_residual-in_err-put_all.ensures.1 in
-    let both : Err p.0 ≡ Err halt.Sink = sym p.1 ∙ is in
-    let halted : p.0 ≡ halt.Sink = cc in
     let work = c.args.work.now in
     let commit = c.args.commit.now in
     let items = c.in_ok-records.records.items in
@@ -104,13 +90,11 @@ returns-in_err-put_all-clause-torn g c groups held is =
     let lasts = subst HasLastsAtItsEnd (sym are) (lasts_by work.follower commit work.now_ms) in
     subst (λ (l : List Record). WasTorn g.K.Sink.may_leave groups (is_some (mark_of commit)) l c.args.report.now c.put_all.new.report c.put_all.new.sink) are
     (subst (λ (b : Bool). WasTorn g.K.Sink.may_leave groups b items c.args.report.now c.put_all.new.report c.put_all.new.sink) c.is_mark-snapshot.ensures
-    (c.in_err-put_all.ensures.torn groups held lasts (ap (λ (x : Halt). Err x) (sym p.2 ∙ halted))))
+    (c.in_err-put_all.ensures.torn groups held lasts (ap (λ (x : Halt). Err x) (sym p.2 ∙ same_error _ _ _ p.1 is))))
 
 pub returns-in_err-put_all-clause-before : goal.returns-in_err-put_all-clause-before
 returns-in_err-put_all-clause-before g c groups held len is =
     let p = err_from_is_err_and c.from_residual-in_err-put_all.result c.from_residual-in_err-put_all.ensures.1 in
-    let both : Err p.0 ≡ Err (halt.RecordTooLong len) = sym p.1 ∙ is in
-    let halted : p.0 ≡ halt.RecordTooLong len = cc in
     let work = c.args.work.now in
     let commit = c.args.commit.now in
     let items = c.in_ok-records.records.items in
@@ -119,27 +103,33 @@ returns-in_err-put_all-clause-before g c groups held len is =
     let lasts = subst HasLastsAtItsEnd (sym are) (lasts_by work.follower commit work.now_ms) in
     subst (λ (l : List Record). HasPutBefore g.K.Sink.holds groups (is_some (mark_of commit)) l c.args.report.now c.put_all.new.report c.put_all.new.sink (halt.RecordTooLong len)) are
     (subst (λ (b : Bool). HasPutBefore g.K.Sink.holds groups b items c.args.report.now c.put_all.new.report c.put_all.new.sink (halt.RecordTooLong len)) c.is_mark-snapshot.ensures
-    (c.in_err-put_all.ensures.before groups held lasts len (ap (λ (x : Halt). Err x) (sym p.2 ∙ halted))))
+    (c.in_err-put_all.ensures.before groups held lasts len (ap (λ (x : Halt). Err x) (sym p.2 ∙ same_error _ _ _ p.1 is))))
 
 pub returns-in_err-put_all-clause-noted : goal.returns-in_err-put_all-clause-noted
 returns-in_err-put_all-clause-noted g c =
     let p = err_from_is_err_and c.from_residual-in_err-put_all.result c.from_residual-in_err-put_all.ensures.1 in
     let work = c.args.work.now in
     let commit = c.args.commit.now in
-    let items = c.in_ok-records.records.items in
     let time : to_z w64 (of_z w64 work.now_ms) ≡ work.now_ms = to_z-of_z {w = w64} {z = work.now_ms} (search rules) in
-    let are = step_are work commit items _ time c.in_ok-records.ensures.records in
-    rw p.1 (reports_some commit work c.is_mark-snapshot.result items c.args.report.now c.put_all.new.report c.is_mark-snapshot.ensures are
+    let are = step_are work commit _ _ time c.in_ok-records.ensures.records in
+    rw p.1 (reports_some commit work c.is_mark-snapshot.result _ c.args.report.now c.put_all.new.report c.is_mark-snapshot.ensures are
     (c.put_all.ensures.noted (subst HasLastsAtItsEnd (sym are) (lasts_by work.follower commit work.now_ms))))
+
+pub returns-in_err-put_all-clause-counts : goal.returns-in_err-put_all-clause-counts
+returns-in_err-put_all-clause-counts g c =
+    let p = err_from_is_err_and c.from_residual-in_err-put_all.result c.from_residual-in_err-put_all.ensures.1 in
+    let work = c.args.work.now in
+    let time : to_z w64 (of_z w64 work.now_ms) ≡ work.now_ms = to_z-of_z {w = w64} {z = work.now_ms} (search rules) in
+    let are = step_are work c.args.commit.now c.in_ok-records.records.items _ time c.in_ok-records.ensures.records in
+    rw p.1 (c.in_err-put_all.ensures.counts (subst HasLastsAtItsEnd (sym are) (lasts_by work.follower c.args.commit.now work.now_ms)))
 
 pub returns-in_err-put_all-clause-halt : goal.returns-in_err-put_all-clause-halt
 returns-in_err-put_all-clause-halt g c =
     let p = err_from_is_err_and c.from_residual-in_err-put_all.result c.from_residual-in_err-put_all.ensures.1 in
     let work = c.args.work.now in
     let commit = c.args.commit.now in
-    let items = c.in_ok-records.records.items in
     let time : to_z w64 (of_z w64 work.now_ms) ≡ work.now_ms = to_z-of_z {w = w64} {z = work.now_ms} (search rules) in
-    let are = step_are work commit items _ time c.in_ok-records.ensures.records in
+    let are = step_are work commit _ _ time c.in_ok-records.ensures.records in
     let h = c.in_err-put_all.field-0.0 in
     rw (p.1, p.2) (put_halt (clash_by work.follower commit) (records_by work.follower commit work.now_ms) h c.in_ok-records.ensures.no_clash
     (subst (λ (l : List Record). (h ≡ halt.Memory) ⊎ ((h ≡ halt.Sink) ⊎ IsLongRecord l h)) are c.in_err-put_all.ensures.halt))
@@ -148,11 +138,9 @@ pub overflow_add-report : goal.overflow_add-report
 overflow_add-report g c =
     let work = c.args.work.now in
     let commit = c.args.commit.now in
-    let items = c.in_ok-records.records.items in
     let time : to_z w64 (of_z w64 work.now_ms) ≡ work.now_ms = to_z-of_z {w = w64} {z = work.now_ms} (search rules) in
-    let are = step_are work commit items _ time c.in_ok-records.ensures.records in
-    let whole = c.in_ok-put_all.ensures.whole (subst HasLastsAtItsEnd (sym are) (lasts_by work.follower commit work.now_ms)) in
-    let same : c.put_all.new.report.commits ≡ c.args.report.now.commits = ap (λ (r : Report). r.commits) whole in
+    let are = step_are work commit _ _ time c.in_ok-records.ensures.records in
+    let same : c.put_all.new.report.commits ≡ c.args.report.now.commits = ap (λ (r : Report). r.commits) (c.in_ok-put_all.ensures.whole (subst HasLastsAtItsEnd (sym are) (lasts_by work.follower commit work.now_ms))) in
     omega (arith, same, c.requires.commits)
 
 pub returns-clause-left : goal.returns-clause-left
@@ -196,10 +184,9 @@ pub returns-clause-noted : goal.returns-clause-noted
 returns-clause-noted g c =
     let work = c.args.work.now in
     let commit = c.args.commit.now in
-    let items = c.in_ok-records.records.items in
     let time : to_z w64 (of_z w64 work.now_ms) ≡ work.now_ms = to_z-of_z {w = w64} {z = work.now_ms} (search rules) in
-    let are = step_are work commit items _ time c.in_ok-records.ensures.records in
-    reports_all commit work c.is_mark-snapshot.result items c.args.report.now c.put_all.new.report _ c.is_mark-snapshot.ensures are
+    let are = step_are work commit _ _ time c.in_ok-records.ensures.records in
+    reports_all commit work c.is_mark-snapshot.result _ c.args.report.now c.put_all.new.report _ c.is_mark-snapshot.ensures are
     (c.in_ok-put_all.ensures.whole (subst HasLastsAtItsEnd (sym are) (lasts_by work.follower commit work.now_ms))) refl
 
 pub returns-clause-long : goal.returns-clause-long

@@ -49,6 +49,7 @@ returns-in-Ok-clause-same g c =
       chunk = c.in-Ok.armed;
       plan = c.in_ok-idle.ensures ∙ ap (λ (p : Plan). Some p) (sym c.in-Ok.ensures.chunk.plan_is);
       few = own.few;
+      ordered = own.ordered;
       through = own.through;
       done = own.done;
       is = λ i. record c.args.work.now { follower = c.arm.ensures i; number = c.args.work.now.number + 1 };
@@ -64,6 +65,7 @@ returns-in-Ok-clause-windowed g c s stands =
         chunk = chunk;
         plan = c.in_ok-idle.ensures ∙ ap (λ (p : Plan). Some p) (sym c.in-Ok.ensures.chunk.plan_is);
         few = own.few;
+        ordered = own.ordered;
         through = own.through;
         done = own.done;
         is = λ i. record c.args.work.now { follower = c.arm.ensures i; number = c.args.work.now.number + 1 };

@@ -10,7 +10,7 @@ use Rattle.dbl_work.specs.Causes.{IsHonestFault, IsOfRows}
 use Rattle.dbl_work.specs.Windowed.{MayHaveMarks, WasLooked}
 use Rattle.dbl_work.specs.Works.{IsChunkOf}
 use Rattle.dbl_work.proofs.Exits.{both_ok, rose_behind, taken_on}
-use Rattle.dbl_work.proofs.Looking.{mark_left, moved_left, others_left, was_looked}
+use Rattle.dbl_work.proofs.Looking.{mark_left, moved_left, others_left, read_order, was_looked}
 use Rattle.dbl_work.proofs.WindowFaults.{mark_fault, mark_honest, rows_fault, select_honest}
 use Rattle.dbl_work.proofs.windows.rows_and_high.Goals as goal
 
@@ -47,7 +47,7 @@ pub returns-clause-chunk : goal.returns-clause-chunk
 returns-clause-chunk g c =
     let held = c.in_ok-held.ensures in
     IfOk-weaker c.high.result (λ (armed : Chunk). armed ≡ c.in_ok-held.held) (IsChunkOf c.args.marked)
-    (λ armed same. subst (IsChunkOf c.args.marked) (sym same) (record { plan_is = held.same; few = held.few; through = held.through; done = held.done })) c.high.ensures.same
+    (λ armed same. subst (IsChunkOf c.args.marked) (sym same) (record { plan_is = held.same; few = held.few; ordered = read_order c.args.marked _ c.in_ok-held.held.rows held.chunk; through = held.through; done = held.done })) c.high.ensures.same
 
 pub returns-clause-rows : goal.returns-clause-rows
 returns-clause-rows g c =

@@ -21,11 +21,11 @@ use Rattle.dbl_exits.proofs.Taken.{followed_is, taken_is}
 use Rattle.dbl_causes.specs.Written.{AreClosed}
 use Rattle.dbl_causes.specs.Reported.{IsPlacedOf, end_behind}
 use Rattle.dbl_causes.specs.Halted.{MovesOne}
-use Rattle.dbl_causes.specs.Underway.{IsOfFirst, IsOpenedBy}
+use Rattle.dbl_causes.specs.Underway.{IsOfFirst, IsOpenedBy, IsOrderedWindow}
 use Rattle.dbl_causes.specs.Carried.{Beginning, CommitsLeaveItBehind, IsBehind, IsResting, MessagesLetItRest, SessionsBeginAtRest, StoresLetItRest, WindowsLetItRest}
 use Rattle.dbl_causes.proofs.Written.{read_windows_wait, steps_close_windows}
 use Rattle.dbl_causes.proofs.Reported.{ends_on, of_session}
-use Rattle.dbl_causes.proofs.Moving.{moves_one, steps_open_windows}
+use Rattle.dbl_causes.proofs.Moving.{becomes_ordered, moves_one, steps_open_windows}
 
 -- ---- it begins
 
@@ -49,6 +49,7 @@ sessions_begin_at_rest b every work report for begun messages commits chunks = r
     many = sym messages;
     followed = commits;
     opened = subst (λ (f : Following). IsOpenedBy f.window []) (sym begun.follower) tt;
+    ordered = subst (λ (f : Following). IsOrderedWindow f.window) (sym begun.follower) tt;
     windows = subst (λ (f : Following). work.number ≡ report.chunks + waiting f.window) (sym begun.follower) (none_yet work.number report.chunks begun.unread chunks);
     moves = record { others = λ place apart. ap (λ (f : Following). slice_get f.cursors place) begun.follower };
   };
@@ -96,6 +97,7 @@ windows_let_it_rest b ms stored old new table report r absent unread armed = sub
         many = r.is.many;
         followed = r.is.followed;
         opened = tt;
+        ordered = armed.ordered;
         windows = waits;
         moves = r.is.moves;
       };
@@ -129,6 +131,7 @@ messages_let_it_rest b ms stored old next before report bytes r w counted =
         many = one_longer (length ms) before.messages r.is.many;
         followed = r.is.followed ∙ ap (λ (l : List Commit). length l) same_commits;
         opened = subst (λ (l : List Commit). IsOpenedBy old.follower.window l) same_commits r.is.opened;
+        ordered = r.is.ordered;
         windows = r.is.windows;
         moves = r.is.moves;
       };
@@ -189,6 +192,7 @@ module _ (b : Beginning) (ms : List Message) (stored : Option Offset) (old next 
           ∙ (ap (λ (n : ℕ). n + 1) r.is.followed
           ∙ (sym (length-append (commits_of old.offset.infos ms) (commit ∷ [])) ∙ ap (λ (l : List Commit). length l) one_commit));
       opened = subst (λ (l : List Commit). IsOpenedBy new.follower.window l) one_commit (steps_open_windows commit taken new (commits_of old.offset.infos ms) st r.is.opened);
+      ordered = becomes_ordered old.follower.infos old.follower.window commit.body new.follower.window st.steps.window r.is.ordered;
       windows = closed_are;
       moves = moved;
     }
@@ -250,6 +254,7 @@ stores_let_it_rest b ms stored old new before report is same counted =
         many = is.many;
         followed = is.followed;
         opened = is.opened;
+        ordered = is.ordered;
         windows = is.windows;
         moves = record { others = λ place apart. refl };
       };

@@ -23,7 +23,7 @@ use Rattle.dbl_causes.specs.Written.{AreClosed}
 use Rattle.dbl_causes.specs.Reported.{AreSpelled, HasReadMessages, HasSettled, HasStoodBehind, IsFollowed, IsLeftOut, StoodAtLast, TellsSoMany, end_behind}
 use Rattle.dbl_causes.specs.Halted.{MovesOne}
 use Rattle.dbl_causes.specs.Musts.{MustHaltStood, MustHaltTold}
-use Rattle.dbl_causes.specs.Underway.{IsNewestHalt, IsOfFirst, IsOpenHalt, IsOpenedBy}
+use Rattle.dbl_causes.specs.Underway.{IsNewestHalt, IsOfFirst, IsOpenHalt, IsOpenedBy, IsOrderedWindow}
 
 -- ---- what it carries
 
@@ -45,6 +45,7 @@ pub record IsBehind (b : Beginning) (ms : List Message) (stored : Option Offset)
   pub many : length ms ≡ report.messages
   pub followed : report.commits ≡ length (commits_of work.offset.infos ms)
   pub opened : IsOpenedBy work.follower.window (commits_of work.offset.infos ms)
+  pub ordered : IsOrderedWindow work.follower.window
   pub windows : AreClosed work report.chunks
   pub moves : MovesOne offset.cursors work.follower.cursors
 

@@ -7,6 +7,7 @@ use Rattle.dbl_table.specs.declared.change.Commit.{Commit}
 use Rattle.dbl_table.specs.declared.config.Config.{Config}
 use Rattle.dbl_table.specs.declared.table.TableName.{TableName}
 use Rattle.dbl_commit.specs.Stated.{commits_of}
+use Rattle.dbl_event.specs.Snapshots.{AreInKeyOrder}
 use Rattle.dbl_honest.specs.Standings.{Standing}
 use Rattle.dbl_honest.specs.declared.started.Started.TheVariants.{Gone}
 use Rattle.dbl_honest.specs.Told.{Told, Began, IsTakenAnew, IsTakenBy, Read, Tells}
@@ -77,6 +78,12 @@ abbrev pub IsOpenedBy : Window → List Commit → Type 0
 IsOpenedBy Absent commits = Unit {0}
 IsOpenedBy (Armed chunk) commits = Unit {0}
 IsOpenedBy (Open chunk) commits = IsOpenAmong (low_text chunk.plan) (high_text chunk.plan) commits
+
+-- a window's rows are in the order of their keys
+abbrev pub IsOrderedWindow : Window → Type 0
+IsOrderedWindow Absent = Unit {0}
+IsOrderedWindow (Armed chunk) = AreInKeyOrder chunk.rows
+IsOrderedWindow (Open chunk) = AreInKeyOrder chunk.rows
 
 -- A commit that is followed keeps it so.
 abbrev pub StepsOpenWindows : Type 0

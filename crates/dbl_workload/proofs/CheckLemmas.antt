@@ -150,7 +150,7 @@ module _ (old now : Checked) (number : ℕ) (run : IsRunTo old now number) (comm
   alone_on = ap (λ (x : Checked). one_on x number store) run.same
 
   pub goes_on : CanGoOn (one_on now number store)
-  goes_on = record { behind = behind; rows = run.goes.rows }
+  goes_on = record { behind = behind; rows = run.goes.rows; named = run.goes.named }
 
   -- it committed nothing
   pub run_goes : committed ≡ None → IsRunTo old (one_on now number store) (number + 1)
@@ -215,7 +215,7 @@ module _ (old now : Checked) (number : ℕ) (run : IsRunTo old now number) (stor
   alone_left = ap (λ (x : Checked). let y : Checked = record x { prepared = record x.prepared { store = store } } in y) run.same
 
   pub goes_left : IsBehind now.prepared.steps.items number store → CanGoOn left_with
-  goes_left behind = record { behind = subst (λ (n : ℕ). IsBehind now.prepared.steps.items n store) (sym run.at) behind; rows = run.goes.rows }
+  goes_left behind = record { behind = subst (λ (n : ℕ). IsBehind now.prepared.steps.items n store) (sym run.at) behind; rows = run.goes.rows; named = run.goes.named }
 
 -- no step was left to be run
 pub run_none : (old now : Checked) (number steps : ℕ) → IsRunTo old now number → steps ≡ number → steps ≤ length old.prepared.steps.items → RunsTo steps old now (Ok None)

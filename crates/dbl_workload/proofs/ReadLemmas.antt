@@ -47,6 +47,7 @@ first_parts first checked b fits none commits = record {
   goes = record {
     behind = subst (λ (n : ℕ). IsBehind checked.prepared.steps.items n checked.prepared.store) (sym none) (begins_behind b.0 b.1 checked.prepared b.3 b.4);
     rows = fits;
+    named = (b.0, b.1, b.3, b.4.names);
   };
   few = omega (arith, ap (λ (l : List ℕ). length l) commits);
   there = subst (All (λ (n : ℕ). n < 1)) (sym commits) (All-nil (λ (n : ℕ). n < 1));

@@ -15,6 +15,7 @@ use Rattle.dbl_workload.specs.declared.checking.Doubt.{Doubt}
 use Rattle.dbl_workload.specs.declared.checking.Doubt.TheVariants as doubt
 use Rattle.dbl_workload.specs.declared.error.DemoError.{DemoError}
 use Rattle.dbl_workload.specs.declared.error.DemoError.TheVariants as demo
+use Rattle.dbl_workload.specs.Ready.{AreTableNames}
 use Rattle.dbl_workload.specs.Steps.{FitAnEntry, IsBehind}
 
 -- the numbers of the commits' entries, the first of these entries having this number
@@ -46,10 +47,12 @@ pub record IsChecked (w : Workload) (entries : List Entry) (checked : Checked) :
   pub commits : checked.commits.items ≡ commit_places 1 entries
   pub confirmed : checked.confirmed ≡ confirmed_in entries
 
--- whatever the entries were: the store stands behind steps of a workload, and an entry can hold its rows
+-- whatever the entries were: the store stands behind steps of a workload, an entry can hold its rows, and the names are those of a
+-- workload's tables
 pub record CanGoOn (checked : Checked) : Type 0 where
   pub behind : IsBehind checked.prepared.steps.items checked.done checked.prepared.store
   pub rows : IfSome checked.prepared.rows FitAnEntry
+  pub named : AreTableNames checked.prepared.names.items
 
 -- one more was checked: it is an entry that may stand there; or it spells none that may; or memory was wanting
 pub record IsTaken (w : Workload) (entries : List Entry) (bytes : List ℕ) (new : Checked) : Type 0 where

@@ -1,8 +1,9 @@
 -- What a workload gives that was read, before its first step.
-use Rattle.std.specs.Prelude.{◌≡◌, IfSome, option_to_list, map}
+use Rattle.std.specs.Prelude.{◌≡◌, ℕ, IfSome, option_to_list, List, map}
+use Rattle.dbl_table.specs.declared.table.TableName.{TableName}
 use Rattle.dbl_serial.specs.Sending.{log_tables}
 use Rattle.dbl_tables.specs.Stands.{Stands}
-use Rattle.dbl_sound.specs.Workloads.{Workload, acts_at, log_at, steps_of}
+use Rattle.dbl_sound.specs.Workloads.{IsWorkload, Workload, acts_at, log_at, steps_of}
 use Rattle.dbl_workload.specs.declared.preparing.Prepared.{Prepared}
 use Rattle.dbl_workload.specs.Steps.{IsShort}
 
@@ -15,3 +16,7 @@ pub record IsReady (w : Workload) (ready : Prepared) : Type 0 where
   pub steps : ready.steps.items ≡ steps_of w
   pub rows : log_at w 0 ≡ option_to_list ready.rows
   pub short : IfSome ready.rows IsShort
+
+-- the names of the tables of a workload that can be run
+abbrev pub AreTableNames : List TableName → Type 0
+AreTableNames names = (script : List ℕ) × (w : Workload) × IsWorkload script w × (names ≡ map (λ table. table.info.name) w.tables)

@@ -3,6 +3,7 @@
 ghost use Rattle.std.specs.Prelude.{◌≡◌, ◌⊎◌, ℕ, ◌<◌, ◌^◌, List, Some, Err, IfOk, IfErr, IfSome, OnOk, IsTrue, None, slice_get};
 ghost use Rattle.dbl_journal.specs.Stored.{Lists, count_of};
 ghost use Rattle.dbl_workload.specs.Logs.{ChecksAll, Fails, HasReadParts, IsBegun, IsFailed, IsReadFault, IsReadOnly, NoWorkload, ReadsFirst, ReadsLog, workload_error};
+ghost use Rattle.dbl_workload.specs.Ready.{AreTableNames};
 ghost use Rattle.dbl_workload.specs.Steps.{FitAnEntry};
 
 use crate::DemoError;
@@ -116,6 +117,7 @@ pub fn check_log<D: Disk>(alloc: Global, journal: &mut Journal<D>) -> Result<Che
     ensures opened { (forms : List (List ℕ)) → Lists D.seen D.may_leave journal.old forms
         → ReadsLog forms result }
     ensures found { IfOk result (λ checked. checked.prepared.rows ≡ None) }
+    ensures named { IfOk result (λ checked. AreTableNames checked.prepared.names.items) }
     ensures parts { IfOk result (HasReadParts (count_of journal.old)) }
     ensures small { count_of journal.old < 2 ^ 40 }
     ensures kinds { IfErr result (λ e. IsReadFault e) }

@@ -81,6 +81,9 @@ returns-clause-opened g c = λ forms lists.
 pub returns-clause-found : goal.returns-clause-found
 returns-clause-found g c = none_when c.check_entries.new.checked.prepared.rows (sym c.is_some.ensures ∙ c.if-is_some.false)
 
+pub returns-clause-named : goal.returns-clause-named
+returns-clause-named g c = c.in_ok-check_entries.ensures.parts.goes.named
+
 pub returns-clause-parts : goal.returns-clause-parts
 returns-clause-parts g c = subst (λ (n : ℕ). HasReadParts n c.check_entries.new.checked) (count_same c.args.journal.now c.read_first.new.journal c.in_ok-checked.ensures.read.same) c.in_ok-check_entries.ensures.parts
 

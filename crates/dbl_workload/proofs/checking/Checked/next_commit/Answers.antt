@@ -30,4 +30,5 @@ pub returns-clause-goes : goal.returns-clause-goes
 returns-clause-goes c = record {
   behind = c.requires.behind;
   rows = subst (λ (o : Option (List Message)). IfSome o FitAnEntry) (sym c.take.ensures.after) tt;
+  named = c.requires.named;
 }

@@ -44,4 +44,5 @@ module _ {D : Type 0} (seen : D → Option (List ℕ)) (may_leave : D → List �
         read = λ place at. subst (λ (l : List Entry). AreMarks (drop (index_of place) (logged_in (wal.entries ++ l)))) (sym added)
             (subst (λ (l : List Logged). AreMarks (drop (index_of place) l)) (sym (filter_map-append logged_by wal.entries own))
             (marks_on (index_of place) (logged_in wal.entries) (logged_in own) (was.read place (sym kept.place ∙ at)) marks));
+        whole = λ place at. was.whole place (sym kept.place ∙ at);
       }

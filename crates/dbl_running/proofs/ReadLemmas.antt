@@ -1,5 +1,5 @@
 -- What a read promises as one of any source, from what it comes to.
-use Rattle.std.proofs.Common.{◌≡◌, ◌∙◌, ◌⊎◌, ℕ, ◌≤◌, true, false, Option, None, Some, List, [], ◌∷◌, ◌++◌, length, refl, sym, ap, subst, arith, inl, inr}
+use Rattle.std.proofs.Common.{◌≡◌, ◌∙◌, ◌⊎◌, ℕ, ◌≤◌, Bool, true, false, Option, None, Some, List, [], ◌∷◌, ◌++◌, length, refl, sym, ap, subst, arith, inl, inr}
 use Rattle.std.specs.Prelude.{IsTrue, is_none, is_some, MatchOption, Result, Ok, Err, IfOk, OnOk, option_map}
 use Rattle.std.specs.List.{AllByRecursion}
 use Rattle.std.proofs.lemmas.List.{append-nil, drop_all}
@@ -28,7 +28,7 @@ use Rattle.dbl_sound.proofs.GrowsLemmas.{confirmed_stays, history_grows, reading
 use Rattle.dbl_sound.proofs.LeftLemmas.{follows_released, left_as}
 use Rattle.dbl_running.specs.Answers.{AddsRead, ReadBehind}
 use Rattle.dbl_running.specs.Calls.{HasReadWhole, ReadOn, ReadsOnTo}
-use Rattle.dbl_running.specs.Demo.{ComesOf, Demo, HasEnded, IsDemo, IsMark, StandsFor}
+use Rattle.dbl_running.specs.Demo.{ComesOf, Demo, HasEnded, IsDemo, IsMark, IsRunning, StandsFor}
 use Rattle.dbl_running.specs.Reading.{ReadNone, ReadOne}
 use Rattle.dbl_running.specs.SourceLaws.{wal_of}
 use Rattle.dbl_running.proofs.CallLemmas.{leads, stood_for}
@@ -39,6 +39,10 @@ use Rattle.dbl_running.proofs.PromiseLemmas.{commits_added, leaves_some, live_or
 pub place_there : {D : Type 0} (demo : Demo D) (place : Option Place) → demo.place ≡ place → IsTrue (is_some place) → (p : Place) × (demo.place ≡ Some p)
 place_there demo None is some = absurd (let wrong : false ≡ true = some in cc)
 place_there demo (Some p) is some = (p, is)
+
+not_begun : (begun : Bool) → (IsTrue begun → ⊥) → begun ≡ false
+not_begun false none = refl
+not_begun true none = absurd (none refl)
 
 -- a read ends with a commit to be read, or where no step is left
 pub read_ends : (w : Workload) (entries : List Entry) (place : Place) (done upto : ℕ) {from : ℕ} → ReadsOn w entries place done upto from → EndsRead w entries place done upto ⊎ (length (steps_of w) ≤ upto)
@@ -76,15 +80,16 @@ module _ {D : Type 0} (seen : D → Option (List ℕ)) (may_leave : D → List �
       unread_not unread = omega (arith, unread, behind.next.end, ap (λ (l : List Entry). length (logged_in (wal.entries ++ l))) (append-nil (released wal.workload old.done new.done)))
 
   -- so it has ended
-  ended_whole : HasReadWhole next new → HasEnded next new
-  ended_whole whole = record {
+  ended_whole : HasReadWhole next new → IsRunning seen may_leave next new → HasEnded next new
+  ended_whole whole running = record {
     done = whole.done;
     read = λ p at. subst (λ (l : List Logged). AllByRecursion IsMark l) (sym (drop_all (index_of p) (logged_in next.entries) (whole.read p at))) tt;
+    whole = λ p at. not_begun p.begun (λ begun. absurd (omega (arith, (running.reader.placed p at).there begun, whole.read p at)));
   }
 
   -- the source behind it
   pub demo_behind : IsTrue new.live → (read : Option (List ℕ)) → new.ended ≡ is_none read → ReadBehind seen may_leave wal place old new read → IsDemo seen may_leave next new
-  demo_behind live None ended behind = record { live = live; running = behind.next.running; ended = λ is. ended_whole (read_whole behind) }
+  demo_behind live None ended behind = record { live = live; running = behind.next.running; ended = λ is. ended_whole (read_whole behind) behind.next.running }
   demo_behind live (Some bytes) ended behind = record { live = live; running = behind.next.running; ended = λ is. absurd (let wrong : true ≡ false = sym is ∙ ended in cc) }
 
   -- no message is left

@@ -1,5 +1,5 @@
 -- A source over a disk that runs a workload: its parts, and the wal that it stands for.
-use Rattle.std.specs.Prelude.{◌≡◌, ℕ, ◌<◌, ◌≤◌, ◌^◌, Bool, IsTrue, Option, Some, slice_get, List, length, map, drop}
+use Rattle.std.specs.Prelude.{◌≡◌, ℕ, ◌<◌, ◌≤◌, ◌^◌, Bool, false, IsTrue, Option, Some, slice_get, List, length, map, drop}
 use Rattle.std.specs.List.{All, AllByRecursion}
 use Rattle.std.specs.BTreeSet.{BTreeSet}
 use Rattle.dbl_base.specs.declared.lsn.Lsn.{Lsn}
@@ -68,10 +68,11 @@ abbrev pub IsMark : Logged → Type 0
 IsMark (Changes messages) = ⊥
 IsMark (Mark value) = Unit {0}
 
--- no step is left, and behind the reader stand marks alone
+-- no step is left, and behind the reader, which is inside of no commit, stand marks alone
 pub record HasEnded {D : Type 0} (wal : Wal) (demo : Demo D) : Type 0 where
   pub done : demo.done ≡ length demo.steps
   pub read : (place : Place) → demo.place ≡ Some place → AllByRecursion IsMark (drop (index_of place) (logged_in wal.entries))
+  pub whole : (place : Place) → demo.place ≡ Some place → place.begun ≡ false
 
 -- the source can be used, and stands for this wal
 pub record IsDemo {D : Type 0} (seen : D → Option (List ℕ)) (may_leave : D → List ℕ → Type 0) (wal : Wal) (demo : Demo D) : Type 0 where

@@ -1,13 +1,13 @@
 //! The session.
 
-ghost use Rattle.std.specs.Prelude.{◌≡◌, ◌≢◌, ◌⊎◌, ◌<◌, ◌≤◌, List, Option, Some, Bool, [], IfErr, IfOk, IsTrue, OnErr, OnOk};
+ghost use Rattle.std.specs.Prelude.{◌≡◌, ◌≢◌, ◌⊎◌, ◌<◌, ◌≤◌, List, Option, Some, None, Bool, [], IfErr, IfOk, IsTrue, OnErr, OnOk};
 ghost use Rattle.dbl_base.specs.Streams.{Rose};
 ghost use Rattle.dbl_record.specs.declared.record.Record.{Record as SpecRecord};
 ghost use Rattle.dbl_table.specs.Configs.{IsGoodConfig};
 ghost use Rattle.dbl_honest.specs.Calls.{Moved};
 ghost use Rattle.dbl_honest.specs.Leaves.{Leaves, LeavesSome};
 ghost use Rattle.dbl_honest.specs.Standings.{Leads, Left, Standing, Stood};
-ghost use Rattle.dbl_honest.specs.Told.{IsTakenBy, Told};
+ghost use Rattle.dbl_honest.specs.Told.{Head, IsTakenBy, Tells, Told};
 ghost use Rattle.dbl_offset.specs.declared.offset.Offset.{Offset as SpecOffset};
 ghost use Rattle.dbl_offset.specs.Offsets.{IsOffset};
 ghost use Rattle.dbl_offset.specs.Stores.{ComesOf, IsLive, disk_of};
@@ -18,12 +18,13 @@ ghost use Rattle.dbl_exits.specs.Ends.{AreAllDone, IsAtPosition, LeavesComplete}
 ghost use Rattle.dbl_exits.specs.Found.{BeganAt, BeginsAt, Found, HasStored, IsAsked, IsEntryOf, IsFound, entry_at, position_of};
 ghost use Rattle.dbl_exits.specs.Sessions.{AddsFew, InSession, LeavesBy, LeavesGoing};
 ghost use Rattle.dbl_causes.specs.Gained.{Gains, IsReported};
-ghost use Rattle.dbl_causes.specs.Musts.{MustExhaust, MustHaltStood, MustHaltTold};
+ghost use Rattle.dbl_causes.specs.Halted.{IsHalt};
+ghost use Rattle.dbl_causes.specs.Musts.{MustExhaust, MustHalt, MustHaltStood, MustHaltTold};
 ghost use Rattle.dbl_causes.specs.Reported.{HasReadMessages, HasSettled, HasStoodBehind, IsFollowed, StoodAtLast};
 ghost use Rattle.dbl_honest.specs.Growth.{marks_in};
 ghost use Rattle.dbl_causes.specs.Nevers.{IsHonestHalt};
 ghost use Rattle.dbl_causes.specs.Sources.{IsUnderWay};
-ghost use Rattle.dbl_steps.specs.Caused.{Halts, IsCaused, IsNotGone};
+ghost use Rattle.dbl_steps.specs.Caused.{AsksUnread, Halts, IsNotGone};
 ghost use Rattle.dbl_causes.specs.Underway.{IsBeginHalt};
 ghost use Rattle.dbl_causes.specs.Written.{AddsAtMost, AddsExactly, marks_more};
 ghost use Rattle.dbl_steps.specs.Sinks.{IsPutting};
@@ -72,6 +73,10 @@ fn offset_of<S: Source, D: Disk>(
     ensures still { (s t : Standing) → S.stands src.old s → S.stands src.new t →
         t.reading ≡ s.reading }
     ensures taken { IsTakenBy [] (S.told src.old) (S.told src.new) }
+    ensures headed { store.now.offset ≡ None →
+        OnOk result ((lsn : _) × Tells (S.told src.new) (Head lsn)) }
+    ensures ask { IfErr result (AsksUnread config.now store.now.offset store.now.offset
+        (S.told src.new)) }
 {
     match again(alloc, store)? {
         Some(offset) => Ok(offset),
@@ -125,6 +130,8 @@ fn begun<S: Source, K: Sink, D: Disk>(
     ensures still { (s t : Standing) → S.stands src.old s → S.stands src.new t →
         t.reading ≡ s.reading }
     ensures taken { IsTakenBy [] (S.told src.old) (S.told src.new) }
+    ensures ask { IfErr result (AsksUnread config.now store.old.offset store.new.offset
+        (S.told src.new)) }
     ensures offsets { result ≡ Err Halt.Offsets →
         Rose (D.faults (disk_of store.old)) (D.faults (disk_of store.new)) }
 {
@@ -302,7 +309,7 @@ pub fn session<S: Source, K: Sink, D: Disk>(
     ensures position { report.new.position ≡ position_of offsets.old.offset offsets.new.offset }
 
     // Why it halts: what its source told; and of one that stands, by its catalogue.
-    ensures halt { IfErr result (IsCaused config.now now_ms offsets.old.offset offsets.new.offset
+    ensures halt { IfErr result (IsHalt config.now now_ms offsets.old.offset offsets.new.offset
         report.new (S.told src.new)) }
     ensures absent { (s : Standing) → S.stands src.old s →
         IfErr result (IsAbsentHalt config.now.tables s.history) }
@@ -335,6 +342,11 @@ pub fn session<S: Source, K: Sink, D: Disk>(
     ensures must_stood { (s t : Standing) → S.stands src.old s → S.stands src.new t →
         MustHaltStood config.now now_ms offsets.old.offset offsets.new.offset report.new t
         result }
+
+    // And for what its source answered last: bytes that are no message, rows or a description at
+    // fault, that there is no such table, or that the log is gone.
+    ensures answered { (t : Told) → S.told src.new ≡ Some t →
+        MustHalt config.now offsets.old.offset offsets.new.offset report.new t result }
 
     // Where it halts by a watermark that is missing, or by a count.
     ensures missed { (value at : _) → result ≡ Err (Halt.WatermarkMissing value at) →

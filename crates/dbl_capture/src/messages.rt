@@ -15,7 +15,7 @@ ghost use Rattle.dbl_causes.specs.Written.{AddsNoMore, AreClosed};
 ghost use Rattle.dbl_causes.specs.Nevers.{IsHonestHalt};
 ghost use Rattle.dbl_causes.specs.Sources.{GoesOn, IsUnderWay};
 ghost use Rattle.dbl_steps.specs.Sinks.{HasHaltedPut, IsPutting};
-ghost use Rattle.dbl_steps.specs.Caused.{Halts, IsNotGone};
+ghost use Rattle.dbl_steps.specs.Caused.{Halts, IsNotGone, IsQuiet};
 ghost use Rattle.dbl_steps.specs.Putting.{PutsOn};
 
 use dbl_disk::Disk;
@@ -105,6 +105,7 @@ pub(crate) fn next<S: Source, K: Sink, D: Disk>(
         (S.told src.old) →
         IfErr result (Halts S.stands at found b.config b.now b.held store.now.offset report.new
         src.new (S.told src.new)) }
+    ensures quiet { OnOk result (IsQuiet (S.told src.new)) }
 
     // What the sink has, and what is left of it.
     ensures putting { (groups : List (List SpecRecord)) (b : Beginning) →

@@ -16,7 +16,7 @@ ghost use Rattle.dbl_causes.specs.Written.{AddsNoMore, AreClosed};
 ghost use Rattle.dbl_causes.specs.Nevers.{IsHonestHalt};
 ghost use Rattle.dbl_causes.specs.Sources.{HasCommitted, HasSettledAll};
 ghost use Rattle.dbl_steps.specs.Sinks.{HasHaltedPut, HasPutCommit, IsPutting};
-ghost use Rattle.dbl_steps.specs.Caused.{Halts, IsNotGone};
+ghost use Rattle.dbl_steps.specs.Caused.{Halts, IsNotGone, IsQuiet};
 
 use dbl_disk::Disk;
 use dbl_offset::OffsetStore;
@@ -85,9 +85,10 @@ pub(crate) fn settle<S: Source, K: Sink, D: Disk>(
         (S.told src.new)) }
     ensures halted { (at : Option Standing) (found : Option Told) (b : Beginning) →
         HasCommitted S.stands at found b store.old.offset work.old report.old src.old
-        (S.told src.old) →
+        (S.told src.old) → IsQuiet (S.told src.old) →
         IfErr result (Halts S.stands at found b.config b.now b.held store.new.offset report.new
         src.new (S.told src.new)) }
+    ensures quiet { OnOk result (IsQuiet (S.told src.new)) }
 
     // What the sink has, and what is left of it.
     ensures putting { (groups : List (List SpecRecord)) (b : Beginning) →

@@ -20,7 +20,7 @@ ghost use Rattle.dbl_causes.specs.Written.{AddsNoMore, AreClosed};
 ghost use Rattle.dbl_causes.specs.Nevers.{IsHonestHalt};
 ghost use Rattle.dbl_causes.specs.Sources.{HasSettledAll, IsUnderWay};
 ghost use Rattle.dbl_steps.specs.Sinks.{HasHaltedPut, IsPutting};
-ghost use Rattle.dbl_steps.specs.Caused.{Halts, IsNotGone};
+ghost use Rattle.dbl_steps.specs.Caused.{Halts, IsNotGone, IsQuiet};
 
 use crate::messages::next;
 use crate::settle::settle;
@@ -85,6 +85,7 @@ fn arm_next<S: Source, K: Sink, D: Disk>(
         IsUnderWay S.stands at found b store.now.offset work.old report src.old (S.told src.old) →
         IfErr result (Halts S.stands at found b.config b.now b.held store.now.offset report
         src.new (S.told src.new)) }
+    ensures quiet { IsQuiet (S.told src.old) → OnOk result (IsQuiet (S.told src.new)) }
     ensures putting { (groups : List (List SpecRecord)) (b : Beginning) (report : SpecReport) →
         IsPutting K.holds groups b store.now.offset work.old report sink.now →
         OnOk result (IsPutting K.holds groups b store.now.offset work.new report sink.now) }
@@ -167,6 +168,7 @@ fn end<S: Source, K: Sink, D: Disk>(
         (S.told src.old) → Tells (S.told src.old) (Read None) →
         IfErr result (Halts S.stands at found b.config b.now b.held store.new.offset report.new
         src.new (S.told src.new)) }
+    ensures quiet { OnOk result (IsQuiet (S.told src.new)) }
 
     // What the sink has, and what is left of it.
     ensures putting { (groups : List (List SpecRecord)) (b : Beginning) →
@@ -293,6 +295,7 @@ fn turn<S: Source, K: Sink, D: Disk>(
         (S.told src.old) →
         IfErr result (Halts S.stands at found b.config b.now b.held store.new.offset report.new
         src.new (S.told src.new)) }
+    ensures quiet { OnOk result (IsQuiet (S.told src.new)) }
 
     // What the sink has, and what is left of it.
     ensures putting { (groups : List (List SpecRecord)) (b : Beginning) →
@@ -348,6 +351,7 @@ pub(crate) fn run<S: Source, K: Sink, D: Disk>(
     requires number { work.old.number ≡ 0 }
     requires report { (report.old.messages ≡ 0) × (report.old.commits ≡ 0) }
     requires budget { budget ≤ 999999999 }
+    requires some { 1 ≤ budget }
 
     // What it leaves.
     ensures ran { (tell : Bool) (entry : SpecEntry) →
@@ -416,6 +420,7 @@ pub(crate) fn run<S: Source, K: Sink, D: Disk>(
         (S.told src.old) →
         IfErr result (Halts S.stands at found b.config b.now b.held store.new.offset report.new
         src.new (S.told src.new)) }
+    ensures quiet { OnOk result (IsQuiet (S.told src.new)) }
 
     // What the sink has, and what is left of it.
     ensures putting { (groups : List (List SpecRecord)) (b : Beginning) →

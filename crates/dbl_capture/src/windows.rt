@@ -15,7 +15,7 @@ ghost use Rattle.dbl_causes.specs.Written.{AddsNoMore, AreClosed};
 ghost use Rattle.dbl_causes.specs.Nevers.{IsHonestHalt};
 ghost use Rattle.dbl_causes.specs.Sources.{IsUnderWay};
 ghost use Rattle.dbl_steps.specs.Sinks.{HasHaltedPut, IsPutting};
-ghost use Rattle.dbl_steps.specs.Caused.{Halts, IsNotGone};
+ghost use Rattle.dbl_steps.specs.Caused.{Halts, IsNotGone, IsQuiet};
 
 use dbl_disk::Disk;
 use dbl_offset::OffsetStore;
@@ -68,6 +68,7 @@ pub(crate) fn arm<S: Source, K: Sink, D: Disk>(
         IsUnderWay S.stands at found b store.now.offset work.old report src.old (S.told src.old) →
         IfErr result (Halts S.stands at found b.config b.now b.held store.now.offset report
         src.new (S.told src.new)) }
+    ensures quiet { OnOk result (IsQuiet (S.told src.new)) }
     ensures putting { (groups : List (List SpecRecord)) (b : Beginning) (report : SpecReport) →
         IsPutting K.holds groups b store.now.offset work.old report sink.now →
         OnOk result (IsPutting K.holds groups b store.now.offset work.new report sink.now) }

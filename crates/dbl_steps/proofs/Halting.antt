@@ -23,69 +23,44 @@ use Rattle.dbl_work.specs.Halts.{source_halt}
 use Rattle.dbl_work.specs.Takes.{IsClashIn, IsMessageHalt, IsTxnHalt, WasTaken}
 use Rattle.dbl_work.specs.Works.{IsOpenTable, next_of}
 use Rattle.dbl_causes.specs.Halted.{IsHalt}
+use Rattle.dbl_causes.specs.Written.{AreClosed}
 use Rattle.dbl_causes.specs.Underway.{IsBetween, IsOpenHalt}
 use Rattle.dbl_causes.specs.Carried.{AreTold, Beginning, IsBehind, IsResting}
 use Rattle.dbl_causes.proofs.Causes.{bytes_halt, marks_are_missed, messages_halt, offsets_halt, windows_halt}
 use Rattle.dbl_causes.proofs.Ended.{has_taken}
 use Rattle.dbl_causes.proofs.Unread.{sessions_halt_unread}
-use Rattle.dbl_steps.specs.Caused.{IsCaused}
-
--- a clash, or a record that is too long
-abbrev IsOfRecords : Halt → Type 0
-IsOfRecords (halt.Clash table column) = Unit {0}
-IsOfRecords (halt.RecordTooLong len) = Unit {0}
-IsOfRecords h = ⊥
-
-clash_kind : (clash : Option Clash) (h : Halt) → IsClashIn clash h → IsOfRecords h
-clash_kind None h is = absurd is
-clash_kind (Some c) h is = subst IsOfRecords (sym is) tt
-
-records_kind : (clash : Option Clash) (records : List Record) (h : Halt) → IsClashIn clash h ⊎ ((clash ≡ None) × IsLongRecord records h) → IsOfRecords h
-records_kind clash records h (inl is) = clash_kind clash h is
-records_kind clash records h (inr long) = subst IsOfRecords (sym long.1.is) tt
 
 module _ (config : Config) (now : ℤ) (held stored : Option Offset) (report : Report) (told : Option Told) where
-  pub caused : (h : Halt) → IsHalt config now held stored report told h → IsCaused config now held stored report told h
-  caused (halt.Clash table column) is = (report.chunks, is)
-  caused (halt.RecordTooLong len) is = (report.chunks, is)
-  caused h is = is
+  pub memory_caused : (h : Halt) → h ≡ halt.Memory → IsHalt config now held stored report told h
+  memory_caused h is = subst (IsHalt config now held stored report told) (sym is) tt
 
-  pub memory_caused : (h : Halt) → h ≡ halt.Memory → IsCaused config now held stored report told h
-  memory_caused h is = subst (IsCaused config now held stored report told) (sym is) tt
-
-  pub source_caused : (e : SourceError) → IsCaused config now held stored report told (source_halt e)
+  pub source_caused : (e : SourceError) → IsHalt config now held stored report told (source_halt e)
   source_caused source.Failed = tt
   source_caused source.Memory = tt
 
-  -- by the report but for its windows
-  records_caused : (chunks : ℕ) (h : Halt) → IsOfRecords h → IsHalt config now held stored (record report { chunks = chunks }) told h → IsCaused config now held stored report told h
-  records_caused chunks (halt.Clash table column) kind is = (chunks, is)
-  records_caused chunks (halt.RecordTooLong len) kind is = (chunks, is)
-  records_caused chunks h kind is = absurd kind
-
   -- before it reads
-  pub open_caused : (h : Halt) → IsOpenHalt config held stored told h → IsCaused config now held stored report told h
-  open_caused h is = caused h (sessions_halt_unread config now held stored report told h is)
+  pub open_caused : (h : Halt) → IsOpenHalt config held stored told h → IsHalt config now held stored report told h
+  open_caused h is = sessions_halt_unread config now held stored report told h is
 
 -- while it reads
 module _ (b : Beginning) (ms : List Message) (stored : Option Offset) (work : Work) where
   between : (report : Report) (r : IsResting b ms stored work report) → IsBetween work r.is.offset report.chunks
   between report r = record { cursors = r.same; windows = r.is.windows }
 
-  held_as : (report : Report) (told : Option Told) (is : IsBehind b ms stored work report) (after : Report) (h : Halt) → IsHalt b.config b.now b.held (Some is.offset) after told h → IsCaused b.config b.now b.held stored after told h
+  held_as : (report : Report) (told : Option Told) (is : IsBehind b ms stored work report) (after : Report) (h : Halt) → IsHalt b.config b.now b.held (Some is.offset) after told h → IsHalt b.config b.now b.held stored after told h
   held_as report told is after h x =
-      subst (λ (o : Option Offset). IsCaused b.config b.now b.held o after told h) (sym is.stored_is) (caused b.config b.now b.held (Some is.offset) after told h x)
+      subst (λ (o : Option Offset). IsHalt b.config b.now b.held o after told h) (sym is.stored_is) x
 
   -- for the rows of its next window
   pub chunk_caused : (report : Report) (table : ℕ) (told : Option Told) (h : Halt) → IsResting b ms stored work report → work.follower.window ≡ Absent → IsOpenTable work table → IsChunkHalt work table told h
-      → IsCaused b.config b.now b.held stored report told h
+      → IsHalt b.config b.now b.held stored report told h
   chunk_caused report table told h r absent unread chunk =
       held_as report told r.is report h (windows_halt b.config b.now b.held b.first r.is.offset work report table told h r.is.of (between report r) absent unread chunk)
 
   -- for the newest bytes, or the message that they spell
   pub taken_caused : (before : Report) (found old new : Option Told) (bytes : List ℕ) (h : Halt) → IsResting b ms stored work before → AreTold found old ms → IsTakenBy (bytes ∷ []) old new
       → (h ≡ halt.Memory) ⊎ (IsMessageHalt (before.messages + 1) bytes h ⊎ IsTxnHalt (before.messages + 1) b.first.lsn ms bytes work h)
-      → IsCaused b.config b.now b.held stored (record before { messages = before.messages + 1 }) new h
+      → IsHalt b.config b.now b.held stored (record before { messages = before.messages + 1 }) new h
   taken_caused before found old new bytes h r a one (inl memory) = memory_caused b.config b.now b.held stored (record before { messages = before.messages + 1 }) new h memory
   taken_caused before found old new bytes h r a one (inr (inl message)) =
       held_as before new r.is (record before { messages = before.messages + 1 }) h
@@ -96,28 +71,27 @@ module _ (b : Beginning) (ms : List Message) (stored : Option Offset) (work : Wo
 
   -- for the records of the commit that it ends
   pub follow_caused : (before report : Report) (found old new : Option Told) (bytes : List ℕ) (next : Work) (commit : Commit) (h : Halt) → IsResting b ms stored work before → AreTold found old ms → IsTakenBy (bytes ∷ []) old new
-      → WasTaken b.first.lsn ms bytes work next (Some commit) → report.messages ≡ before.messages + 1
+      → WasTaken b.first.lsn ms bytes work next (Some commit) → report.messages ≡ before.messages + 1 → report.chunks ≡ before.chunks
       → (h ≡ halt.Memory) ⊎ ((h ≡ halt.Sink) ⊎ (IsClashIn (clash_by next.follower commit) h ⊎ ((clash_by next.follower commit ≡ None) × IsLongRecord (records_by next.follower commit next.now_ms) h)))
-      → IsCaused b.config b.now b.held stored report new h
-  follow_caused before report found old new bytes next commit h r a one w counted (inl memory) = memory_caused b.config b.now b.held stored report new h memory
-  follow_caused before report found old new bytes next commit h r a one w counted (inr (inl failed)) = subst (IsCaused b.config b.now b.held stored report new) (sym failed) tt
-  follow_caused before report found old new bytes next commit h r a one w counted (inr (inr either)) =
-      subst (λ (o : Option Offset). IsCaused b.config b.now b.held o report new h) (sym r.is.stored_is)
-      (records_caused b.config b.now b.held (Some r.is.offset) report new before.chunks h (records_kind (clash_by next.follower commit) (records_by next.follower commit next.now_ms) h either)
-      (messages_halt b.config b.now b.held b.first r.is.offset work before (record report { chunks = before.chunks }) found a.begun old new bytes h r.is.of (between before r) a.anew (has_taken b ms stored work before found old r.is a) one counted (inr (next, commit, w, either))))
+      → IsHalt b.config b.now b.held stored report new h
+  follow_caused before report found old new bytes next commit h r a one w counted same (inl memory) = memory_caused b.config b.now b.held stored report new h memory
+  follow_caused before report found old new bytes next commit h r a one w counted same (inr (inl failed)) = subst (IsHalt b.config b.now b.held stored report new) (sym failed) tt
+  follow_caused before report found old new bytes next commit h r a one w counted same (inr (inr either)) =
+      held_as before new r.is report h
+      (messages_halt b.config b.now b.held b.first r.is.offset work before report found a.begun old new bytes h r.is.of (record { cursors = r.same; windows = subst (AreClosed work) (sym same) r.is.windows }) a.anew (has_taken b ms stored work before found old r.is a) one counted (inr (next, commit, w, either)))
 
   -- for a mark that it waits for
   pub missed_caused : (report : Report) (found told : Option Told) (value : List ℕ) → IsResting b ms stored work report → AreTold found told ms → awaited work.follower.window ≡ Some value → Tells told (Read None)
-      → IsCaused b.config b.now b.held stored report told (halt.WatermarkMissing value work.offset.lsn)
+      → IsHalt b.config b.now b.held stored report told (halt.WatermarkMissing value work.offset.lsn)
   missed_caused report found told value r a waits answer =
       held_as report told r.is report (halt.WatermarkMissing value work.offset.lsn)
       (marks_are_missed b.config b.now b.held b.first r.is.offset work report found a.begun told value r.is.of (between report r) a.anew (has_taken b ms stored work report found told r.is a) r.is.opened waits answer)
 
   -- for its next offset
   pub store_caused : (report : Report) (found told : Option Told) (h : Halt) → IsBehind b ms stored work report → AreTold found told ms → IsOffset (next_of work) → (h ≡ halt.Memory) ⊎ ((h ≡ halt.Offsets) ⊎ IsTooLong (next_of work) h)
-      → IsCaused b.config b.now b.held stored report told h
+      → IsHalt b.config b.now b.held stored report told h
   store_caused report found told h is a asked (inl memory) = memory_caused b.config b.now b.held stored report told h memory
-  store_caused report found told h is a asked (inr (inl failed)) = subst (IsCaused b.config b.now b.held stored report told) (sym failed) tt
+  store_caused report found told h is a asked (inr (inl failed)) = subst (IsHalt b.config b.now b.held stored report told) (sym failed) tt
   store_caused report found told h is a asked (inr (inr long)) =
       held_as report told is report h
       (offsets_halt b.config b.now b.held b.first is.offset work report found a.begun told h is.of a.anew (has_taken b ms stored work report found told is a) is.moves asked long)

@@ -12,3 +12,4 @@ pub mod Halting
 pub mod Marking
 pub mod Sinking
 pub mod Going
+pub mod Asking

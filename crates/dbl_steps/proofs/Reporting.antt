@@ -124,18 +124,9 @@ between a b is = (omega (arith, is), omega (arith, is))
 none_more : (a b : ℕ) → b ≡ a + 0 → b ≡ a
 none_more a b is = omega (arith, is)
 
-one_more : (a b : ℕ) → b ≡ a + 1 → b ≤ a + 1
-one_more a b is = omega (arith, is)
-
 -- one was, and the records of the commit that it ends weren't all put
 pub counted_torn : (r : Result (Option Bool) Halt) (h : Halt) (commit : Commit) (work : Work) (before after : Report) → r ≡ Err h → ReportsStep commit work (record before { messages = before.messages + 1 }) after false → IsCountedNext r before after
 counted_torn r h commit work before after is noted =
     let st : HasStepped (record before { messages = before.messages + 1 }) after 0 = step_counts commit work (record before { messages = before.messages + 1 }) after false noted in
     let bounds = between before.messages after.messages st.messages in
     counted_err r h before after is bounds.0 bounds.1 (none_more before.commits after.commits st.commits) st.position
-
--- or they were
-pub counted_put : (due : Bool) (commit : Commit) (work : Work) (before after : Report) → ReportsStep commit work (record before { messages = before.messages + 1 }) after true → IsCountedNext (Ok (Some due)) before after
-counted_put due commit work before after noted =
-    let st : HasStepped (record before { messages = before.messages + 1 }) after 1 = step_counts commit work (record before { messages = before.messages + 1 }) after true noted in
-    (st.messages, one_more before.commits after.commits st.commits, st.position)

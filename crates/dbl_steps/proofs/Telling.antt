@@ -32,7 +32,7 @@ use Rattle.dbl_causes.specs.Underway.{IsBeginHalt, IsOpenHalt}
 use Rattle.dbl_causes.specs.Carried.{Beginning, IsNewestCause}
 use Rattle.dbl_causes.specs.Sources.{GoesOn, HasCommitted, IsUnderWay}
 use Rattle.dbl_exits.specs.Found.{HasStored}
-use Rattle.dbl_steps.specs.Caused.{IsCaused}
+use Rattle.dbl_causes.specs.Halted.{IsHalt}
 use Rattle.dbl_steps.proofs.Reporting.{HasStepped, step_counts}
 
 -- ---- results
@@ -230,7 +230,7 @@ module _ (names : List TableName) (history : History) where
   start_absent after h (inr (inr gone)) = subst (IsAbsentHalt names history) (sym gone.is) tt
 
   -- behind the first store no table is the cause
-  pub caused_absent : (config : Config) (now : ℤ) (old new : Option Offset) (report : Report) (told : Option Told) (offset : Offset) (h : Halt) → new ≡ Some offset → IsCaused config now old new report told h → IsAbsentHalt names history h
+  pub caused_absent : (config : Config) (now : ℤ) (old new : Option Offset) (report : Report) (told : Option Told) (offset : Offset) (h : Halt) → new ≡ Some offset → IsHalt config now old new report told h → IsAbsentHalt names history h
   caused_absent config now old new report told offset (halt.Model error) is cause = let wrong : None ≡ Some offset = sym cause.1 ∙ is in cc
   caused_absent config now old new report told offset (halt.UnknownTable table) is cause = let wrong : None ≡ Some offset = sym cause.1 ∙ is in cc
   caused_absent config now old new report told offset h is cause = tt

@@ -15,6 +15,8 @@ use Rattle.dbl_steps.proofs.Telling.{not_both, residual_on}
 use Rattle.dbl_work.specs.Begins.{IsAbsentHalt}
 use Rattle.dbl_steps.proofs.Telling.{memory_absent, store_absent}
 use Rattle.dbl_steps.proofs.Lasting.{moved_rest}
+use Rattle.dbl_steps.specs.Caused.{AsksUnread}
+use Rattle.dbl_steps.proofs.Asking.{memory_asks, store_asks}
 use Rattle.dbl_capture.proofs.capture.begun.Goals as goal
 
 -- before the store
@@ -154,3 +156,15 @@ pub returns-clause-rests : goal.returns-clause-rests
 returns-clause-rests g c s left was may =
     let mid = c.in_ok-offset.ensures.stood s was in
     moved_rest s mid.standing left mid.holds (g.met.S.Source.only c.offset_of.new.src mid.standing left mid.is may)
+
+pub returns-in_err-offset-clause-ask : goal.returns-in_err-offset-clause-ask
+returns-in_err-offset-clause-ask g c = residual_of c.from_residual.result _ (AsksUnread c.args.config.now c.args.store.now.offset c.args.store.now.offset (g.S.Source.told c.offset_of.new.src)) c.from_residual.ensures.1 c.in_err-offset.ensures.ask
+
+pub returns-in_err-stored-clause-ask : goal.returns-in_err-stored-clause-ask
+returns-in_err-stored-clause-ask g c =
+    residual_of c.from_residual-in_err-stored.result halt.Memory (AsksUnread c.args.config.now c.args.store.now.offset c.args.store.now.offset (g.S.Source.told c.offset_of.new.src)) c.from_residual-in_err-stored.ensures.1 (memory_asks c.args.config.now c.args.store.now.offset c.args.store.now.offset (g.S.Source.told c.offset_of.new.src) halt.Memory c.requires.config.some_tables refl)
+
+pub returns-in_err-put_offset-clause-ask : goal.returns-in_err-put_offset-clause-ask
+returns-in_err-put_offset-clause-ask g c =
+    residual_of c.from_residual-in_err-put_offset.result _ (AsksUnread c.args.config.now c.args.store.now.offset c.put_offset.new.store.offset (g.S.Source.told c.offset_of.new.src)) c.from_residual-in_err-put_offset.ensures.1
+    (store_asks c.args.config.now c.args.store.now.offset c.put_offset.new.store.offset (g.S.Source.told c.offset_of.new.src) c.in_ok-stored.stored _ c.requires.config.some_tables c.in_err-put_offset.ensures.keeps (subst IsOffset (sym c.in_ok-stored.ensures) c.in_ok-offset.ensures.offset) (subst (IsOffsetFor c.args.config.now c.args.store.now.offset) (sym c.in_ok-stored.ensures) c.in_ok-offset.ensures.of) c.in_ok-offset.ensures.headed c.in_err-put_offset.ensures.halt)

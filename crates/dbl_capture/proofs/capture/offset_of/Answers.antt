@@ -13,6 +13,8 @@ use Rattle.dbl_steps.proofs.Telling.{again_begins, first_begins}
 use Rattle.dbl_steps.proofs.Telling.{again_exhausted, not_exhausted}
 use Rattle.dbl_work.specs.Begins.{IsAbsentHalt}
 use Rattle.dbl_steps.proofs.Telling.{again_absent}
+use Rattle.dbl_steps.specs.Caused.{AsksUnread}
+use Rattle.dbl_steps.proofs.Asking.{again_asks, again_found, first_asks}
 use Rattle.dbl_capture.proofs.capture.offset_of.Goals as goal
 
 -- nothing was asked of the source yet
@@ -134,3 +136,18 @@ returns-in_err-offset-clause-absent g c s is = residual_of c.from_residual.resul
 
 pub returns-in-None-clause-absent : goal.returns-in-None-clause-absent
 returns-in-None-clause-absent g c s is = c.first_offset.ensures.absent s is
+
+pub returns-in_err-offset-clause-ask : goal.returns-in_err-offset-clause-ask
+returns-in_err-offset-clause-ask g c =
+    residual_of c.from_residual.result _ (AsksUnread c.args.config.now c.args.store.now.offset c.args.store.now.offset (g.S.Source.told c.args.src.now)) c.from_residual.ensures.1 (again_asks c.args.config.now c.args.store.now.offset (g.S.Source.told c.args.src.now) _ c.requires.config.some_tables c.in_err-offset.ensures.halt)
+
+pub returns-in-None-clause-ask : goal.returns-in-None-clause-ask
+returns-in-None-clause-ask g c =
+    err_then c.first_offset.result _ (AsksUnread c.args.config.now c.args.store.now.offset c.args.store.now.offset (g.S.Source.told c.first_offset.new.src)) c.first_offset.ensures.fault
+    (λ h is. first_asks c.args.config.now c.args.store.now.offset (g.S.Source.told c.first_offset.new.src) h c.requires.config.some_tables (none_again c.args.store.now.offset (subst (IsAgain c.args.store.now.offset) c.in-None.is c.in_ok-offset.ensures.again)) is)
+
+pub returns-in-Some-clause-headed : goal.returns-in-Some-clause-headed
+returns-in-Some-clause-headed g c none = absurd (again_found c.args.store.now.offset c.in-Some.offset (subst (IsAgain c.args.store.now.offset) c.in-Some.is c.in_ok-offset.ensures.again) none)
+
+pub returns-in-None-clause-headed : goal.returns-in-None-clause-headed
+returns-in-None-clause-headed g c none = answer_then c.first_offset.result _ _ c.first_offset.ensures.headed (λ offset head. (offset.start, head))

@@ -30,6 +30,7 @@ use Rattle.dbl_steps.proofs.Nevers.{begin_honest, memory_honest, start_honest}
 use Rattle.dbl_causes.specs.Nevers.{IsHonestHalt}
 use Rattle.dbl_steps.proofs.Lasting.{rest_unmarked}
 use Rattle.dbl_steps.proofs.Marks.{others_add_no_marks}
+use Rattle.dbl_steps.proofs.Asking.{memory_asks, start_asks}
 use Rattle.dbl_capture.proofs.capture.opened.Goals as goal
 
 pub returns-in_err-offset-clause-left : goal.returns-in_err-offset-clause-left
@@ -173,7 +174,7 @@ returns-clause-report g c = (refl, refl)
 pub returns-in_err-offset-clause-halted : goal.returns-in_err-offset-clause-halted
 returns-in_err-offset-clause-halted g c at stood none =
     residual_of c.from_residual.result _ (Halts g.S.Source.stands at (g.S.Source.told c.args.src.now) c.args.config.now c.args.now_ms c.args.store.now.offset c.begun.new.store.offset c.args.report.now c.begun.new.src (g.S.Source.told c.begun.new.src)) c.from_residual.ensures.1
-    (record { halted = halts_unread g.S.Source.stands at (g.S.Source.told c.args.src.now) c.args.config.now c.args.now_ms c.args.store.now.offset c.begun.new.store.offset c.args.report.now c.args.src.now c.begun.new.src (g.S.Source.told c.begun.new.src) _ stood (inl (c.in_err-offset.ensures.halt, c.in_err-offset.ensures.keeps)) none.0 none.1 (inl c.begun.ensures.taken) (λ s t was now. inl (c.begun.ensures.still s t was now)); cause = open_caused c.args.config.now c.args.now_ms c.args.store.now.offset c.begun.new.store.offset c.args.report.now (g.S.Source.told c.begun.new.src) _ (inl (c.in_err-offset.ensures.halt, c.in_err-offset.ensures.keeps)) })
+    (record { halted = halts_unread g.S.Source.stands at (g.S.Source.told c.args.src.now) c.args.config.now c.args.now_ms c.args.store.now.offset c.begun.new.store.offset c.args.report.now c.args.src.now c.begun.new.src (g.S.Source.told c.begun.new.src) _ stood (inl (c.in_err-offset.ensures.halt, c.in_err-offset.ensures.keeps)) none.0 none.1 (inl c.begun.ensures.taken) (λ s t was now. inl (c.begun.ensures.still s t was now)); cause = open_caused c.args.config.now c.args.now_ms c.args.store.now.offset c.begun.new.store.offset c.args.report.now (g.S.Source.told c.begun.new.src) _ (inl (c.in_err-offset.ensures.halt, c.in_err-offset.ensures.keeps)); ask = λ t. c.in_err-offset.ensures.ask c.args.report.now t none.0 })
 
 pub returns-in_err-start-clause-halted : goal.returns-in_err-start-clause-halted
 returns-in_err-start-clause-halted g c at stood none =
@@ -184,12 +185,13 @@ returns-in_err-start-clause-halted g c at stood none =
           (start_opens c.args.config.now c.args.store.now.offset c.begun.new.store.offset (g.S.Source.told c.start.new.src) c.in_ok-offset.offset.lsn _ stored (ap (λ (o : Offset). o.lsn) (first_some c.in_ok-offset.offset stored.offset (sym c.in_ok-offset.ensures.loads ∙ stored.is))) (λ asked first is. c.in_err-start.ensures.gone asked first (ap (λ (h : Halt). Err h) is)) c.in_err-start.ensures.halt)
           none.0 none.1 (fell_on (g.S.Source.told c.args.src.now) (g.S.Source.told c.begun.new.src) (g.S.Source.told c.start.new.src) c.begun.ensures.taken c.in_err-start.ensures.fell) (λ s t was now. let mid = c.in_ok-offset.ensures.stood s was in inr (read_none c.in_ok-offset.offset.lsn t.reading (c.start.ensures.unread mid.standing t mid.is now)));
       cause = open_caused c.args.config.now c.args.now_ms c.args.store.now.offset c.begun.new.store.offset (record c.args.report.now { position = c.in_ok-offset.offset.lsn.0 }) (g.S.Source.told c.start.new.src) _ (start_opens c.args.config.now c.args.store.now.offset c.begun.new.store.offset (g.S.Source.told c.start.new.src) c.in_ok-offset.offset.lsn _ stored (ap (λ (o : Offset). o.lsn) (first_some c.in_ok-offset.offset stored.offset (sym c.in_ok-offset.ensures.loads ∙ stored.is))) (λ asked first is. c.in_err-start.ensures.gone asked first (ap (λ (h : Halt). Err h) is)) c.in_err-start.ensures.halt);
+      ask = λ t. start_asks c.args.config.now c.args.store.now.offset c.begun.new.store.offset (g.S.Source.told c.start.new.src) c.in_ok-offset.offset.lsn c.in_err-start.field-0.0 stored (ap (λ (o : Offset). o.lsn) (first_some c.in_ok-offset.offset stored.offset (sym c.in_ok-offset.ensures.loads ∙ stored.is))) (λ asked first is. c.in_err-start.ensures.gone asked first (ap (λ (h : Halt). Err h) is)) c.requires.config.some_tables c.in_err-start.ensures.halt (record c.args.report.now { position = c.in_ok-offset.offset.lsn.0 }) t none.0;
     })
 
 pub returns-clause-halted : goal.returns-clause-halted
 returns-clause-halted g c at stood none =
     err_then c.make.result _ (Halts g.S.Source.stands at (g.S.Source.told c.args.src.now) c.args.config.now c.args.now_ms c.args.store.now.offset c.begun.new.store.offset (record c.args.report.now { position = c.in_ok-offset.offset.lsn.0 }) c.start.new.src (g.S.Source.told c.start.new.src)) c.make.ensures.memory
-    (λ h is. record { halted = halts_unread g.S.Source.stands at (g.S.Source.told c.args.src.now) c.args.config.now c.args.now_ms c.args.store.now.offset c.begun.new.store.offset (record c.args.report.now { position = c.in_ok-offset.offset.lsn.0 }) c.args.src.now c.start.new.src (g.S.Source.told c.start.new.src) h stood (inr (inr (inl is))) none.0 none.1 (inr (anew_on (g.S.Source.told c.args.src.now) (g.S.Source.told c.begun.new.src) (g.S.Source.told c.start.new.src) c.begun.ensures.taken c.in_ok-start.ensures.taken)) (λ s t was now. let mid = c.in_ok-offset.ensures.stood s was in inr (read_none c.in_ok-offset.offset.lsn t.reading (c.start.ensures.unread mid.standing t mid.is now))); cause = open_caused c.args.config.now c.args.now_ms c.args.store.now.offset c.begun.new.store.offset (record c.args.report.now { position = c.in_ok-offset.offset.lsn.0 }) (g.S.Source.told c.start.new.src) h (inr (inr (inl is))) })
+    (λ h is. record { halted = halts_unread g.S.Source.stands at (g.S.Source.told c.args.src.now) c.args.config.now c.args.now_ms c.args.store.now.offset c.begun.new.store.offset (record c.args.report.now { position = c.in_ok-offset.offset.lsn.0 }) c.args.src.now c.start.new.src (g.S.Source.told c.start.new.src) h stood (inr (inr (inl is))) none.0 none.1 (inr (anew_on (g.S.Source.told c.args.src.now) (g.S.Source.told c.begun.new.src) (g.S.Source.told c.start.new.src) c.begun.ensures.taken c.in_ok-start.ensures.taken)) (λ s t was now. let mid = c.in_ok-offset.ensures.stood s was in inr (read_none c.in_ok-offset.offset.lsn t.reading (c.start.ensures.unread mid.standing t mid.is now))); cause = open_caused c.args.config.now c.args.now_ms c.args.store.now.offset c.begun.new.store.offset (record c.args.report.now { position = c.in_ok-offset.offset.lsn.0 }) (g.S.Source.told c.start.new.src) h (inr (inr (inl is))); ask = λ t. memory_asks c.args.config.now c.args.store.now.offset c.begun.new.store.offset (g.S.Source.told c.start.new.src) h c.requires.config.some_tables is (record c.args.report.now { position = c.in_ok-offset.offset.lsn.0 }) t none.0 })
 
 pub returns-clause-under_way : goal.returns-clause-under_way
 returns-clause-under_way g c at stood none =

@@ -14,10 +14,11 @@ use Rattle.dbl_exits.proofs.Endings.{complete_left, has_stored, own_first, posit
 use Rattle.dbl_exits.proofs.Keeping.{either_answer, rests, some_chunk}
 use Rattle.dbl_exits.proofs.Openings.{going_left, source_found, told_found}
 use Rattle.dbl_honest.specs.Standings.{Standing, Stood}
-use Rattle.dbl_causes.specs.Musts.{MustHaltStood, MustHaltTold}
+use Rattle.dbl_causes.specs.Musts.{MustHalt, MustHaltStood, MustHaltTold}
 use Rattle.dbl_causes.specs.Reported.{HasReadMessages, HasSettled, HasStoodBehind, IsFollowed, StoodAtLast}
 use Rattle.dbl_causes.specs.Sources.{IsUnderWay}
-use Rattle.dbl_steps.specs.Caused.{Halts, IsCaused, IsNotGone}
+use Rattle.dbl_causes.specs.Halted.{IsHalt}
+use Rattle.dbl_steps.specs.Caused.{Halts, IsNotGone}
 use Rattle.dbl_causes.proofs.Sources.{ended_stood, ended_told}
 use Rattle.dbl_capture.specs.Begun.{beginning_at}
 use Rattle.dbl_steps.proofs.Telling.{answer_as, at_none, at_some, residual_as}
@@ -35,6 +36,7 @@ use Rattle.dbl_steps.proofs.Telling.{caused_absent}
 use Rattle.dbl_causes.specs.Nevers.{IsHonestHalt}
 use Rattle.dbl_steps.proofs.Marks.{others_leave_few_marks}
 use Rattle.dbl_causes.specs.Written.{AddsNoMore}
+use Rattle.dbl_steps.proofs.Asking.{ok_pair, quiet_asks}
 use Rattle.dbl_capture.proofs.capture.session.Goals as goal
 
 -- it didn't begin
@@ -243,7 +245,7 @@ returns-clause-must_stood g c s t was now =
     answer_as c.run.result _ _ (λ r. MustHaltStood c.args.config.now c.args.now_ms c.args.offsets.now.offset c.run.new.store.offset c.run.new.report t r) all halted (λ a e. let end = ended_stood g.S.Source.stands (Some s) (g.S.Source.told c.args.src.now) b c.run.new.store.offset c.run.new.work c.run.new.report c.run.new.src (g.S.Source.told c.run.new.src) e a s refl in subst (λ (x : Standing). MustHaltStood c.args.config.now c.args.now_ms c.args.offsets.now.offset c.run.new.store.offset c.run.new.report x (Ok e)) (g.met.S.Source.one c.run.new.src end.standing t end.is now) end.holds.1) (λ h x. (x.halted.stood s t refl now).must)
 
 pub returns-in_err-work-clause-halt : goal.returns-in_err-work-clause-halt
-returns-in_err-work-clause-halt g c = residual_of c.from_residual.result _ (IsCaused c.args.config.now c.args.now_ms c.args.offsets.now.offset c.opened.new.store.offset c.opened.new.report (g.S.Source.told c.opened.new.src)) c.from_residual.ensures.1 (subst (λ (n : ℤ). Halts g.S.Source.stands None (g.S.Source.told c.args.src.now) c.args.config.now n c.args.offsets.now.offset c.opened.new.store.offset c.opened.new.report c.opened.new.src (g.S.Source.told c.opened.new.src) c.in_err-work.field-0.0) (to_z-of_z c.ranges.now_ms) (c.in_err-work.ensures.halted None (at_none g.S.Source.stands c.args.src.now) (refl, refl, refl))).cause
+returns-in_err-work-clause-halt g c = residual_of c.from_residual.result _ (IsHalt c.args.config.now c.args.now_ms c.args.offsets.now.offset c.opened.new.store.offset c.opened.new.report (g.S.Source.told c.opened.new.src)) c.from_residual.ensures.1 (subst (λ (n : ℤ). Halts g.S.Source.stands None (g.S.Source.told c.args.src.now) c.args.config.now n c.args.offsets.now.offset c.opened.new.store.offset c.opened.new.report c.opened.new.src (g.S.Source.told c.opened.new.src) c.in_err-work.field-0.0) (to_z-of_z c.ranges.now_ms) (c.in_err-work.ensures.halted None (at_none g.S.Source.stands c.args.src.now) (refl, refl, refl))).cause
 
 pub returns-clause-halt : goal.returns-clause-halt
 returns-clause-halt g c =
@@ -358,3 +360,22 @@ returns-clause-most g c s was honest had left may =
     (λ t e. others_leave_few_marks entry t.stage c.run.new.work left.history c.run.new.report.chunks c.run.new.report.chunks t.work_is t.going e.is.is.windows (same_most c.run.new.report.chunks)
     (left_rests t.stage.history (standing_at t.stage) left t.going.reading.fit.rising refl (g.met.S.Source.only c.run.new.src (standing_at t.stage) left t.source_is may)))
     (λ few. few left may))
+
+pub run-requires-clause-some : goal.run-requires-clause-some
+run-requires-clause-some g c = c.requires.config.messages.0
+
+pub returns-in_err-work-clause-answered : goal.returns-in_err-work-clause-answered
+returns-in_err-work-clause-answered g c t is =
+    residual_as c.from_residual.result _ (λ x. MustHalt c.args.config.now c.args.offsets.now.offset c.opened.new.store.offset c.opened.new.report t x) c.from_residual.ensures.1
+    ((subst (λ (n : ℤ). Halts g.S.Source.stands None (g.S.Source.told c.args.src.now) c.args.config.now n c.args.offsets.now.offset c.opened.new.store.offset c.opened.new.report c.opened.new.src (g.S.Source.told c.opened.new.src) c.in_err-work.field-0.0) (to_z-of_z c.ranges.now_ms) (c.in_err-work.ensures.halted None (at_none g.S.Source.stands c.args.src.now) (refl, refl, refl))).ask t is)
+
+pub returns-clause-answered : goal.returns-clause-answered
+returns-clause-answered g c t is =
+    let way = c.in_ok-work.ensures.under_way None (at_none g.S.Source.stands c.args.src.now) (refl, refl, refl) in
+    let b = beginning_at c.args.config.now c.args.now_ms c.args.offsets.now.offset way.0 in
+    let u = subst (λ (n : ℤ). IsUnderWay g.S.Source.stands None (g.S.Source.told c.args.src.now) (beginning_at c.args.config.now n c.args.offsets.now.offset way.0) c.opened.new.store.offset c.in_ok-work.work c.opened.new.report c.opened.new.src (g.S.Source.told c.opened.new.src)) (to_z-of_z c.ranges.now_ms) way.1 in
+    let all = c.run.ensures.all None (g.S.Source.told c.args.src.now) b u in
+    let halted = c.run.ensures.halted None (g.S.Source.told c.args.src.now) b u in
+    answer_as c.run.result _ _ (λ r. MustHalt c.args.config.now c.args.offsets.now.offset c.run.new.store.offset c.run.new.report t r) (ok_pair c.run.result _ _ all c.run.ensures.quiet) halted
+    (λ a e. quiet_asks b a.0.messages c.run.new.store.offset c.run.new.work c.run.new.report c.run.new.report (g.S.Source.told c.args.src.now) (g.S.Source.told c.run.new.src) c.run.new.store.offset (Ok e) a.0.is.is a.0.tells a.1 (inl refl) t is)
+    (λ h x. x.ask t is)

@@ -1,4 +1,4 @@
-use Rattle.std.proofs.Common.{◌≡◌, ◌∙◌, ◌+◌, ◌++◌, ◌<◌, inl, length, ℕ, List, Some, None, Option, Err, refl, sym, ap, subst, arith}
+use Rattle.std.proofs.Common.{◌≡◌, ◌∙◌, ◌+◌, true, ◌++◌, ◌<◌, inl, length, ℕ, List, Some, None, Option, Err, refl, sym, ap, subst, arith}
 use Rattle.std.specs.Prelude.{IfSome, All, is_none}
 use Rattle.std.proofs.lemmas.Result.{err_from_is_err_and}
 use Rattle.dbl_table.specs.declared.change.Commit.{Commit}
@@ -10,7 +10,7 @@ use Rattle.dbl_exits.specs.Sessions.{standing_at}
 use Rattle.dbl_steps.proofs.Causes.{OfNone, OfSink, OfSource, err_at, follow_of, residual_of, source_of, taken_of, residual_is, residual_source}
 use Rattle.dbl_exits.proofs.Keeping.{capturing, moved_on, on_err}
 use Rattle.dbl_exits.proofs.Nexts.{none_read, read_whole, some_read, step_fails, stepped_on, taken_on}
-use Rattle.dbl_steps.proofs.Reporting.{counted_fault, counted_none, counted_put, counted_torn}
+use Rattle.dbl_steps.proofs.Reporting.{counted_fault, counted_none, counted_torn, step_counts}
 use Rattle.dbl_exits.proofs.Settles.{follow_fails}
 use Rattle.dbl_exits.proofs.Taken.{stepped_next, stepped_ready, stepped_since, taken_next, taken_ready}
 use Rattle.dbl_work.specs.declared.halt.Halt.{Halt}
@@ -34,6 +34,7 @@ use Rattle.dbl_causes.specs.Nevers.{IsHonestHalt}
 use Rattle.dbl_window.proofs.HonestLemmas.{captured_stays}
 use Rattle.dbl_steps.proofs.Marks.{others_leave_few_marks}
 use Rattle.dbl_steps.proofs.Lasting.{leaves_most, left_grows, same_most, torn_more}
+use Rattle.dbl_steps.proofs.Asking.{failure_asks, newest_asks, read_quiet, source_fails}
 use Rattle.dbl_capture.proofs.messages.next.Goals as goal
 
 pub returns-in_err-bytes-clause-left : goal.returns-in_err-bytes-clause-left
@@ -161,7 +162,9 @@ returns-in_err-closed-in-Some-2-clause-counts g c =
     counted_torn c.from_residual-in_err-closed-in-Some-2.result p.0 c.in-Some-2.commit c.taken.new.work c.args.report.now c.follow.new.report p.1 c.in_err-closed-in-Some-2.ensures.noted
 
 pub returns-in-Some-2-clause-counts : goal.returns-in-Some-2-clause-counts
-returns-in-Some-2-clause-counts g c = counted_put c.is_due.result c.in-Some-2.commit c.taken.new.work c.args.report.now c.follow.new.report c.in_ok-closed-in-Some-2.ensures.noted
+returns-in-Some-2-clause-counts g c =
+    let st = step_counts c.in-Some-2.commit c.taken.new.work (record c.args.report.now { messages = c.args.report.now.messages + 1 }) c.follow.new.report true c.in_ok-closed-in-Some-2.ensures.noted in
+    (st.messages, omega (arith, st.commits), st.position)
 
 pub returns-in_err-bytes-clause-never : goal.returns-in_err-bytes-clause-never
 returns-in_err-bytes-clause-never g c value at is = err_at c.from_residual.result _ OfSource (residual_of c.from_residual.result _ OfSource c.from_residual.ensures.1 (source_of c.in_err-bytes.field-0.0)) is
@@ -191,6 +194,7 @@ returns-in_err-bytes-clause-halted g c at found b u =
       halted = halts_between g.S.Source.stands at found b c.args.store.now.offset c.args.store.now.offset c.args.work.now c.args.report.now c.args.report.now c.args.src.now c.read.new.self (g.S.Source.told c.args.src.now) (g.S.Source.told c.read.new.self) _ (at_rest g.S.Source.stands at found b c.args.store.now.offset c.args.work.now c.args.report.now c.args.src.now (g.S.Source.told c.args.src.now) u) c.in_err-bytes.ensures.untaken
           (λ s t was now. absurd (dead_source (g.S.Source.is_live c.read.new.self) (g.met.S.Source.lives c.read.new.self t now) c.in_err-bytes.ensures.dead)) (source_left c.in_err-bytes.field-0.0) refl refl (inl refl);
       cause = source_caused b.config b.now b.held c.args.store.now.offset c.args.report.now (g.S.Source.told c.read.new.self) c.in_err-bytes.field-0.0;
+      ask = failure_asks b u.messages c.args.store.now.offset c.args.work.now c.args.report.now c.args.report.now found (g.S.Source.told c.args.src.now) (g.S.Source.told c.read.new.self) c.args.store.now.offset _ u.is.is u.tells c.in_err-bytes.ensures.untaken (source_fails c.in_err-bytes.field-0.0) (inl refl);
     })
 
 pub returns-in_err-commit-in-Some-clause-halted : goal.returns-in_err-commit-in-Some-clause-halted
@@ -200,6 +204,8 @@ returns-in_err-commit-in-Some-clause-halted g c at found b u =
       halted = halts_at g.S.Source.stands at found b c.args.store.now.offset c.args.work.now c.args.report.now (record c.args.report.now { messages = c.args.report.now.messages + 1 }) c.args.src.now c.read.new.self (g.S.Source.told c.args.src.now) (g.S.Source.told c.read.new.self) c.in-Some.bytes _ u (some_read _ _ _ _ c.in-Some.is c.in_ok-bytes.ensures.taken) (λ s is. some_read _ _ _ _ c.in-Some.is (c.in_ok-bytes.ensures.took s is)) (g.met.S.Source.one c.read.new.self)
           (taken_cause (c.args.report.now.messages + 1) b.first.lsn u.messages c.in-Some.bytes c.args.work.now _ (c.in_err-commit-in-Some.ensures.halt b.first.lsn u.messages u.is.is.is)) refl refl;
       cause = taken_caused b u.messages c.args.store.now.offset c.args.work.now c.args.report.now found (g.S.Source.told c.args.src.now) (g.S.Source.told c.read.new.self) c.in-Some.bytes _ u.is u.tells (some_read _ _ _ _ c.in-Some.is c.in_ok-bytes.ensures.taken) (c.in_err-commit-in-Some.ensures.halt b.first.lsn u.messages u.is.is.is);
+      ask = newest_asks b u.messages c.args.store.now.offset c.args.work.now c.args.report.now (record c.args.report.now { messages = c.args.report.now.messages + 1 }) (g.S.Source.told c.args.src.now) (g.S.Source.told c.read.new.self) c.in-Some.bytes _ u.is.is (some_read _ _ _ _ c.in-Some.is c.in_ok-bytes.ensures.taken) (subst (λ (o : Option (List ℕ)). Tells (g.S.Source.told c.read.new.self) (Read o)) c.in-Some.is c.in_ok-bytes.ensures.told)
+          (taken_cause (c.args.report.now.messages + 1) b.first.lsn u.messages c.in-Some.bytes c.args.work.now _ (c.in_err-commit-in-Some.ensures.halt b.first.lsn u.messages u.is.is.is));
     })
 
 pub returns-in_err-closed-in-Some-2-clause-halted : goal.returns-in_err-closed-in-Some-2-clause-halted
@@ -209,7 +215,9 @@ returns-in_err-closed-in-Some-2-clause-halted g c at found b u =
     (record {
       halted = halts_at g.S.Source.stands at found b c.args.store.now.offset c.args.work.now c.args.report.now c.follow.new.report c.args.src.now c.read.new.self (g.S.Source.told c.args.src.now) (g.S.Source.told c.read.new.self) c.in-Some.bytes _ u (some_read _ _ _ _ c.in-Some.is c.in_ok-bytes.ensures.taken) (λ s is. some_read _ _ _ _ c.in-Some.is (c.in_ok-bytes.ensures.took s is)) (g.met.S.Source.one c.read.new.self)
           (follow_cause c.follow.new.report.messages b.first.lsn u.messages c.in-Some.bytes c.args.work.now c.taken.new.work c.in-Some-2.commit _ (subst (WasTaken b.first.lsn u.messages c.in-Some.bytes c.args.work.now c.taken.new.work) c.in-Some-2.is (c.in_ok-commit-in-Some.ensures.taken b.first.lsn u.messages u.is.is.is)) (λ is. c.in_err-closed-in-Some-2.ensures.sink (ap (λ (k : Halt). Err k) is)) c.in_err-closed-in-Some-2.ensures.halt) counts.messages counts.commits;
-      cause = follow_caused b u.messages c.args.store.now.offset c.args.work.now c.args.report.now c.follow.new.report found (g.S.Source.told c.args.src.now) (g.S.Source.told c.read.new.self) c.in-Some.bytes c.taken.new.work c.in-Some-2.commit _ u.is u.tells (some_read _ _ _ _ c.in-Some.is c.in_ok-bytes.ensures.taken) (subst (WasTaken b.first.lsn u.messages c.in-Some.bytes c.args.work.now c.taken.new.work) c.in-Some-2.is (c.in_ok-commit-in-Some.ensures.taken b.first.lsn u.messages u.is.is.is)) counts.messages c.in_err-closed-in-Some-2.ensures.halt;
+      cause = follow_caused b u.messages c.args.store.now.offset c.args.work.now c.args.report.now c.follow.new.report found (g.S.Source.told c.args.src.now) (g.S.Source.told c.read.new.self) c.in-Some.bytes c.taken.new.work c.in-Some-2.commit _ u.is u.tells (some_read _ _ _ _ c.in-Some.is c.in_ok-bytes.ensures.taken) (subst (WasTaken b.first.lsn u.messages c.in-Some.bytes c.args.work.now c.taken.new.work) c.in-Some-2.is (c.in_ok-commit-in-Some.ensures.taken b.first.lsn u.messages u.is.is.is)) counts.messages c.in_err-closed-in-Some-2.ensures.counts c.in_err-closed-in-Some-2.ensures.halt;
+      ask = newest_asks b u.messages c.args.store.now.offset c.args.work.now c.args.report.now c.follow.new.report (g.S.Source.told c.args.src.now) (g.S.Source.told c.read.new.self) c.in-Some.bytes _ u.is.is (some_read _ _ _ _ c.in-Some.is c.in_ok-bytes.ensures.taken) (subst (λ (o : Option (List ℕ)). Tells (g.S.Source.told c.read.new.self) (Read o)) c.in-Some.is c.in_ok-bytes.ensures.told)
+          (follow_cause c.follow.new.report.messages b.first.lsn u.messages c.in-Some.bytes c.args.work.now c.taken.new.work c.in-Some-2.commit _ (subst (WasTaken b.first.lsn u.messages c.in-Some.bytes c.args.work.now c.taken.new.work) c.in-Some-2.is (c.in_ok-commit-in-Some.ensures.taken b.first.lsn u.messages u.is.is.is)) (λ is. c.in_err-closed-in-Some-2.ensures.sink (ap (λ (k : Halt). Err k) is)) c.in_err-closed-in-Some-2.ensures.halt);
     })
 
 pub returns-in-Some-2-clause-under_way : goal.returns-in-Some-2-clause-under_way
@@ -307,3 +315,12 @@ returns-in_err-closed-in-Some-2-clause-most g c tell entry s closed =
     leaves_most _ g.S.Source.may_leave c.read.new.self c.follow.new.report.chunks entry.history (λ left may. others_leave_few_marks entry s.stage c.args.work.now left.history c.args.report.now.chunks c.follow.new.report.chunks s.work_is s.going closed
     (torn_more c.in-Some-2.commit c.args.work.now c.taken.new.work c.args.report.now c.follow.new.report closed c.requires.number c.in_err-closed-in-Some-2.ensures.noted)
     (left_grows s.stage.history T.2.standing left T.2.holds.grows (g.met.S.Source.only c.read.new.self T.2.standing left T.2.is may)))
+
+pub returns-in-Some-2-clause-quiet : goal.returns-in-Some-2-clause-quiet
+returns-in-Some-2-clause-quiet g c = read_quiet (g.S.Source.told c.read.new.self) (Some c.in-Some.bytes) (subst (λ (o : Option (List ℕ)). Tells (g.S.Source.told c.read.new.self) (Read o)) c.in-Some.is c.in_ok-bytes.ensures.told)
+
+pub returns-in-Some-clause-quiet : goal.returns-in-Some-clause-quiet
+returns-in-Some-clause-quiet g c = read_quiet (g.S.Source.told c.read.new.self) (Some c.in-Some.bytes) (subst (λ (o : Option (List ℕ)). Tells (g.S.Source.told c.read.new.self) (Read o)) c.in-Some.is c.in_ok-bytes.ensures.told)
+
+pub returns-clause-quiet : goal.returns-clause-quiet
+returns-clause-quiet g c = read_quiet (g.S.Source.told c.read.new.self) None (subst (λ (o : Option (List ℕ)). Tells (g.S.Source.told c.read.new.self) (Read o)) c.in-None.is c.in_ok-bytes.ensures.told)

@@ -1,4 +1,4 @@
-use Rattle.std.proofs.Common.{◌≡◌, ◌∙◌, ◌⊎◌, Option, Some, subst, inl, inr, refl, sym, ap}
+use Rattle.std.proofs.Common.{◌≡◌, ◌∙◌, ◌⊎◌, Err, Option, Some, subst, inl, inr, refl, sym, ap}
 use Rattle.dbl_honest.specs.Calls.{IsConfirmed}
 use Rattle.dbl_honest.specs.Leaves.{MayFollowConfirm}
 use Rattle.dbl_offset.specs.declared.offset.Offset.{Offset}
@@ -12,7 +12,8 @@ use Rattle.dbl_exits.proofs.Keeping.{on_err, rests, some_chunk}
 use Rattle.dbl_exits.proofs.Settles.{settled_on, settled_whole, settle_fails, store_fails}
 use Rattle.dbl_honest.specs.Standings.{Standing, Stood}
 use Rattle.dbl_work.proofs.Exits.{dead_source, none_taken}
-use Rattle.dbl_steps.specs.Caused.{Halts, IsCaused, IsNotGone}
+use Rattle.dbl_causes.specs.Halted.{IsHalt}
+use Rattle.dbl_steps.specs.Caused.{Halts, IsNotGone}
 use Rattle.dbl_causes.proofs.Sources.{halts_between, settles_on}
 use Rattle.dbl_steps.proofs.Telling.{memory_left, source_left, store_left}
 use Rattle.dbl_steps.proofs.Halting.{memory_caused, source_caused, store_caused}
@@ -26,6 +27,7 @@ use Rattle.dbl_steps.proofs.Nevers.{source_honest, store_honest}
 use Rattle.dbl_causes.specs.Nevers.{IsHonestHalt}
 use Rattle.dbl_steps.proofs.Marks.{others_leave_few_marks}
 use Rattle.dbl_steps.proofs.Lasting.{leaves_most, left_rests, same_most}
+use Rattle.dbl_steps.proofs.Asking.{done_quiet, failure_asks, quiet_asks, source_fails}
 use Rattle.dbl_capture.proofs.settle.settle.Goals as goal
 
 -- nothing was asked of the three yet
@@ -136,22 +138,23 @@ pub returns-clause-never : goal.returns-clause-never
 returns-clause-never g c value at is = cc
 
 pub returns-in_err-offset-clause-halted : goal.returns-in_err-offset-clause-halted
-returns-in_err-offset-clause-halted g c at found b u =
+returns-in_err-offset-clause-halted g c at found b u quiet =
     residual_of c.from_residual.result halt.Memory (Halts g.S.Source.stands at found b.config b.now b.held c.args.store.now.offset c.args.report.now c.args.src.now (g.S.Source.told c.args.src.now)) c.from_residual.ensures.1
-    (record { halted = halts_between g.S.Source.stands at found b c.args.store.now.offset c.args.store.now.offset c.args.work.now c.args.report.now c.args.report.now c.args.src.now c.args.src.now (g.S.Source.told c.args.src.now) (g.S.Source.told c.args.src.now) halt.Memory u (none_taken (g.S.Source.told c.args.src.now)) (λ s t was now. ap (λ (x : Standing). x.reading) (g.met.S.Source.one c.args.src.now t s now was)) memory_left refl refl (inl refl); cause = memory_caused b.config b.now b.held c.args.store.now.offset c.args.report.now (g.S.Source.told c.args.src.now) halt.Memory refl })
+    (record { halted = halts_between g.S.Source.stands at found b c.args.store.now.offset c.args.store.now.offset c.args.work.now c.args.report.now c.args.report.now c.args.src.now c.args.src.now (g.S.Source.told c.args.src.now) (g.S.Source.told c.args.src.now) halt.Memory u (none_taken (g.S.Source.told c.args.src.now)) (λ s t was now. ap (λ (x : Standing). x.reading) (g.met.S.Source.one c.args.src.now t s now was)) memory_left refl refl (inl refl); cause = memory_caused b.config b.now b.held c.args.store.now.offset c.args.report.now (g.S.Source.told c.args.src.now) halt.Memory refl; ask = quiet_asks b u.messages c.args.store.now.offset c.args.work.now c.args.report.now c.args.report.now found (g.S.Source.told c.args.src.now) c.args.store.now.offset (Err halt.Memory) u.is u.tells quiet (inl refl) })
 
 pub returns-in_err-put_offset-clause-halted : goal.returns-in_err-put_offset-clause-halted
-returns-in_err-put_offset-clause-halted g c at found b u =
+returns-in_err-put_offset-clause-halted g c at found b u quiet =
     residual_of c.from_residual-in_err-put_offset.result _ (Halts g.S.Source.stands at found b.config b.now b.held c.put_offset.new.store.offset c.args.report.now c.args.src.now (g.S.Source.told c.args.src.now)) c.from_residual-in_err-put_offset.ensures.1
-    (record { halted = halts_between g.S.Source.stands at found b c.args.store.now.offset c.put_offset.new.store.offset c.args.work.now c.args.report.now c.args.report.now c.args.src.now c.args.src.now (g.S.Source.told c.args.src.now) (g.S.Source.told c.args.src.now) _ u (none_taken (g.S.Source.told c.args.src.now)) (λ s t was now. ap (λ (x : Standing). x.reading) (g.met.S.Source.one c.args.src.now t s now was)) (store_left _ _ c.in_err-put_offset.ensures.halt) refl refl (inl c.in_err-put_offset.ensures.keeps); cause = subst (λ (o : Option Offset). IsCaused b.config b.now b.held o c.args.report.now (g.S.Source.told c.args.src.now) c.in_err-put_offset.field-0.0) (sym c.in_err-put_offset.ensures.keeps) (store_caused b u.messages c.args.store.now.offset c.args.work.now c.args.report.now found (g.S.Source.told c.args.src.now) _ u.is u.tells (subst IsOffset c.in_ok-offset.ensures.next c.in_ok-offset.ensures.asked) (subst (λ (o : Offset). (c.in_err-put_offset.field-0.0 ≡ halt.Memory) ⊎ ((c.in_err-put_offset.field-0.0 ≡ halt.Offsets) ⊎ IsTooLong o c.in_err-put_offset.field-0.0)) c.in_ok-offset.ensures.next c.in_err-put_offset.ensures.halt)) })
+    (record { halted = halts_between g.S.Source.stands at found b c.args.store.now.offset c.put_offset.new.store.offset c.args.work.now c.args.report.now c.args.report.now c.args.src.now c.args.src.now (g.S.Source.told c.args.src.now) (g.S.Source.told c.args.src.now) _ u (none_taken (g.S.Source.told c.args.src.now)) (λ s t was now. ap (λ (x : Standing). x.reading) (g.met.S.Source.one c.args.src.now t s now was)) (store_left _ _ c.in_err-put_offset.ensures.halt) refl refl (inl c.in_err-put_offset.ensures.keeps); cause = subst (λ (o : Option Offset). IsHalt b.config b.now b.held o c.args.report.now (g.S.Source.told c.args.src.now) c.in_err-put_offset.field-0.0) (sym c.in_err-put_offset.ensures.keeps) (store_caused b u.messages c.args.store.now.offset c.args.work.now c.args.report.now found (g.S.Source.told c.args.src.now) _ u.is u.tells (subst IsOffset c.in_ok-offset.ensures.next c.in_ok-offset.ensures.asked) (subst (λ (o : Offset). (c.in_err-put_offset.field-0.0 ≡ halt.Memory) ⊎ ((c.in_err-put_offset.field-0.0 ≡ halt.Offsets) ⊎ IsTooLong o c.in_err-put_offset.field-0.0)) c.in_ok-offset.ensures.next c.in_err-put_offset.ensures.halt)); ask = quiet_asks b u.messages c.args.store.now.offset c.args.work.now c.args.report.now c.args.report.now found (g.S.Source.told c.args.src.now) c.put_offset.new.store.offset (Err c.in_err-put_offset.field-0.0) u.is u.tells quiet (inl c.in_err-put_offset.ensures.keeps) })
 
 pub returns-in_err-confirm-clause-halted : goal.returns-in_err-confirm-clause-halted
-returns-in_err-confirm-clause-halted g c at found b u =
+returns-in_err-confirm-clause-halted g c at found b u quiet =
     residual_of c.from_residual-in_err-confirm.result _ (Halts g.S.Source.stands at found b.config b.now b.held c.put_offset.new.store.offset (record c.args.report.now { position = c.in_ok-offset.offset.lsn.0 }) c.confirm.new.self (g.S.Source.told c.confirm.new.self)) c.from_residual-in_err-confirm.ensures.1
     (record {
       halted = halts_between g.S.Source.stands at found b c.args.store.now.offset c.put_offset.new.store.offset c.args.work.now c.args.report.now (record c.args.report.now { position = c.in_ok-offset.offset.lsn.0 }) c.args.src.now c.confirm.new.self (g.S.Source.told c.args.src.now) (g.S.Source.told c.confirm.new.self) _ u c.confirm.ensures.taken
           (λ s t was now. absurd (dead_source (g.S.Source.is_live c.confirm.new.self) (g.met.S.Source.lives c.confirm.new.self t now) c.in_err-confirm.ensures.dead)) (source_left c.in_err-confirm.field-0.0) refl refl (inr (c.in_ok-put_offset.ensures.loads ∙ ap (λ (o : Offset). Some o) c.in_ok-offset.ensures.next));
       cause = source_caused b.config b.now b.held c.put_offset.new.store.offset (record c.args.report.now { position = c.in_ok-offset.offset.lsn.0 }) (g.S.Source.told c.confirm.new.self) c.in_err-confirm.field-0.0;
+      ask = failure_asks b u.messages c.args.store.now.offset c.args.work.now c.args.report.now (record c.args.report.now { position = c.in_ok-offset.offset.lsn.0 }) found (g.S.Source.told c.args.src.now) (g.S.Source.told c.confirm.new.self) c.put_offset.new.store.offset _ u.is u.tells c.confirm.ensures.taken (source_fails c.in_err-confirm.field-0.0) (inr (c.in_ok-put_offset.ensures.loads ∙ ap (λ (o : Offset). Some o) c.in_ok-offset.ensures.next));
     })
 
 pub returns-clause-all : goal.returns-clause-all
@@ -210,3 +213,6 @@ returns-in_err-put_offset-clause-most g c tell entry s closed =
 pub returns-in_err-confirm-clause-most : goal.returns-in_err-confirm-clause-most
 returns-in_err-confirm-clause-most g c tell entry s closed =
     leaves_most _ g.S.Source.may_leave c.confirm.new.self c.args.report.now.chunks entry.history (λ left may. others_leave_few_marks entry s.stage c.args.work.now left.history c.args.report.now.chunks c.args.report.now.chunks s.work_is s.going closed (same_most c.args.report.now.chunks) (c.confirm.ensures.left (standing_at s.stage) left s.source_is may).grows)
+
+pub returns-clause-quiet : goal.returns-clause-quiet
+returns-clause-quiet g c = done_quiet (g.S.Source.told c.confirm.new.self) c.in_ok-confirm.ensures.told

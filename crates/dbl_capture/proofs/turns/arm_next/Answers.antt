@@ -58,3 +58,9 @@ returns-in-Some-clause-own g c = c.arm.ensures.own
 
 pub returns-in-Some-clause-most : goal.returns-in-Some-clause-most
 returns-in-Some-clause-most g c = c.arm.ensures.most
+
+pub returns-in-Some-clause-quiet : goal.returns-in-Some-clause-quiet
+returns-in-Some-clause-quiet g c quiet = c.arm.ensures.quiet
+
+pub returns-in-None-clause-quiet : goal.returns-in-None-clause-quiet
+returns-in-None-clause-quiet g c quiet = quiet

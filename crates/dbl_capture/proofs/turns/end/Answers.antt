@@ -1,4 +1,4 @@
-use Rattle.std.proofs.Common.{◌∙◌, ℕ, List, Some, ap, inl, refl, sym}
+use Rattle.std.proofs.Common.{◌∙◌, ℕ, Err, List, None, Some, ap, inl, refl, sym}
 use Rattle.std.proofs.lemmas.Result.{err_from_is_err_and}
 use Rattle.dbl_work.specs.declared.halt.Halt.TheVariants as halt
 use Rattle.dbl_steps.proofs.Reporting.{report_err}
@@ -19,6 +19,7 @@ use Rattle.dbl_causes.specs.Nevers.{IsHonestHalt}
 use Rattle.dbl_steps.proofs.Marks.{others_leave_few_marks}
 use Rattle.dbl_steps.proofs.Lasting.{leaves_most, left_rests, same_most}
 use Rattle.dbl_exits.specs.Sessions.{standing_at}
+use Rattle.dbl_steps.proofs.Asking.{quiet_asks, read_quiet}
 use Rattle.dbl_capture.proofs.turns.end.Goals as goal
 
 pub returns-in_err-copy-in-Some-clause-left : goal.returns-in_err-copy-in-Some-clause-left
@@ -64,17 +65,17 @@ returns-in_err-copy-in-Some-clause-report g c =
 pub returns-in_err-copy-in-Some-clause-halted : goal.returns-in_err-copy-in-Some-clause-halted
 returns-in_err-copy-in-Some-clause-halted g c at found b u answer =
     residual_of c.from_residual.result halt.Memory (Halts g.S.Source.stands at found b.config b.now b.held c.args.store.now.offset c.args.report.now c.args.src.now (g.S.Source.told c.args.src.now)) c.from_residual.ensures.1
-    (record { halted = halts_between g.S.Source.stands at found b c.args.store.now.offset c.args.store.now.offset c.args.work.now c.args.report.now c.args.report.now c.args.src.now c.args.src.now (g.S.Source.told c.args.src.now) (g.S.Source.told c.args.src.now) halt.Memory (at_rest g.S.Source.stands at found b c.args.store.now.offset c.args.work.now c.args.report.now c.args.src.now (g.S.Source.told c.args.src.now) u) (none_taken (g.S.Source.told c.args.src.now)) (λ s t was now. ap (λ (x : Standing). x.reading) (g.met.S.Source.one c.args.src.now t s now was)) memory_left refl refl (inl refl); cause = memory_caused b.config b.now b.held c.args.store.now.offset c.args.report.now (g.S.Source.told c.args.src.now) halt.Memory refl })
+    (record { halted = halts_between g.S.Source.stands at found b c.args.store.now.offset c.args.store.now.offset c.args.work.now c.args.report.now c.args.report.now c.args.src.now c.args.src.now (g.S.Source.told c.args.src.now) (g.S.Source.told c.args.src.now) halt.Memory (at_rest g.S.Source.stands at found b c.args.store.now.offset c.args.work.now c.args.report.now c.args.src.now (g.S.Source.told c.args.src.now) u) (none_taken (g.S.Source.told c.args.src.now)) (λ s t was now. ap (λ (x : Standing). x.reading) (g.met.S.Source.one c.args.src.now t s now was)) memory_left refl refl (inl refl); cause = memory_caused b.config b.now b.held c.args.store.now.offset c.args.report.now (g.S.Source.told c.args.src.now) halt.Memory refl; ask = quiet_asks b u.messages c.args.store.now.offset c.args.work.now c.args.report.now c.args.report.now found (g.S.Source.told c.args.src.now) c.args.store.now.offset (Err halt.Memory) u.is.is u.tells (read_quiet (g.S.Source.told c.args.src.now) None answer) (inl refl) })
 
 pub returns-in_ok-copy-in-Some-clause-halted : goal.returns-in_ok-copy-in-Some-clause-halted
 returns-in_ok-copy-in-Some-clause-halted g c at found b u answer =
-    record { halted = halts_between g.S.Source.stands at found b c.args.store.now.offset c.args.store.now.offset c.args.work.now c.args.report.now c.args.report.now c.args.src.now c.args.src.now (g.S.Source.told c.args.src.now) (g.S.Source.told c.args.src.now) _ (at_rest g.S.Source.stands at found b c.args.store.now.offset c.args.work.now c.args.report.now c.args.src.now (g.S.Source.told c.args.src.now) u) (none_taken (g.S.Source.told c.args.src.now)) (λ s t was now. ap (λ (x : Standing). x.reading) (g.met.S.Source.one c.args.src.now t s now was)) refl refl refl (inl refl); cause = missed_caused b u.messages c.args.store.now.offset c.args.work.now c.args.report.now found (g.S.Source.told c.args.src.now) _ u.is u.tells (sym c.in-Some.ensures.text ∙ ap (λ (v : List ℕ). Some v) (sym c.in_ok-copy-in-Some.ensures)) answer }
+    record { halted = halts_between g.S.Source.stands at found b c.args.store.now.offset c.args.store.now.offset c.args.work.now c.args.report.now c.args.report.now c.args.src.now c.args.src.now (g.S.Source.told c.args.src.now) (g.S.Source.told c.args.src.now) _ (at_rest g.S.Source.stands at found b c.args.store.now.offset c.args.work.now c.args.report.now c.args.src.now (g.S.Source.told c.args.src.now) u) (none_taken (g.S.Source.told c.args.src.now)) (λ s t was now. ap (λ (x : Standing). x.reading) (g.met.S.Source.one c.args.src.now t s now was)) refl refl refl (inl refl); cause = missed_caused b u.messages c.args.store.now.offset c.args.work.now c.args.report.now found (g.S.Source.told c.args.src.now) _ u.is u.tells (sym c.in-Some.ensures.text ∙ ap (λ (v : List ℕ). Some v) (sym c.in_ok-copy-in-Some.ensures)) answer; ask = quiet_asks b u.messages c.args.store.now.offset c.args.work.now c.args.report.now c.args.report.now found (g.S.Source.told c.args.src.now) c.args.store.now.offset _ u.is.is u.tells (read_quiet (g.S.Source.told c.args.src.now) None answer) (inl refl) }
 
 pub returns-in-None-clause-all : goal.returns-in-None-clause-all
 returns-in-None-clause-all g c at found b u = c.settle.ensures.all at found b (at_rest g.S.Source.stands at found b c.args.store.now.offset c.args.work.now c.args.report.now c.args.src.now (g.S.Source.told c.args.src.now) u)
 
 pub returns-in-None-clause-halted : goal.returns-in-None-clause-halted
-returns-in-None-clause-halted g c at found b u answer = c.settle.ensures.halted at found b (at_rest g.S.Source.stands at found b c.args.store.now.offset c.args.work.now c.args.report.now c.args.src.now (g.S.Source.told c.args.src.now) u)
+returns-in-None-clause-halted g c at found b u answer = c.settle.ensures.halted at found b (at_rest g.S.Source.stands at found b c.args.store.now.offset c.args.work.now c.args.report.now c.args.src.now (g.S.Source.told c.args.src.now) u) (read_quiet (g.S.Source.told c.args.src.now) None answer)
 
 pub returns-in_err-copy-in-Some-clause-put : goal.returns-in_err-copy-in-Some-clause-put
 returns-in_err-copy-in-Some-clause-put g c groups b u =
@@ -131,3 +132,6 @@ returns-in_ok-copy-in-Some-clause-most g c tell entry s closed left may =
 
 pub returns-in-None-clause-most : goal.returns-in-None-clause-most
 returns-in-None-clause-most g c = c.settle.ensures.most
+
+pub returns-in-None-clause-quiet : goal.returns-in-None-clause-quiet
+returns-in-None-clause-quiet g c = c.settle.ensures.quiet

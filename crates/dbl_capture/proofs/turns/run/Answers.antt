@@ -19,6 +19,7 @@ turns-init g c = record {
   kept = λ tell entry s honest. s;
   under_way = λ at found b u. u;
   putting = λ groups b u. u;
+  quiet = λ some. absurd (omega (arith, some));
   ready = c.requires.ready;
   offset_is = refl;
   stored = λ own. own;
@@ -46,6 +47,7 @@ turns-preserved g c = record {
   kept = λ tell entry s honest. c.in_ok-turn.ensures.turned tell entry (c.turns.invariant.kept tell entry s (c.turn.ensures.honest honest)) honest;
   under_way = λ at found b u. c.in_ok-turn.ensures.under_way at found b (c.turns.invariant.under_way at found b u);
   putting = λ groups b u. c.in_ok-turn.ensures.putting groups b (c.turns.invariant.putting groups b u);
+  quiet = λ some. c.in_ok-turn.ensures.quiet;
   ready = c.in_ok-turn.ensures.ready;
   offset_is = placed_on c.args.work.now.offset c.turns.work.offset c.turn.new.work.offset c.turns.invariant.offset_is c.in_ok-turn.ensures.offset_is;
   stored = λ own. c.turn.ensures.stored c.args.work.now.offset c.turns.invariant.offset_is (c.turns.invariant.stored own);
@@ -379,7 +381,7 @@ pub returns-in_err-arm_next-clause-halted : goal.returns-in_err-arm_next-clause-
 returns-in_err-arm_next-clause-halted g c at found b u = residual_of c.from_residual-in_err-arm_next.result _ (Halts g.S.Source.stands at found b.config b.now b.held c.turns.store.offset c.turns.report c.arm_next.new.src (g.S.Source.told c.arm_next.new.src)) c.from_residual-in_err-arm_next.ensures.1 (c.in_err-arm_next.ensures.halted at found b c.turns.report (c.turns.invariant.under_way at found b u))
 
 pub returns-in_err-settle-clause-halted : goal.returns-in_err-settle-clause-halted
-returns-in_err-settle-clause-halted g c at found b u = residual_of c.from_residual-in_err-settle.result _ (Halts g.S.Source.stands at found b.config b.now b.held c.settle.new.store.offset c.settle.new.report c.settle.new.src (g.S.Source.told c.settle.new.src)) c.from_residual-in_err-settle.ensures.1 (c.in_err-settle.ensures.halted at found b (at_rest g.S.Source.stands at found b c.turns.store.offset c.arm_next.new.work c.turns.report c.arm_next.new.src (g.S.Source.told c.arm_next.new.src) (c.in_ok-arm_next.ensures.under_way at found b c.turns.report (c.turns.invariant.under_way at found b u))))
+returns-in_err-settle-clause-halted g c at found b u = residual_of c.from_residual-in_err-settle.result _ (Halts g.S.Source.stands at found b.config b.now b.held c.settle.new.store.offset c.settle.new.report c.settle.new.src (g.S.Source.told c.settle.new.src)) c.from_residual-in_err-settle.ensures.1 (c.in_err-settle.ensures.halted at found b (at_rest g.S.Source.stands at found b c.turns.store.offset c.arm_next.new.work c.turns.report c.arm_next.new.src (g.S.Source.told c.arm_next.new.src) (c.in_ok-arm_next.ensures.under_way at found b c.turns.report (c.turns.invariant.under_way at found b u))) (c.in_ok-arm_next.ensures.quiet (c.turns.invariant.quiet (omega (arith, c.requires.some, c.turns-test.false)))))
 
 pub returns-clause-all : goal.returns-clause-all
 returns-clause-all g c at found b u = c.in_ok-settle.ensures.all at found b (at_rest g.S.Source.stands at found b c.turns.store.offset c.arm_next.new.work c.turns.report c.arm_next.new.src (g.S.Source.told c.arm_next.new.src) (c.in_ok-arm_next.ensures.under_way at found b c.turns.report (c.turns.invariant.under_way at found b u)))
@@ -465,3 +467,9 @@ returns-in_err-settle-clause-most g c tell entry at found b s u honest =
     let before = c.settle.ensures.honest honest in
     on_err _ _ (c.in_err-settle.ensures.most tell entry (c.in_ok-arm_next.ensures.armed tell entry (c.turns.invariant.kept tell entry s (c.arm_next.ensures.honest before)) before)
     (c.in_ok-arm_next.ensures.under_way at found b c.turns.report (c.turns.invariant.under_way at found b u)).is.is.windows)
+
+pub returns-clause-quiet : goal.returns-clause-quiet
+returns-clause-quiet g c = c.in_ok-settle.ensures.quiet
+
+pub returns-then-branch-clause-quiet : goal.returns-then-branch-clause-quiet
+returns-then-branch-clause-quiet g c = c.in_ok-turn.ensures.quiet

@@ -9,6 +9,7 @@ use Rattle.dbl_exits.specs.Ends.{HasOwnStored, IsAtPosition}
 use Rattle.dbl_exits.specs.Sessions.{InSession}
 use Rattle.dbl_causes.specs.Carried.{Beginning}
 use Rattle.dbl_causes.specs.Sources.{IsUnderWay}
+use Rattle.dbl_steps.specs.Caused.{IsQuiet}
 use Rattle.dbl_steps.specs.Sinks.{IsPutting}
 use Rattle.dbl_capture.proofs.turns.run.Given as goal
 
@@ -19,6 +20,7 @@ invariant-turns g l = record {
   under_way : (at : Option Standing) (found : Option Told) (b : Beginning) → IsUnderWay g.S.Source.stands at found b l.fn.store.offset l.fn.work l.fn.report l.fn.src (g.S.Source.told l.fn.src) →
       IsUnderWay g.S.Source.stands at found b l.store.offset l.work l.report l.src (g.S.Source.told l.src);
   putting : (groups : List (List Record)) (b : Beginning) → IsPutting g.K.Sink.holds groups b l.fn.store.offset l.fn.work l.fn.report l.fn.sink → IsPutting g.K.Sink.holds groups b l.store.offset l.work l.report l.sink;
+  quiet : 1 ≤ l._count → IsQuiet (g.S.Source.told l.src);
   ready : IsReady l.work;
   offset_is : l.work.offset ≡ record l.fn.work.offset { lsn = l.work.offset.lsn; end_lsn = l.work.offset.end_lsn };
   stored : HasOwnStored l.fn.work.offset l.fn.store.offset → HasOwnStored l.fn.work.offset l.store.offset;

@@ -374,7 +374,7 @@ pub returns-in_err-next-clause-halted : goal.returns-in_err-next-clause-halted
 returns-in_err-next-clause-halted g c at found b u = residual_of c.from_residual-in_err-next.result _ (Halts g.S.Source.stands at found b.config b.now b.held c.args.store.now.offset c.next.new.report c.next.new.src (g.S.Source.told c.next.new.src)) c.from_residual-in_err-next.ensures.1 (c.in_err-next.ensures.halted at found b (c.in_ok-arm_next.ensures.under_way at found b c.args.report.now u))
 
 pub returns-in_err-settle-in-Some-true-clause-halted : goal.returns-in_err-settle-in-Some-true-clause-halted
-returns-in_err-settle-in-Some-true-clause-halted g c at found b u = residual_of c.from_residual-in_err-settle-in-Some-true.result _ (Halts g.S.Source.stands at found b.config b.now b.held c.settle.new.store.offset c.settle.new.report c.settle.new.src (g.S.Source.told c.settle.new.src)) c.from_residual-in_err-settle-in-Some-true.ensures.1 (c.in_err-settle-in-Some-true.ensures.halted at found b (goes_true g.S.Source.stands at found b c.args.store.now.offset c.next.new.work c.next.new.report c.next.new.src (g.S.Source.told c.next.new.src) _ c.in-Some-true.field-0 c.in-Some-true.is c.in-Some-true.field-0-test (c.in_ok-next.ensures.under_way at found b (c.in_ok-arm_next.ensures.under_way at found b c.args.report.now u))))
+returns-in_err-settle-in-Some-true-clause-halted g c at found b u = residual_of c.from_residual-in_err-settle-in-Some-true.result _ (Halts g.S.Source.stands at found b.config b.now b.held c.settle.new.store.offset c.settle.new.report c.settle.new.src (g.S.Source.told c.settle.new.src)) c.from_residual-in_err-settle-in-Some-true.ensures.1 (c.in_err-settle-in-Some-true.ensures.halted at found b (goes_true g.S.Source.stands at found b c.args.store.now.offset c.next.new.work c.next.new.report c.next.new.src (g.S.Source.told c.next.new.src) _ c.in-Some-true.field-0 c.in-Some-true.is c.in-Some-true.field-0-test (c.in_ok-next.ensures.under_way at found b (c.in_ok-arm_next.ensures.under_way at found b c.args.report.now u))) c.in_ok-next.ensures.quiet)
 
 pub returns-in_ok-settle-in-Some-true-clause-under_way : goal.returns-in_ok-settle-in-Some-true-clause-under_way
 returns-in_ok-settle-in-Some-true-clause-under_way g c at found b u = settled_rests g.S.Source.stands at found b c.settle.new.store.offset c.settle.new.work c.settle.new.report c.settle.new.src (g.S.Source.told c.settle.new.src) (c.in_ok-settle-in-Some-true.ensures.all at found b (goes_true g.S.Source.stands at found b c.args.store.now.offset c.next.new.work c.next.new.report c.next.new.src (g.S.Source.told c.next.new.src) _ c.in-Some-true.field-0 c.in-Some-true.is c.in-Some-true.field-0-test (c.in_ok-next.ensures.under_way at found b (c.in_ok-arm_next.ensures.under_way at found b c.args.report.now u))))
@@ -488,3 +488,12 @@ returns-in_err-end-in-None-clause-most g c tell entry at found b s u honest =
     let before = c.end.ensures.honest honest in
     on_err _ _ (c.in_err-end-in-None.ensures.most tell entry (c.in_ok-next.ensures.next tell entry (c.in_ok-arm_next.ensures.armed tell entry s (c.next.ensures.honest before)) before)
     (goes_none g.S.Source.stands at found b c.args.store.now.offset c.next.new.work c.next.new.report c.next.new.src (g.S.Source.told c.next.new.src) _ c.in-None.is (c.in_ok-next.ensures.under_way at found b (c.in_ok-arm_next.ensures.under_way at found b c.args.report.now u))).is.is.windows)
+
+pub returns-in_ok-settle-in-Some-true-clause-quiet : goal.returns-in_ok-settle-in-Some-true-clause-quiet
+returns-in_ok-settle-in-Some-true-clause-quiet g c = c.in_ok-settle-in-Some-true.ensures.quiet
+
+pub returns-in-Some-false-clause-quiet : goal.returns-in-Some-false-clause-quiet
+returns-in-Some-false-clause-quiet g c = c.in_ok-next.ensures.quiet
+
+pub returns-in_ok-end-in-None-clause-quiet : goal.returns-in_ok-end-in-None-clause-quiet
+returns-in_ok-end-in-None-clause-quiet g c = c.in_ok-end-in-None.ensures.quiet

@@ -17,6 +17,7 @@ use Rattle.dbl_honest.specs.Standings.{left_of}
 use Rattle.dbl_window.proofs.HonestLemmas.{captured_stays}
 use Rattle.dbl_steps.proofs.Marks.{windows_leave_few_marks}
 use Rattle.dbl_steps.proofs.Lasting.{leaves_most}
+use Rattle.dbl_steps.proofs.Asking.{chunk_asks, ok_done}
 use Rattle.dbl_capture.proofs.windows.arm.Goals as goal
 
 pub returns-clause-armed : goal.returns-clause-armed
@@ -55,7 +56,7 @@ returns-clause-under_way g c at found b report u =
 pub returns-clause-halted : goal.returns-clause-halted
 returns-clause-halted g c at found b report u =
     err_then c.read_window.result _ (Halts g.S.Source.stands at found b.config b.now b.held c.args.store.now.offset report c.read_window.new.src (g.S.Source.told c.read_window.new.src)) c.read_window.ensures.halt
-    (λ h chunk. record { halted = halts_between g.S.Source.stands at found b c.args.store.now.offset c.args.store.now.offset c.args.work.now report report c.args.src.now c.read_window.new.src (g.S.Source.told c.args.src.now) (g.S.Source.told c.read_window.new.src) h (at_rest g.S.Source.stands at found b c.args.store.now.offset c.args.work.now report c.args.src.now (g.S.Source.told c.args.src.now) u) c.read_window.ensures.taken c.read_window.ensures.still (chunk_left c.args.work.now c.args.table _ h chunk) refl refl (inl refl); cause = chunk_caused b u.messages c.args.store.now.offset c.args.work.now report c.args.table (g.S.Source.told c.read_window.new.src) h u.is c.requires.absent c.requires.table chunk })
+    (λ h chunk. record { halted = halts_between g.S.Source.stands at found b c.args.store.now.offset c.args.store.now.offset c.args.work.now report report c.args.src.now c.read_window.new.src (g.S.Source.told c.args.src.now) (g.S.Source.told c.read_window.new.src) h (at_rest g.S.Source.stands at found b c.args.store.now.offset c.args.work.now report c.args.src.now (g.S.Source.told c.args.src.now) u) c.read_window.ensures.taken c.read_window.ensures.still (chunk_left c.args.work.now c.args.table _ h chunk) refl refl (inl refl); cause = chunk_caused b u.messages c.args.store.now.offset c.args.work.now report c.args.table (g.S.Source.told c.read_window.new.src) h u.is c.requires.absent c.requires.table chunk; ask = chunk_asks b u.messages c.args.store.now.offset c.args.work.now report c.args.table found (g.S.Source.told c.args.src.now) (g.S.Source.told c.read_window.new.src) h u.is u.tells c.read_window.ensures.taken c.requires.absent c.requires.table chunk })
 
 pub returns-clause-putting : goal.returns-clause-putting
 returns-clause-putting g c groups b report u =
@@ -85,3 +86,6 @@ pub returns-clause-most : goal.returns-clause-most
 returns-clause-most g c tell entry chunks s closed =
     let planned = plan_here c.args.work.now c.args.table c.requires.ready c.requires.table in
     leaves_most _ g.S.Source.may_leave c.read_window.new.src chunks entry.history (λ left may. windows_leave_few_marks entry s.stage c.args.work.now planned.0 left chunks s.work_is s.going closed c.requires.absent (c.read_window.ensures.left planned.0 planned.1 (standing_at s.stage) left s.source_is may))
+
+pub returns-clause-quiet : goal.returns-clause-quiet
+returns-clause-quiet g c = ok_done c.read_window.result (g.S.Source.told c.read_window.new.src) c.read_window.ensures.told

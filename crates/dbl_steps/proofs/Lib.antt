@@ -3,6 +3,7 @@ pub mod Sinks
 pub mod Marks
 pub mod Answered
 pub mod Honest
+pub mod Owned
 pub mod Nevers
 pub mod Lasting
 pub mod Reporting
@@ -13,3 +14,4 @@ pub mod Marking
 pub mod Sinking
 pub mod Going
 pub mod Asking
+pub mod Owning

@@ -5,3 +5,4 @@ pub mod Answered
 pub mod Honest
 pub mod Caused
 pub mod Putting
+pub mod Owned

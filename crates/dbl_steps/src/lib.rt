@@ -6,6 +6,7 @@
 mod answer_laws;
 mod honest_laws;
 mod mark_laws;
+mod owned_laws;
 mod put_laws;
 
 pub use answer_laws::{
@@ -16,6 +17,10 @@ pub use honest_laws::{
 };
 pub use mark_laws::{
     ends_leave_exact_marks, others_add_no_marks, others_leave_few_marks, windows_leave_few_marks,
+};
+pub use owned_laws::{
+    clashes_are_own, first_long_offsets_are_own, first_offsets_are_long, long_offsets_are_own,
+    long_records_are_own,
 };
 pub use put_laws::{
     commits_gain, gains_begin, gains_stay, messages_gain_nothing, rests_leave_gains,

@@ -224,3 +224,7 @@ module _ (config : Config) (history : History) where
         first = subst (λ (x : Lsn). IsFirst config is.infos x offset) (sym is.first.start) is.first;
         long = subst (IsTooLong offset) long.is long;
       })
+
+-- none is stored where one isn't
+pub none_some : (offset : Offset) → None ≡ Some offset → ⊥
+none_some offset is = cc

@@ -1,6 +1,6 @@
 -- Where a session over an honest source and faithful stores halts, that it is of the source's history: at each place where it may.
 use Rattle.std.proofs.Common.{◌≡◌, ◌∙◌, ◌⊎◌, inl, inr, ℕ, Bool, IsTrue, true, Option, Some, None, List, ◌∷◌, map, refl, sym, ap, subst}
-use Rattle.std.specs.Prelude.{Contains}
+use Rattle.std.specs.Prelude.{Contains, IfSome}
 use Rattle.dbl_base.specs.declared.lsn.Lsn.{Lsn}
 use Rattle.dbl_pgmsg.specs.declared.messages.Message.{Message}
 use Rattle.dbl_pgmsg.specs.Grammar.{Spells}
@@ -25,11 +25,12 @@ use Rattle.dbl_offset.specs.declared.offset.Offset.{Offset}
 use Rattle.dbl_offset.specs.Stores.{StoreOn}
 use Rattle.dbl_reading.specs.declared.error.SourceError.{SourceError}
 use Rattle.dbl_reading.specs.declared.error.SourceError.TheVariants as source
+use Rattle.dbl_stores.specs.Faithful.{IsFaithful}
 use Rattle.dbl_window.specs.declared.error.WindowError.{WindowError}
 use Rattle.dbl_window.specs.declared.error.WindowError.TheVariants as window
 use Rattle.dbl_window.proofs.HonestLemmas.{captured_stays}
 use Rattle.dbl_follow.specs.Steps.{clash_by, records_by}
-use Rattle.dbl_session.specs.Entries.{Entry, WasFaithful}
+use Rattle.dbl_session.specs.Entries.{Entry, HadOwnTables, WasFaithful}
 use Rattle.dbl_session.specs.Going.{IsGoing}
 use Rattle.dbl_session.proofs.Stepping.{others_keep_going}
 use Rattle.dbl_work.specs.declared.halt.Halt.{Halt}
@@ -228,3 +229,11 @@ module _ (config : Config) (history : History) where
 -- none is stored where one isn't
 pub none_some : (offset : Offset) → None ≡ Some offset → ⊥
 none_some offset is = cc
+
+-- faithful stores have the tables of the source's catalogue
+had_so : (history : History) (confirmed : Lsn) (records : List Record) (offset : Option Offset) → IsFaithful history confirmed records offset → IfSome offset (λ o. AreInfosOf history o.infos)
+had_so history confirmed records None is = tt
+had_so history confirmed records (Some offset) is = is.behind.offset_is.infos
+
+pub had_of : (entry : Entry) → WasFaithful entry → HadOwnTables entry
+had_of entry faithful = had_so entry.history entry.confirmed (joined entry.groups) entry.offset faithful

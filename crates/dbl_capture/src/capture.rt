@@ -1,6 +1,6 @@
 //! The session.
 
-ghost use Rattle.std.specs.Prelude.{◌≡◌, ◌≢◌, ◌⊎◌, ◌<◌, ◌≤◌, List, Option, Some, None, Bool, [], IfErr, IfOk, IsTrue, OnErr, OnOk};
+ghost use Rattle.std.specs.Prelude.{◌≡◌, ◌≢◌, ◌⊎◌, ◌<◌, ◌≤◌, List, Option, Some, None, Bool, [], IfErr, IfOk, IsTrue, OnErr, OnOk, true};
 ghost use Rattle.dbl_base.specs.Streams.{Rose};
 ghost use Rattle.dbl_record.specs.declared.record.Record.{Record as SpecRecord};
 ghost use Rattle.dbl_table.specs.Configs.{IsGoodConfig};
@@ -11,7 +11,7 @@ ghost use Rattle.dbl_honest.specs.Told.{Head, IsTakenBy, Tells, Told};
 ghost use Rattle.dbl_offset.specs.declared.offset.Offset.{Offset as SpecOffset};
 ghost use Rattle.dbl_offset.specs.Offsets.{IsOffset};
 ghost use Rattle.dbl_offset.specs.Stores.{ComesOf, IsLive, disk_of};
-ghost use Rattle.dbl_session.specs.Entries.{Entry as SpecEntry, HadOwnTables, IsKeptBehind, StoodInLog};
+ghost use Rattle.dbl_session.specs.Entries.{Entry as SpecEntry, HadOwnTables, IsKeptBehind, StoodInLog, WasFaithful};
 ghost use Rattle.dbl_work.specs.Begins.{IsAbsentHalt, IsExhausted, IsOffsetFor, MayRest};
 ghost use Rattle.dbl_work.specs.Works.{IsBegun};
 ghost use Rattle.dbl_exits.specs.Ends.{AreAllDone, IsAtPosition, LeavesComplete};
@@ -22,13 +22,15 @@ ghost use Rattle.dbl_causes.specs.Halted.{IsHalt};
 ghost use Rattle.dbl_causes.specs.Musts.{MustExhaust, MustHalt, MustHaltStood, MustHaltTold};
 ghost use Rattle.dbl_causes.specs.Reported.{HasReadMessages, HasSettled, HasStoodBehind, IsFollowed, StoodAtLast};
 ghost use Rattle.dbl_honest.specs.Growth.{marks_in};
-ghost use Rattle.dbl_causes.specs.Nevers.{IsHonestHalt};
+ghost use Rattle.dbl_causes.specs.Nevers.{IsFaithfulHalt, IsHonestHalt};
 ghost use Rattle.dbl_causes.specs.Sources.{IsUnderWay};
 ghost use Rattle.dbl_steps.specs.Caused.{AsksUnread, Halts, IsNotGone};
 ghost use Rattle.dbl_causes.specs.Underway.{IsBeginHalt};
 ghost use Rattle.dbl_causes.specs.Written.{AddsAtMost, AddsExactly, marks_more};
 ghost use Rattle.dbl_steps.specs.Sinks.{IsPutting};
 ghost use Rattle.dbl_capture.specs.Begun.{beginning_at};
+ghost use Rattle.dbl_work.specs.declared.report.Report.{Report as SpecReport};
+ghost use Rattle.dbl_steps.specs.Owned.{IsContentFree, IsFirstByCatalogue, IsLongBy};
 
 use crate::turns::run;
 use dbl_disk::Disk;
@@ -77,6 +79,9 @@ fn offset_of<S: Source, D: Disk>(
         OnOk result ((lsn : _) × Tells (S.told src.new) (Head lsn)) }
     ensures ask { IfErr result (AsksUnread config.now store.now.offset store.now.offset
         (S.told src.new)) }
+    ensures free { IfErr result IsContentFree }
+    ensures first { (s : Standing) → S.stands src.old s → store.now.offset ≡ None →
+        IfOk result (IsFirstByCatalogue config.now s.history) }
 {
     match again(alloc, store)? {
         Some(offset) => Ok(offset),
@@ -134,6 +139,13 @@ fn begun<S: Source, K: Sink, D: Disk>(
         (S.told src.new)) }
     ensures offsets { result ≡ Err Halt.Offsets →
         Rose (D.faults (disk_of store.old)) (D.faults (disk_of store.new)) }
+    ensures long { (s : Standing) → S.stands src.old s → store.old.offset ≡ None →
+        IfErr result (IsLongBy config.now s.history) }
+    ensures content { (entry : SpecEntry) (stored : Option SpecOffset) (report : SpecReport) →
+        entry.config ≡ config.now →
+        IsFound true S.stands K.holds D.seen D.may_leave entry src.old sink.now store.old →
+        S.honest src.new → WasFaithful entry →
+        IfErr result (IsFaithfulHalt entry stored report (S.stands src.new) (K.holds sink.now)) }
 {
     let offset = offset_of(alloc, config, src, store)?;
     let stored = offset.copy(alloc)?;
@@ -222,6 +234,13 @@ fn opened<S: Source, K: Sink, D: Disk>(
     ensures own { (entry : SpecEntry) → IfErr result (IsHonestHalt entry (S.stands src.new)) }
     ensures unmarked { (s : Standing) (left : Left) → S.stands src.old s → S.may_leave src.new left →
         marks_in left.history.commits ≡ marks_in s.history.commits }
+    ensures long { (s : Standing) → S.stands src.old s → store.old.offset ≡ None →
+        IfErr result (IsLongBy config.now s.history) }
+    ensures content { (entry : SpecEntry) → entry.config ≡ config.now →
+        IsFound true S.stands K.holds D.seen D.may_leave entry src.old sink.now store.old →
+        S.honest src.new → WasFaithful entry →
+        IfErr result (IsFaithfulHalt entry store.new.offset report.new (S.stands src.new)
+        (K.holds sink.now)) }
 {
     let offset = begun(alloc, config, src, sink, store)?;
     report.position = offset.lsn.0;
@@ -326,6 +345,16 @@ pub fn session<S: Source, K: Sink, D: Disk>(
         HadOwnTables (entry_at config.now now_ms s offsets.old.offset) →
         IfErr result (IsHonestHalt (entry_at config.now now_ms s offsets.old.offset)
         (S.stands src.new)) }
+
+    // What makes it halt over an honest source and faithful stores is of the source's history; and
+    // before the first store an offset is too long by the catalogue alone.
+    ensures content { (entry : SpecEntry) → IsEntryOf config.now now_ms entry →
+        Found S.stands K.holds D.seen D.may_leave entry src.old sink.old offsets.old →
+        S.honest src.new → WasFaithful entry →
+        IfErr result (IsFaithfulHalt entry offsets.new.offset report.new (S.stands src.new)
+        (K.holds sink.new)) }
+    ensures long { (s : Standing) → S.stands src.old s → offsets.old.offset ≡ None →
+        offsets.new.offset ≡ None → IfErr result (IsLongBy config.now s.history) }
 
     // What the sink gained, and that its report counts it, of every source.
     ensures grouped { (groups left : List (List SpecRecord)) → K.holds sink.old groups →

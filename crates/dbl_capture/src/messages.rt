@@ -6,13 +6,13 @@ ghost use Rattle.dbl_record.specs.declared.record.Record.{Record as SpecRecord};
 ghost use Rattle.dbl_history.specs.Ranges.{IsMomentInRange};
 ghost use Rattle.dbl_honest.specs.Standings.{Left, Standing};
 ghost use Rattle.dbl_honest.specs.Told.{Read, Tells, Told};
-ghost use Rattle.dbl_session.specs.Entries.{Entry as SpecEntry};
+ghost use Rattle.dbl_session.specs.Entries.{Entry as SpecEntry, WasFaithful};
 ghost use Rattle.dbl_work.specs.Works.{IsReady};
 ghost use Rattle.dbl_exits.specs.Sessions.{InSession, LeavesBy};
 ghost use Rattle.dbl_exits.specs.Turns.{HasReadAllAt, IsCountedNext, IsDue, IsNextOf};
 ghost use Rattle.dbl_causes.specs.Carried.{Beginning};
 ghost use Rattle.dbl_causes.specs.Written.{AddsNoMore, AreClosed};
-ghost use Rattle.dbl_causes.specs.Nevers.{IsHonestHalt};
+ghost use Rattle.dbl_causes.specs.Nevers.{IsFaithfulHalt, IsHonestHalt};
 ghost use Rattle.dbl_causes.specs.Sources.{GoesOn, IsUnderWay};
 ghost use Rattle.dbl_steps.specs.Sinks.{HasHaltedPut, IsPutting};
 ghost use Rattle.dbl_steps.specs.Caused.{Halts, IsNotGone, IsQuiet};
@@ -126,6 +126,13 @@ pub(crate) fn next<S: Source, K: Sink, D: Disk>(
         work.old src.old sink.old store.now → AreClosed work.old report.old.chunks →
         OnErr result ((left : Left) → S.may_leave src.new left →
         AddsNoMore report.new.chunks entry.history left.history) }
+    ensures content { (entry : SpecEntry) (at : Option Standing) (found : Option Told)
+        (b : Beginning) → InSession true S.stands K.holds D.seen D.may_leave entry
+        work.old src.old sink.old store.now →
+        IsUnderWay S.stands at found b store.now.offset work.old report.old src.old
+        (S.told src.old) → WasFaithful entry → S.honest src.new →
+        IfErr result (IsFaithfulHalt entry store.now.offset report.new (S.stands src.new)
+        (K.holds sink.new)) }
 {
     match src.read()? {
         Some(bytes) => {

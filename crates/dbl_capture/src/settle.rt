@@ -1,19 +1,19 @@
 //! The offset is stored, and then confirmed.
 
-ghost use Rattle.std.specs.Prelude.{◌≡◌, ◌≢◌, ◌≤◌, List, Option, Bool, IfErr, IsTrue, OnErr, OnOk, is_ok};
+ghost use Rattle.std.specs.Prelude.{◌≡◌, ◌≢◌, ◌≤◌, List, Option, Bool, IfErr, IsTrue, OnErr, OnOk, is_ok, true};
 ghost use Rattle.dbl_base.specs.Streams.{Rose};
 ghost use Rattle.dbl_record.specs.declared.record.Record.{Record as SpecRecord};
 ghost use Rattle.dbl_honest.specs.Standings.{Left, Standing};
 ghost use Rattle.dbl_honest.specs.Told.{Told};
 ghost use Rattle.dbl_offset.specs.Stores.{ComesOf, IsLive, disk_of};
-ghost use Rattle.dbl_session.specs.Entries.{Entry as SpecEntry};
+ghost use Rattle.dbl_session.specs.Entries.{Entry as SpecEntry, WasFaithful};
 ghost use Rattle.dbl_work.specs.Works.{IsReady};
 ghost use Rattle.dbl_exits.specs.Ends.{IsReportAt};
 ghost use Rattle.dbl_exits.specs.Sessions.{InSession, LeavesBy};
 ghost use Rattle.dbl_exits.specs.Turns.{HasReadAllAt, IsSettled, IsSettledWhole};
 ghost use Rattle.dbl_causes.specs.Carried.{Beginning};
 ghost use Rattle.dbl_causes.specs.Written.{AddsNoMore, AreClosed};
-ghost use Rattle.dbl_causes.specs.Nevers.{IsHonestHalt};
+ghost use Rattle.dbl_causes.specs.Nevers.{IsFaithfulHalt, IsHonestHalt};
 ghost use Rattle.dbl_causes.specs.Sources.{HasCommitted, HasSettledAll};
 ghost use Rattle.dbl_steps.specs.Sinks.{HasHaltedPut, HasPutCommit, IsPutting};
 ghost use Rattle.dbl_steps.specs.Caused.{Halts, IsNotGone, IsQuiet};
@@ -104,6 +104,11 @@ pub(crate) fn settle<S: Source, K: Sink, D: Disk>(
         work.old src.old sink.now store.old → AreClosed work.old report.old.chunks →
         OnErr result ((left : Left) → S.may_leave src.new left →
         AddsNoMore report.new.chunks entry.history left.history) }
+    ensures content { (entry : SpecEntry) →
+        InSession true S.stands K.holds D.seen D.may_leave entry
+        work.old src.old sink.now store.old → WasFaithful entry →
+        IfErr result (IsFaithfulHalt entry store.new.offset report.new (S.stands src.new)
+        (K.holds sink.now)) }
 {
     let offset = work.next_offset()?;
     let lsn = offset.lsn;

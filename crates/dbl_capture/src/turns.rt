@@ -9,7 +9,7 @@ ghost use Rattle.dbl_honest.specs.Told.{Read, Tells, Told};
 ghost use Rattle.dbl_offset.specs.declared.offset.Offset.{Offset as SpecOffset};
 ghost use Rattle.dbl_offset.specs.Stores.{ComesOf, IsLive, disk_of};
 ghost use Rattle.dbl_follow.specs.declared.window.Window.TheVariants as windows;
-ghost use Rattle.dbl_session.specs.Entries.{Entry as SpecEntry, StoodInLog};
+ghost use Rattle.dbl_session.specs.Entries.{Entry as SpecEntry, StoodInLog, WasFaithful};
 ghost use Rattle.dbl_work.specs.declared.report.Report.{Report as SpecReport};
 ghost use Rattle.dbl_work.specs.Works.{IsReady, next_of};
 ghost use Rattle.dbl_exits.specs.Ends.{AreAllDone, HasNoneNext, HasOwnStored, IsArmedNext, IsAtPosition, IsReportAt, IsTableOf};
@@ -17,10 +17,11 @@ ghost use Rattle.dbl_exits.specs.Sessions.{InSession, LeavesBy};
 ghost use Rattle.dbl_exits.specs.Turns.{HasReadAllAt, IsSettledWhole};
 ghost use Rattle.dbl_causes.specs.Carried.{Beginning};
 ghost use Rattle.dbl_causes.specs.Written.{AddsNoMore, AreClosed};
-ghost use Rattle.dbl_causes.specs.Nevers.{IsHonestHalt};
+ghost use Rattle.dbl_causes.specs.Nevers.{IsFaithfulHalt, IsHonestHalt};
 ghost use Rattle.dbl_causes.specs.Sources.{HasSettledAll, IsUnderWay};
 ghost use Rattle.dbl_steps.specs.Sinks.{HasHaltedPut, IsPutting};
 ghost use Rattle.dbl_steps.specs.Caused.{Halts, IsNotGone, IsQuiet};
+ghost use Rattle.dbl_steps.specs.Owned.{IsContentFree};
 
 use crate::messages::next;
 use crate::settle::settle;
@@ -103,6 +104,7 @@ fn arm_next<S: Source, K: Sink, D: Disk>(
         work.old src.old sink.now store.now → AreClosed work.old chunks →
         OnErr result ((left : Left) → S.may_leave src.new left →
         AddsNoMore chunks entry.history left.history) }
+    ensures free { IfErr result IsContentFree }
 {
     match table_of(work) {
         Some(table) => arm(work, table, src, sink, store),
@@ -184,6 +186,11 @@ fn end<S: Source, K: Sink, D: Disk>(
         work.old src.old sink.now store.old → AreClosed work.old report.old.chunks →
         OnErr result ((left : Left) → S.may_leave src.new left →
         AddsNoMore report.new.chunks entry.history left.history) }
+    ensures content { (entry : SpecEntry) →
+        InSession true S.stands K.holds D.seen D.may_leave entry
+        work.old src.old sink.now store.old → WasFaithful entry →
+        IfErr result (IsFaithfulHalt entry store.new.offset report.new (S.stands src.new)
+        (K.holds sink.now)) }
 {
     match work.follower.waits_for() {
         Some(value) => Err(Halt::WatermarkMissing {
@@ -317,6 +324,13 @@ fn turn<S: Source, K: Sink, D: Disk>(
         IsUnderWay S.stands at found b store.old.offset work.old report.old src.old
         (S.told src.old) → S.honest src.new → OnErr result ((left : Left) →
         S.may_leave src.new left → AddsNoMore report.new.chunks entry.history left.history) }
+    ensures content { (entry : SpecEntry) (at : Option Standing) (found : Option Told)
+        (b : Beginning) → InSession true S.stands K.holds D.seen D.may_leave entry
+        work.old src.old sink.old store.old →
+        IsUnderWay S.stands at found b store.old.offset work.old report.old src.old
+        (S.told src.old) → WasFaithful entry → S.honest src.new →
+        IfErr result (IsFaithfulHalt entry store.new.offset report.new (S.stands src.new)
+        (K.holds sink.new)) }
 {
     arm_next(work, src, sink, store)?;
     match next(work, src, sink, store, report)? {
@@ -442,6 +456,13 @@ pub(crate) fn run<S: Source, K: Sink, D: Disk>(
         IsUnderWay S.stands at found b store.old.offset work.old report.old src.old
         (S.told src.old) → S.honest src.new → OnErr result ((left : Left) →
         S.may_leave src.new left → AddsNoMore report.new.chunks entry.history left.history) }
+    ensures content { (entry : SpecEntry) (at : Option Standing) (found : Option Told)
+        (b : Beginning) → InSession true S.stands K.holds D.seen D.may_leave entry
+        work.old src.old sink.old store.old →
+        IsUnderWay S.stands at found b store.old.offset work.old report.old src.old
+        (S.told src.old) → WasFaithful entry → S.honest src.new →
+        IfErr result (IsFaithfulHalt entry store.new.offset report.new (S.stands src.new)
+        (K.holds sink.new)) }
 {
     'turns: for _count in 0..budget {
         if turn(work, src, sink, store, report)? {

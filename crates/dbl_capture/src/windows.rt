@@ -16,6 +16,7 @@ ghost use Rattle.dbl_causes.specs.Nevers.{IsHonestHalt};
 ghost use Rattle.dbl_causes.specs.Sources.{IsUnderWay};
 ghost use Rattle.dbl_steps.specs.Sinks.{HasHaltedPut, IsPutting};
 ghost use Rattle.dbl_steps.specs.Caused.{Halts, IsNotGone, IsQuiet};
+ghost use Rattle.dbl_steps.specs.Owned.{IsContentFree};
 
 use dbl_disk::Disk;
 use dbl_offset::OffsetStore;
@@ -86,6 +87,7 @@ pub(crate) fn arm<S: Source, K: Sink, D: Disk>(
         work.old src.old sink.now store.now → AreClosed work.old chunks →
         OnErr result ((left : Left) → S.may_leave src.new left →
         AddsNoMore chunks entry.history left.history) }
+    ensures free { IfErr result IsContentFree }
 {
     read_window(work, table, src)
 }

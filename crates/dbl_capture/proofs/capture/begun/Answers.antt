@@ -17,6 +17,10 @@ use Rattle.dbl_steps.proofs.Telling.{memory_absent, store_absent}
 use Rattle.dbl_steps.proofs.Lasting.{moved_rest}
 use Rattle.dbl_steps.specs.Caused.{AsksUnread}
 use Rattle.dbl_steps.proofs.Asking.{memory_asks, store_asks}
+use Rattle.dbl_work.specs.Begins.{IsTooLong}
+use Rattle.dbl_steps.specs.Owned.{IsFirstByCatalogue, IsLongBy}
+use Rattle.dbl_causes.specs.Nevers.{IsFaithfulHalt}
+use Rattle.dbl_steps.proofs.Owning.{first_long, first_own, free_long, free_own, had_of}
 use Rattle.dbl_capture.proofs.capture.begun.Goals as goal
 
 -- before the store
@@ -168,3 +172,32 @@ pub returns-in_err-put_offset-clause-ask : goal.returns-in_err-put_offset-clause
 returns-in_err-put_offset-clause-ask g c =
     residual_of c.from_residual-in_err-put_offset.result _ (AsksUnread c.args.config.now c.args.store.now.offset c.put_offset.new.store.offset (g.S.Source.told c.offset_of.new.src)) c.from_residual-in_err-put_offset.ensures.1
     (store_asks c.args.config.now c.args.store.now.offset c.put_offset.new.store.offset (g.S.Source.told c.offset_of.new.src) c.in_ok-stored.stored _ c.requires.config.some_tables c.in_err-put_offset.ensures.keeps (subst IsOffset (sym c.in_ok-stored.ensures) c.in_ok-offset.ensures.offset) (subst (IsOffsetFor c.args.config.now c.args.store.now.offset) (sym c.in_ok-stored.ensures) c.in_ok-offset.ensures.of) c.in_ok-offset.ensures.headed c.in_err-put_offset.ensures.halt)
+
+pub returns-in_err-offset-clause-long : goal.returns-in_err-offset-clause-long
+returns-in_err-offset-clause-long g c s was none = residual_of c.from_residual.result _ (IsLongBy c.args.config.now s.history) c.from_residual.ensures.1 (free_long c.args.config.now s.history _ c.in_err-offset.ensures.free)
+
+pub returns-in_err-stored-clause-long : goal.returns-in_err-stored-clause-long
+returns-in_err-stored-clause-long g c s was none = residual_of c.from_residual-in_err-stored.result halt.Memory (IsLongBy c.args.config.now s.history) c.from_residual-in_err-stored.ensures.1 tt
+
+pub returns-in_err-put_offset-clause-long : goal.returns-in_err-put_offset-clause-long
+returns-in_err-put_offset-clause-long g c s was none =
+    residual_of c.from_residual-in_err-put_offset.result _ (IsLongBy c.args.config.now s.history) c.from_residual-in_err-put_offset.ensures.1
+    (first_long c.args.config.now s.history c.in_ok-stored.stored _ (subst (IsFirstByCatalogue c.args.config.now s.history) (sym c.in_ok-stored.ensures) (c.in_ok-offset.ensures.first s was none)) c.in_err-put_offset.ensures.halt)
+
+pub returns-in_err-offset-clause-content : goal.returns-in_err-offset-clause-content
+returns-in_err-offset-clause-content g c entry stored report asked f honest faithful =
+    residual_of c.from_residual.result _ (IsFaithfulHalt entry stored report (g.S.Source.stands c.offset_of.new.src) (g.K.Sink.holds c.args.sink.now)) c.from_residual.ensures.1
+    (free_own entry stored report (g.S.Source.stands c.offset_of.new.src) (g.K.Sink.holds c.args.sink.now) _ c.in_err-offset.ensures.free)
+
+pub returns-in_err-stored-clause-content : goal.returns-in_err-stored-clause-content
+returns-in_err-stored-clause-content g c entry stored report asked f honest faithful =
+    residual_of c.from_residual-in_err-stored.result halt.Memory (IsFaithfulHalt entry stored report (g.S.Source.stands c.offset_of.new.src) (g.K.Sink.holds c.args.sink.now)) c.from_residual-in_err-stored.ensures.1 tt
+
+pub returns-in_err-put_offset-clause-content : goal.returns-in_err-put_offset-clause-content
+returns-in_err-put_offset-clause-content g c entry stored report asked f honest faithful =
+    let stood = c.in_ok-offset.ensures.begins entry asked f.offset_is (had_of entry faithful) f.standing f.source_is f.history in
+    residual_of c.from_residual-in_err-put_offset.result _ (IsFaithfulHalt entry stored report (g.S.Source.stands c.offset_of.new.src) (g.K.Sink.holds c.args.sink.now)) c.from_residual-in_err-put_offset.ensures.1
+    (first_own entry stored report (g.S.Source.stands c.offset_of.new.src) (g.K.Sink.holds c.args.sink.now) f.standing stood.standing c.in_ok-offset.offset _ faithful f.history f.confirmed
+    (subst IsFitHistory f.history (g.met.S.Source.fit _ (left_of f.standing) (g.met.S.Source.may _ f.standing f.source_is) (c.offset_of.ensures.honest honest)))
+    (g.met.S.Source.fit _ _ (g.met.S.Source.may _ stood.standing stood.is) honest) stood.holds stood.is (f.sink_is refl)
+    (subst (λ (o : Offset). (c.in_err-put_offset.field-0.0 ≡ halt.Memory) ⊎ ((c.in_err-put_offset.field-0.0 ≡ halt.Offsets) ⊎ IsTooLong o c.in_err-put_offset.field-0.0)) c.in_ok-stored.ensures c.in_err-put_offset.ensures.halt))

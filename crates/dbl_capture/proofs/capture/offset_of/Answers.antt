@@ -15,6 +15,8 @@ use Rattle.dbl_work.specs.Begins.{IsAbsentHalt}
 use Rattle.dbl_steps.proofs.Telling.{again_absent}
 use Rattle.dbl_steps.specs.Caused.{AsksUnread}
 use Rattle.dbl_steps.proofs.Asking.{again_asks, again_found, first_asks}
+use Rattle.dbl_steps.specs.Owned.{IsContentFree, IsFirstByCatalogue}
+use Rattle.dbl_steps.proofs.Owning.{again_free, first_by_catalogue, first_free}
 use Rattle.dbl_capture.proofs.capture.offset_of.Goals as goal
 
 -- nothing was asked of the source yet
@@ -151,3 +153,17 @@ returns-in-Some-clause-headed g c none = absurd (again_found c.args.store.now.of
 
 pub returns-in-None-clause-headed : goal.returns-in-None-clause-headed
 returns-in-None-clause-headed g c none = answer_then c.first_offset.result _ _ c.first_offset.ensures.headed (λ offset head. (offset.start, head))
+
+pub returns-in_err-offset-clause-free : goal.returns-in_err-offset-clause-free
+returns-in_err-offset-clause-free g c = residual_of c.from_residual.result _ IsContentFree c.from_residual.ensures.1 (again_free c.args.store.now.offset _ c.in_err-offset.ensures.halt)
+
+pub returns-in-None-clause-free : goal.returns-in-None-clause-free
+returns-in-None-clause-free g c = err_then c.first_offset.result _ IsContentFree c.first_offset.ensures.fault (first_free c.args.config.now.tables (g.S.Source.told c.first_offset.new.src))
+
+pub returns-in-Some-clause-first : goal.returns-in-Some-clause-first
+returns-in-Some-clause-first g c s was none = absurd (again_found c.args.store.now.offset c.in-Some.offset (subst (IsAgain c.args.store.now.offset) c.in-Some.is c.in_ok-offset.ensures.again) none)
+
+pub returns-in-None-clause-first : goal.returns-in-None-clause-first
+returns-in-None-clause-first g c s was none =
+    answer_then c.first_offset.result _ (IsFirstByCatalogue c.args.config.now s.history) (c.first_offset.ensures.first s was)
+    (λ offset at. first_by_catalogue c.args.config.now s at.standing at.holds.1.0 at.holds.1.1 offset at.holds.0 at.holds.1.2 at.holds.1.3 at.holds.1.4)

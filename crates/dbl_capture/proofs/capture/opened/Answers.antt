@@ -31,6 +31,9 @@ use Rattle.dbl_causes.specs.Nevers.{IsHonestHalt}
 use Rattle.dbl_steps.proofs.Lasting.{rest_unmarked}
 use Rattle.dbl_steps.proofs.Marks.{others_add_no_marks}
 use Rattle.dbl_steps.proofs.Asking.{memory_asks, start_asks}
+use Rattle.dbl_steps.specs.Owned.{IsLongBy}
+use Rattle.dbl_causes.specs.Nevers.{IsFaithfulHalt}
+use Rattle.dbl_steps.proofs.Owning.{free_long, free_own, memory_free, start_free}
 use Rattle.dbl_capture.proofs.capture.opened.Goals as goal
 
 pub returns-in_err-offset-clause-left : goal.returns-in_err-offset-clause-left
@@ -280,3 +283,30 @@ pub returns-clause-unmarked : goal.returns-clause-unmarked
 returns-clause-unmarked g c s left was may =
     let mid = c.in_ok-offset.ensures.stood s was in
     others_add_no_marks mid.standing.history left.history (c.start.ensures.left mid.standing left mid.is may).grows ∙ others_add_no_marks s.history mid.standing.history mid.holds.grows
+
+pub returns-in_err-offset-clause-long : goal.returns-in_err-offset-clause-long
+returns-in_err-offset-clause-long g c s was none = residual_of c.from_residual.result _ (IsLongBy c.args.config.now s.history) c.from_residual.ensures.1 (c.in_err-offset.ensures.long s was none)
+
+pub returns-in_err-start-clause-long : goal.returns-in_err-start-clause-long
+returns-in_err-start-clause-long g c s was none =
+    residual_of c.from_residual-in_err-start.result _ (IsLongBy c.args.config.now s.history) c.from_residual-in_err-start.ensures.1 (free_long c.args.config.now s.history _ (start_free _ _ c.in_err-start.ensures.halt))
+
+pub returns-clause-long : goal.returns-clause-long
+returns-clause-long g c s was none = err_then c.make.result _ (IsLongBy c.args.config.now s.history) c.make.ensures.memory (λ h is. free_long c.args.config.now s.history h (memory_free h is))
+
+pub returns-in_err-offset-clause-content : goal.returns-in_err-offset-clause-content
+returns-in_err-offset-clause-content g c entry asked f honest faithful =
+    residual_of c.from_residual.result _ (IsFaithfulHalt entry c.begun.new.store.offset c.args.report.now (g.S.Source.stands c.begun.new.src) (g.K.Sink.holds c.args.sink.now)) c.from_residual.ensures.1
+    (c.in_err-offset.ensures.content entry c.begun.new.store.offset c.args.report.now asked f honest faithful)
+
+pub returns-in_err-start-clause-content : goal.returns-in_err-start-clause-content
+returns-in_err-start-clause-content g c entry asked f honest faithful =
+    let report = record c.args.report.now { position = c.in_ok-offset.offset.lsn.0 } in
+    residual_of c.from_residual-in_err-start.result _ (IsFaithfulHalt entry c.begun.new.store.offset report (g.S.Source.stands c.start.new.src) (g.K.Sink.holds c.args.sink.now)) c.from_residual-in_err-start.ensures.1
+    (free_own entry c.begun.new.store.offset report (g.S.Source.stands c.start.new.src) (g.K.Sink.holds c.args.sink.now) _ (start_free _ _ c.in_err-start.ensures.halt))
+
+pub returns-clause-content : goal.returns-clause-content
+returns-clause-content g c entry asked f honest faithful =
+    let report = record c.args.report.now { position = c.in_ok-offset.offset.lsn.0 } in
+    err_then c.make.result _ (IsFaithfulHalt entry c.begun.new.store.offset report (g.S.Source.stands c.start.new.src) (g.K.Sink.holds c.args.sink.now)) c.make.ensures.memory
+    (λ h is. free_own entry c.begun.new.store.offset report (g.S.Source.stands c.start.new.src) (g.K.Sink.holds c.args.sink.now) h (memory_free h is))

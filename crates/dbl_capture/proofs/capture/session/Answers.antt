@@ -37,6 +37,9 @@ use Rattle.dbl_causes.specs.Nevers.{IsHonestHalt}
 use Rattle.dbl_steps.proofs.Marks.{others_leave_few_marks}
 use Rattle.dbl_causes.specs.Written.{AddsNoMore}
 use Rattle.dbl_steps.proofs.Asking.{ok_pair, quiet_asks}
+use Rattle.dbl_steps.specs.Owned.{IsLongBy}
+use Rattle.dbl_causes.specs.Nevers.{IsFaithfulHalt}
+use Rattle.dbl_steps.proofs.Owning.{had_of, none_some}
 use Rattle.dbl_capture.proofs.capture.session.Goals as goal
 
 -- it didn't begin
@@ -379,3 +382,26 @@ returns-clause-answered g c t is =
     answer_as c.run.result _ _ (λ r. MustHalt c.args.config.now c.args.offsets.now.offset c.run.new.store.offset c.run.new.report t r) (ok_pair c.run.result _ _ all c.run.ensures.quiet) halted
     (λ a e. quiet_asks b a.0.messages c.run.new.store.offset c.run.new.work c.run.new.report c.run.new.report (g.S.Source.told c.args.src.now) (g.S.Source.told c.run.new.src) c.run.new.store.offset (Ok e) a.0.is.is a.0.tells a.1 (inl refl) t is)
     (λ h x. x.ask t is)
+
+pub returns-in_err-work-clause-content : goal.returns-in_err-work-clause-content
+returns-in_err-work-clause-content g c entry asked f honest faithful =
+    residual_of c.from_residual.result _ (IsFaithfulHalt entry c.opened.new.store.offset c.opened.new.report (g.S.Source.stands c.opened.new.src) (g.K.Sink.holds c.args.sink.now)) c.from_residual.ensures.1
+    (c.in_err-work.ensures.content entry asked.config_is (told_found f) honest faithful)
+
+pub returns-clause-content : goal.returns-clause-content
+returns-clause-content g c entry asked f honest faithful =
+    let in_session = c.in_ok-work.ensures.opened true entry asked.config_is (asked.now_is ∙ sym (to_z-of_z c.ranges.now_ms)) (told_found f) (c.run.ensures.honest honest) (had_of entry faithful) in
+    let way = c.in_ok-work.ensures.under_way None (at_none g.S.Source.stands c.args.src.now) (refl, refl, refl) in
+    let b = beginning_at c.args.config.now c.args.now_ms c.args.offsets.now.offset way.0 in
+    let u = subst (λ (n : ℤ). IsUnderWay g.S.Source.stands None (g.S.Source.told c.args.src.now) (beginning_at c.args.config.now n c.args.offsets.now.offset way.0) c.opened.new.store.offset c.in_ok-work.work c.opened.new.report c.opened.new.src (g.S.Source.told c.opened.new.src)) (to_z-of_z c.ranges.now_ms) way.1 in
+    c.run.ensures.content entry None (g.S.Source.told c.args.src.now) b in_session u faithful honest
+
+pub returns-in_err-work-clause-long : goal.returns-in_err-work-clause-long
+returns-in_err-work-clause-long g c s was none still = residual_of c.from_residual.result _ (IsLongBy c.args.config.now s.history) c.from_residual.ensures.1 (c.in_err-work.ensures.long s was none)
+
+pub returns-clause-long : goal.returns-clause-long
+returns-clause-long g c s was none still =
+    let begun = c.in_ok-work.ensures.begun in
+    let own = c.run.ensures.stored (subst (λ (o : Offset). HasOwnStored o c.opened.new.store.offset) (sym begun.2.offset_is) (own_first begun.0 c.opened.new.store.offset begun.1)) in
+    let wrong : None ≡ Some own.offset = sym still ∙ own.is in
+    absurd (none_some own.offset wrong)

@@ -35,6 +35,8 @@ use Rattle.dbl_window.proofs.HonestLemmas.{captured_stays}
 use Rattle.dbl_steps.proofs.Marks.{others_leave_few_marks}
 use Rattle.dbl_steps.proofs.Lasting.{leaves_most, left_grows, same_most, torn_more}
 use Rattle.dbl_steps.proofs.Asking.{failure_asks, newest_asks, read_quiet, source_fails}
+use Rattle.dbl_causes.specs.Nevers.{IsFaithfulHalt}
+use Rattle.dbl_steps.proofs.Owning.{follow_own, free_own, source_free, taken_free}
 use Rattle.dbl_capture.proofs.messages.next.Goals as goal
 
 pub returns-in_err-bytes-clause-left : goal.returns-in_err-bytes-clause-left
@@ -324,3 +326,21 @@ returns-in-Some-clause-quiet g c = read_quiet (g.S.Source.told c.read.new.self) 
 
 pub returns-clause-quiet : goal.returns-clause-quiet
 returns-clause-quiet g c = read_quiet (g.S.Source.told c.read.new.self) None (subst (λ (o : Option (List ℕ)). Tells (g.S.Source.told c.read.new.self) (Read o)) c.in-None.is c.in_ok-bytes.ensures.told)
+
+pub returns-in_err-bytes-clause-content : goal.returns-in_err-bytes-clause-content
+returns-in_err-bytes-clause-content g c entry at found b s u faithful honest =
+    residual_of c.from_residual.result _ (IsFaithfulHalt entry c.args.store.now.offset c.args.report.now (g.S.Source.stands c.read.new.self) (g.K.Sink.holds c.args.sink.now)) c.from_residual.ensures.1
+    (free_own entry c.args.store.now.offset c.args.report.now (g.S.Source.stands c.read.new.self) (g.K.Sink.holds c.args.sink.now) _ (source_free c.in_err-bytes.field-0.0))
+
+pub returns-in_err-commit-in-Some-clause-content : goal.returns-in_err-commit-in-Some-clause-content
+returns-in_err-commit-in-Some-clause-content g c entry at found b s u faithful honest =
+    let report = record c.args.report.now { messages = c.args.report.now.messages + 1 } in
+    residual_of c.from_residual-in_err-commit-in-Some.result _ (IsFaithfulHalt entry c.args.store.now.offset report (g.S.Source.stands c.read.new.self) (g.K.Sink.holds c.args.sink.now)) c.from_residual-in_err-commit-in-Some.ensures.1
+    (free_own entry c.args.store.now.offset report (g.S.Source.stands c.read.new.self) (g.K.Sink.holds c.args.sink.now) _ (taken_free _ s.stage.first.lsn s.stage.messages c.in-Some.bytes c.args.work.now _ (c.in_err-commit-in-Some.ensures.halt s.stage.first.lsn s.stage.messages s.work_is.is)))
+
+pub returns-in_err-closed-in-Some-2-clause-content : goal.returns-in_err-closed-in-Some-2-clause-content
+returns-in_err-closed-in-Some-2-clause-content g c entry at found b s u faithful honest =
+    let T = some_read _ _ _ _ c.in-Some.is (c.in_ok-bytes.ensures.took (standing_at s.stage) s.source_is) in
+    residual_of c.from_residual-in_err-closed-in-Some-2.result _ (IsFaithfulHalt entry c.args.store.now.offset c.follow.new.report (g.S.Source.stands c.read.new.self) (g.K.Sink.holds c.follow.new.sink)) c.from_residual-in_err-closed-in-Some-2.ensures.1
+    (follow_own s faithful T.0 T.2.standing T.2.holds (g.met.S.Source.fit _ _ (g.met.S.Source.may _ T.2.standing T.2.is) honest) (λ r at. g.met.S.Source.right _ T.2.standing r T.2.is honest at) c.in-Some.bytes T.1 c.taken.new.work c.in-Some-2.commit (subst (WasTaken s.stage.first.lsn s.stage.messages c.in-Some.bytes c.args.work.now c.taken.new.work) c.in-Some-2.is (c.in_ok-commit-in-Some.ensures.taken s.stage.first.lsn s.stage.messages s.work_is.is))
+    b u.messages c.args.store.now.offset c.args.report.now c.follow.new.report u.is c.in_err-closed-in-Some-2.ensures.counts c.read.new.self c.follow.new.sink T.2.is _ c.in_err-closed-in-Some-2.ensures.halt)

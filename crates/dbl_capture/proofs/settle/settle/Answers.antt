@@ -28,6 +28,8 @@ use Rattle.dbl_causes.specs.Nevers.{IsHonestHalt}
 use Rattle.dbl_steps.proofs.Marks.{others_leave_few_marks}
 use Rattle.dbl_steps.proofs.Lasting.{leaves_most, left_rests, same_most}
 use Rattle.dbl_steps.proofs.Asking.{done_quiet, failure_asks, quiet_asks, source_fails}
+use Rattle.dbl_causes.specs.Nevers.{IsFaithfulHalt}
+use Rattle.dbl_steps.proofs.Owning.{free_own, source_free, store_own}
 use Rattle.dbl_capture.proofs.settle.settle.Goals as goal
 
 -- nothing was asked of the three yet
@@ -216,3 +218,16 @@ returns-in_err-confirm-clause-most g c tell entry s closed =
 
 pub returns-clause-quiet : goal.returns-clause-quiet
 returns-clause-quiet g c = done_quiet (g.S.Source.told c.confirm.new.self) c.in_ok-confirm.ensures.told
+
+pub returns-in_err-offset-clause-content : goal.returns-in_err-offset-clause-content
+returns-in_err-offset-clause-content g c entry s faithful = residual_of c.from_residual.result halt.Memory (IsFaithfulHalt entry c.args.store.now.offset c.args.report.now (g.S.Source.stands c.args.src.now) (g.K.Sink.holds c.args.sink.now)) c.from_residual.ensures.1 tt
+
+pub returns-in_err-put_offset-clause-content : goal.returns-in_err-put_offset-clause-content
+returns-in_err-put_offset-clause-content g c entry s faithful =
+    residual_of c.from_residual-in_err-put_offset.result _ (IsFaithfulHalt entry c.put_offset.new.store.offset c.args.report.now (g.S.Source.stands c.args.src.now) (g.K.Sink.holds c.args.sink.now)) c.from_residual-in_err-put_offset.ensures.1
+    (store_own s faithful c.put_offset.new.store.offset c.args.report.now _ (subst (λ (o : Offset). (c.in_err-put_offset.field-0.0 ≡ halt.Memory) ⊎ ((c.in_err-put_offset.field-0.0 ≡ halt.Offsets) ⊎ IsTooLong o c.in_err-put_offset.field-0.0)) c.in_ok-offset.ensures.next c.in_err-put_offset.ensures.halt))
+
+pub returns-in_err-confirm-clause-content : goal.returns-in_err-confirm-clause-content
+returns-in_err-confirm-clause-content g c entry s faithful =
+    residual_of c.from_residual-in_err-confirm.result _ (IsFaithfulHalt entry c.put_offset.new.store.offset (record c.args.report.now { position = c.in_ok-offset.offset.lsn.0 }) (g.S.Source.stands c.confirm.new.self) (g.K.Sink.holds c.args.sink.now)) c.from_residual-in_err-confirm.ensures.1
+    (free_own entry c.put_offset.new.store.offset (record c.args.report.now { position = c.in_ok-offset.offset.lsn.0 }) (g.S.Source.stands c.confirm.new.self) (g.K.Sink.holds c.args.sink.now) _ (source_free c.in_err-confirm.field-0.0))

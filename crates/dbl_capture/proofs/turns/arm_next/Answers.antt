@@ -64,3 +64,6 @@ returns-in-Some-clause-quiet g c quiet = c.arm.ensures.quiet
 
 pub returns-in-None-clause-quiet : goal.returns-in-None-clause-quiet
 returns-in-None-clause-quiet g c quiet = quiet
+
+pub returns-in-Some-clause-free : goal.returns-in-Some-clause-free
+returns-in-Some-clause-free g c = c.arm.ensures.free

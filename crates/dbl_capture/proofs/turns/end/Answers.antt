@@ -20,6 +20,7 @@ use Rattle.dbl_steps.proofs.Marks.{others_leave_few_marks}
 use Rattle.dbl_steps.proofs.Lasting.{leaves_most, left_rests, same_most}
 use Rattle.dbl_exits.specs.Sessions.{standing_at}
 use Rattle.dbl_steps.proofs.Asking.{quiet_asks, read_quiet}
+use Rattle.dbl_causes.specs.Nevers.{IsFaithfulHalt}
 use Rattle.dbl_capture.proofs.turns.end.Goals as goal
 
 pub returns-in_err-copy-in-Some-clause-left : goal.returns-in_err-copy-in-Some-clause-left
@@ -135,3 +136,12 @@ returns-in-None-clause-most g c = c.settle.ensures.most
 
 pub returns-in-None-clause-quiet : goal.returns-in-None-clause-quiet
 returns-in-None-clause-quiet g c = c.settle.ensures.quiet
+
+pub returns-in_err-copy-in-Some-clause-content : goal.returns-in_err-copy-in-Some-clause-content
+returns-in_err-copy-in-Some-clause-content g c entry s faithful = residual_of c.from_residual.result halt.Memory (IsFaithfulHalt entry c.args.store.now.offset c.args.report.now (g.S.Source.stands c.args.src.now) (g.K.Sink.holds c.args.sink.now)) c.from_residual.ensures.1 tt
+
+pub returns-in_ok-copy-in-Some-clause-content : goal.returns-in_ok-copy-in-Some-clause-content
+returns-in_ok-copy-in-Some-clause-content g c entry s faithful = tt
+
+pub returns-in-None-clause-content : goal.returns-in-None-clause-content
+returns-in-None-clause-content g c = c.settle.ensures.content

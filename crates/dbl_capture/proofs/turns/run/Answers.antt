@@ -12,6 +12,8 @@ use Rattle.dbl_steps.proofs.Marking.{none_settled}
 use Rattle.dbl_steps.specs.Sinks.{HasHaltedPut}
 use Rattle.dbl_steps.proofs.Sinks.{rests_put}
 use Rattle.dbl_causes.specs.Nevers.{IsHonestHalt}
+use Rattle.dbl_causes.specs.Nevers.{IsFaithfulHalt}
+use Rattle.dbl_steps.proofs.Owning.{free_own}
 use Rattle.dbl_capture.proofs.turns.run.Goals as goal
 
 pub turns-init : goal.turns-init
@@ -473,3 +475,19 @@ returns-clause-quiet g c = c.in_ok-settle.ensures.quiet
 
 pub returns-then-branch-clause-quiet : goal.returns-then-branch-clause-quiet
 returns-then-branch-clause-quiet g c = c.in_ok-turn.ensures.quiet
+
+pub returns-in_err-turn-clause-content : goal.returns-in_err-turn-clause-content
+returns-in_err-turn-clause-content g c entry at found b s u faithful honest =
+    residual_of c.from_residual.result _ (IsFaithfulHalt entry c.turn.new.store.offset c.turn.new.report (g.S.Source.stands c.turn.new.src) (g.K.Sink.holds c.turn.new.sink)) c.from_residual.ensures.1
+    (c.in_err-turn.ensures.content entry at found b (c.turns.invariant.kept true entry s (c.turn.ensures.honest honest)) (c.turns.invariant.under_way at found b u) faithful honest)
+
+pub returns-in_err-arm_next-clause-content : goal.returns-in_err-arm_next-clause-content
+returns-in_err-arm_next-clause-content g c entry at found b s u faithful honest =
+    residual_of c.from_residual-in_err-arm_next.result _ (IsFaithfulHalt entry c.turns.store.offset c.turns.report (g.S.Source.stands c.arm_next.new.src) (g.K.Sink.holds c.turns.sink)) c.from_residual-in_err-arm_next.ensures.1
+    (free_own entry c.turns.store.offset c.turns.report (g.S.Source.stands c.arm_next.new.src) (g.K.Sink.holds c.turns.sink) _ c.in_err-arm_next.ensures.free)
+
+pub returns-in_err-settle-clause-content : goal.returns-in_err-settle-clause-content
+returns-in_err-settle-clause-content g c entry at found b s u faithful honest =
+    let before = c.settle.ensures.honest honest in
+    residual_of c.from_residual-in_err-settle.result _ (IsFaithfulHalt entry c.settle.new.store.offset c.settle.new.report (g.S.Source.stands c.settle.new.src) (g.K.Sink.holds c.turns.sink)) c.from_residual-in_err-settle.ensures.1
+    (c.in_err-settle.ensures.content entry (c.in_ok-arm_next.ensures.armed true entry (c.turns.invariant.kept true entry s (c.arm_next.ensures.honest before)) before) faithful)

@@ -16,6 +16,8 @@ use Rattle.dbl_steps.proofs.Marking.{absent_settled, none_settled}
 use Rattle.dbl_steps.specs.Sinks.{HasHaltedPut}
 use Rattle.dbl_steps.proofs.Sinking.{puts_false, puts_none, puts_true}
 use Rattle.dbl_causes.specs.Nevers.{IsHonestHalt}
+use Rattle.dbl_causes.specs.Nevers.{IsFaithfulHalt}
+use Rattle.dbl_steps.proofs.Owning.{free_own}
 use Rattle.dbl_capture.proofs.turns.turn.Goals as goal
 
 pub next-requires-clause-ready : goal.next-requires-clause-ready
@@ -497,3 +499,25 @@ returns-in-Some-false-clause-quiet g c = c.in_ok-next.ensures.quiet
 
 pub returns-in_ok-end-in-None-clause-quiet : goal.returns-in_ok-end-in-None-clause-quiet
 returns-in_ok-end-in-None-clause-quiet g c = c.in_ok-end-in-None.ensures.quiet
+
+pub returns-in_err-arm_next-clause-content : goal.returns-in_err-arm_next-clause-content
+returns-in_err-arm_next-clause-content g c entry at found b s u faithful honest =
+    residual_of c.from_residual.result _ (IsFaithfulHalt entry c.args.store.now.offset c.args.report.now (g.S.Source.stands c.arm_next.new.src) (g.K.Sink.holds c.args.sink.now)) c.from_residual.ensures.1
+    (free_own entry c.args.store.now.offset c.args.report.now (g.S.Source.stands c.arm_next.new.src) (g.K.Sink.holds c.args.sink.now) _ c.in_err-arm_next.ensures.free)
+
+pub returns-in_err-next-clause-content : goal.returns-in_err-next-clause-content
+returns-in_err-next-clause-content g c entry at found b s u faithful honest =
+    residual_of c.from_residual-in_err-next.result _ (IsFaithfulHalt entry c.args.store.now.offset c.next.new.report (g.S.Source.stands c.next.new.src) (g.K.Sink.holds c.next.new.sink)) c.from_residual-in_err-next.ensures.1
+    (c.in_err-next.ensures.content entry at found b (c.in_ok-arm_next.ensures.armed true entry s (c.next.ensures.honest honest)) (c.in_ok-arm_next.ensures.under_way at found b c.args.report.now u) faithful honest)
+
+pub returns-in_err-settle-in-Some-true-clause-content : goal.returns-in_err-settle-in-Some-true-clause-content
+returns-in_err-settle-in-Some-true-clause-content g c entry at found b s u faithful honest =
+    let before = c.settle.ensures.honest honest in
+    residual_of c.from_residual-in_err-settle-in-Some-true.result _ (IsFaithfulHalt entry c.settle.new.store.offset c.settle.new.report (g.S.Source.stands c.settle.new.src) (g.K.Sink.holds c.next.new.sink)) c.from_residual-in_err-settle-in-Some-true.ensures.1
+    (c.in_err-settle-in-Some-true.ensures.content entry (c.in_ok-next.ensures.next true entry (c.in_ok-arm_next.ensures.armed true entry s (c.next.ensures.honest before)) before) faithful)
+
+pub returns-in_err-end-in-None-clause-content : goal.returns-in_err-end-in-None-clause-content
+returns-in_err-end-in-None-clause-content g c entry at found b s u faithful honest =
+    let before = c.end.ensures.honest honest in
+    residual_of c.from_residual-in_err-end-in-None.result _ (IsFaithfulHalt entry c.end.new.store.offset c.end.new.report (g.S.Source.stands c.end.new.src) (g.K.Sink.holds c.next.new.sink)) c.from_residual-in_err-end-in-None.ensures.1
+    (c.in_err-end-in-None.ensures.content entry (c.in_ok-next.ensures.next true entry (c.in_ok-arm_next.ensures.armed true entry s (c.next.ensures.honest before)) before) faithful)

@@ -18,6 +18,8 @@ use Rattle.dbl_window.proofs.HonestLemmas.{captured_stays}
 use Rattle.dbl_steps.proofs.Marks.{windows_leave_few_marks}
 use Rattle.dbl_steps.proofs.Lasting.{leaves_most}
 use Rattle.dbl_steps.proofs.Asking.{chunk_asks, ok_done}
+use Rattle.dbl_steps.specs.Owned.{IsContentFree}
+use Rattle.dbl_steps.proofs.Owning.{chunk_free}
 use Rattle.dbl_capture.proofs.windows.arm.Goals as goal
 
 pub returns-clause-armed : goal.returns-clause-armed
@@ -89,3 +91,6 @@ returns-clause-most g c tell entry chunks s closed =
 
 pub returns-clause-quiet : goal.returns-clause-quiet
 returns-clause-quiet g c = ok_done c.read_window.result (g.S.Source.told c.read_window.new.src) c.read_window.ensures.told
+
+pub returns-clause-free : goal.returns-clause-free
+returns-clause-free g c = err_then c.read_window.result _ IsContentFree c.read_window.ensures.halt (λ h is. chunk_free c.args.work.now c.args.table (g.S.Source.told c.read_window.new.src) h is)

@@ -44,7 +44,7 @@ module _ (config : Config) (now : ℤ) (held stored : Option Offset) (report : R
 
 -- while it reads
 module _ (b : Beginning) (ms : List Message) (stored : Option Offset) (work : Work) where
-  between : (report : Report) (r : IsResting b ms stored work report) → IsBetween work r.is.offset report.chunks
+  pub between : (report : Report) (r : IsResting b ms stored work report) → IsBetween work r.is.offset report.chunks
   between report r = record { cursors = r.same; windows = r.is.windows }
 
   held_as : (report : Report) (told : Option Told) (is : IsBehind b ms stored work report) (after : Report) (h : Halt) → IsHalt b.config b.now b.held (Some is.offset) after told h → IsHalt b.config b.now b.held stored after told h

@@ -1,5 +1,5 @@
 -- What was answered last asks for no other halt, at each of a session's calls.
-use Rattle.std.proofs.Common.{◌≡◌, ◌∙◌, ◌⊎◌, inl, inr, ◌+◌, ◌≤◌, ℕ, ℤ, Bool, Option, Some, None, Result, Ok, Err, List, [], ◌∷◌, ◌++◌, length, refl, sym, ap, subst}
+use Rattle.std.proofs.Common.{◌≡◌, ◌∙◌, ◌⊎◌, inl, inr, ◌≤◌, ℕ, Option, Some, None, Result, Ok, Err, List, [], ◌∷◌, length, refl, sym, ap, subst}
 use Rattle.std.specs.Prelude.{Contains, OnOk}
 use Rattle.dbl_base.specs.declared.lsn.Lsn.{Lsn}
 use Rattle.dbl_pgmsg.specs.declared.messages.Message.{Message}
@@ -8,7 +8,7 @@ use Rattle.dbl_table.specs.declared.table.RawRow.{RawRow}
 use Rattle.dbl_table.specs.declared.table.RawTable.{RawTable}
 use Rattle.dbl_table.specs.declared.table.TableName.{TableName}
 use Rattle.dbl_honest.specs.declared.started.Started.TheVariants.{Gone}
-use Rattle.dbl_honest.specs.Told.{Told, Answer, Began, Done, Head, IsTakenAnew, IsTakenBy, Read, Selected, Tells}
+use Rattle.dbl_honest.specs.Told.{Told, Began, Done, Head, IsTakenBy, Read, Selected, Tells}
 use Rattle.dbl_offset.specs.declared.offset.Offset.{Offset}
 use Rattle.dbl_offset.specs.Offsets.{IsOffset}
 use Rattle.dbl_reading.specs.declared.error.SourceError.{SourceError}
@@ -23,13 +23,11 @@ use Rattle.dbl_work.specs.Begins.{IsAgain, IsExhausted, IsFaultOf, IsGoneFrom, I
 use Rattle.dbl_work.specs.Causes.{IsChunkHalt}
 use Rattle.dbl_work.specs.Halts.{source_halt}
 use Rattle.dbl_work.specs.Works.{IsOpenTable, next_of}
-use Rattle.dbl_work.proofs.Exits.{taken_on}
 use Rattle.dbl_exits.specs.Found.{HasStored}
 use Rattle.dbl_causes.specs.Reported.{AreSpelled}
 use Rattle.dbl_causes.specs.Musts.{MustHalt}
 use Rattle.dbl_causes.specs.Underway.{IsOpenHalt}
 use Rattle.dbl_causes.specs.Carried.{AreTold, Beginning, IsBehind, IsNewestCause, IsResting}
-use Rattle.dbl_causes.specs.Sources.{HasSettledAll}
 use Rattle.dbl_causes.proofs.Reported.{read_is, taken_more}
 use Rattle.dbl_steps.specs.Caused.{AsksUnread, IsQuiet}
 use Rattle.dbl_steps.proofs.Answered.{failures_excuse, newest_bytes_ask, quiet_answers_ask_nothing, rows_ask, unread_answers_ask}

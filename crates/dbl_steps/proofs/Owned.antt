@@ -1,11 +1,10 @@
 -- What makes a session halt over an honest source and faithful stores: clashes, records and offsets of the source's history.
-use Rattle.std.proofs.Common.{◌≡◌, ◌∙◌, ◌⊎◌, inl, inr, ◌+◌, ℕ, ℤ, zero, suc, Option, Some, None, List, [], ◌∷◌, ◌++◌, length, map, take, refl, sym, ap, ap₂, subst, arith, append_assoc, length-append}
+use Rattle.std.proofs.Common.{◌≡◌, ◌∙◌, inl, inr, ◌+◌, ℕ, ℤ, zero, suc, Option, Some, None, List, [], ◌∷◌, ◌++◌, length, take, refl, sym, ap, ap₂, subst, arith, append_assoc, length-append}
 use Rattle.std.specs.Prelude.{Contains, not, slice_get}
 use Rattle.std.specs.List.{position}
 use Rattle.dbl_base.specs.declared.lsn.Lsn.{Lsn}
 use Rattle.dbl_pgmsg.specs.declared.messages.Message.{Message}
 use Rattle.dbl_record.specs.declared.record.Record.{Record}
-use Rattle.dbl_record.specs.Cuts.{joined}
 use Rattle.dbl_table.specs.declared.identity.Identity.{Identity}
 use Rattle.dbl_table.specs.declared.row.Key.{Key}
 use Rattle.dbl_table.specs.declared.table.TableInfo.{TableInfo}
@@ -39,13 +38,13 @@ use Rattle.dbl_window.proofs.HonestLemmas.{captured_stays}
 use Rattle.dbl_window.proofs.LawLemmas.{selected_given}
 use Rattle.dbl_window.proofs.PromiseLemmas.{kept_promise}
 use Rattle.dbl_follow.specs.declared.window.Window.{Window}
-use Rattle.dbl_follow.specs.declared.window.Window.TheVariants.{Absent, Armed, Open}
+use Rattle.dbl_follow.specs.declared.window.Window.TheVariants.{Open}
 use Rattle.dbl_follow.specs.Followed.{Following}
 use Rattle.dbl_follow.specs.Steps.{clash_by, clash_in, closed_of, closing, mark_in, mark_of, records_by, records_of}
 use Rattle.dbl_session.specs.Counted.{IsOnTable, IsWaiting, waiting}
-use Rattle.dbl_session.specs.Entries.{Entry, StoodInLog, WasFaithful}
+use Rattle.dbl_session.specs.Entries.{Entry, StoodInLog}
 use Rattle.dbl_session.specs.Going.{IsFirstOf, IsGoing, IsKept, IsPlaced}
-use Rattle.dbl_session.specs.Marked.{IsMarkAt, IsOpenAt, IsOwnWindow, IsWindowAt}
+use Rattle.dbl_session.specs.Marked.{IsOpenAt, IsOwnWindow, IsWindowAt}
 use Rattle.dbl_session.specs.Outcomes.{Follows}
 use Rattle.dbl_session.specs.Stages.{Stage, commits_at, next_offset, read_at}
 use Rattle.dbl_session.proofs.Beginning.{first_offsets_follow}
@@ -65,7 +64,7 @@ use Rattle.dbl_exits.specs.Sessions.{Captures, IsCapturing}
 use Rattle.dbl_causes.specs.Stored.{identity_of, named_by}
 use Rattle.dbl_causes.specs.Nevers.{IsOwnClash, IsOwnClosed, IsOwnLong}
 use Rattle.dbl_causes.specs.Underway.{IsOrderedWindow}
-use Rattle.dbl_causes.specs.Carried.{Beginning, IsResting}
+use Rattle.dbl_causes.specs.Carried.{Beginning}
 use Rattle.dbl_causes.proofs.Halting.{incarnation_stored}
 use Rattle.dbl_steps.specs.Owned.{ClashesAreOwn, EndsNext, FirstLongOffsetsAreOwn, FirstOffsetsAreLong, IsOverFaithful, LongOffsetsAreOwn, LongRecordsAreOwn}
 

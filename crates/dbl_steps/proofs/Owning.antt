@@ -1,5 +1,5 @@
 -- Where a session over an honest source and faithful stores halts, that it is of the source's history: at each place where it may.
-use Rattle.std.proofs.Common.{◌≡◌, ◌∙◌, ◌⊎◌, inl, inr, ℕ, Bool, IsTrue, true, Option, Some, None, List, ◌∷◌, map, refl, sym, ap, subst}
+use Rattle.std.proofs.Common.{◌≡◌, ◌∙◌, ◌⊎◌, inl, inr, ℕ, true, Option, Some, None, List, ◌∷◌, map, refl, sym, ap, subst}
 use Rattle.std.specs.Prelude.{Contains, IfSome}
 use Rattle.dbl_base.specs.declared.lsn.Lsn.{Lsn}
 use Rattle.dbl_pgmsg.specs.declared.messages.Message.{Message}
@@ -31,7 +31,6 @@ use Rattle.dbl_window.specs.declared.error.WindowError.TheVariants as window
 use Rattle.dbl_window.proofs.HonestLemmas.{captured_stays}
 use Rattle.dbl_follow.specs.Steps.{clash_by, records_by}
 use Rattle.dbl_session.specs.Entries.{Entry, HadOwnTables, WasFaithful}
-use Rattle.dbl_session.specs.Going.{IsGoing}
 use Rattle.dbl_session.proofs.Stepping.{others_keep_going}
 use Rattle.dbl_work.specs.declared.halt.Halt.{Halt}
 use Rattle.dbl_work.specs.declared.halt.Halt.TheVariants as halt
@@ -43,8 +42,8 @@ use Rattle.dbl_work.specs.Halts.{source_halt, window_halt}
 use Rattle.dbl_work.specs.Takes.{IsClashIn, IsMessageHalt, IsTxnHalt, WasTaken}
 use Rattle.dbl_work.specs.Works.{next_of}
 use Rattle.dbl_exits.specs.Found.{BeginsAt}
-use Rattle.dbl_exits.specs.Sessions.{InSession, IsWorkOf, standing_at}
-use Rattle.dbl_causes.specs.Carried.{Beginning, IsBehind, IsResting}
+use Rattle.dbl_exits.specs.Sessions.{InSession, standing_at}
+use Rattle.dbl_causes.specs.Carried.{Beginning, IsResting}
 use Rattle.dbl_causes.specs.Nevers.{IsFaithfulHalt, IsOwnOffset}
 use Rattle.dbl_steps.specs.Owned.{EndsNext, IsContentFree, IsFirstByCatalogue, IsLongBy, IsOverFaithful}
 use Rattle.dbl_steps.proofs.Owned.{clashes_are_own, first_long_offsets_are_own, long_offsets_are_own, long_records_are_own}

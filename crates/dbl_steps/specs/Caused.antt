@@ -1,5 +1,5 @@
 -- What a session's functions say of their halts. The words are for private clauses alone.
-use Rattle.std.specs.Prelude.{◌≡◌, ℕ, ℤ, Option, Some, Err, List}
+use Rattle.std.specs.Prelude.{◌≡◌, ℤ, Option, Some, Err, List}
 use Rattle.dbl_base.specs.declared.lsn.Lsn.{Lsn}
 use Rattle.dbl_table.specs.declared.config.Config.{Config}
 use Rattle.dbl_table.specs.declared.table.RawRow.{RawRow}

@@ -1,5 +1,5 @@
 -- What makes a session halt is of the source's history, where the source is honest and the stores were faithful.
-use Rattle.std.specs.Prelude.{◌≡◌, map, None, Some, Option, List, ◌∷◌}
+use Rattle.std.specs.Prelude.{◌≡◌, map, None, Some, Option, List}
 use Rattle.dbl_pgmsg.specs.declared.messages.Message.{Message}
 use Rattle.dbl_record.specs.Cuts.{joined}
 use Rattle.dbl_table.specs.declared.change.Commit.{Commit}

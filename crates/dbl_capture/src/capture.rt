@@ -10,7 +10,7 @@ ghost use Rattle.dbl_honest.specs.Standings.{Leads, Left, Standing, Stood};
 ghost use Rattle.dbl_honest.specs.Told.{Head, IsTakenBy, Tells, Told};
 ghost use Rattle.dbl_offset.specs.declared.offset.Offset.{Offset as SpecOffset};
 ghost use Rattle.dbl_offset.specs.Offsets.{IsOffset};
-ghost use Rattle.dbl_offset.specs.Stores.{ComesOf, IsLive, disk_of};
+ghost use Rattle.dbl_offset.specs.Stores.{ComesOf, Holds, IsLive, disk_of};
 ghost use Rattle.dbl_session.specs.Entries.{Entry as SpecEntry, HadOwnTables, IsKeptBehind, StoodInLog, WasFaithful};
 ghost use Rattle.dbl_work.specs.Begins.{IsAbsentHalt, IsExhausted, IsOffsetFor, MayRest};
 ghost use Rattle.dbl_work.specs.Works.{IsBegun};
@@ -282,6 +282,13 @@ pub fn session<S: Source, K: Sink, D: Disk>(
         S.honest src.new →
         HadOwnTables entry → result ≡ Ok Ending.Complete →
         LeavesComplete S.may_leave K.may_leave D.may_leave entry src.new sink.new offsets.new }
+
+    // Behind an ending the disk has what the store answers.
+    ensures holds { (entry : SpecEntry) → IsEntryOf config.now now_ms entry →
+        Found S.stands K.holds D.seen D.may_leave entry src.old sink.old offsets.old →
+        S.honest src.new →
+        HadOwnTables entry →
+        OnOk result (Holds D.seen D.may_leave offsets.new offsets.new.offset) }
 
     // The marks that it adds, by what the source stands for and the stored offset alone.
     ensures marks { (s : Standing) → S.stands src.old s → S.honest src.new →

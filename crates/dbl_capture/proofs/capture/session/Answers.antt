@@ -1,9 +1,9 @@
-use Rattle.std.proofs.Common.{◌≡◌, ◌∙◌, arith, inl, inr, ℤ, true, false, Some, None, [], Ok, Err, refl, sym, ap, subst}
+use Rattle.std.proofs.Common.{◌≡◌, ◌∙◌, arith, inl, inr, ℤ, true, false, Option, Some, None, [], Ok, Err, refl, sym, ap, subst}
 use Rattle.std.specs.Prelude.{OnOk}
 use Rattle.std.proofs.Math.Facts.{to_z-of_z}
 use Rattle.dbl_history.specs.Ranges.{IsMomentInRange}
 use Rattle.dbl_offset.specs.declared.offset.Offset.{Offset}
-use Rattle.dbl_offset.specs.Stores.{disk_of}
+use Rattle.dbl_offset.specs.Stores.{Holds, disk_of}
 use Rattle.dbl_work.specs.Begins.{IsOffsetFor}
 use Rattle.dbl_work.specs.Works.{next_of}
 use Rattle.dbl_work.proofs.Exits.{later_on, rose_behind}
@@ -11,7 +11,7 @@ use Rattle.dbl_steps.proofs.Causes.{err_at, err_then, residual_is, residual_of}
 use Rattle.dbl_exits.specs.Ends.{HasOwnStored}
 use Rattle.dbl_exits.specs.Found.{entry_at}
 use Rattle.dbl_exits.proofs.Endings.{complete_left, has_stored, own_first, position_is}
-use Rattle.dbl_exits.proofs.Keeping.{either_answer, rests, some_chunk}
+use Rattle.dbl_exits.proofs.Keeping.{either_answer, ok_then, rests, some_chunk}
 use Rattle.dbl_exits.proofs.Openings.{going_left, source_found, told_found}
 use Rattle.dbl_honest.specs.Standings.{Standing, Stood}
 use Rattle.dbl_causes.specs.Musts.{MustHalt, MustHaltStood, MustHaltTold}
@@ -405,3 +405,12 @@ returns-clause-long g c s was none still =
     let own = c.run.ensures.stored (subst (λ (o : Offset). HasOwnStored o c.opened.new.store.offset) (sym begun.2.offset_is) (own_first begun.0 c.opened.new.store.offset begun.1)) in
     let wrong : None ≡ Some own.offset = sym still ∙ own.is in
     absurd (none_some own.offset wrong)
+
+pub returns-in_err-work-clause-holds : goal.returns-in_err-work-clause-holds
+returns-in_err-work-clause-holds g c entry asked f honest had =
+    residual_as c.from_residual.result _ (λ x. OnOk x (Holds g.D.Disk.seen g.D.Disk.may_leave c.opened.new.store c.opened.new.store.offset)) c.from_residual.ensures.1 tt
+
+pub returns-clause-holds : goal.returns-clause-holds
+returns-clause-holds g c entry asked f honest had =
+    let s = c.in_ok-work.ensures.opened true entry asked.config_is (asked.now_is ∙ sym (to_z-of_z c.ranges.now_ms)) (told_found f) (c.run.ensures.honest honest) had in
+    ok_then c.run.result _ _ (c.run.ensures.ran true entry s honest) (λ t. subst (λ (o : Option Offset). Holds g.D.Disk.seen g.D.Disk.may_leave c.run.new.store o) (sym (t.store_is tt).offset_is) (t.store_is tt))

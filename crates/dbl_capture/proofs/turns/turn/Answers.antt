@@ -1,4 +1,4 @@
-use Rattle.std.proofs.Common.{◌∙◌, Bool, IsTrue, Ok, Option, Some, sym, ap, subst, arith}
+use Rattle.std.proofs.Common.{◌∙◌, Bool, IsTrue, Ok, Option, Some, sym, ap, subst, arith, true}
 use Rattle.dbl_history.specs.Ranges.{IsMomentInRange}
 use Rattle.dbl_work.specs.declared.report.Report.{Report}
 use Rattle.dbl_work.specs.declared.work.Work.{Work}

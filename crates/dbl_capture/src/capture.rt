@@ -10,8 +10,8 @@ ghost use Rattle.dbl_honest.specs.Standings.{Leads, Left, Standing, Stood};
 ghost use Rattle.dbl_honest.specs.Told.{Head, IsTakenBy, Tells, Told};
 ghost use Rattle.dbl_offset.specs.declared.offset.Offset.{Offset as SpecOffset};
 ghost use Rattle.dbl_offset.specs.Offsets.{IsOffset};
-ghost use Rattle.dbl_offset.specs.Stores.{ComesOf, Holds, IsLive, disk_of};
-ghost use Rattle.dbl_session.specs.Entries.{Entry as SpecEntry, HadOwnTables, IsKeptBehind, StoodInLog, WasFaithful};
+ghost use Rattle.dbl_offset.specs.Stores.{ComesOf, IsLive, disk_of};
+ghost use Rattle.dbl_session.specs.Entries.{Entry as SpecEntry, HadOwnTables, IsKeptBehind, WasFaithful};
 ghost use Rattle.dbl_work.specs.Begins.{IsAbsentHalt, IsExhausted, IsOffsetFor, MayRest};
 ghost use Rattle.dbl_work.specs.Works.{IsBegun};
 ghost use Rattle.dbl_exits.specs.Ends.{AreAllDone, IsAtPosition, LeavesComplete};
@@ -19,12 +19,15 @@ ghost use Rattle.dbl_exits.specs.Found.{BeganAt, BeginsAt, Found, HasStored, IsA
 ghost use Rattle.dbl_exits.specs.Sessions.{AddsFew, InSession, LeavesBy, LeavesGoing};
 ghost use Rattle.dbl_causes.specs.Gained.{Gains, IsReported};
 ghost use Rattle.dbl_causes.specs.Halted.{IsHalt};
-ghost use Rattle.dbl_causes.specs.Musts.{MustExhaust, MustHalt, MustHaltStood, MustHaltTold};
+ghost use Rattle.dbl_causes.specs.Musts.{CapturesAll, MustExhaust, MustHalt, MustHaltStood, MustHaltTold};
 ghost use Rattle.dbl_causes.specs.Reported.{HasReadMessages, HasSettled, HasStoodBehind, IsFollowed, StoodAtLast};
 ghost use Rattle.dbl_honest.specs.Growth.{marks_in};
 ghost use Rattle.dbl_causes.specs.Nevers.{IsFaithfulHalt, IsHonestHalt};
 ghost use Rattle.dbl_causes.specs.Sources.{IsUnderWay};
 ghost use Rattle.dbl_steps.specs.Caused.{AsksUnread, Halts, IsNotGone};
+ghost use Rattle.dbl_steps.specs.Awaited.{Awaits, IsWithin, IsWithinLog};
+ghost use Rattle.dbl_steps.specs.Stood.{IsHaltStanding, IsShort, IsShortOr};
+ghost use Rattle.dbl_steps.specs.Captured.{CapturesOrHalts, MustHaltAbsent};
 ghost use Rattle.dbl_causes.specs.Underway.{IsBeginHalt};
 ghost use Rattle.dbl_causes.specs.Written.{AddsAtMost, AddsExactly, marks_more};
 ghost use Rattle.dbl_steps.specs.Sinks.{IsPutting};
@@ -71,7 +74,13 @@ fn offset_of<S: Source, D: Disk>(
     ensures halt { IfErr result (IsBeginHalt config.now store.now.offset (S.told src.new)) }
     ensures absent { (s : Standing) → S.stands src.old s →
         IfErr result (IsAbsentHalt config.now.tables s.history) }
+    ensures captures { (s : Standing) → S.stands src.old s → store.now.offset ≡ None →
+        CapturesOrHalts config.now s.history result }
     ensures exhausted { (h : _) → IsExhausted store.now.offset h → result ≡ Err h }
+    ensures short { IfErr result IsShort }
+    ensures within { (s : Standing) → S.stands src.old s →
+        IsWithinLog s.history store.now.offset → IfOk result (λ offset.
+        Stood S.stands src.new (λ t. IsWithin offset.lsn t.history)) }
     ensures still { (s t : Standing) → S.stands src.old s → S.stands src.new t →
         t.reading ≡ s.reading }
     ensures taken { IsTakenBy [] (S.told src.old) (S.told src.new) }
@@ -131,7 +140,16 @@ fn begun<S: Source, K: Sink, D: Disk>(
     ensures halt { IfErr result (IsBeginHalt config.now store.old.offset (S.told src.new)) }
     ensures absent { (s : Standing) → S.stands src.old s →
         IfErr result (IsAbsentHalt config.now.tables s.history) }
+    ensures captures { (s : Standing) → S.stands src.old s → store.old.offset ≡ None →
+        CapturesOrHalts config.now s.history result }
+    ensures captured { (s : Standing) → S.stands src.old s →
+        CapturesAll config.now store.old.offset store.new.offset s.history }
     ensures exhausted { (h : _) → IsExhausted store.old.offset h → result ≡ Err h }
+    ensures standing { (s : Standing) → S.stands src.old s →
+        IfErr result (IsShortOr (S.stands src.new)) }
+    ensures within { (s : Standing) → S.stands src.old s →
+        IsWithinLog s.history store.old.offset → IfOk result (λ offset.
+        Stood S.stands src.new (λ t. IsWithin offset.lsn t.history)) }
     ensures still { (s t : Standing) → S.stands src.old s → S.stands src.new t →
         t.reading ≡ s.reading }
     ensures taken { IsTakenBy [] (S.told src.old) (S.told src.new) }
@@ -190,6 +208,10 @@ fn opened<S: Source, K: Sink, D: Disk>(
     ensures exhausted { (h : _) → IsExhausted store.old.offset h → result ≡ Err h }
     ensures absent { (s : Standing) → S.stands src.old s →
         IfErr result (IsAbsentHalt config.now.tables s.history) }
+    ensures captures { (s : Standing) → S.stands src.old s → store.old.offset ≡ None →
+        CapturesOrHalts config.now s.history result }
+    ensures captured { (s : Standing) → S.stands src.old s →
+        CapturesAll config.now store.old.offset store.new.offset s.history }
     ensures gone { (s : Standing) → S.stands src.old s →
         IsKeptBehind s.confirmed store.old.offset → IfErr result IsNotGone }
     ensures report { (report.new.messages ≡ report.old.messages) ×
@@ -232,6 +254,9 @@ fn opened<S: Source, K: Sink, D: Disk>(
         (report.new.chunks ≡ report.old.chunks) ×
         (report.new.snapshot_rows ≡ report.old.snapshot_rows) }
     ensures own { (entry : SpecEntry) → IfErr result (IsHonestHalt entry (S.stands src.new)) }
+    ensures awaits { (s : Standing) → S.stands src.old s →
+        IsWithinLog s.history store.old.offset →
+        IfOk result (λ work. Awaits S.stands work src.new) }
     ensures unmarked { (s : Standing) (left : Left) → S.stands src.old s → S.may_leave src.new left →
         marks_in left.history.commits ≡ marks_in s.history.commits }
     ensures long { (s : Standing) → S.stands src.old s → store.old.offset ≡ None →
@@ -334,17 +359,22 @@ pub fn session<S: Source, K: Sink, D: Disk>(
     ensures bounded { report.new.messages ≤ config.now.messages }
     ensures position { report.new.position ≡ position_of offsets.old.offset offsets.new.offset }
 
-    // Why it halts: what its source told; and of one that stands, by its catalogue.
+    // Why it halts: what its source told; and of one that stands, by the messages behind which it
+    // stands, and by its catalogue.
     ensures halt { IfErr result (IsHalt config.now now_ms offsets.old.offset offsets.new.offset
         report.new (S.told src.new)) }
+    ensures halt_stood { (s : Standing) → S.stands src.old s →
+        IfErr result (IsHaltStanding config.now now_ms offsets.old.offset offsets.new.offset
+        report.new (S.stands src.new)) }
     ensures absent { (s : Standing) → S.stands src.old s →
         IfErr result (IsAbsentHalt config.now.tables s.history) }
+    ensures captures { (s : Standing) → S.stands src.old s →
+        CapturesAll config.now offsets.old.offset offsets.new.offset s.history }
     ensures gone { (s : Standing) → S.stands src.old s →
         IsKeptBehind s.confirmed offsets.old.offset →
         (asked first : _) → result ≢ Err (Halt.Gone asked first) }
     ensures missing { (s : Standing) → S.stands src.old s → S.honest src.new →
-        HadOwnTables (entry_at config.now now_ms s offsets.old.offset) →
-        StoodInLog (entry_at config.now now_ms s offsets.old.offset) →
+        IsWithinLog s.history offsets.old.offset →
         (value at : _) → result ≢ Err (Halt.WatermarkMissing value at) }
 
     // What an honest source with the stored tables never makes it halt for.
@@ -370,9 +400,11 @@ pub fn session<S: Source, K: Sink, D: Disk>(
     ensures counted { (groups : List (List SpecRecord)) → K.holds sink.old groups →
         IsReported K.holds K.may_leave groups result sink.new report.new }
 
-    // Where it has to halt for what it found, and for the newest message, by what the source told,
-    // and stands for.
+    // Where it has to halt for what it found, for a table that can't be captured, and for the newest
+    // message, by what the source told, and stands for.
     ensures exhausted { MustExhaust offsets.old.offset result }
+    ensures must_absent { (s : Standing) → S.stands src.old s →
+        MustHaltAbsent config.now s.history offsets.old.offset result }
     ensures must { (t : Told) → S.told src.new ≡ Some t →
         MustHaltTold config.now now_ms offsets.old.offset offsets.new.offset report.new t result }
     ensures must_stood { (s t : Standing) → S.stands src.old s → S.stands src.new t →

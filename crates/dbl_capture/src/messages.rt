@@ -6,6 +6,7 @@ ghost use Rattle.dbl_record.specs.declared.record.Record.{Record as SpecRecord};
 ghost use Rattle.dbl_history.specs.Ranges.{IsMomentInRange};
 ghost use Rattle.dbl_honest.specs.Standings.{Left, Standing};
 ghost use Rattle.dbl_honest.specs.Told.{Read, Tells, Told};
+ghost use Rattle.dbl_follow.specs.declared.window.Window.TheVariants as windows;
 ghost use Rattle.dbl_session.specs.Entries.{Entry as SpecEntry, WasFaithful};
 ghost use Rattle.dbl_work.specs.Works.{IsReady};
 ghost use Rattle.dbl_exits.specs.Sessions.{InSession, LeavesBy};
@@ -15,6 +16,7 @@ ghost use Rattle.dbl_causes.specs.Written.{AddsNoMore, AreClosed};
 ghost use Rattle.dbl_causes.specs.Nevers.{IsFaithfulHalt, IsHonestHalt};
 ghost use Rattle.dbl_causes.specs.Sources.{GoesOn, IsUnderWay};
 ghost use Rattle.dbl_steps.specs.Sinks.{HasHaltedPut, IsPutting};
+ghost use Rattle.dbl_steps.specs.Awaited.{Awaits};
 ghost use Rattle.dbl_steps.specs.Caused.{Halts, IsNotGone, IsQuiet};
 ghost use Rattle.dbl_steps.specs.Putting.{PutsOn};
 
@@ -121,6 +123,15 @@ pub(crate) fn next<S: Source, K: Sink, D: Disk>(
         IsUnderWay S.stands at found b store.now.offset work.old report.old src.old
         (S.told src.old) → (s : Standing) → at ≡ Some s → S.honest src.new →
         IfErr result (IsHonestHalt entry (S.stands src.new)) }
+    ensures awaits { (at : Option Standing) (found : Option Told) (b : Beginning) →
+        IsUnderWay S.stands at found b store.now.offset work.old report.old src.old
+        (S.told src.old) → (s : Standing) → at ≡ Some s → S.honest src.new →
+        Awaits S.stands work.old src.old → OnOk result (Awaits S.stands work.new src.new) }
+    ensures waits { (at : Option Standing) (found : Option Told) (b : Beginning) →
+        IsUnderWay S.stands at found b store.now.offset work.old report.old src.old
+        (S.told src.old) → (s : Standing) → at ≡ Some s → S.honest src.new →
+        Awaits S.stands work.old src.old → result ≡ Ok None →
+        work.new.follower.window ≡ windows.Absent }
     ensures most { (tell : Bool) (entry : SpecEntry) →
         InSession tell S.stands K.holds D.seen D.may_leave entry
         work.old src.old sink.old store.now → AreClosed work.old report.old.chunks →

@@ -16,6 +16,7 @@ ghost use Rattle.dbl_causes.specs.Written.{AddsNoMore, AreClosed};
 ghost use Rattle.dbl_causes.specs.Nevers.{IsFaithfulHalt, IsHonestHalt};
 ghost use Rattle.dbl_causes.specs.Sources.{HasCommitted, HasSettledAll};
 ghost use Rattle.dbl_steps.specs.Sinks.{HasHaltedPut, HasPutCommit, IsPutting};
+ghost use Rattle.dbl_steps.specs.Awaited.{Awaits};
 ghost use Rattle.dbl_steps.specs.Caused.{Halts, IsNotGone, IsQuiet};
 
 use dbl_disk::Disk;
@@ -99,6 +100,8 @@ pub(crate) fn settle<S: Source, K: Sink, D: Disk>(
         IfErr result (HasHaltedPut K.holds K.may_leave groups b.config b.now b.held
         store.new.offset report.new sink.now) }
     ensures own { (entry : SpecEntry) → IfErr result (IsHonestHalt entry (S.stands src.new)) }
+    ensures awaits { Awaits S.stands work.old src.old →
+        OnOk result (Awaits S.stands work.new src.new) }
     ensures most { (tell : Bool) (entry : SpecEntry) →
         InSession tell S.stands K.holds D.seen D.may_leave entry
         work.old src.old sink.now store.old → AreClosed work.old report.old.chunks →

@@ -1,6 +1,6 @@
 //! The turns of a session, each of which reads one message.
 
-ghost use Rattle.std.specs.Prelude.{◌≡◌, ◌≢◌, ◌+◌, ◌^◌, ◌≤◌, ◌<◌, true, List, Option, Some, None, Ok, Bool, IfErr, IfOk, IsTrue, MatchBool, OnErr, OnOk, is_ok, ℕ};
+ghost use Rattle.std.specs.Prelude.{◌≡◌, ◌≢◌, ◌+◌, ◌^◌, ◌≤◌, ◌<◌, false, true, List, Option, Some, None, Ok, Bool, IfErr, IfOk, IsTrue, MatchBool, OnErr, OnOk, is_ok, ℕ};
 ghost use Rattle.dbl_base.specs.Streams.{Rose};
 ghost use Rattle.dbl_record.specs.declared.record.Record.{Record as SpecRecord};
 ghost use Rattle.dbl_history.specs.Ranges.{IsMomentInRange};
@@ -9,7 +9,7 @@ ghost use Rattle.dbl_honest.specs.Told.{Read, Tells, Told};
 ghost use Rattle.dbl_offset.specs.declared.offset.Offset.{Offset as SpecOffset};
 ghost use Rattle.dbl_offset.specs.Stores.{ComesOf, IsLive, disk_of};
 ghost use Rattle.dbl_follow.specs.declared.window.Window.TheVariants as windows;
-ghost use Rattle.dbl_session.specs.Entries.{Entry as SpecEntry, StoodInLog, WasFaithful};
+ghost use Rattle.dbl_session.specs.Entries.{Entry as SpecEntry, WasFaithful};
 ghost use Rattle.dbl_work.specs.declared.report.Report.{Report as SpecReport};
 ghost use Rattle.dbl_work.specs.Works.{IsReady, next_of};
 ghost use Rattle.dbl_exits.specs.Ends.{AreAllDone, HasNoneNext, HasOwnStored, IsArmedNext, IsAtPosition, IsReportAt, IsTableOf};
@@ -20,6 +20,7 @@ ghost use Rattle.dbl_causes.specs.Written.{AddsNoMore, AreClosed};
 ghost use Rattle.dbl_causes.specs.Nevers.{IsFaithfulHalt, IsHonestHalt};
 ghost use Rattle.dbl_causes.specs.Sources.{HasSettledAll, IsUnderWay};
 ghost use Rattle.dbl_steps.specs.Sinks.{HasHaltedPut, IsPutting};
+ghost use Rattle.dbl_steps.specs.Awaited.{Awaits};
 ghost use Rattle.dbl_steps.specs.Caused.{Halts, IsNotGone, IsQuiet};
 ghost use Rattle.dbl_steps.specs.Owned.{IsContentFree};
 
@@ -99,6 +100,8 @@ fn arm_next<S: Source, K: Sink, D: Disk>(
         work.old src.old sink.now store.now →
         S.honest src.new →
         IfErr result (IsHonestHalt entry (S.stands src.new)) }
+    ensures awaits { Awaits S.stands work.old src.old →
+        OnOk result (Awaits S.stands work.new src.new) }
     ensures most { (tell : Bool) (entry : SpecEntry) (chunks : ℕ) →
         InSession tell S.stands K.holds D.seen D.may_leave entry
         work.old src.old sink.now store.now → AreClosed work.old chunks →
@@ -135,10 +138,7 @@ fn end<S: Source, K: Sink, D: Disk>(
         S.honest src.new →
         OnErr result (LeavesBy tell S.may_leave K.may_leave D.may_leave entry
         src.new sink.now store.new) }
-    ensures unmissed { (tell : Bool) (entry : SpecEntry) →
-        HasReadAllAt tell S.stands K.holds D.seen D.may_leave entry
-        work.old src.old sink.now store.old →
-        StoodInLog entry →
+    ensures unmissed { work.old.follower.window ≡ windows.Absent →
         (value at : _) → result ≢ Err (Halt.WatermarkMissing value at) }
     ensures waited { OnOk result (work.old.follower.window ≡ windows.Absent) }
     ensures same { OnOk result (work.new ≡ record work.old { since = 0 }) }
@@ -247,11 +247,11 @@ fn turn<S: Source, K: Sink, D: Disk>(
     ensures ended { result ≡ Ok true → IsTrue (S.has_ended src.new) }
     ensures missed { (value at : _) → result ≡ Err (Halt.WatermarkMissing value at) →
         IsTrue (S.has_ended src.new) }
-    ensures unmissed { (tell : Bool) (entry : SpecEntry) →
-        InSession tell S.stands K.holds D.seen D.may_leave entry
-        work.old src.old sink.old store.old →
-        S.honest src.new → StoodInLog entry →
-        (value at : _) → result ≢ Err (Halt.WatermarkMissing value at) }
+    ensures unmissed { (at : Option Standing) (found : Option Told) (b : Beginning) →
+        IsUnderWay S.stands at found b store.old.offset work.old report.old src.old
+        (S.told src.old) → (s : Standing) → at ≡ Some s → S.honest src.new →
+        Awaits S.stands work.old src.old →
+        (value position : _) → result ≢ Err (Halt.WatermarkMissing value position) }
     ensures reads { IfErr result IsNotGone }
     ensures loads { result ≡ Ok true → store.new.offset ≡ Some (next_of work.new) }
     ensures ready { OnOk result (IsReady work.new) }
@@ -318,6 +318,11 @@ fn turn<S: Source, K: Sink, D: Disk>(
         IsUnderWay S.stands at found b store.old.offset work.old report.old src.old
         (S.told src.old) → (s : Standing) → at ≡ Some s → S.honest src.new →
         IfErr result (IsHonestHalt entry (S.stands src.new)) }
+    ensures awaits { (at : Option Standing) (found : Option Told) (b : Beginning) →
+        IsUnderWay S.stands at found b store.old.offset work.old report.old src.old
+        (S.told src.old) → (s : Standing) → at ≡ Some s → S.honest src.new →
+        Awaits S.stands work.old src.old → IfOk result (λ ended.
+        ended ≡ false → Awaits S.stands work.new src.new) }
     ensures most { (tell : Bool) (entry : SpecEntry) (at : Option Standing) (found : Option Told)
         (b : Beginning) → InSession tell S.stands K.holds D.seen D.may_leave entry
         work.old src.old sink.old store.old →
@@ -393,11 +398,11 @@ pub(crate) fn run<S: Source, K: Sink, D: Disk>(
     ensures ended { result ≡ Ok Ending.Complete → IsTrue (S.has_ended src.new) }
     ensures missed { (value at : _) → result ≡ Err (Halt.WatermarkMissing value at) →
         IsTrue (S.has_ended src.new) }
-    ensures unmissed { (tell : Bool) (entry : SpecEntry) →
-        InSession tell S.stands K.holds D.seen D.may_leave entry
-        work.old src.old sink.old store.old →
-        S.honest src.new → StoodInLog entry →
-        (value at : _) → result ≢ Err (Halt.WatermarkMissing value at) }
+    ensures unmissed { (at : Option Standing) (found : Option Told) (b : Beginning) →
+        IsUnderWay S.stands at found b store.old.offset work.old report.old src.old
+        (S.told src.old) → (s : Standing) → at ≡ Some s → S.honest src.new →
+        Awaits S.stands work.old src.old →
+        (value position : _) → result ≢ Err (Halt.WatermarkMissing value position) }
     ensures reads { IfErr result IsNotGone }
     ensures none { OnOk result (HasNoneNext work.new) }
     ensures waited { result ≡ Ok Ending.Complete → work.new.follower.window ≡ windows.Absent }

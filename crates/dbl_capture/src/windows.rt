@@ -15,6 +15,7 @@ ghost use Rattle.dbl_causes.specs.Written.{AddsNoMore, AreClosed};
 ghost use Rattle.dbl_causes.specs.Nevers.{IsHonestHalt};
 ghost use Rattle.dbl_causes.specs.Sources.{IsUnderWay};
 ghost use Rattle.dbl_steps.specs.Sinks.{HasHaltedPut, IsPutting};
+ghost use Rattle.dbl_steps.specs.Awaited.{Awaits};
 ghost use Rattle.dbl_steps.specs.Caused.{Halts, IsNotGone, IsQuiet};
 ghost use Rattle.dbl_steps.specs.Owned.{IsContentFree};
 
@@ -82,6 +83,8 @@ pub(crate) fn arm<S: Source, K: Sink, D: Disk>(
         work.old src.old sink.now store.now →
         S.honest src.new →
         IfErr result (IsHonestHalt entry (S.stands src.new)) }
+    ensures awaits { Awaits S.stands work.old src.old →
+        OnOk result (Awaits S.stands work.new src.new) }
     ensures most { (tell : Bool) (entry : SpecEntry) (chunks : ℕ) →
         InSession tell S.stands K.holds D.seen D.may_leave entry
         work.old src.old sink.now store.now → AreClosed work.old chunks →

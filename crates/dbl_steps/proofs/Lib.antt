@@ -15,3 +15,7 @@ pub mod Sinking
 pub mod Going
 pub mod Asking
 pub mod Owning
+pub mod Stood
+pub mod Captured
+pub mod Uncaptured
+pub mod Awaited

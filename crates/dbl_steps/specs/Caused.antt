@@ -13,6 +13,7 @@ use Rattle.dbl_work.specs.declared.report.Report.{Report}
 use Rattle.dbl_causes.specs.Halted.{IsHalt}
 use Rattle.dbl_causes.specs.Musts.{MustHalt}
 use Rattle.dbl_causes.specs.Sources.{HasHalted}
+use Rattle.dbl_steps.specs.Stood.{IsHaltStanding}
 
 -- For private clauses: no log is gone behind its offset.
 abbrev pub IsNotGone : Halt → Type 0
@@ -27,9 +28,11 @@ IsQuiet told = (t : Told) → told ≡ Some t → ((rows : List RawRow) → t.an
 abbrev pub AsksUnread : Config → Option Offset → Option Offset → Option Told → Halt → Type 0
 AsksUnread config old new told h = (report : Report) (t : Told) → report.messages ≡ 0 → told ≡ Some t → MustHalt config old new report t (Err h)
 
--- For private clauses: it halted, and this is why; and what was answered last asks for no other halt.
+-- For private clauses: it halted, and this is why, by what its source told and by the messages behind which it stands; and what was
+-- answered last asks for no other halt.
 pub record Halts {S : Type 0} (stands : S → Standing → Type 0) (at : Option Standing) (found : Option Told) (config : Config) (now : ℤ)
     (held stored : Option Offset) (report : Report) (src : S) (told : Option Told) (h : Halt) : Type 0 where
   pub halted : HasHalted stands at found config now held stored report src told h
   pub cause : IsHalt config now held stored report told h
   pub ask : (t : Told) → told ≡ Some t → MustHalt config held stored report t (Err h)
+  pub stood : (s : Standing) → at ≡ Some s → IsHaltStanding config now held stored report (stands src) h

@@ -6,3 +6,6 @@ pub mod Honest
 pub mod Caused
 pub mod Putting
 pub mod Owned
+pub mod Captured
+pub mod Awaited
+pub mod Stood

@@ -4,6 +4,7 @@
 #![tactic(auto)]
 
 mod answer_laws;
+mod awaited_laws;
 mod honest_laws;
 mod mark_laws;
 mod owned_laws;
@@ -12,6 +13,7 @@ mod put_laws;
 pub use answer_laws::{
     failures_excuse, newest_bytes_ask, quiet_answers_ask_nothing, rows_ask, unread_answers_ask,
 };
+pub use awaited_laws::stood_offsets_are_within;
 pub use honest_laws::{
     captured_tables_can_be_captured, honest_transactions_fail, spelled_bytes_never_halt,
 };

@@ -1,4 +1,4 @@
-use Rattle.std.proofs.Common.{◌≡◌, ◌⊎◌, inl, Some, refl, sym, subst}
+use Rattle.std.proofs.Common.{◌≡◌, ◌⊎◌, inl, inr, Some, refl, sym, subst}
 use Rattle.dbl_history.specs.Fit.{IsFitHistory}
 use Rattle.dbl_honest.specs.Standings.{left_of}
 use Rattle.dbl_offset.specs.declared.offset.Offset.{Offset}
@@ -21,6 +21,10 @@ use Rattle.dbl_work.specs.Begins.{IsTooLong}
 use Rattle.dbl_steps.specs.Owned.{IsFirstByCatalogue, IsLongBy}
 use Rattle.dbl_causes.specs.Nevers.{IsFaithfulHalt}
 use Rattle.dbl_steps.proofs.Owning.{first_long, first_own, free_long, free_own, had_of}
+use Rattle.dbl_steps.specs.Captured.{CapturesOrHalts}
+use Rattle.dbl_steps.proofs.Telling.{residual_as}
+use Rattle.dbl_steps.proofs.Captured.{captures_by, captures_same}
+use Rattle.dbl_steps.specs.Stood.{IsShortOr}
 use Rattle.dbl_capture.proofs.capture.begun.Goals as goal
 
 -- before the store
@@ -201,3 +205,42 @@ returns-in_err-put_offset-clause-content g c entry stored report asked f honest 
     (subst IsFitHistory f.history (g.met.S.Source.fit _ (left_of f.standing) (g.met.S.Source.may _ f.standing f.source_is) (c.offset_of.ensures.honest honest)))
     (g.met.S.Source.fit _ _ (g.met.S.Source.may _ stood.standing stood.is) honest) stood.holds stood.is (f.sink_is refl)
     (subst (λ (o : Offset). (c.in_err-put_offset.field-0.0 ≡ halt.Memory) ⊎ ((c.in_err-put_offset.field-0.0 ≡ halt.Offsets) ⊎ IsTooLong o c.in_err-put_offset.field-0.0)) c.in_ok-stored.ensures c.in_err-put_offset.ensures.halt))
+
+pub returns-in_err-offset-clause-captures : goal.returns-in_err-offset-clause-captures
+returns-in_err-offset-clause-captures g c s is none = residual_as c.from_residual.result _ (CapturesOrHalts c.args.config.now s.history) c.from_residual.ensures.1 (c.in_err-offset.ensures.captures s is none)
+
+pub returns-in_err-stored-clause-captures : goal.returns-in_err-stored-clause-captures
+returns-in_err-stored-clause-captures g c s is none = residual_as c.from_residual-in_err-stored.result halt.Memory (CapturesOrHalts c.args.config.now s.history) c.from_residual-in_err-stored.ensures.1 (inr tt)
+
+pub returns-in_err-put_offset-clause-captures : goal.returns-in_err-put_offset-clause-captures
+returns-in_err-put_offset-clause-captures g c s is none =
+    residual_as c.from_residual-in_err-put_offset.result _ (CapturesOrHalts c.args.config.now s.history) c.from_residual-in_err-put_offset.ensures.1 (inl (c.in_ok-offset.ensures.captures s is none))
+
+pub returns-clause-captures : goal.returns-clause-captures
+returns-clause-captures g c s is none = c.in_ok-offset.ensures.captures s is none
+
+pub returns-in_err-offset-clause-captured : goal.returns-in_err-offset-clause-captured
+returns-in_err-offset-clause-captured g c s is = captures_same c.args.config.now s.history c.args.store.now.offset c.args.store.now.offset refl
+
+pub returns-in_err-stored-clause-captured : goal.returns-in_err-stored-clause-captured
+returns-in_err-stored-clause-captured g c s is = captures_same c.args.config.now s.history c.args.store.now.offset c.args.store.now.offset refl
+
+pub returns-in_err-put_offset-clause-captured : goal.returns-in_err-put_offset-clause-captured
+returns-in_err-put_offset-clause-captured g c s is = captures_by c.args.config.now s.history c.args.store.now.offset c.put_offset.new.store.offset (λ none. c.in_ok-offset.ensures.captures s is none)
+
+pub returns-clause-captured : goal.returns-clause-captured
+returns-clause-captured g c s is = captures_by c.args.config.now s.history c.args.store.now.offset c.put_offset.new.store.offset (λ none. c.in_ok-offset.ensures.captures s is none)
+
+pub returns-clause-within : goal.returns-clause-within
+returns-clause-within g c s is log = c.in_ok-offset.ensures.within s is log
+
+pub returns-in_err-offset-clause-standing : goal.returns-in_err-offset-clause-standing
+returns-in_err-offset-clause-standing g c s is = residual_of c.from_residual.result _ (IsShortOr (g.S.Source.stands c.offset_of.new.src)) c.from_residual.ensures.1 (inl c.in_err-offset.ensures.short)
+
+pub returns-in_err-stored-clause-standing : goal.returns-in_err-stored-clause-standing
+returns-in_err-stored-clause-standing g c s is = residual_of c.from_residual-in_err-stored.result halt.Memory (IsShortOr (g.S.Source.stands c.offset_of.new.src)) c.from_residual-in_err-stored.ensures.1 (inl tt)
+
+pub returns-in_err-put_offset-clause-standing : goal.returns-in_err-put_offset-clause-standing
+returns-in_err-put_offset-clause-standing g c s is =
+    let mid = c.in_ok-offset.ensures.stood s is in
+    residual_of c.from_residual-in_err-put_offset.result _ (IsShortOr (g.S.Source.stands c.offset_of.new.src)) c.from_residual-in_err-put_offset.ensures.1 (inr (mid.standing, mid.is))

@@ -1,4 +1,4 @@
-use Rattle.std.proofs.Common.{◌∙◌, inl, Option, refl, sym, ap, subst}
+use Rattle.std.proofs.Common.{◌∙◌, inl, inr, Some, Option, refl, sym, ap, subst}
 use Rattle.std.specs.Prelude.{IfOk}
 use Rattle.dbl_honest.proofs.GrowthLemmas.{grows_none}
 use Rattle.dbl_honest.specs.Standings.{Standing, left_of}
@@ -17,6 +17,14 @@ use Rattle.dbl_steps.specs.Caused.{AsksUnread}
 use Rattle.dbl_steps.proofs.Asking.{again_asks, again_found, first_asks}
 use Rattle.dbl_steps.specs.Owned.{IsContentFree, IsFirstByCatalogue}
 use Rattle.dbl_steps.proofs.Owning.{again_free, first_by_catalogue, first_free}
+use Rattle.dbl_window.proofs.HonestLemmas.{captured_stays}
+use Rattle.dbl_steps.specs.Captured.{CapturesOrHalts, IsOfTable}
+use Rattle.dbl_steps.proofs.Telling.{residual_as}
+use Rattle.dbl_steps.proofs.Honest.{captured_tables_can_be_captured}
+use Rattle.dbl_steps.proofs.Captured.{again_table, captures_ok, first_table}
+use Rattle.dbl_steps.proofs.Awaited.{again_within, first_within}
+use Rattle.dbl_steps.specs.Stood.{IsShort}
+use Rattle.dbl_steps.proofs.Stood.{again_short, first_short}
 use Rattle.dbl_capture.proofs.capture.offset_of.Goals as goal
 
 -- nothing was asked of the source yet
@@ -167,3 +175,41 @@ pub returns-in-None-clause-first : goal.returns-in-None-clause-first
 returns-in-None-clause-first g c s was none =
     answer_then c.first_offset.result _ (IsFirstByCatalogue c.args.config.now s.history) (c.first_offset.ensures.first s was)
     (λ offset at. first_by_catalogue c.args.config.now s at.standing at.holds.1.0 at.holds.1.1 offset at.holds.0 at.holds.1.2 at.holds.1.3 at.holds.1.4)
+
+pub returns-in_err-offset-clause-captures : goal.returns-in_err-offset-clause-captures
+returns-in_err-offset-clause-captures g c s is none =
+    residual_as c.from_residual.result _ (CapturesOrHalts c.args.config.now s.history) c.from_residual.ensures.1 (inr (again_table c.args.store.now.offset _ none c.in_err-offset.ensures.halt))
+
+pub returns-in-Some-clause-captures : goal.returns-in-Some-clause-captures
+returns-in-Some-clause-captures g c s is none =
+    absurd (subst (λ (o : Option Offset). IsAgain o (Some c.in-Some.offset)) none (subst (IsAgain c.args.store.now.offset) c.in-Some.is c.in_ok-offset.ensures.again))
+
+pub returns-in-None-clause-captures : goal.returns-in-None-clause-captures
+returns-in-None-clause-captures g c s is none =
+    captures_ok c.args.config.now s.history c.first_offset.result _ (c.first_offset.ensures.first s is)
+    (λ offset stood.
+    captured_tables_can_be_captured s.history c.args.config.now.tables stood.holds.1.0 stood.holds.1.3
+    (captured_stays stood.standing.history s.history stood.holds.1.0 (sym stood.holds.0.grows.tables) stood.holds.1.4))
+    (err_then c.first_offset.result _ IsOfTable c.first_offset.ensures.fault (λ h is. first_table _ _ h is))
+
+pub returns-in-Some-clause-within : goal.returns-in-Some-clause-within
+returns-in-Some-clause-within g c s is log = record {
+  standing = s;
+  is = is;
+  holds = again_within s.history c.args.store.now.offset c.in-Some.offset (subst (IsAgain c.args.store.now.offset) c.in-Some.is c.in_ok-offset.ensures.again) log;
+}
+
+pub returns-in-None-clause-within : goal.returns-in-None-clause-within
+returns-in-None-clause-within g c s is log =
+    answer_then c.first_offset.result _ _ (c.first_offset.ensures.first s is)
+    (λ offset stood. record {
+      standing = stood.standing;
+      is = stood.is;
+      holds = first_within c.args.config.now stood.holds.1.0 stood.holds.1.1 offset s stood.standing stood.holds.1.2 stood.holds.1.5;
+    })
+
+pub returns-in_err-offset-clause-short : goal.returns-in_err-offset-clause-short
+returns-in_err-offset-clause-short g c = residual_of c.from_residual.result _ IsShort c.from_residual.ensures.1 (again_short c.args.store.now.offset _ c.in_err-offset.ensures.halt)
+
+pub returns-in-None-clause-short : goal.returns-in-None-clause-short
+returns-in-None-clause-short g c = err_then c.first_offset.result _ IsShort c.first_offset.ensures.fault (λ h is. first_short _ _ h is)

@@ -34,6 +34,12 @@ use Rattle.dbl_steps.proofs.Asking.{memory_asks, start_asks}
 use Rattle.dbl_steps.specs.Owned.{IsLongBy}
 use Rattle.dbl_causes.specs.Nevers.{IsFaithfulHalt}
 use Rattle.dbl_steps.proofs.Owning.{free_long, free_own, memory_free, start_free}
+use Rattle.dbl_steps.proofs.Stood.{begin_stood, memory_stood, start_stood}
+use Rattle.dbl_steps.specs.Captured.{CapturesOrHalts}
+use Rattle.dbl_steps.proofs.Telling.{residual_as}
+use Rattle.dbl_steps.proofs.Captured.{captures_all}
+use Rattle.dbl_follow.specs.Followed.{Following}
+use Rattle.dbl_steps.proofs.Awaited.{awaits_first}
 use Rattle.dbl_capture.proofs.capture.opened.Goals as goal
 
 pub returns-in_err-offset-clause-left : goal.returns-in_err-offset-clause-left
@@ -177,7 +183,7 @@ returns-clause-report g c = (refl, refl)
 pub returns-in_err-offset-clause-halted : goal.returns-in_err-offset-clause-halted
 returns-in_err-offset-clause-halted g c at stood none =
     residual_of c.from_residual.result _ (Halts g.S.Source.stands at (g.S.Source.told c.args.src.now) c.args.config.now c.args.now_ms c.args.store.now.offset c.begun.new.store.offset c.args.report.now c.begun.new.src (g.S.Source.told c.begun.new.src)) c.from_residual.ensures.1
-    (record { halted = halts_unread g.S.Source.stands at (g.S.Source.told c.args.src.now) c.args.config.now c.args.now_ms c.args.store.now.offset c.begun.new.store.offset c.args.report.now c.args.src.now c.begun.new.src (g.S.Source.told c.begun.new.src) _ stood (inl (c.in_err-offset.ensures.halt, c.in_err-offset.ensures.keeps)) none.0 none.1 (inl c.begun.ensures.taken) (λ s t was now. inl (c.begun.ensures.still s t was now)); cause = open_caused c.args.config.now c.args.now_ms c.args.store.now.offset c.begun.new.store.offset c.args.report.now (g.S.Source.told c.begun.new.src) _ (inl (c.in_err-offset.ensures.halt, c.in_err-offset.ensures.keeps)); ask = λ t. c.in_err-offset.ensures.ask c.args.report.now t none.0 })
+    (record { halted = halts_unread g.S.Source.stands at (g.S.Source.told c.args.src.now) c.args.config.now c.args.now_ms c.args.store.now.offset c.begun.new.store.offset c.args.report.now c.args.src.now c.begun.new.src (g.S.Source.told c.begun.new.src) _ stood (inl (c.in_err-offset.ensures.halt, c.in_err-offset.ensures.keeps)) none.0 none.1 (inl c.begun.ensures.taken) (λ s t was now. inl (c.begun.ensures.still s t was now)); stood = λ s first. begin_stood c.args.config.now c.args.now_ms c.args.store.now.offset c.begun.new.store.offset c.args.report.now (g.S.Source.stands c.begun.new.src) (g.S.Source.told c.begun.new.src) _ c.in_err-offset.ensures.keeps c.in_err-offset.ensures.halt (c.in_err-offset.ensures.standing s (stood s first)); cause = open_caused c.args.config.now c.args.now_ms c.args.store.now.offset c.begun.new.store.offset c.args.report.now (g.S.Source.told c.begun.new.src) _ (inl (c.in_err-offset.ensures.halt, c.in_err-offset.ensures.keeps)); ask = λ t. c.in_err-offset.ensures.ask c.args.report.now t none.0 })
 
 pub returns-in_err-start-clause-halted : goal.returns-in_err-start-clause-halted
 returns-in_err-start-clause-halted g c at stood none =
@@ -187,6 +193,7 @@ returns-in_err-start-clause-halted g c at stood none =
       halted = halts_unread g.S.Source.stands at (g.S.Source.told c.args.src.now) c.args.config.now c.args.now_ms c.args.store.now.offset c.begun.new.store.offset (record c.args.report.now { position = c.in_ok-offset.offset.lsn.0 }) c.args.src.now c.start.new.src (g.S.Source.told c.start.new.src) _ stood
           (start_opens c.args.config.now c.args.store.now.offset c.begun.new.store.offset (g.S.Source.told c.start.new.src) c.in_ok-offset.offset.lsn _ stored (ap (λ (o : Offset). o.lsn) (first_some c.in_ok-offset.offset stored.offset (sym c.in_ok-offset.ensures.loads ∙ stored.is))) (λ asked first is. c.in_err-start.ensures.gone asked first (ap (λ (h : Halt). Err h) is)) c.in_err-start.ensures.halt)
           none.0 none.1 (fell_on (g.S.Source.told c.args.src.now) (g.S.Source.told c.begun.new.src) (g.S.Source.told c.start.new.src) c.begun.ensures.taken c.in_err-start.ensures.fell) (λ s t was now. let mid = c.in_ok-offset.ensures.stood s was in inr (read_none c.in_ok-offset.offset.lsn t.reading (c.start.ensures.unread mid.standing t mid.is now)));
+      stood = λ s first. start_stood c.args.config.now c.args.now_ms c.args.store.now.offset c.begun.new.store.offset (record c.args.report.now { position = c.in_ok-offset.offset.lsn.0 }) (g.S.Source.stands c.start.new.src) c.in_ok-offset.offset.lsn _ c.in_err-start.ensures.halt;
       cause = open_caused c.args.config.now c.args.now_ms c.args.store.now.offset c.begun.new.store.offset (record c.args.report.now { position = c.in_ok-offset.offset.lsn.0 }) (g.S.Source.told c.start.new.src) _ (start_opens c.args.config.now c.args.store.now.offset c.begun.new.store.offset (g.S.Source.told c.start.new.src) c.in_ok-offset.offset.lsn _ stored (ap (λ (o : Offset). o.lsn) (first_some c.in_ok-offset.offset stored.offset (sym c.in_ok-offset.ensures.loads ∙ stored.is))) (λ asked first is. c.in_err-start.ensures.gone asked first (ap (λ (h : Halt). Err h) is)) c.in_err-start.ensures.halt);
       ask = λ t. start_asks c.args.config.now c.args.store.now.offset c.begun.new.store.offset (g.S.Source.told c.start.new.src) c.in_ok-offset.offset.lsn c.in_err-start.field-0.0 stored (ap (λ (o : Offset). o.lsn) (first_some c.in_ok-offset.offset stored.offset (sym c.in_ok-offset.ensures.loads ∙ stored.is))) (λ asked first is. c.in_err-start.ensures.gone asked first (ap (λ (h : Halt). Err h) is)) c.requires.config.some_tables c.in_err-start.ensures.halt (record c.args.report.now { position = c.in_ok-offset.offset.lsn.0 }) t none.0;
     })
@@ -194,7 +201,7 @@ returns-in_err-start-clause-halted g c at stood none =
 pub returns-clause-halted : goal.returns-clause-halted
 returns-clause-halted g c at stood none =
     err_then c.make.result _ (Halts g.S.Source.stands at (g.S.Source.told c.args.src.now) c.args.config.now c.args.now_ms c.args.store.now.offset c.begun.new.store.offset (record c.args.report.now { position = c.in_ok-offset.offset.lsn.0 }) c.start.new.src (g.S.Source.told c.start.new.src)) c.make.ensures.memory
-    (λ h is. record { halted = halts_unread g.S.Source.stands at (g.S.Source.told c.args.src.now) c.args.config.now c.args.now_ms c.args.store.now.offset c.begun.new.store.offset (record c.args.report.now { position = c.in_ok-offset.offset.lsn.0 }) c.args.src.now c.start.new.src (g.S.Source.told c.start.new.src) h stood (inr (inr (inl is))) none.0 none.1 (inr (anew_on (g.S.Source.told c.args.src.now) (g.S.Source.told c.begun.new.src) (g.S.Source.told c.start.new.src) c.begun.ensures.taken c.in_ok-start.ensures.taken)) (λ s t was now. let mid = c.in_ok-offset.ensures.stood s was in inr (read_none c.in_ok-offset.offset.lsn t.reading (c.start.ensures.unread mid.standing t mid.is now))); cause = open_caused c.args.config.now c.args.now_ms c.args.store.now.offset c.begun.new.store.offset (record c.args.report.now { position = c.in_ok-offset.offset.lsn.0 }) (g.S.Source.told c.start.new.src) h (inr (inr (inl is))); ask = λ t. memory_asks c.args.config.now c.args.store.now.offset c.begun.new.store.offset (g.S.Source.told c.start.new.src) h c.requires.config.some_tables is (record c.args.report.now { position = c.in_ok-offset.offset.lsn.0 }) t none.0 })
+    (λ h is. record { halted = halts_unread g.S.Source.stands at (g.S.Source.told c.args.src.now) c.args.config.now c.args.now_ms c.args.store.now.offset c.begun.new.store.offset (record c.args.report.now { position = c.in_ok-offset.offset.lsn.0 }) c.args.src.now c.start.new.src (g.S.Source.told c.start.new.src) h stood (inr (inr (inl is))) none.0 none.1 (inr (anew_on (g.S.Source.told c.args.src.now) (g.S.Source.told c.begun.new.src) (g.S.Source.told c.start.new.src) c.begun.ensures.taken c.in_ok-start.ensures.taken)) (λ s t was now. let mid = c.in_ok-offset.ensures.stood s was in inr (read_none c.in_ok-offset.offset.lsn t.reading (c.start.ensures.unread mid.standing t mid.is now))); stood = λ s first. memory_stood c.args.config.now c.args.now_ms c.args.store.now.offset c.begun.new.store.offset (record c.args.report.now { position = c.in_ok-offset.offset.lsn.0 }) (g.S.Source.stands c.start.new.src) h is; cause = open_caused c.args.config.now c.args.now_ms c.args.store.now.offset c.begun.new.store.offset (record c.args.report.now { position = c.in_ok-offset.offset.lsn.0 }) (g.S.Source.told c.start.new.src) h (inr (inr (inl is))); ask = λ t. memory_asks c.args.config.now c.args.store.now.offset c.begun.new.store.offset (g.S.Source.told c.start.new.src) h c.requires.config.some_tables is (record c.args.report.now { position = c.in_ok-offset.offset.lsn.0 }) t none.0 })
 
 pub returns-clause-under_way : goal.returns-clause-under_way
 returns-clause-under_way g c at stood none =
@@ -310,3 +317,29 @@ returns-clause-content g c entry asked f honest faithful =
     let report = record c.args.report.now { position = c.in_ok-offset.offset.lsn.0 } in
     err_then c.make.result _ (IsFaithfulHalt entry c.begun.new.store.offset report (g.S.Source.stands c.start.new.src) (g.K.Sink.holds c.args.sink.now)) c.make.ensures.memory
     (λ h is. free_own entry c.begun.new.store.offset report (g.S.Source.stands c.start.new.src) (g.K.Sink.holds c.args.sink.now) h (memory_free h is))
+
+pub returns-in_err-offset-clause-captures : goal.returns-in_err-offset-clause-captures
+returns-in_err-offset-clause-captures g c s is none = residual_as c.from_residual.result _ (CapturesOrHalts c.args.config.now s.history) c.from_residual.ensures.1 (c.in_err-offset.ensures.captures s is none)
+
+pub returns-in_err-start-clause-captures : goal.returns-in_err-start-clause-captures
+returns-in_err-start-clause-captures g c s is none =
+    residual_as c.from_residual-in_err-start.result _ (CapturesOrHalts c.args.config.now s.history) c.from_residual-in_err-start.ensures.1 (inl (c.in_ok-offset.ensures.captures s is none))
+
+pub returns-clause-captures : goal.returns-clause-captures
+returns-clause-captures g c s is none = captures_all c.args.config.now s.history c.make.result (c.in_ok-offset.ensures.captures s is none)
+
+pub returns-in_err-offset-clause-captured : goal.returns-in_err-offset-clause-captured
+returns-in_err-offset-clause-captured g c s is = c.begun.ensures.captured s is
+
+pub returns-in_err-start-clause-captured : goal.returns-in_err-start-clause-captured
+returns-in_err-start-clause-captured g c s is = c.begun.ensures.captured s is
+
+pub returns-clause-captured : goal.returns-clause-captured
+returns-clause-captured g c s is = c.begun.ensures.captured s is
+
+pub returns-clause-awaits : goal.returns-clause-awaits
+returns-clause-awaits g c s is log =
+    let mid = c.in_ok-offset.ensures.within s is log in
+    let began = c.in_ok-start.ensures.started mid.standing mid.is in
+    answer_then c.make.result _ _ c.make.ensures.made
+    (λ work made. awaits_first g.S.Source.stands work c.start.new.src c.in_ok-offset.offset.lsn mid.standing began.standing began.is began.holds mid.holds (ap (λ (f : Following). f.window) made.follower))

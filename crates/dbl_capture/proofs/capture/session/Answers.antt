@@ -40,6 +40,9 @@ use Rattle.dbl_steps.proofs.Asking.{ok_pair, quiet_asks}
 use Rattle.dbl_steps.specs.Owned.{IsLongBy}
 use Rattle.dbl_causes.specs.Nevers.{IsFaithfulHalt}
 use Rattle.dbl_steps.proofs.Owning.{had_of, none_some}
+use Rattle.dbl_steps.specs.Captured.{CapturesOrHalts}
+use Rattle.dbl_steps.proofs.Captured.{captures_by, must_absent, must_captured}
+use Rattle.dbl_steps.specs.Stood.{IsHaltStanding}
 use Rattle.dbl_capture.proofs.capture.session.Goals as goal
 
 -- it didn't begin
@@ -324,13 +327,14 @@ pub returns-clause-gone : goal.returns-clause-gone
 returns-clause-gone g c s is kept asked first gone = err_at c.run.result _ IsNotGone c.run.ensures.reads gone
 
 pub returns-in_err-work-clause-missing : goal.returns-in_err-work-clause-missing
-returns-in_err-work-clause-missing g c s was honest had stood value at is = c.opened.ensures.never value at (residual_is c.from_residual.result c.opened.result _ _ c.in_err-work.was c.from_residual.ensures.1 is)
+returns-in_err-work-clause-missing g c s was honest log value at is = c.opened.ensures.never value at (residual_is c.from_residual.result c.opened.result _ _ c.in_err-work.was c.from_residual.ensures.1 is)
 
 pub returns-clause-missing : goal.returns-clause-missing
-returns-clause-missing g c s was honest had stood value at is =
-    let entry = entry_at c.args.config.now c.args.now_ms s c.args.offsets.now.offset in
-    let in_session = c.in_ok-work.ensures.opened false entry refl (sym (to_z-of_z c.ranges.now_ms)) (source_found _ _ _ _ c.args.config.now c.args.now_ms s _ _ c.args.offsets.now was) (c.run.ensures.honest honest) had in
-    c.run.ensures.unmissed false entry in_session honest stood value at is
+returns-clause-missing g c s was honest log value at is =
+    let way = c.in_ok-work.ensures.under_way (Some s) (at_some g.S.Source.stands c.args.src.now s was) (refl, refl, refl) in
+    let b = beginning_at c.args.config.now c.args.now_ms c.args.offsets.now.offset way.0 in
+    let u = subst (λ (n : ℤ). IsUnderWay g.S.Source.stands (Some s) (g.S.Source.told c.args.src.now) (beginning_at c.args.config.now n c.args.offsets.now.offset way.0) c.opened.new.store.offset c.in_ok-work.work c.opened.new.report c.opened.new.src (g.S.Source.told c.opened.new.src)) (to_z-of_z c.ranges.now_ms) way.1 in
+    c.run.ensures.unmissed (Some s) (g.S.Source.told c.args.src.now) b u s refl honest (c.in_ok-work.ensures.awaits s was log) value at is
 
 pub returns-in_err-work-clause-own : goal.returns-in_err-work-clause-own
 returns-in_err-work-clause-own g c s was honest had =
@@ -406,11 +410,28 @@ returns-clause-long g c s was none still =
     let wrong : None ≡ Some own.offset = sym still ∙ own.is in
     absurd (none_some own.offset wrong)
 
-pub returns-in_err-work-clause-holds : goal.returns-in_err-work-clause-holds
-returns-in_err-work-clause-holds g c entry asked f honest had =
-    residual_as c.from_residual.result _ (λ x. OnOk x (Holds g.D.Disk.seen g.D.Disk.may_leave c.opened.new.store c.opened.new.store.offset)) c.from_residual.ensures.1 tt
+pub returns-in_err-work-clause-halt_stood : goal.returns-in_err-work-clause-halt_stood
+returns-in_err-work-clause-halt_stood g c s was = residual_of c.from_residual.result _ (IsHaltStanding c.args.config.now c.args.now_ms c.args.offsets.now.offset c.opened.new.store.offset c.opened.new.report (g.S.Source.stands c.opened.new.src)) c.from_residual.ensures.1 ((subst (λ (n : ℤ). Halts g.S.Source.stands (Some s) (g.S.Source.told c.args.src.now) c.args.config.now n c.args.offsets.now.offset c.opened.new.store.offset c.opened.new.report c.opened.new.src (g.S.Source.told c.opened.new.src) c.in_err-work.field-0.0) (to_z-of_z c.ranges.now_ms) (c.in_err-work.ensures.halted (Some s) (at_some g.S.Source.stands c.args.src.now s was) (refl, refl, refl))).stood s refl)
 
-pub returns-clause-holds : goal.returns-clause-holds
-returns-clause-holds g c entry asked f honest had =
-    let s = c.in_ok-work.ensures.opened true entry asked.config_is (asked.now_is ∙ sym (to_z-of_z c.ranges.now_ms)) (told_found f) (c.run.ensures.honest honest) had in
-    ok_then c.run.result _ _ (c.run.ensures.ran true entry s honest) (λ t. subst (λ (o : Option Offset). Holds g.D.Disk.seen g.D.Disk.may_leave c.run.new.store o) (sym (t.store_is tt).offset_is) (t.store_is tt))
+pub returns-clause-halt_stood : goal.returns-clause-halt_stood
+returns-clause-halt_stood g c s was =
+    let way = c.in_ok-work.ensures.under_way (Some s) (at_some g.S.Source.stands c.args.src.now s was) (refl, refl, refl) in
+    let b = beginning_at c.args.config.now c.args.now_ms c.args.offsets.now.offset way.0 in
+    let u = subst (λ (n : ℤ). IsUnderWay g.S.Source.stands (Some s) (g.S.Source.told c.args.src.now) (beginning_at c.args.config.now n c.args.offsets.now.offset way.0) c.opened.new.store.offset c.in_ok-work.work c.opened.new.report c.opened.new.src (g.S.Source.told c.opened.new.src)) (to_z-of_z c.ranges.now_ms) way.1 in
+    let halted = c.run.ensures.halted (Some s) (g.S.Source.told c.args.src.now) b u in
+    err_then c.run.result _ _ halted (λ h x. x.stood s refl)
+
+pub returns-in_err-work-clause-captures : goal.returns-in_err-work-clause-captures
+returns-in_err-work-clause-captures g c s is = c.opened.ensures.captured s is
+
+pub returns-clause-captures : goal.returns-clause-captures
+returns-clause-captures g c s is = captures_by c.args.config.now s.history c.args.offsets.now.offset c.run.new.store.offset (λ none. c.in_ok-work.ensures.captures s is none)
+
+pub returns-in_err-work-clause-must_absent : goal.returns-in_err-work-clause-must_absent
+returns-in_err-work-clause-must_absent g c s is =
+    must_absent c.args.config.now s.history c.args.offsets.now.offset c.from_residual.result
+    (λ none. residual_as c.from_residual.result _ (CapturesOrHalts c.args.config.now s.history) c.from_residual.ensures.1 (c.in_err-work.ensures.captures s is none))
+    (residual_of c.from_residual.result _ (IsAbsentHalt c.args.config.now.tables s.history) c.from_residual.ensures.1 (c.in_err-work.ensures.absent s is))
+
+pub returns-clause-must_absent : goal.returns-clause-must_absent
+returns-clause-must_absent g c s is = must_captured c.args.config.now s.history c.args.offsets.now.offset c.run.result (λ none. c.in_ok-work.ensures.captures s is none)

@@ -37,6 +37,8 @@ use Rattle.dbl_steps.proofs.Lasting.{leaves_most, left_grows, same_most, torn_mo
 use Rattle.dbl_steps.proofs.Asking.{failure_asks, newest_asks, read_quiet, source_fails}
 use Rattle.dbl_causes.specs.Nevers.{IsFaithfulHalt}
 use Rattle.dbl_steps.proofs.Owning.{follow_own, free_own, source_free, taken_free}
+use Rattle.dbl_steps.proofs.Stood.{commits_stood, messages_stood, source_stood}
+use Rattle.dbl_steps.proofs.Awaited.{awaits_commit, awaits_message, awaits_nothing, awaits_still, work_at}
 use Rattle.dbl_capture.proofs.messages.next.Goals as goal
 
 pub returns-in_err-bytes-clause-left : goal.returns-in_err-bytes-clause-left
@@ -195,6 +197,7 @@ returns-in_err-bytes-clause-halted g c at found b u =
     (record {
       halted = halts_between g.S.Source.stands at found b c.args.store.now.offset c.args.store.now.offset c.args.work.now c.args.report.now c.args.report.now c.args.src.now c.read.new.self (g.S.Source.told c.args.src.now) (g.S.Source.told c.read.new.self) _ (at_rest g.S.Source.stands at found b c.args.store.now.offset c.args.work.now c.args.report.now c.args.src.now (g.S.Source.told c.args.src.now) u) c.in_err-bytes.ensures.untaken
           (λ s t was now. absurd (dead_source (g.S.Source.is_live c.read.new.self) (g.met.S.Source.lives c.read.new.self t now) c.in_err-bytes.ensures.dead)) (source_left c.in_err-bytes.field-0.0) refl refl (inl refl);
+      stood = λ s first. source_stood b.config b.now b.held c.args.store.now.offset c.args.report.now (g.S.Source.stands c.read.new.self) c.in_err-bytes.field-0.0;
       cause = source_caused b.config b.now b.held c.args.store.now.offset c.args.report.now (g.S.Source.told c.read.new.self) c.in_err-bytes.field-0.0;
       ask = failure_asks b u.messages c.args.store.now.offset c.args.work.now c.args.report.now c.args.report.now found (g.S.Source.told c.args.src.now) (g.S.Source.told c.read.new.self) c.args.store.now.offset _ u.is.is u.tells c.in_err-bytes.ensures.untaken (source_fails c.in_err-bytes.field-0.0) (inl refl);
     })
@@ -205,6 +208,7 @@ returns-in_err-commit-in-Some-clause-halted g c at found b u =
     (record {
       halted = halts_at g.S.Source.stands at found b c.args.store.now.offset c.args.work.now c.args.report.now (record c.args.report.now { messages = c.args.report.now.messages + 1 }) c.args.src.now c.read.new.self (g.S.Source.told c.args.src.now) (g.S.Source.told c.read.new.self) c.in-Some.bytes _ u (some_read _ _ _ _ c.in-Some.is c.in_ok-bytes.ensures.taken) (λ s is. some_read _ _ _ _ c.in-Some.is (c.in_ok-bytes.ensures.took s is)) (g.met.S.Source.one c.read.new.self)
           (taken_cause (c.args.report.now.messages + 1) b.first.lsn u.messages c.in-Some.bytes c.args.work.now _ (c.in_err-commit-in-Some.ensures.halt b.first.lsn u.messages u.is.is.is)) refl refl;
+      stood = λ s first. messages_stood g.S.Source.stands at found b c.args.store.now.offset c.args.work.now c.args.src.now c.read.new.self (g.S.Source.told c.args.src.now) c.args.report.now c.in-Some.bytes _ u (λ s is. some_read _ _ _ _ c.in-Some.is (c.in_ok-bytes.ensures.took s is)) (c.in_err-commit-in-Some.ensures.halt b.first.lsn u.messages u.is.is.is) s first;
       cause = taken_caused b u.messages c.args.store.now.offset c.args.work.now c.args.report.now found (g.S.Source.told c.args.src.now) (g.S.Source.told c.read.new.self) c.in-Some.bytes _ u.is u.tells (some_read _ _ _ _ c.in-Some.is c.in_ok-bytes.ensures.taken) (c.in_err-commit-in-Some.ensures.halt b.first.lsn u.messages u.is.is.is);
       ask = newest_asks b u.messages c.args.store.now.offset c.args.work.now c.args.report.now (record c.args.report.now { messages = c.args.report.now.messages + 1 }) (g.S.Source.told c.args.src.now) (g.S.Source.told c.read.new.self) c.in-Some.bytes _ u.is.is (some_read _ _ _ _ c.in-Some.is c.in_ok-bytes.ensures.taken) (subst (λ (o : Option (List ℕ)). Tells (g.S.Source.told c.read.new.self) (Read o)) c.in-Some.is c.in_ok-bytes.ensures.told)
           (taken_cause (c.args.report.now.messages + 1) b.first.lsn u.messages c.in-Some.bytes c.args.work.now _ (c.in_err-commit-in-Some.ensures.halt b.first.lsn u.messages u.is.is.is));
@@ -217,6 +221,7 @@ returns-in_err-closed-in-Some-2-clause-halted g c at found b u =
     (record {
       halted = halts_at g.S.Source.stands at found b c.args.store.now.offset c.args.work.now c.args.report.now c.follow.new.report c.args.src.now c.read.new.self (g.S.Source.told c.args.src.now) (g.S.Source.told c.read.new.self) c.in-Some.bytes _ u (some_read _ _ _ _ c.in-Some.is c.in_ok-bytes.ensures.taken) (λ s is. some_read _ _ _ _ c.in-Some.is (c.in_ok-bytes.ensures.took s is)) (g.met.S.Source.one c.read.new.self)
           (follow_cause c.follow.new.report.messages b.first.lsn u.messages c.in-Some.bytes c.args.work.now c.taken.new.work c.in-Some-2.commit _ (subst (WasTaken b.first.lsn u.messages c.in-Some.bytes c.args.work.now c.taken.new.work) c.in-Some-2.is (c.in_ok-commit-in-Some.ensures.taken b.first.lsn u.messages u.is.is.is)) (λ is. c.in_err-closed-in-Some-2.ensures.sink (ap (λ (k : Halt). Err k) is)) c.in_err-closed-in-Some-2.ensures.halt) counts.messages counts.commits;
+      stood = λ s first. commits_stood g.S.Source.stands at found b c.args.store.now.offset c.args.work.now c.args.src.now c.read.new.self (g.S.Source.told c.args.src.now) c.args.report.now c.follow.new.report c.in-Some.bytes c.taken.new.work c.in-Some-2.commit _ u (λ s is. some_read _ _ _ _ c.in-Some.is (c.in_ok-bytes.ensures.took s is)) (subst (WasTaken b.first.lsn u.messages c.in-Some.bytes c.args.work.now c.taken.new.work) c.in-Some-2.is (c.in_ok-commit-in-Some.ensures.taken b.first.lsn u.messages u.is.is.is)) counts.messages c.in_err-closed-in-Some-2.ensures.counts c.in_err-closed-in-Some-2.ensures.halt s first;
       cause = follow_caused b u.messages c.args.store.now.offset c.args.work.now c.args.report.now c.follow.new.report found (g.S.Source.told c.args.src.now) (g.S.Source.told c.read.new.self) c.in-Some.bytes c.taken.new.work c.in-Some-2.commit _ u.is u.tells (some_read _ _ _ _ c.in-Some.is c.in_ok-bytes.ensures.taken) (subst (WasTaken b.first.lsn u.messages c.in-Some.bytes c.args.work.now c.taken.new.work) c.in-Some-2.is (c.in_ok-commit-in-Some.ensures.taken b.first.lsn u.messages u.is.is.is)) counts.messages c.in_err-closed-in-Some-2.ensures.counts c.in_err-closed-in-Some-2.ensures.halt;
       ask = newest_asks b u.messages c.args.store.now.offset c.args.work.now c.args.report.now c.follow.new.report (g.S.Source.told c.args.src.now) (g.S.Source.told c.read.new.self) c.in-Some.bytes _ u.is.is (some_read _ _ _ _ c.in-Some.is c.in_ok-bytes.ensures.taken) (subst (λ (o : Option (List ℕ)). Tells (g.S.Source.told c.read.new.self) (Read o)) c.in-Some.is c.in_ok-bytes.ensures.told)
           (follow_cause c.follow.new.report.messages b.first.lsn u.messages c.in-Some.bytes c.args.work.now c.taken.new.work c.in-Some-2.commit _ (subst (WasTaken b.first.lsn u.messages c.in-Some.bytes c.args.work.now c.taken.new.work) c.in-Some-2.is (c.in_ok-commit-in-Some.ensures.taken b.first.lsn u.messages u.is.is.is)) (λ is. c.in_err-closed-in-Some-2.ensures.sink (ap (λ (k : Halt). Err k) is)) c.in_err-closed-in-Some-2.ensures.halt);
@@ -344,3 +349,29 @@ returns-in_err-closed-in-Some-2-clause-content g c entry at found b s u faithful
     residual_of c.from_residual-in_err-closed-in-Some-2.result _ (IsFaithfulHalt entry c.args.store.now.offset c.follow.new.report (g.S.Source.stands c.read.new.self) (g.K.Sink.holds c.follow.new.sink)) c.from_residual-in_err-closed-in-Some-2.ensures.1
     (follow_own s faithful T.0 T.2.standing T.2.holds (g.met.S.Source.fit _ _ (g.met.S.Source.may _ T.2.standing T.2.is) honest) (λ r at. g.met.S.Source.right _ T.2.standing r T.2.is honest at) c.in-Some.bytes T.1 c.taken.new.work c.in-Some-2.commit (subst (WasTaken s.stage.first.lsn s.stage.messages c.in-Some.bytes c.args.work.now c.taken.new.work) c.in-Some-2.is (c.in_ok-commit-in-Some.ensures.taken s.stage.first.lsn s.stage.messages s.work_is.is))
     b u.messages c.args.store.now.offset c.args.report.now c.follow.new.report u.is c.in_err-closed-in-Some-2.ensures.counts c.read.new.self c.follow.new.sink T.2.is _ c.in_err-closed-in-Some-2.ensures.halt)
+
+pub returns-in-Some-2-clause-awaits : goal.returns-in-Some-2-clause-awaits
+returns-in-Some-2-clause-awaits g c at found b u s first honest a =
+    let own = (work_at g.S.Source.stands at found b c.args.store.now.offset c.args.work.now c.args.report.now c.args.src.now (g.S.Source.told c.args.src.now) u (g.met.S.Source.one c.args.src.now) s first a) in
+    let read = some_read _ _ _ _ c.in-Some.is (c.in_ok-bytes.ensures.took a.standing a.is) in
+    awaits_commit g.S.Source.stands c.args.work.now c.args.src.now c.read.new.self a c.in-Some.bytes read.0 read.2.standing read.1 read.2.is read.2.holds c.taken.new.work c.follow.new.work c.in-Some-2.commit
+    (subst (WasTaken a.reading.after a.reading.messages c.in-Some.bytes c.args.work.now c.taken.new.work) c.in-Some-2.is (c.in_ok-commit-in-Some.ensures.taken a.reading.after a.reading.messages own)) own.accepted
+    c.in_ok-closed-in-Some-2.ensures.stepped (λ is. g.met.S.Source.right c.read.new.self read.2.standing _ read.2.is honest is)
+
+pub returns-in-Some-clause-awaits : goal.returns-in-Some-clause-awaits
+returns-in-Some-clause-awaits g c at found b u s first honest a =
+    let own = (work_at g.S.Source.stands at found b c.args.store.now.offset c.args.work.now c.args.report.now c.args.src.now (g.S.Source.told c.args.src.now) u (g.met.S.Source.one c.args.src.now) s first a) in
+    let read = some_read _ _ _ _ c.in-Some.is (c.in_ok-bytes.ensures.took a.standing a.is) in
+    awaits_message g.S.Source.stands c.args.work.now c.args.src.now c.read.new.self a c.in-Some.bytes read.0 read.2.standing read.1 read.2.is read.2.holds c.taken.new.work
+    (subst (WasTaken a.reading.after a.reading.messages c.in-Some.bytes c.args.work.now c.taken.new.work) c.in-None-2.is (c.in_ok-commit-in-Some.ensures.taken a.reading.after a.reading.messages own))
+
+pub returns-clause-awaits : goal.returns-clause-awaits
+returns-clause-awaits g c at found b u s first honest a =
+    let t = none_read _ _ _ c.in-None.is (c.in_ok-bytes.ensures.took a.standing a.is) in
+    awaits_still g.S.Source.stands c.args.work.now c.args.work.now c.args.src.now c.read.new.self a t.standing t.is t.holds.0.grows t.holds.0.reading refl refl
+
+pub returns-clause-waits : goal.returns-clause-waits
+returns-clause-waits g c at found b u s first honest a is =
+    let own = (work_at g.S.Source.stands at found b c.args.store.now.offset c.args.work.now c.args.report.now c.args.src.now (g.S.Source.told c.args.src.now) u (g.met.S.Source.one c.args.src.now) s first a) in
+    let t = none_read _ _ _ c.in-None.is (c.in_ok-bytes.ensures.took a.standing a.is) in
+    awaits_nothing g.S.Source.stands c.args.work.now c.args.src.now t.standing a own.accepted t.holds.0 (t.holds.1 honest)

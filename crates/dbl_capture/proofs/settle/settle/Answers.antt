@@ -30,6 +30,9 @@ use Rattle.dbl_steps.proofs.Lasting.{leaves_most, left_rests, same_most}
 use Rattle.dbl_steps.proofs.Asking.{done_quiet, failure_asks, quiet_asks, source_fails}
 use Rattle.dbl_causes.specs.Nevers.{IsFaithfulHalt}
 use Rattle.dbl_steps.proofs.Owning.{free_own, source_free, store_own}
+use Rattle.dbl_steps.proofs.Stood.{memory_stood, offsets_stood, source_stood}
+use Rattle.dbl_steps.proofs.Awaited.{awaits_still}
+use Rattle.dbl_steps.specs.Stood.{IsHaltStanding}
 use Rattle.dbl_capture.proofs.settle.settle.Goals as goal
 
 -- nothing was asked of the three yet
@@ -142,12 +145,12 @@ returns-clause-never g c value at is = cc
 pub returns-in_err-offset-clause-halted : goal.returns-in_err-offset-clause-halted
 returns-in_err-offset-clause-halted g c at found b u quiet =
     residual_of c.from_residual.result halt.Memory (Halts g.S.Source.stands at found b.config b.now b.held c.args.store.now.offset c.args.report.now c.args.src.now (g.S.Source.told c.args.src.now)) c.from_residual.ensures.1
-    (record { halted = halts_between g.S.Source.stands at found b c.args.store.now.offset c.args.store.now.offset c.args.work.now c.args.report.now c.args.report.now c.args.src.now c.args.src.now (g.S.Source.told c.args.src.now) (g.S.Source.told c.args.src.now) halt.Memory u (none_taken (g.S.Source.told c.args.src.now)) (λ s t was now. ap (λ (x : Standing). x.reading) (g.met.S.Source.one c.args.src.now t s now was)) memory_left refl refl (inl refl); cause = memory_caused b.config b.now b.held c.args.store.now.offset c.args.report.now (g.S.Source.told c.args.src.now) halt.Memory refl; ask = quiet_asks b u.messages c.args.store.now.offset c.args.work.now c.args.report.now c.args.report.now found (g.S.Source.told c.args.src.now) c.args.store.now.offset (Err halt.Memory) u.is u.tells quiet (inl refl) })
+    (record { halted = halts_between g.S.Source.stands at found b c.args.store.now.offset c.args.store.now.offset c.args.work.now c.args.report.now c.args.report.now c.args.src.now c.args.src.now (g.S.Source.told c.args.src.now) (g.S.Source.told c.args.src.now) halt.Memory u (none_taken (g.S.Source.told c.args.src.now)) (λ s t was now. ap (λ (x : Standing). x.reading) (g.met.S.Source.one c.args.src.now t s now was)) memory_left refl refl (inl refl); stood = λ s first. memory_stood b.config b.now b.held c.args.store.now.offset c.args.report.now (g.S.Source.stands c.args.src.now) halt.Memory refl; cause = memory_caused b.config b.now b.held c.args.store.now.offset c.args.report.now (g.S.Source.told c.args.src.now) halt.Memory refl; ask = quiet_asks b u.messages c.args.store.now.offset c.args.work.now c.args.report.now c.args.report.now found (g.S.Source.told c.args.src.now) c.args.store.now.offset (Err halt.Memory) u.is u.tells quiet (inl refl) })
 
 pub returns-in_err-put_offset-clause-halted : goal.returns-in_err-put_offset-clause-halted
 returns-in_err-put_offset-clause-halted g c at found b u quiet =
     residual_of c.from_residual-in_err-put_offset.result _ (Halts g.S.Source.stands at found b.config b.now b.held c.put_offset.new.store.offset c.args.report.now c.args.src.now (g.S.Source.told c.args.src.now)) c.from_residual-in_err-put_offset.ensures.1
-    (record { halted = halts_between g.S.Source.stands at found b c.args.store.now.offset c.put_offset.new.store.offset c.args.work.now c.args.report.now c.args.report.now c.args.src.now c.args.src.now (g.S.Source.told c.args.src.now) (g.S.Source.told c.args.src.now) _ u (none_taken (g.S.Source.told c.args.src.now)) (λ s t was now. ap (λ (x : Standing). x.reading) (g.met.S.Source.one c.args.src.now t s now was)) (store_left _ _ c.in_err-put_offset.ensures.halt) refl refl (inl c.in_err-put_offset.ensures.keeps); cause = subst (λ (o : Option Offset). IsHalt b.config b.now b.held o c.args.report.now (g.S.Source.told c.args.src.now) c.in_err-put_offset.field-0.0) (sym c.in_err-put_offset.ensures.keeps) (store_caused b u.messages c.args.store.now.offset c.args.work.now c.args.report.now found (g.S.Source.told c.args.src.now) _ u.is u.tells (subst IsOffset c.in_ok-offset.ensures.next c.in_ok-offset.ensures.asked) (subst (λ (o : Offset). (c.in_err-put_offset.field-0.0 ≡ halt.Memory) ⊎ ((c.in_err-put_offset.field-0.0 ≡ halt.Offsets) ⊎ IsTooLong o c.in_err-put_offset.field-0.0)) c.in_ok-offset.ensures.next c.in_err-put_offset.ensures.halt)); ask = quiet_asks b u.messages c.args.store.now.offset c.args.work.now c.args.report.now c.args.report.now found (g.S.Source.told c.args.src.now) c.put_offset.new.store.offset (Err c.in_err-put_offset.field-0.0) u.is u.tells quiet (inl c.in_err-put_offset.ensures.keeps) })
+    (record { halted = halts_between g.S.Source.stands at found b c.args.store.now.offset c.put_offset.new.store.offset c.args.work.now c.args.report.now c.args.report.now c.args.src.now c.args.src.now (g.S.Source.told c.args.src.now) (g.S.Source.told c.args.src.now) _ u (none_taken (g.S.Source.told c.args.src.now)) (λ s t was now. ap (λ (x : Standing). x.reading) (g.met.S.Source.one c.args.src.now t s now was)) (store_left _ _ c.in_err-put_offset.ensures.halt) refl refl (inl c.in_err-put_offset.ensures.keeps); stood = λ s first. subst (λ (o : Option Offset). IsHaltStanding b.config b.now b.held o c.args.report.now (g.S.Source.stands c.args.src.now) c.in_err-put_offset.field-0.0) (sym c.in_err-put_offset.ensures.keeps) (offsets_stood g.S.Source.stands at found b c.args.store.now.offset c.args.work.now c.args.src.now c.args.src.now (g.S.Source.told c.args.src.now) c.args.report.now c.in_err-put_offset.field-0.0 u (subst IsOffset c.in_ok-offset.ensures.next c.in_ok-offset.ensures.asked) (subst (λ (o : Offset). (c.in_err-put_offset.field-0.0 ≡ halt.Memory) ⊎ ((c.in_err-put_offset.field-0.0 ≡ halt.Offsets) ⊎ IsTooLong o c.in_err-put_offset.field-0.0)) c.in_ok-offset.ensures.next c.in_err-put_offset.ensures.halt) s first); cause = subst (λ (o : Option Offset). IsHalt b.config b.now b.held o c.args.report.now (g.S.Source.told c.args.src.now) c.in_err-put_offset.field-0.0) (sym c.in_err-put_offset.ensures.keeps) (store_caused b u.messages c.args.store.now.offset c.args.work.now c.args.report.now found (g.S.Source.told c.args.src.now) _ u.is u.tells (subst IsOffset c.in_ok-offset.ensures.next c.in_ok-offset.ensures.asked) (subst (λ (o : Offset). (c.in_err-put_offset.field-0.0 ≡ halt.Memory) ⊎ ((c.in_err-put_offset.field-0.0 ≡ halt.Offsets) ⊎ IsTooLong o c.in_err-put_offset.field-0.0)) c.in_ok-offset.ensures.next c.in_err-put_offset.ensures.halt)); ask = quiet_asks b u.messages c.args.store.now.offset c.args.work.now c.args.report.now c.args.report.now found (g.S.Source.told c.args.src.now) c.put_offset.new.store.offset (Err c.in_err-put_offset.field-0.0) u.is u.tells quiet (inl c.in_err-put_offset.ensures.keeps) })
 
 pub returns-in_err-confirm-clause-halted : goal.returns-in_err-confirm-clause-halted
 returns-in_err-confirm-clause-halted g c at found b u quiet =
@@ -155,6 +158,7 @@ returns-in_err-confirm-clause-halted g c at found b u quiet =
     (record {
       halted = halts_between g.S.Source.stands at found b c.args.store.now.offset c.put_offset.new.store.offset c.args.work.now c.args.report.now (record c.args.report.now { position = c.in_ok-offset.offset.lsn.0 }) c.args.src.now c.confirm.new.self (g.S.Source.told c.args.src.now) (g.S.Source.told c.confirm.new.self) _ u c.confirm.ensures.taken
           (λ s t was now. absurd (dead_source (g.S.Source.is_live c.confirm.new.self) (g.met.S.Source.lives c.confirm.new.self t now) c.in_err-confirm.ensures.dead)) (source_left c.in_err-confirm.field-0.0) refl refl (inr (c.in_ok-put_offset.ensures.loads ∙ ap (λ (o : Offset). Some o) c.in_ok-offset.ensures.next));
+      stood = λ s first. source_stood b.config b.now b.held c.put_offset.new.store.offset (record c.args.report.now { position = c.in_ok-offset.offset.lsn.0 }) (g.S.Source.stands c.confirm.new.self) c.in_err-confirm.field-0.0;
       cause = source_caused b.config b.now b.held c.put_offset.new.store.offset (record c.args.report.now { position = c.in_ok-offset.offset.lsn.0 }) (g.S.Source.told c.confirm.new.self) c.in_err-confirm.field-0.0;
       ask = failure_asks b u.messages c.args.store.now.offset c.args.work.now c.args.report.now (record c.args.report.now { position = c.in_ok-offset.offset.lsn.0 }) found (g.S.Source.told c.args.src.now) (g.S.Source.told c.confirm.new.self) c.put_offset.new.store.offset _ u.is u.tells c.confirm.ensures.taken (source_fails c.in_err-confirm.field-0.0) (inr (c.in_ok-put_offset.ensures.loads ∙ ap (λ (o : Offset). Some o) c.in_ok-offset.ensures.next));
     })
@@ -231,3 +235,8 @@ pub returns-in_err-confirm-clause-content : goal.returns-in_err-confirm-clause-c
 returns-in_err-confirm-clause-content g c entry s faithful =
     residual_of c.from_residual-in_err-confirm.result _ (IsFaithfulHalt entry c.put_offset.new.store.offset (record c.args.report.now { position = c.in_ok-offset.offset.lsn.0 }) (g.S.Source.stands c.confirm.new.self) (g.K.Sink.holds c.args.sink.now)) c.from_residual-in_err-confirm.ensures.1
     (free_own entry c.put_offset.new.store.offset (record c.args.report.now { position = c.in_ok-offset.offset.lsn.0 }) (g.S.Source.stands c.confirm.new.self) (g.K.Sink.holds c.args.sink.now) _ (source_free c.in_err-confirm.field-0.0))
+
+pub returns-clause-awaits : goal.returns-clause-awaits
+returns-clause-awaits g c a =
+    let t = c.in_ok-confirm.ensures.confirmed a.standing a.is in
+    awaits_still g.S.Source.stands c.args.work.now (record c.args.work.now { since = 0 }) c.args.src.now c.confirm.new.self a t.standing t.is t.holds.grows t.holds.reading refl refl

@@ -67,3 +67,9 @@ returns-in-None-clause-quiet g c quiet = quiet
 
 pub returns-in-Some-clause-free : goal.returns-in-Some-clause-free
 returns-in-Some-clause-free g c = c.arm.ensures.free
+
+pub returns-in-Some-clause-awaits : goal.returns-in-Some-clause-awaits
+returns-in-Some-clause-awaits g c = c.arm.ensures.awaits
+
+pub returns-in-None-clause-awaits : goal.returns-in-None-clause-awaits
+returns-in-None-clause-awaits g c a = a

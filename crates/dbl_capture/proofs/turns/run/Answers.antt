@@ -20,6 +20,7 @@ pub turns-init : goal.turns-init
 turns-init g c = record {
   kept = λ tell entry s honest. s;
   under_way = λ at found b u. u;
+  awaits = λ at found b u s first a honest. a;
   putting = λ groups b u. u;
   quiet = λ some. absurd (omega (arith, some));
   ready = c.requires.ready;
@@ -48,6 +49,7 @@ pub turns-preserved : goal.turns-preserved
 turns-preserved g c = record {
   kept = λ tell entry s honest. c.in_ok-turn.ensures.turned tell entry (c.turns.invariant.kept tell entry s (c.turn.ensures.honest honest)) honest;
   under_way = λ at found b u. c.in_ok-turn.ensures.under_way at found b (c.turns.invariant.under_way at found b u);
+  awaits = λ at found b u s first a honest. c.in_ok-turn.ensures.awaits at found b (c.turns.invariant.under_way at found b u) s first honest (c.turns.invariant.awaits at found b u s first a (c.turn.ensures.honest honest)) c.if-branch.false;
   putting = λ groups b u. c.in_ok-turn.ensures.putting groups b (c.turns.invariant.putting groups b u);
   quiet = λ some. c.in_ok-turn.ensures.quiet;
   ready = c.in_ok-turn.ensures.ready;
@@ -428,19 +430,19 @@ pub returns-in_err-settle-clause-reads : goal.returns-in_err-settle-clause-reads
 returns-in_err-settle-clause-reads g c = residual_of c.from_residual-in_err-settle.result _ IsNotGone c.from_residual-in_err-settle.ensures.1 c.in_err-settle.ensures.reads
 
 pub returns-in_err-turn-clause-unmissed : goal.returns-in_err-turn-clause-unmissed
-returns-in_err-turn-clause-unmissed g c tell entry s honest stood value at is = c.turn.ensures.unmissed tell entry (c.turns.invariant.kept tell entry s (c.turn.ensures.honest honest)) honest stood value at (residual_is c.from_residual.result c.turn.result _ _ c.in_err-turn.was c.from_residual.ensures.1 is)
+returns-in_err-turn-clause-unmissed g c at found b u s first honest a value position is = c.turn.ensures.unmissed at found b (c.turns.invariant.under_way at found b u) s first honest (c.turns.invariant.awaits at found b u s first a (c.turn.ensures.honest honest)) value position (residual_is c.from_residual.result c.turn.result _ _ c.in_err-turn.was c.from_residual.ensures.1 is)
 
 pub returns-in_err-arm_next-clause-unmissed : goal.returns-in_err-arm_next-clause-unmissed
-returns-in_err-arm_next-clause-unmissed g c tell entry s honest stood value at is = c.arm_next.ensures.never value at (residual_is c.from_residual-in_err-arm_next.result c.arm_next.result _ _ c.in_err-arm_next.was c.from_residual-in_err-arm_next.ensures.1 is)
+returns-in_err-arm_next-clause-unmissed g c at found b u s first honest a value position is = c.arm_next.ensures.never value position (residual_is c.from_residual-in_err-arm_next.result c.arm_next.result _ _ c.in_err-arm_next.was c.from_residual-in_err-arm_next.ensures.1 is)
 
 pub returns-in_err-settle-clause-unmissed : goal.returns-in_err-settle-clause-unmissed
-returns-in_err-settle-clause-unmissed g c tell entry s honest stood value at is = c.settle.ensures.never value at (residual_is c.from_residual-in_err-settle.result c.settle.result _ _ c.in_err-settle.was c.from_residual-in_err-settle.ensures.1 is)
+returns-in_err-settle-clause-unmissed g c at found b u s first honest a value position is = c.settle.ensures.never value position (residual_is c.from_residual-in_err-settle.result c.settle.result _ _ c.in_err-settle.was c.from_residual-in_err-settle.ensures.1 is)
 
 pub returns-clause-unmissed : goal.returns-clause-unmissed
-returns-clause-unmissed g c tell entry s honest stood value at is = cc
+returns-clause-unmissed g c at found b u s first honest a value position is = cc
 
 pub returns-then-branch-clause-unmissed : goal.returns-then-branch-clause-unmissed
-returns-then-branch-clause-unmissed g c tell entry s honest stood value at is = cc
+returns-then-branch-clause-unmissed g c at found b u s first honest a value position is = cc
 
 pub returns-in_err-turn-clause-own : goal.returns-in_err-turn-clause-own
 returns-in_err-turn-clause-own g c tell entry at found b s u first is honest =

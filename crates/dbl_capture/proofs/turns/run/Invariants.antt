@@ -1,4 +1,4 @@
-use Rattle.std.proofs.Common.{◌≡◌, ◌≤◌, ◌<◌, Bool, IsTrue, List, Option}
+use Rattle.std.proofs.Common.{◌≡◌, ◌≤◌, ◌<◌, Bool, IsTrue, List, Option, Some}
 use Rattle.dbl_record.specs.declared.record.Record.{Record}
 use Rattle.dbl_honest.specs.Standings.{Standing}
 use Rattle.dbl_honest.specs.Told.{Told}
@@ -10,6 +10,7 @@ use Rattle.dbl_exits.specs.Sessions.{InSession}
 use Rattle.dbl_causes.specs.Carried.{Beginning}
 use Rattle.dbl_causes.specs.Sources.{IsUnderWay}
 use Rattle.dbl_steps.specs.Caused.{IsQuiet}
+use Rattle.dbl_steps.specs.Awaited.{Awaits}
 use Rattle.dbl_steps.specs.Sinks.{IsPutting}
 use Rattle.dbl_capture.proofs.turns.run.Given as goal
 
@@ -19,6 +20,8 @@ invariant-turns g l = record {
       InSession tell g.S.Source.stands g.K.Sink.holds g.D.Disk.seen g.D.Disk.may_leave entry l.work l.src l.sink l.store;
   under_way : (at : Option Standing) (found : Option Told) (b : Beginning) → IsUnderWay g.S.Source.stands at found b l.fn.store.offset l.fn.work l.fn.report l.fn.src (g.S.Source.told l.fn.src) →
       IsUnderWay g.S.Source.stands at found b l.store.offset l.work l.report l.src (g.S.Source.told l.src);
+  awaits : (at : Option Standing) (found : Option Told) (b : Beginning) → IsUnderWay g.S.Source.stands at found b l.fn.store.offset l.fn.work l.fn.report l.fn.src (g.S.Source.told l.fn.src) → (s : Standing) → at ≡ Some s →
+      Awaits g.S.Source.stands l.fn.work l.fn.src → g.S.Source.honest l.src → Awaits g.S.Source.stands l.work l.src;
   putting : (groups : List (List Record)) (b : Beginning) → IsPutting g.K.Sink.holds groups b l.fn.store.offset l.fn.work l.fn.report l.fn.sink → IsPutting g.K.Sink.holds groups b l.store.offset l.work l.report l.sink;
   quiet : 1 ≤ l._count → IsQuiet (g.S.Source.told l.src);
   ready : IsReady l.work;

@@ -432,28 +432,28 @@ pub returns-in_err-end-in-None-clause-reads : goal.returns-in_err-end-in-None-cl
 returns-in_err-end-in-None-clause-reads g c = residual_of c.from_residual-in_err-end-in-None.result _ IsNotGone c.from_residual-in_err-end-in-None.ensures.1 c.in_err-end-in-None.ensures.reads
 
 pub returns-in_err-arm_next-clause-unmissed : goal.returns-in_err-arm_next-clause-unmissed
-returns-in_err-arm_next-clause-unmissed g c tell entry s honest stood value at is = c.arm_next.ensures.never value at (residual_is c.from_residual.result c.arm_next.result _ _ c.in_err-arm_next.was c.from_residual.ensures.1 is)
+returns-in_err-arm_next-clause-unmissed g c at found b u s first honest a value position is = c.arm_next.ensures.never value position (residual_is c.from_residual.result c.arm_next.result _ _ c.in_err-arm_next.was c.from_residual.ensures.1 is)
 
 pub returns-in_err-next-clause-unmissed : goal.returns-in_err-next-clause-unmissed
-returns-in_err-next-clause-unmissed g c tell entry s honest stood value at is = c.next.ensures.never value at (residual_is c.from_residual-in_err-next.result c.next.result _ _ c.in_err-next.was c.from_residual-in_err-next.ensures.1 is)
+returns-in_err-next-clause-unmissed g c at found b u s first honest a value position is = c.next.ensures.never value position (residual_is c.from_residual-in_err-next.result c.next.result _ _ c.in_err-next.was c.from_residual-in_err-next.ensures.1 is)
 
 pub returns-in_err-settle-in-Some-true-clause-unmissed : goal.returns-in_err-settle-in-Some-true-clause-unmissed
-returns-in_err-settle-in-Some-true-clause-unmissed g c tell entry s honest stood value at is = c.settle.ensures.never value at (residual_is c.from_residual-in_err-settle-in-Some-true.result c.settle.result _ _ c.in_err-settle-in-Some-true.was c.from_residual-in_err-settle-in-Some-true.ensures.1 is)
+returns-in_err-settle-in-Some-true-clause-unmissed g c at found b u s first honest a value position is = c.settle.ensures.never value position (residual_is c.from_residual-in_err-settle-in-Some-true.result c.settle.result _ _ c.in_err-settle-in-Some-true.was c.from_residual-in_err-settle-in-Some-true.ensures.1 is)
 
 pub returns-in_err-end-in-None-clause-unmissed : goal.returns-in_err-end-in-None-clause-unmissed
-returns-in_err-end-in-None-clause-unmissed g c tell entry s honest stood value at is =
-    let before = c.end.ensures.honest honest in
-    c.end.ensures.unmissed tell entry (c.next.ensures.whole tell entry (c.in_ok-arm_next.ensures.armed tell entry s (c.next.ensures.honest before)) before (c.in_ok-next.was ∙ ap (λ o. Ok o) c.in-None.is)) stood value at
+returns-in_err-end-in-None-clause-unmissed g c at found b u s first honest a value position is =
+    let armed = c.in_ok-arm_next.ensures.under_way at found b c.args.report.now u in
+    c.end.ensures.unmissed (c.next.ensures.waits at found b armed s first (c.end.ensures.honest honest) (c.in_ok-arm_next.ensures.awaits a) (c.in_ok-next.was ∙ ap (λ o. Ok o) c.in-None.is)) value position
     (residual_is c.from_residual-in_err-end-in-None.result c.end.result _ _ c.in_err-end-in-None.was c.from_residual-in_err-end-in-None.ensures.1 is)
 
 pub returns-in_ok-settle-in-Some-true-clause-unmissed : goal.returns-in_ok-settle-in-Some-true-clause-unmissed
-returns-in_ok-settle-in-Some-true-clause-unmissed g c tell entry s honest stood value at is = cc
+returns-in_ok-settle-in-Some-true-clause-unmissed g c at found b u s first honest a value position is = cc
 
 pub returns-in-Some-false-clause-unmissed : goal.returns-in-Some-false-clause-unmissed
-returns-in-Some-false-clause-unmissed g c tell entry s honest stood value at is = cc
+returns-in-Some-false-clause-unmissed g c at found b u s first honest a value position is = cc
 
 pub returns-in_ok-end-in-None-clause-unmissed : goal.returns-in_ok-end-in-None-clause-unmissed
-returns-in_ok-end-in-None-clause-unmissed g c tell entry s honest stood value at is = cc
+returns-in_ok-end-in-None-clause-unmissed g c at found b u s first honest a value position is = cc
 
 pub returns-in_err-arm_next-clause-own : goal.returns-in_err-arm_next-clause-own
 returns-in_err-arm_next-clause-own g c tell entry at found b s u first is honest =
@@ -521,3 +521,16 @@ returns-in_err-end-in-None-clause-content g c entry at found b s u faithful hone
     let before = c.end.ensures.honest honest in
     residual_of c.from_residual-in_err-end-in-None.result _ (IsFaithfulHalt entry c.end.new.store.offset c.end.new.report (g.S.Source.stands c.end.new.src) (g.K.Sink.holds c.next.new.sink)) c.from_residual-in_err-end-in-None.ensures.1
     (c.in_err-end-in-None.ensures.content entry (c.in_ok-next.ensures.next true entry (c.in_ok-arm_next.ensures.armed true entry s (c.next.ensures.honest before)) before) faithful)
+
+pub returns-in_ok-settle-in-Some-true-clause-awaits : goal.returns-in_ok-settle-in-Some-true-clause-awaits
+returns-in_ok-settle-in-Some-true-clause-awaits g c at found b u s first honest a is =
+    let armed = c.in_ok-arm_next.ensures.under_way at found b c.args.report.now u in
+    c.in_ok-settle-in-Some-true.ensures.awaits (c.in_ok-next.ensures.awaits at found b armed s first (c.settle.ensures.honest honest) (c.in_ok-arm_next.ensures.awaits a))
+
+pub returns-in-Some-false-clause-awaits : goal.returns-in-Some-false-clause-awaits
+returns-in-Some-false-clause-awaits g c at found b u s first honest a is =
+    let armed = c.in_ok-arm_next.ensures.under_way at found b c.args.report.now u in
+    c.in_ok-next.ensures.awaits at found b armed s first honest (c.in_ok-arm_next.ensures.awaits a)
+
+pub returns-in_ok-end-in-None-clause-awaits : goal.returns-in_ok-end-in-None-clause-awaits
+returns-in_ok-end-in-None-clause-awaits g c at found b u s first honest a is = cc

@@ -410,6 +410,15 @@ returns-clause-long g c s was none still =
     let wrong : None ≡ Some own.offset = sym still ∙ own.is in
     absurd (none_some own.offset wrong)
 
+pub returns-in_err-work-clause-holds : goal.returns-in_err-work-clause-holds
+returns-in_err-work-clause-holds g c entry asked f honest had =
+    residual_as c.from_residual.result _ (λ x. OnOk x (Holds g.D.Disk.seen g.D.Disk.may_leave c.opened.new.store c.opened.new.store.offset)) c.from_residual.ensures.1 tt
+
+pub returns-clause-holds : goal.returns-clause-holds
+returns-clause-holds g c entry asked f honest had =
+    let s = c.in_ok-work.ensures.opened true entry asked.config_is (asked.now_is ∙ sym (to_z-of_z c.ranges.now_ms)) (told_found f) (c.run.ensures.honest honest) had in
+    ok_then c.run.result _ _ (c.run.ensures.ran true entry s honest) (λ t. subst (λ (o : Option Offset). Holds g.D.Disk.seen g.D.Disk.may_leave c.run.new.store o) (sym (t.store_is refl).offset_is) (t.store_is refl))
+
 pub returns-in_err-work-clause-halt_stood : goal.returns-in_err-work-clause-halt_stood
 returns-in_err-work-clause-halt_stood g c s was = residual_of c.from_residual.result _ (IsHaltStanding c.args.config.now c.args.now_ms c.args.offsets.now.offset c.opened.new.store.offset c.opened.new.report (g.S.Source.stands c.opened.new.src)) c.from_residual.ensures.1 ((subst (λ (n : ℤ). Halts g.S.Source.stands (Some s) (g.S.Source.told c.args.src.now) c.args.config.now n c.args.offsets.now.offset c.opened.new.store.offset c.opened.new.report c.opened.new.src (g.S.Source.told c.opened.new.src) c.in_err-work.field-0.0) (to_z-of_z c.ranges.now_ms) (c.in_err-work.ensures.halted (Some s) (at_some g.S.Source.stands c.args.src.now s was) (refl, refl, refl))).stood s refl)
 

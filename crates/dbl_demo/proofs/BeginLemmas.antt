@@ -1,0 +1,68 @@
+-- The first entries of a log are appended: which fault that can have, how many they are, and how long the disk gets.
+use Rattle.std.proofs.Common.{◌≡◌, ◌∙◌, ◌⊎◌, ℕ, ◌+◌, ◌<◌, ◌≤◌, ◌^◌, Option, None, Some, Result, Ok, Err, List, [], ◌∷◌, ◌++◌, length, max, refl, sym, ap, subst, arith, inl, inr}
+use Rattle.std.specs.Prelude.{IfSome}
+use Rattle.dbl_pgmsg.specs.declared.messages.Message.{Message}
+use Rattle.dbl_journal.specs.declared.error.JournalError.{JournalError}
+use Rattle.dbl_journal.specs.declared.error.JournalError.TheVariants as broken
+use Rattle.dbl_journal.specs.Stored.{size}
+use Rattle.dbl_wal.specs.declared.entry.Entry.TheVariants.{Commits}
+use Rattle.dbl_wal.specs.Entries.{Spells, entry_form, workload_form}
+use Rattle.dbl_sound.proofs.SizeLemmas.{commit_size}
+use Rattle.dbl_serial.specs.Sending.{entry_limit, entry_size}
+use Rattle.dbl_workload.specs.declared.error.DemoError.{DemoError}
+use Rattle.dbl_workload.specs.declared.error.DemoError.TheVariants as fault
+use Rattle.dbl_workload.specs.Errors.{journal_error}
+use Rattle.dbl_workload.specs.Steps.{FitAnEntry}
+use Rattle.dbl_running.specs.Made.{first_forms}
+use Rattle.dbl_running.proofs.MakeLemmas.{first_less, grew_once, grew_twice}
+
+-- ---- the fault of an entry that isn't too long
+
+abbrev IsKind : DemoError → Type 0
+IsKind e = (e ≡ fault.Memory) ⊎ (e ≡ fault.Journal broken.Failed)
+
+kind_of : (e : JournalError) → ((at : ℕ) → e ≡ broken.NotAJournal at → ⊥) → ((len : ℕ) → e ≡ broken.EntryTooLong len → ⊥) → IsKind (journal_error e)
+kind_of broken.Failed no_journal short = inr refl
+kind_of (broken.NotAJournal at) no_journal short = absurd (no_journal at refl)
+kind_of (broken.EntryTooLong len) no_journal short = absurd (short len refl)
+kind_of broken.Memory no_journal short = inl refl
+
+pub append_kind : (result : Result Unit JournalError) (e : JournalError) (f : DemoError) → result ≡ Err e → f ≡ journal_error e → ((at : ℕ) → result ≡ Err (broken.NotAJournal at) → ⊥) → ((len : ℕ) → result ≡ Err (broken.EntryTooLong len) → ⊥) → IsKind f
+append_kind result e f is told no_journal short =
+    subst IsKind (sym told) (kind_of e (λ at same. no_journal at (is ∙ ap Err same)) (λ len same. short len (is ∙ ap Err same)))
+
+workload_size : (script : List ℕ) → length (workload_form script) ≡ 1 + length script
+unfolding workload_form
+workload_size script = omega arith
+
+pub workload_short : (script form : List ℕ) → length script < 2 ^ 28 → form ≡ workload_form script → 2 ^ 28 < length form → ⊥
+workload_short script form short is long = omega (arith, short, long, workload_size script, ap (λ (l : List ℕ). length l) is)
+
+pub rows_short : (messages : List Message) (form : List ℕ) → FitAnEntry messages → Spells form (Commits 0 messages) → 2 ^ 28 < length form → ⊥
+rows_short messages form fits spells long =
+    let few : entry_size messages ≤ entry_limit = fits.short in
+    omega (arith, few, long, commit_size 0 messages, ap (λ (l : List ℕ). length l) spells.spelled)
+
+-- ---- how many they are
+
+pub one_first : (script : List ℕ) (rows : Option (List Message)) (old new : ℕ) → rows ≡ None → old ≡ 0 → new ≡ old + 1 → new ≡ length (first_forms script rows)
+one_first script rows old new none empty one = omega (arith, empty, one, ap (λ (o : Option (List Message)). length (first_forms script o)) none)
+
+pub two_first : (script : List ℕ) (rows : Option (List Message)) (messages : List Message) (old mid new : ℕ) → rows ≡ Some messages → old ≡ 0 → mid ≡ old + 1 → new ≡ mid + 1 → new ≡ length (first_forms script rows)
+two_first script rows messages old mid new some empty one two = omega (arith, empty, one, two, ap (λ (o : Option (List Message)). length (first_forms script o)) some)
+
+-- ---- how long the disk gets
+
+-- behind the workload
+pub grown_once : (script form : List ℕ) (rows : Option (List Message)) (old new : ℕ) → form ≡ workload_form script → new ≤ max old (size ([] ++ form ∷ [])) → new ≤ max old (size (first_forms script rows))
+grown_once script form rows old new is le =
+    grew_once old new (size ([] ++ form ∷ [])) (size (first_forms script rows)) le (subst (λ (w : List ℕ). size (w ∷ []) ≤ size (first_forms script rows)) (sym is) (first_less script rows))
+
+-- and behind its rows
+pub grown_twice : (script first second : List ℕ) (rows : Option (List Message)) (messages : List Message) (old mid new : ℕ) → rows ≡ Some messages → first ≡ workload_form script → Spells second (Commits 0 messages)
+    → mid ≤ max old (size ([] ++ first ∷ [])) → new ≤ max mid (size ((first ∷ []) ++ second ∷ [])) → new ≤ max old (size (first_forms script rows))
+grown_twice script first second rows messages old mid new some is spells once again =
+    let whole : size ((first ∷ []) ++ second ∷ []) ≡ size (first_forms script rows) =
+    ap (λ (w : List ℕ). size (w ∷ second ∷ [])) is ∙ ap (λ (w : List ℕ). size (workload_form script ∷ w ∷ [])) spells.spelled ∙ ap (λ (o : Option (List Message)). size (first_forms script o)) (sym some) in
+    let less : size ([] ++ first ∷ []) ≤ size (first_forms script rows) = subst (λ (w : List ℕ). size (w ∷ []) ≤ size (first_forms script rows)) (sym is) (first_less script rows) in
+    grew_twice old mid new (size ([] ++ first ∷ [])) (size (first_forms script rows)) once (subst (λ (n : ℕ). new ≤ max mid n) whole again) less

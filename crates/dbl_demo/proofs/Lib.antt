@@ -1,0 +1,5 @@
+pub mod AppendLemmas
+pub mod OneLemmas
+pub mod GroupLemmas
+pub mod NumberLemmas
+pub mod BeginLemmas

@@ -1,0 +1,23 @@
+use Rattle.std.proofs.Common.{◌≡◌, ap, sym}
+use Rattle.std.specs.Prelude.{Err}
+use Rattle.dbl_journal.specs.declared.error.JournalError.{JournalError}
+use Rattle.dbl_journal.specs.declared.error.JournalError.TheVariants as journal
+use Rattle.dbl_reading.specs.declared.error.SourceError.TheVariants as source
+use Rattle.dbl_demo.specs.Errors.{source_error}
+use Rattle.dbl_demo.proofs.AppendLemmas.{append_stays, lists_kept, not_failed, was_failed}
+use Rattle.dbl_demo.proofs.appending.append.Goals as goal
+
+pub returns-in-Err-clause-kept : goal.returns-in-Err-clause-kept
+returns-in-Err-clause-kept g c = λ forms lists is.
+    let e = c.in-Err.error in
+    let memory : source_error e ≡ source.Memory = (let told = c.source_error.ensures in let t = is in cc) in
+    lists_kept g.D.Disk.seen g.D.Disk.may_leave c.args.journal.now c.append_built.new.self (c.in-Err.ensures.unchanged (λ failed. not_failed e memory (let f = failed in cc))) forms lists
+
+pub returns-in-Err-clause-stays : goal.returns-in-Err-clause-stays
+returns-in-Err-clause-stays g c =
+    append_stays c.args.journal.now c.append_built.new.self c.in-Err.error (λ failed. c.in-Err.ensures.dead (ap (λ (e : JournalError). Err e) failed)) (λ other. c.in-Err.ensures.unchanged (λ failed. other (let f = failed in cc)))
+
+pub returns-in-Err-clause-failed : goal.returns-in-Err-clause-failed
+returns-in-Err-clause-failed g c = λ is.
+    let failed : source_error c.in-Err.error ≡ source.Failed = (let told = c.source_error.ensures in let t = is in cc) in
+    c.in-Err.ensures.failed (ap (λ (e : JournalError). Err e) (was_failed c.in-Err.error failed))

@@ -1,0 +1,18 @@
+use Rattle.std.proofs.Common.{◌≡◌, ap}
+use Rattle.std.specs.Prelude.{Err}
+use Rattle.dbl_journal.specs.declared.error.JournalError.{JournalError}
+use Rattle.dbl_reading.specs.declared.error.SourceError.TheVariants as source
+use Rattle.dbl_demo.specs.Errors.{source_error}
+use Rattle.dbl_demo.proofs.AppendLemmas.{comes_by_read, was_failed}
+use Rattle.dbl_demo.proofs.appending.entry.Goals as goal
+
+pub returns-in-Ok-clause-comes : goal.returns-in-Ok-clause-comes
+returns-in-Ok-clause-comes g c = let e = c.entry.ensures in comes_by_read g.D.Disk.seen g.D.Disk.may_leave c.args.journal.now c.entry.new.self e.same e.seen e.lists
+
+pub returns-in-Err-clause-comes : goal.returns-in-Err-clause-comes
+returns-in-Err-clause-comes g c = let e = c.entry.ensures in comes_by_read g.D.Disk.seen g.D.Disk.may_leave c.args.journal.now c.entry.new.self e.same e.seen e.lists
+
+pub returns-in-Err-clause-failed : goal.returns-in-Err-clause-failed
+returns-in-Err-clause-failed g c = λ is.
+    let failed : source_error c.in-Err.error ≡ source.Failed = (let told = c.source_error.ensures in let t = is in cc) in
+    c.in-Err.ensures.failed (ap (λ (e : JournalError). Err e) (was_failed c.in-Err.error failed))

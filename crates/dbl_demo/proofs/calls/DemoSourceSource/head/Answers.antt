@@ -1,0 +1,31 @@
+use Rattle.std.proofs.lemmas.Result.{IfOk-weaker}
+use Rattle.dbl_honest.specs.Answered.{IsHeaded}
+use Rattle.dbl_honest.specs.Told.{Head}
+use Rattle.dbl_running.specs.Answers.{AnswersHead}
+use Rattle.dbl_running.proofs.LeadLemmas.{lead_head}
+use Rattle.dbl_running.proofs.PromiseLemmas.{comes_held, leads_held, left_held, kept_reader, same_reader, some_held, tells_of}
+use Rattle.dbl_demo.proofs.calls.DemoSourceSource.head.Goals as goal
+
+pub returns : goal.returns
+returns g c =
+    let adds = c.answer_head.ensures in
+    let kept = kept_reader c.args.self.now c.answer_head.new.self (λ x. AnswersHead c.args.self.now c.answer_head.new.self x) c.answer_head.result adds.reader adds.answers (λ x says. says.reader) in
+    record {
+      headed = leads_held g.D.Disk.seen g.D.Disk.may_leave c.args.self.now c.answer_head.new.self _ _ (λ x. AnswersHead c.args.self.now c.answer_head.new.self x) IsHeaded c.answer_head.result adds.released adds.answers (λ x says wal of_old done s stands. lead_head g.D.Disk.seen g.D.Disk.may_leave c.args.self.now c.answer_head.new.self wal of_old _ s stands done x says);
+      left = left_held g.D.Disk.seen g.D.Disk.may_leave c.args.self.now c.answer_head.new.self _ adds.first;
+      some = some_held g.D.Disk.seen g.D.Disk.may_leave c.args.self.now c.answer_head.new.self g.D.Disk.seen_is_image adds.come _ _ adds.first;
+      last = IfOk-weaker c.answer_head.result _ _ (λ x says. says.is) adds.answers;
+      told = tells_of c.answer_head.result Head;
+      taken = tt;
+      reading = same_reader c.args.self.now c.answer_head.new.self kept;
+      ended = kept.ended;
+      live = adds.live;
+      dead = adds.dead;
+      honest = λ u. u;
+      comes = comes_held g.D.Disk.seen g.D.Disk.may_leave c.args.self.now c.answer_head.new.self _ _ c.answer_head.result c.requires adds.come adds.first adds.released adds.dead;
+      later = adds.later;
+      failed = adds.failed;
+      group = adds.group;
+      released = adds.released;
+      first = adds.first;
+    }

@@ -1,0 +1,30 @@
+-- The errors of the source's parts, as it tells them.
+use Rattle.dbl_journal.specs.declared.error.JournalError.{JournalError}
+use Rattle.dbl_journal.specs.declared.error.JournalError.TheVariants as journal
+use Rattle.dbl_reading.specs.declared.error.SourceError.{SourceError}
+use Rattle.dbl_reading.specs.declared.error.SourceError.TheVariants as source
+use Rattle.dbl_workload.specs.declared.error.DemoError.{DemoError}
+use Rattle.dbl_workload.specs.declared.error.DemoError.TheVariants as demo
+
+-- of an entry that isn't too long, in a journal that is open, there is no other fault
+abbrev pub source_error : JournalError → SourceError
+source_error journal.Failed = source.Failed
+source_error (journal.NotAJournal at) = source.Memory
+source_error (journal.EntryTooLong len) = source.Memory
+source_error journal.Memory = source.Memory
+
+-- what opening answers where the disk neither failed nor wanted memory
+abbrev pub IsOpenFault : DemoError → Type 0
+IsOpenFault (demo.Journal journal.Failed) = Unit {0}
+IsOpenFault (demo.Journal (journal.NotAJournal at)) = Unit {0}
+IsOpenFault (demo.BadEntry index) = Unit {0}
+IsOpenFault demo.Memory = Unit {0}
+IsOpenFault e = ⊥
+
+-- what making answers
+abbrev pub IsMakeFault : DemoError → Type 0
+IsMakeFault (demo.Journal journal.Failed) = Unit {0}
+IsMakeFault (demo.Script e) = Unit {0}
+IsMakeFault (demo.Model e) = Unit {0}
+IsMakeFault demo.Memory = Unit {0}
+IsMakeFault e = ⊥

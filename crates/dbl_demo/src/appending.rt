@@ -1,0 +1,76 @@
+//! An entry that is built and appended to the journal.
+
+ghost use Rattle.std.specs.Prelude.{◌≡◌, ◌⊎◌, ◌+◌, ◌<◌, ◌≤◌, ◌++◌, ◌∷◌, [], ℕ, List, length, drop, slice_get, Some, Err, IsTrue, IfOk, OnErr, OnOk};
+ghost use Rattle.dbl_base.specs.Streams.{Rose};
+ghost use Rattle.dbl_journal.specs.Growth.{ComesOf};
+ghost use Rattle.dbl_journal.specs.Stored.{LeavesEntries, Lists, count_of};
+ghost use Rattle.dbl_demo.specs.Errors.{source_error};
+
+use dbl_base::Bytes;
+use dbl_disk::Disk;
+use dbl_journal::{Journal, JournalError};
+use dbl_source::SourceError;
+use std::alloc::Global;
+
+// Of an entry that isn't too long, in a journal that is open, there is no other fault.
+fn source_error(error: JournalError) -> SourceError
+    ensures { result ≡ source_error error }
+{
+    match error {
+        JournalError::Failed => SourceError::Failed,
+        _ => SourceError::Memory,
+    }
+}
+
+/// Appends the entry that stands in a buffer behind room for its length.
+pub(crate) fn append<D: Disk>(journal: &mut Journal<D>, entry: Vec<u8>) -> Result<(), SourceError>
+    requires live { IsTrue journal.old.live }
+    requires room { 4 ≤ length entry.items }
+    ensures added { (forms : List (List ℕ)) → Lists D.seen D.may_leave journal.old forms
+        → OnOk result (Lists D.seen D.may_leave journal.new (forms ++ drop 4 entry.items ∷ [])) }
+    ensures left { (forms : List (List ℕ)) → Lists D.seen D.may_leave journal.old forms
+        → LeavesEntries D.may_leave journal.new.disk
+        (λ left. (left ≡ forms) ⊎ (left ≡ forms ++ drop 4 entry.items ∷ [])) }
+    // Where memory is wanting nothing was appended.
+    ensures kept { (forms : List (List ℕ)) → Lists D.seen D.may_leave journal.old forms
+        → result ≡ Err SourceError.Memory → Lists D.seen D.may_leave journal.new forms }
+    // A journal that failed can't be used any more; where memory was wanting it is what it was.
+    ensures stays { OnErr result (IsTrue journal.new.live → journal.new ≡ journal.old) }
+    ensures live { OnOk result (IsTrue journal.new.live) }
+    ensures count { OnOk result (count_of journal.new ≡ count_of journal.old + 1) }
+    ensures comes { ComesOf D.seen D.may_leave journal.old journal.new }
+    ensures failed { result ≡ Err SourceError.Failed
+        → Rose (D.faults journal.old.disk) (D.faults journal.new.disk) }
+    ensures later { D.faults journal.old.disk ≤ D.faults journal.new.disk }
+{
+    match journal.append_built(entry) {
+        Ok(()) => Ok(()),
+        Err(error) => Err(source_error(error)),
+    }
+}
+
+/// What the entry with this number holds.
+pub(crate) fn entry<D: Disk>(
+    journal: &mut Journal<D>,
+    alloc: Global,
+    number: u64,
+) -> Result<Bytes, SourceError>
+    requires live { IsTrue journal.old.live }
+    requires within { number < count_of journal.old }
+    ensures found { (forms : List (List ℕ)) → Lists D.seen D.may_leave journal.old forms
+        → IfOk result (λ bytes. slice_get forms number ≡ Some bytes) }
+    ensures lists { (forms : List (List ℕ)) → Lists D.seen D.may_leave journal.old forms
+        → Lists D.seen D.may_leave journal.new forms }
+    ensures same { journal.new ≡ record journal.old { disk = journal.new.disk } }
+    ensures comes { ComesOf D.seen D.may_leave journal.old journal.new }
+    ensures images { (image : List ℕ) → D.may_leave journal.new.disk image
+        → D.may_leave journal.old.disk image }
+    ensures failed { result ≡ Err SourceError.Failed
+        → Rose (D.faults journal.old.disk) (D.faults journal.new.disk) }
+    ensures later { D.faults journal.old.disk ≤ D.faults journal.new.disk }
+{
+    match journal.entry(alloc, number) {
+        Ok(bytes) => Ok(bytes),
+        Err(error) => Err(source_error(error)),
+    }
+}

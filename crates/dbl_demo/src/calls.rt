@@ -1,0 +1,326 @@
+//! The calls of the source, by what any source promises of them.
+
+ghost use Rattle.std.specs.Prelude.{◌≡◌, ◌≤◌, ◌∷◌, [], length, None, false, is_none, is_some, option_copied, Err, IsTrue, IfSome, IfOk, OnOk, OnErr, MatchOption};
+ghost use Rattle.dbl_base.specs.Streams.{Rose};
+ghost use Rattle.dbl_pgmsg.specs.declared.messages.Message.{Message};
+ghost use Rattle.dbl_pgmsg.specs.Grammar.{Spells};
+ghost use Rattle.dbl_reading.specs.declared.error.SourceError.TheVariants.{Failed, Memory};
+ghost use Rattle.dbl_honest.specs.Standings.{Standing, Stood, Leads};
+ghost use Rattle.dbl_honest.specs.Answered.{IsDescribed, IsHeaded, IsSelected};
+ghost use Rattle.dbl_honest.specs.Calls.{Moved, IsMarked, Starts, Took, HasReadAll, IsConfirmed};
+ghost use Rattle.dbl_honest.specs.Leaves.{Leaves, LeavesSome, MayFollow, MayFollowMark, MayFollowConfirm};
+ghost use Rattle.dbl_honest.specs.Told.{Described, Head, Began, Read, Selected, Done, IsTakenBy, IsTakenAnew, Tells, is_ready};
+ghost use Rattle.dbl_feed.specs.Numbers.{lsn_of};
+ghost use Rattle.dbl_sound.specs.Left.{added_by, with_entries};
+ghost use Rattle.dbl_sound.specs.Workloads.{acts_at};
+ghost use Rattle.dbl_sound.specs.Wals.{Wal};
+ghost use Rattle.dbl_sound.specs.Standings.{MayLeaveWal};
+ghost use Rattle.dbl_selects.specs.Shown.{AreRowsShown};
+ghost use Rattle.dbl_running.specs.Calls.{HasReadWhole, confirm_of, LeavesFirst, LeavesRead, mark_of, next_end, ReadsOnTo, Releases, second_end, started_at};
+ghost use Rattle.dbl_running.specs.Demo.{ComesOf, IsDemo, StandsFor};
+
+use crate::DemoSource;
+use dbl_base::{Bytes, Lsn, Text};
+use dbl_disk::Disk;
+use dbl_honest::Started;
+use dbl_source::{Source, SourceError};
+use dbl_table::{Key, RawRow, RawTable, TableName};
+
+impl<D: Disk> Source for DemoSource<D> {
+    ghost use Rattle.std.specs.Prelude.{None, is_some};
+    ghost use Rattle.dbl_sound.specs.Standings.{MayLeaveWal};
+    ghost use Rattle.dbl_running.specs.Demo.{ComesOf, StandsFor};
+    ghost use Rattle.dbl_running.specs.SourceLaws.{lives_so, one_standing, only_left, may_leave_so, reads_so, rising_so, fit_so, right_so};
+
+    ghost stands = { λ source s. StandsFor D.seen D.may_leave source s };
+
+    // Every workload is.
+    ghost honest = { λ source. Unit {0} };
+
+    ghost may_leave = { λ source l. MayLeaveWal D.may_leave source.journal.disk l };
+
+    ghost comes_of = { λ old new. ComesOf D.seen D.may_leave old new };
+
+    ghost told = { λ source. None };
+
+    ghost is_live = { λ source. source.live };
+
+    ghost is_reading = { λ source. is_some source.place };
+
+    ghost has_ended = { λ source. source.ended };
+
+    ghost faults = { λ source. D.faults source.journal.disk };
+
+    ghost lives = { λ source s a. lives_so D.seen D.may_leave source s a };
+
+    ghost one = { λ source s t a b. one_standing D.seen D.may_leave source s t a b };
+
+    ghost only = { λ source s l a may. only_left D.seen D.may_leave source s l a may };
+
+    ghost may = { λ source s a. may_leave_so D.seen D.may_leave D.seen_is_image source s a };
+
+    ghost reads = { λ source s a. reads_so D.seen D.may_leave source s a };
+
+    ghost rising = { λ source s a. rising_so D.seen D.may_leave source s a };
+
+    ghost fit = { λ source l may honest. fit_so D.may_leave source.journal.disk l may };
+
+    ghost right = { λ source s r a honest is. right_so D.seen D.may_leave source s r a is };
+
+    ghost comes_self = { λ source script gate most kept. kept };
+
+    ghost comes_on = { λ first second third before after script gate most kept.
+        after script gate most (before script gate most kept) };
+
+    // Of each call: what it promises as a call of any source; and what it adds to the wal: the commits of the group of steps that it
+    // runs first, and its own entry. Where it answers, all of that stands in the wal; whatever it answers, a stop leaves the first
+    // ones of it.
+
+    fn describe(&mut self, name: &TableName) -> Result<Option<RawTable>, SourceError>
+        requires { IsTrue self.old.live }
+        ensures described { Leads (StandsFor D.seen D.may_leave) self.old self.new result
+            (IsDescribed name.now) }
+        ensures named { IfOk result (λ entry. IfSome entry (λ raw. raw.name ≡ name.now)) }
+        ensures left { Leaves (StandsFor D.seen D.may_leave)
+            (λ source l. MayLeaveWal D.may_leave source.journal.disk l)
+            self.old self.new MayFollow }
+        ensures some { LeavesSome (StandsFor D.seen D.may_leave)
+            (λ source l. MayLeaveWal D.may_leave source.journal.disk l)
+            self.old self.new }
+        ensures told { IfOk result (λ entry. Tells None (Described entry)) }
+        ensures taken { IsTakenBy [] None None }
+        ensures reading { is_some self.new.place ≡ is_some self.old.place }
+        ensures ended { self.new.ended ≡ self.old.ended }
+        ensures live { OnOk result (IsTrue self.new.live) }
+        ensures dead { OnErr result (self.new.live ≡ false) }
+        ensures honest { Unit {0} → Unit {0} }
+        ensures comes { ComesOf D.seen D.may_leave self.old self.new }
+        ensures later { D.faults self.old.journal.disk ≤ D.faults self.new.journal.disk }
+        ensures failed { result ≡ Err Failed
+            → Rose (D.faults self.old.journal.disk) (D.faults self.new.journal.disk) }
+        ensures group { OnOk result (self.new.done ≡ next_end self.old) }
+        ensures released { OnOk result (Releases D.seen D.may_leave
+            (next_end self.old) [] self.old self.new) }
+        ensures first { LeavesFirst D.seen D.may_leave
+            (next_end self.old) [] self.old self.new }
+    {
+        self.answer_describe(name)
+    }
+
+    fn head(&mut self) -> Result<Lsn, SourceError>
+        requires { IsTrue self.old.live }
+        ensures headed { Leads (StandsFor D.seen D.may_leave) self.old self.new result IsHeaded }
+        ensures left { Leaves (StandsFor D.seen D.may_leave)
+            (λ source l. MayLeaveWal D.may_leave source.journal.disk l)
+            self.old self.new MayFollow }
+        ensures some { LeavesSome (StandsFor D.seen D.may_leave)
+            (λ source l. MayLeaveWal D.may_leave source.journal.disk l)
+            self.old self.new }
+        ensures told { IfOk result (λ lsn. Tells None (Head lsn)) }
+        ensures taken { IsTakenBy [] None None }
+        ensures reading { is_some self.new.place ≡ is_some self.old.place }
+        ensures ended { self.new.ended ≡ self.old.ended }
+        ensures live { OnOk result (IsTrue self.new.live) }
+        ensures dead { OnErr result (self.new.live ≡ false) }
+        ensures honest { Unit {0} → Unit {0} }
+        ensures comes { ComesOf D.seen D.may_leave self.old self.new }
+        ensures later { D.faults self.old.journal.disk ≤ D.faults self.new.journal.disk }
+        ensures failed { result ≡ Err Failed
+            → Rose (D.faults self.old.journal.disk) (D.faults self.new.journal.disk) }
+        ensures last { IfOk result (λ lsn. lsn ≡ lsn_of (length self.new.commits)) }
+        ensures group { OnOk result (self.new.done ≡ next_end self.old) }
+        ensures released { OnOk result (Releases D.seen D.may_leave
+            (next_end self.old) [] self.old self.new) }
+        ensures first { LeavesFirst D.seen D.may_leave
+            (next_end self.old) [] self.old self.new }
+    {
+        self.answer_head()
+    }
+
+    // The log is gone exactly below the confirmed position.
+    fn start(&mut self, after: Lsn) -> Result<Started, SourceError>
+        requires { IsTrue self.old.live }
+        ensures started { Leads (StandsFor D.seen D.may_leave) self.old self.new result
+            (Starts after) }
+        ensures gone { IfOk result (λ started.
+            started ≡ started_at after self.old.confirmed) }
+        ensures left { Leaves (StandsFor D.seen D.may_leave)
+            (λ source l. MayLeaveWal D.may_leave source.journal.disk l)
+            self.old self.new MayFollow }
+        ensures some { LeavesSome (StandsFor D.seen D.may_leave)
+            (λ source l. MayLeaveWal D.may_leave source.journal.disk l)
+            self.old self.new }
+        ensures told { IfOk result (λ started. Tells None (Began started)) }
+        ensures taken { OnOk result (IsTakenAnew None None) }
+        ensures untaken { OnErr result (IsTakenBy [] None None) }
+        ensures reading { IfOk result (λ started. is_some self.new.place ≡ is_ready started) }
+        ensures unread { OnErr result (is_some self.new.place ≡ is_some self.old.place) }
+        ensures unended { OnOk result (self.new.ended ≡ false) }
+        ensures still { OnErr result (self.new.ended ≡ self.old.ended) }
+        ensures live { OnOk result (IsTrue self.new.live) }
+        ensures dead { OnErr result (self.new.live ≡ false) }
+        ensures honest { Unit {0} → Unit {0} }
+        ensures comes { ComesOf D.seen D.may_leave self.old self.new }
+        ensures later { D.faults self.old.journal.disk ≤ D.faults self.new.journal.disk }
+        ensures failed { result ≡ Err Failed
+            → Rose (D.faults self.old.journal.disk) (D.faults self.new.journal.disk) }
+        ensures group { OnOk result (self.new.done ≡ next_end self.old) }
+        ensures released { OnOk result (Releases D.seen D.may_leave
+            (next_end self.old) [] self.old self.new) }
+        ensures first { LeavesFirst D.seen D.may_leave
+            (next_end self.old) [] self.old self.new }
+    {
+        self.answer_start(after)
+    }
+
+    fn read(&mut self) -> Result<Option<Bytes>, SourceError>
+        requires live { IsTrue self.old.live }
+        requires reading { IsTrue (is_some self.old.place) }
+        ensures took { (s : Standing) → StandsFor D.seen D.may_leave self.old s
+            → IfOk result (λ read. MatchOption read
+            (Stood (StandsFor D.seen D.may_leave) self.new
+            (λ t. Moved s t × (Unit {0} → HasReadAll s t)))
+            (λ bytes. (m : Message) × Spells bytes m
+            × Stood (StandsFor D.seen D.may_leave) self.new (Took m s))) }
+        ensures left { Leaves (StandsFor D.seen D.may_leave)
+            (λ source l. MayLeaveWal D.may_leave source.journal.disk l)
+            self.old self.new MayFollow }
+        ensures some { LeavesSome (StandsFor D.seen D.may_leave)
+            (λ source l. MayLeaveWal D.may_leave source.journal.disk l)
+            self.old self.new }
+        ensures told { IfOk result (λ read. Tells None (Read read)) }
+        ensures taken { IfOk result (λ read. MatchOption read (IsTakenBy [] None None)
+            (λ bytes. IsTakenBy (bytes ∷ []) None None)) }
+        ensures untaken { OnErr result (IsTakenBy [] None None) }
+        ensures reading { is_some self.new.place ≡ is_some self.old.place }
+        ensures ended { IfOk result (λ read. self.new.ended ≡ is_none read) }
+        ensures still { OnErr result (self.new.ended ≡ self.old.ended) }
+        ensures live { OnOk result (IsTrue self.new.live) }
+        ensures dead { OnErr result (self.new.live ≡ false) }
+        ensures honest { Unit {0} → Unit {0} }
+        ensures comes { ComesOf D.seen D.may_leave self.old self.new }
+        ensures later { D.faults self.old.journal.disk ≤ D.faults self.new.journal.disk }
+        ensures failed { result ≡ Err Failed
+            → Rose (D.faults self.old.journal.disk) (D.faults self.new.journal.disk) }
+        ensures released { OnOk result (ReadsOnTo D.seen D.may_leave
+            self.old self.new) }
+        ensures first { LeavesRead D.seen D.may_leave self.old self.new }
+        // None means that no step is left, and no commit to be read.
+        ensures end { IfOk result (λ read. read ≡ None → (wal : Wal)
+            → IsDemo D.seen D.may_leave wal self.old → HasReadWhole
+            (with_entries wal (added_by wal self.old.done self.new.done [])) self.new) }
+        ensures all { IfOk result (λ read. read ≡ None
+            → self.new.done ≡ length self.new.steps) }
+    {
+        self.answer_read()
+    }
+
+    // The rows are those between the two groups.
+    fn select(
+        &mut self,
+        table: &TableName,
+        above: Option<&Key>,
+        limit: u32,
+    ) -> Result<Vec<RawRow>, SourceError>
+        requires live { IsTrue self.old.live }
+        requires positive { 1 ≤ limit }
+        ensures selected { Leads (StandsFor D.seen D.may_leave) self.old self.new result (λ rows.
+            IsSelected (Unit {0}) table.now (option_copied above.entry) limit rows.items) }
+        ensures shown { (wal : Wal) → IsDemo D.seen D.may_leave wal self.old
+            → IfOk result (λ rows. AreRowsShown wal.workload.tables
+            (acts_at wal.workload (next_end self.old)) table.now
+            (option_copied above.entry) limit rows.items) }
+        ensures left { Leaves (StandsFor D.seen D.may_leave)
+            (λ source l. MayLeaveWal D.may_leave source.journal.disk l)
+            self.old self.new MayFollow }
+        ensures some { LeavesSome (StandsFor D.seen D.may_leave)
+            (λ source l. MayLeaveWal D.may_leave source.journal.disk l)
+            self.old self.new }
+        ensures told { IfOk result (λ rows. Tells None (Selected rows.items)) }
+        ensures taken { IsTakenBy [] None None }
+        ensures reading { is_some self.new.place ≡ is_some self.old.place }
+        ensures ended { self.new.ended ≡ self.old.ended }
+        ensures live { OnOk result (IsTrue self.new.live) }
+        ensures dead { OnErr result (self.new.live ≡ false) }
+        ensures honest { Unit {0} → Unit {0} }
+        ensures comes { ComesOf D.seen D.may_leave self.old self.new }
+        ensures later { D.faults self.old.journal.disk ≤ D.faults self.new.journal.disk }
+        ensures failed { result ≡ Err Failed
+            → Rose (D.faults self.old.journal.disk) (D.faults self.new.journal.disk) }
+        ensures group { OnOk result (self.new.done ≡ second_end self.old) }
+        ensures released { OnOk result (Releases D.seen D.may_leave
+            (second_end self.old) [] self.old self.new) }
+        ensures first { LeavesFirst D.seen D.may_leave
+            (second_end self.old) [] self.old self.new }
+    {
+        self.answer_select(table, above, limit)
+    }
+
+    fn mark(&mut self, value: &Text) -> Result<(), SourceError>
+        requires live { IsTrue self.old.live }
+        requires short { length value.now ≤ 64 }
+        ensures marked { Leads (StandsFor D.seen D.may_leave) self.old self.new result
+            (λ done. IsMarked value.now) }
+        ensures left { Leaves (StandsFor D.seen D.may_leave)
+            (λ source l. MayLeaveWal D.may_leave source.journal.disk l)
+            self.old self.new (MayFollowMark value.now) }
+        ensures some { LeavesSome (StandsFor D.seen D.may_leave)
+            (λ source l. MayLeaveWal D.may_leave source.journal.disk l)
+            self.old self.new }
+        ensures unmarked { result ≡ Err Memory → Leaves (StandsFor D.seen D.may_leave)
+            (λ source l. MayLeaveWal D.may_leave source.journal.disk l)
+            self.old self.new MayFollow }
+        ensures told { OnOk result (Tells None Done) }
+        ensures taken { IsTakenBy [] None None }
+        ensures reading { is_some self.new.place ≡ is_some self.old.place }
+        ensures ended { self.new.ended ≡ self.old.ended }
+        ensures live { OnOk result (IsTrue self.new.live) }
+        ensures dead { OnErr result (self.new.live ≡ false) }
+        ensures honest { Unit {0} → Unit {0} }
+        ensures comes { ComesOf D.seen D.may_leave self.old self.new }
+        ensures later { D.faults self.old.journal.disk ≤ D.faults self.new.journal.disk }
+        ensures failed { result ≡ Err Failed
+            → Rose (D.faults self.old.journal.disk) (D.faults self.new.journal.disk) }
+        ensures group { OnOk result (self.new.done ≡ next_end self.old) }
+        ensures released { OnOk result (Releases D.seen D.may_leave
+            (next_end self.old) (mark_of value.now (next_end self.old)) self.old self.new) }
+        ensures first { LeavesFirst D.seen D.may_leave
+            (next_end self.old) (mark_of value.now (next_end self.old)) self.old self.new }
+    {
+        self.answer_mark(value)
+    }
+
+    // A position that doesn't rise is appended nowhere.
+    fn confirm(&mut self, upto: Lsn) -> Result<(), SourceError>
+        requires { IsTrue self.old.live }
+        ensures confirmed { Leads (StandsFor D.seen D.may_leave) self.old self.new result
+            (λ done. IsConfirmed upto) }
+        ensures left { Leaves (StandsFor D.seen D.may_leave)
+            (λ source l. MayLeaveWal D.may_leave source.journal.disk l)
+            self.old self.new (MayFollowConfirm upto) }
+        ensures some { LeavesSome (StandsFor D.seen D.may_leave)
+            (λ source l. MayLeaveWal D.may_leave source.journal.disk l)
+            self.old self.new }
+        ensures unconfirmed { result ≡ Err Memory → Leaves (StandsFor D.seen D.may_leave)
+            (λ source l. MayLeaveWal D.may_leave source.journal.disk l)
+            self.old self.new MayFollow }
+        ensures told { OnOk result (Tells None Done) }
+        ensures taken { IsTakenBy [] None None }
+        ensures reading { is_some self.new.place ≡ is_some self.old.place }
+        ensures ended { self.new.ended ≡ self.old.ended }
+        ensures live { OnOk result (IsTrue self.new.live) }
+        ensures dead { OnErr result (self.new.live ≡ false) }
+        ensures honest { Unit {0} → Unit {0} }
+        ensures comes { ComesOf D.seen D.may_leave self.old self.new }
+        ensures later { D.faults self.old.journal.disk ≤ D.faults self.new.journal.disk }
+        ensures failed { result ≡ Err Failed
+            → Rose (D.faults self.old.journal.disk) (D.faults self.new.journal.disk) }
+        ensures group { OnOk result (self.new.done ≡ next_end self.old) }
+        ensures released { OnOk result (Releases D.seen D.may_leave
+            (next_end self.old) (confirm_of self.old.confirmed upto) self.old self.new) }
+        ensures first { LeavesFirst D.seen D.may_leave
+            (next_end self.old) (confirm_of self.old.confirmed upto) self.old self.new }
+    {
+        self.answer_confirm(upto)
+    }
+}

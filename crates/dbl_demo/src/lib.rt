@@ -1,0 +1,13 @@
+//! A source of changes that needs no server: it runs a workload, and keeps its log on a disk that may stop at any call.
+#![tactic(auto)]
+
+mod answering;
+mod appending;
+mod calls;
+mod opening;
+mod reading;
+mod releasing;
+mod source;
+
+pub use dbl_workload::DemoError;
+pub use source::DemoSource;

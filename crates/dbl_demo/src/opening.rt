@@ -1,0 +1,76 @@
+//! A log that is opened.
+
+ghost use Rattle.std.specs.Prelude.{◌≡◌, ◌⊎◌, ℕ, ◌<◌, List, None, Err, IfOk, IfErr, IsTrue, MatchResult};
+ghost use Rattle.dbl_journal.specs.Stored.{Lists};
+ghost use Rattle.dbl_sound.specs.Sound.{steps_in};
+ghost use Rattle.dbl_sound.specs.Wals.{IsFirstBad, Wal, forms_of};
+ghost use Rattle.dbl_running.specs.Demo.{IsDemo};
+ghost use Rattle.dbl_workload.specs.Logs.{IsDiskRead, IsFailed};
+
+use crate::{DemoError, DemoSource};
+use dbl_disk::{Disk, Refused};
+use dbl_journal::Journal;
+use dbl_workload::{Checked, Prepared, check_log};
+use std::alloc::Global;
+use std::collections::BTreeSet;
+
+/// The source over a journal that was opened.
+pub(crate) fn open_journal<D: Disk>(
+    alloc: Global,
+    mut journal: Journal<D>,
+) -> Result<DemoSource<D>, Refused<D, DemoError>>
+    requires { IsTrue journal.live }
+    ensures opened { (forms : List (List ℕ)) → Lists D.seen D.may_leave journal forms
+        → IfOk result (λ source. (wal : Wal) × (forms ≡ forms_of wal)
+        × IsDemo D.seen D.may_leave wal source × (source.done ≡ steps_in wal.entries)) }
+    ensures unread { IfOk result (λ source. source.place ≡ None) }
+    ensures live { IfOk result (λ source. IsTrue source.live) }
+    ensures bad { (forms : List (List ℕ)) (index : ℕ) → Lists D.seen D.may_leave journal forms
+        → IfErr result (λ refused.
+        refused.error ≡ DemoError.BadEntry index → IsFirstBad forms index) }
+    ensures kinds { IfErr result (λ refused.
+        (refused.error ≡ DemoError.Memory) ⊎ IsFailed refused.error
+        ⊎ (index : ℕ) × (refused.error ≡ DemoError.BadEntry index)) }
+    ensures read { MatchResult result
+        (λ source. IsDiskRead D.seen D.may_leave D.faults ⊥ journal.disk source.journal.disk)
+        (λ refused. IsDiskRead D.seen D.may_leave D.faults
+        (IsFailed refused.error) journal.disk refused.disk) }
+{
+    let Checked {
+        prepared,
+        done,
+        commits,
+        confirmed,
+    } = match check_log(alloc, &mut journal) {
+        Ok(checked) => checked,
+        Err(error) => {
+            return Err(Refused {
+                disk: journal.into_disk(),
+                error,
+            });
+        }
+    };
+    let Prepared {
+        names,
+        tables,
+        store,
+        steps,
+        rows: _,
+    } = prepared;
+    Ok(DemoSource {
+        alloc,
+        journal,
+        names,
+        tables,
+        store,
+        steps,
+        done,
+        commits,
+        confirmed,
+        place: None,
+        described: BTreeSet::new(alloc),
+        held: None,
+        ended: false,
+        live: true,
+    })
+}

@@ -1,0 +1,138 @@
+//! The next message of the log. Of a commit the entry is read once from the disk.
+
+ghost use Rattle.std.specs.Prelude.{◌≡◌, ◌<◌, ◌≤◌, ◌^◌, ℕ, List, None, Some, Err, IfOk, IsTrue, slice_get, IfErr, IsSome, is_some, false, length};
+ghost use Rattle.dbl_base.specs.Streams.{Rose};
+ghost use Rattle.dbl_feed.specs.declared.place.Place.{Place};
+ghost use Rattle.dbl_feed.specs.Sent.{index_of};
+ghost use Rattle.dbl_journal.specs.Growth.{ComesOf};
+ghost use Rattle.dbl_journal.specs.Stored.{count_of};
+ghost use Rattle.dbl_sound.specs.Sound.{logged_in};
+ghost use Rattle.dbl_sound.specs.Wals.{Wal};
+ghost use Rattle.dbl_running.specs.Demo.{IsRunning};
+ghost use Rattle.dbl_running.specs.Reading.{IsHeld, ReadsNext, has_unread};
+
+use crate::DemoSource;
+use crate::appending::entry;
+use dbl_base::Bytes;
+use dbl_disk::Disk;
+use dbl_feed::{Logged, Place, commits_upto};
+use dbl_source::{SourceError, next_step};
+use dbl_wal::{Entry, EntryError, decode};
+
+impl<D: Disk> DemoSource<D> {
+    // Reads the commit of the entry with this number, unless it is held. A disk that changes what it holds may give what is no commit:
+    // that is answered as it is.
+    fn hold(&mut self, number: u64) -> Result<Option<Bytes>, SourceError>
+        requires live { IsTrue self.old.journal.live }
+        requires within { number < count_of self.old.journal }
+        ensures held { (wal : Wal) (place : Place) → IsRunning D.seen D.may_leave wal self.old
+            → self.old.place ≡ Some place
+            → slice_get self.old.commits (index_of place) ≡ Some number
+            → IfOk result (λ other. (other ≡ None) × IsRunning D.seen D.may_leave wal self.new
+            × (self.new.held ≡ slice_get (logged_in wal.entries) (index_of place))) }
+        ensures some { IfOk result (λ other. other ≡ None → IsSome self.new.held) }
+        ensures same { IsHeld self.old self.new }
+        ensures live { self.new.journal.live ≡ self.old.journal.live }
+        ensures count { count_of self.new.journal ≡ count_of self.old.journal }
+        ensures images { (image : List ℕ) → D.may_leave self.new.journal.disk image
+            → D.may_leave self.old.journal.disk image }
+        ensures comes { ComesOf D.seen D.may_leave self.old.journal self.new.journal }
+        ensures failed { result ≡ Err SourceError.Failed
+            → Rose (D.faults self.old.journal.disk) (D.faults self.new.journal.disk) }
+        ensures later { D.faults self.old.journal.disk ≤ D.faults self.new.journal.disk }
+    {
+        if self.held.is_some() {
+            return Ok(None);
+        }
+        let bytes = entry(&mut self.journal, self.alloc, number)?;
+        match decode(self.alloc, bytes.items().as_slice()) {
+            Ok(Entry::Commits { steps: _, messages }) => {
+                self.held = Some(Logged::Changes(messages));
+                Ok(None)
+            }
+            Ok(Entry::Marks { steps: _, value }) => {
+                self.held = Some(Logged::Mark(value));
+                Ok(None)
+            }
+            Ok(Entry::Confirms { upto: _ }) | Err(EntryError::Bad) => Ok(Some(bytes)),
+            Err(EntryError::Memory) => Err(SourceError::Memory),
+        }
+    }
+
+    // The next message of the commit that is held. The reader stands behind it then. Each message of a wal has a spelling, and so has
+    // each Relation of its tables: nothing but memory is wanting.
+    fn step_on(&mut self, place: Place, index: usize) -> Result<Option<Bytes>, SourceError>
+        requires index { index ≡ index_of place }
+        requires small { index < 2 ^ 40 }
+        ensures read { (wal : Wal) → IsRunning D.seen D.may_leave wal self.old
+            → self.old.place ≡ Some place
+            → self.old.held ≡ slice_get (logged_in wal.entries) index → IsSome self.old.held
+            → IfOk result (ReadsNext D.seen D.may_leave wal place self.new) }
+        ensures some { IsSome self.old.held → IfOk result IsSome }
+        ensures same { self.new ≡ record self.old {
+          place = self.new.place;
+          described = self.new.described;
+          held = self.new.held;
+        } }
+        ensures memory { IfErr result (λ e. e ≡ SourceError.Memory) }
+    {
+        let Some(held) = &self.held else {
+            return Ok(None);
+        };
+        let Ok(next) = next_step(
+            self.alloc,
+            &self.tables,
+            held,
+            &self.described,
+            place,
+            index as u64 + 1,
+        ) else {
+            return Err(SourceError::Memory);
+        };
+        if let Some(oid) = next.described {
+            self.described.insert(oid)?;
+        }
+        if next.place.commits > place.commits {
+            self.held = None;
+        }
+        self.place = Some(next.place);
+        Ok(Some(next.bytes))
+    }
+
+    /// What is read next, where there is something. The reader stands behind it then.
+    pub(crate) fn next_bytes(&mut self) -> Result<Option<Bytes>, SourceError>
+        requires { IsTrue self.old.journal.live }
+        ensures read { (wal : Wal) (place : Place) → IsRunning D.seen D.may_leave wal self.old
+            → self.old.place ≡ Some place
+            → IfOk result (ReadsNext D.seen D.may_leave wal place self.new) }
+        ensures reading { is_some self.new.place ≡ is_some self.old.place }
+        // None is answered only where no commit stands there that wasn't read whole.
+        ensures none { IfOk result (λ read. read ≡ None
+            → has_unread self.old.place (length self.old.commits) ≡ false) }
+        ensures same { self.new ≡ record self.old {
+          journal = self.new.journal;
+          place = self.new.place;
+          described = self.new.described;
+          held = self.new.held;
+        } }
+        ensures live { self.new.journal.live ≡ self.old.journal.live }
+        ensures images { (image : List ℕ) → D.may_leave self.new.journal.disk image
+            → D.may_leave self.old.journal.disk image }
+        ensures comes { ComesOf D.seen D.may_leave self.old.journal self.new.journal }
+        ensures failed { result ≡ Err SourceError.Failed
+            → Rose (D.faults self.old.journal.disk) (D.faults self.new.journal.disk) }
+        ensures later { D.faults self.old.journal.disk ≤ D.faults self.new.journal.disk }
+    {
+        let Some(place) = self.place else {
+            return Ok(None);
+        };
+        let index = commits_upto(place.after) + place.commits;
+        let Some(number) = self.commits.get(index).copied() else {
+            return Ok(None);
+        };
+        if let Some(other) = self.hold(number)? {
+            return Ok(Some(other));
+        }
+        self.step_on(place, index)
+    }
+}

@@ -1,0 +1,144 @@
+//! Groups of steps that a call runs, and the commits that they add to the log.
+
+ghost use Rattle.std.specs.Prelude.{◌≡◌, ◌<◌, ◌≤◌, ◌+◌, ◌^◌, Err, [], false, length, IfOk, OnOk, IsTrue, slice_get, Some, ◌⊎◌, true};
+ghost use Rattle.dbl_base.specs.Streams.{Rose};
+ghost use Rattle.dbl_journal.specs.Growth.{ComesOf};
+ghost use Rattle.dbl_journal.specs.Stored.{count_of};
+ghost use Rattle.dbl_feed.specs.declared.place.Place.{Place};
+ghost use Rattle.dbl_wal.specs.declared.entry.Entry.TheVariants.{Commits};
+ghost use Rattle.dbl_wal.specs.Entries.{FitsEntry};
+ghost use Rattle.dbl_script.specs.declared.script.Step.{Step};
+ghost use Rattle.dbl_sound.specs.Wals.{Wal};
+ghost use Rattle.dbl_running.specs.Calls.{next_end};
+ghost use Rattle.dbl_running.specs.Demo.{IsRunning};
+ghost use Rattle.dbl_running.specs.Reading.{has_unread, IsLogged, LeavesLogged, LeavesReadRun, RanOn};
+ghost use Rattle.dbl_running.specs.Running.{IsRunOf, LeavesRun, Ran};
+ghost use Rattle.dbl_workload.specs.Steps.{FitAnEntry, is_tick};
+
+use crate::DemoSource;
+use crate::appending::append;
+use dbl_base::Seq;
+use dbl_disk::Disk;
+use dbl_feed::commits_upto;
+use dbl_pgmsg::Message;
+use dbl_source::SourceError;
+use dbl_wal::commit_entry;
+use dbl_workload::{is_tick, run_next};
+
+impl<D: Disk> DemoSource<D> {
+    // Appends the commit of the last step that was done.
+    fn log_commit(&mut self, messages: Seq<Message>) -> Result<(), SourceError>
+        requires live { IsTrue self.old.journal.live }
+        requires dead { self.old.live ≡ false }
+        requires fits { FitAnEntry messages }
+        ensures logged { OnOk result (IsLogged D.seen D.may_leave messages self.old self.new) }
+        ensures left { LeavesLogged D.seen D.may_leave messages self.old self.new }
+        ensures entry { FitsEntry (Commits self.old.done messages) }
+        ensures small { count_of self.old.journal < 2 ^ 40 }
+        ensures live { OnOk result (IsTrue self.new.journal.live) }
+        ensures same { IsRunOf self.old self.new }
+        ensures stays { (self.new.done ≡ self.old.done) × (self.new.store ≡ self.old.store) }
+        ensures comes { ComesOf D.seen D.may_leave self.old.journal self.new.journal }
+        ensures failed { result ≡ Err SourceError.Failed
+            → Rose (D.faults self.old.journal.disk) (D.faults self.new.journal.disk) }
+        ensures later { D.faults self.old.journal.disk ≤ D.faults self.new.journal.disk }
+    {
+        let number = self.journal.count();
+        let entry = commit_entry(self.alloc, self.done as u64, messages.items().as_slice())?;
+        append(&mut self.journal, entry)?;
+        self.commits.push(number)?;
+        Ok(())
+    }
+
+    // Runs the step behind those that were done. Answers whether it ends a group.
+    fn run_one(&mut self) -> Result<bool, SourceError>
+        requires live { IsTrue self.old.journal.live }
+        requires dead { self.old.live ≡ false }
+        requires left { self.old.done < length self.old.steps }
+        ensures ran { (wal : Wal) → IsRunning D.seen D.may_leave wal self.old
+            → OnOk result (Ran D.seen D.may_leave wal (self.old.done + 1) [] self.old self.new) }
+        ensures images { (wal : Wal) → IsRunning D.seen D.may_leave wal self.old
+            → LeavesRun D.may_leave wal (self.old.done + 1) [] self.old self.new }
+        ensures ends { IfOk result (λ ends. (step : Step)
+            → slice_get self.old.steps self.old.done ≡ Some step → ends ≡ is_tick step) }
+        ensures one { OnOk result (self.new.done ≡ self.old.done + 1) }
+        ensures live { OnOk result (IsTrue self.new.journal.live) }
+        ensures same { IsRunOf self.old self.new }
+        ensures comes { ComesOf D.seen D.may_leave self.old.journal self.new.journal }
+        ensures failed { result ≡ Err SourceError.Failed
+            → Rose (D.faults self.old.journal.disk) (D.faults self.new.journal.disk) }
+        ensures later { D.faults self.old.journal.disk ≤ D.faults self.new.journal.disk }
+    {
+        let ends = is_tick(&self.steps[self.done]);
+        let committed = run_next(&mut self.store, self.steps.as_slice(), self.done)?;
+        self.done += 1;
+        if let Some(messages) = committed {
+            self.log_commit(messages)?;
+        }
+        Ok(ends)
+    }
+
+    /// Runs the steps up to the next `tick` and with it, or up to the end.
+    pub(crate) fn release(&mut self) -> Result<(), SourceError>
+        requires live { IsTrue self.old.journal.live }
+        requires dead { self.old.live ≡ false }
+        ensures ran { (wal : Wal) → IsRunning D.seen D.may_leave wal self.old
+            → OnOk result (Ran D.seen D.may_leave wal (next_end self.old) [] self.old self.new) }
+        ensures images { (wal : Wal) → IsRunning D.seen D.may_leave wal self.old
+            → LeavesRun D.may_leave wal (next_end self.old) [] self.old self.new }
+        ensures end { OnOk result (self.new.done ≡ next_end self.old) }
+        ensures live { OnOk result (IsTrue self.new.journal.live) }
+        ensures same { IsRunOf self.old self.new }
+        ensures comes { ComesOf D.seen D.may_leave self.old.journal self.new.journal }
+        ensures failed { result ≡ Err SourceError.Failed
+            → Rose (D.faults self.old.journal.disk) (D.faults self.new.journal.disk) }
+        ensures later { D.faults self.old.journal.disk ≤ D.faults self.new.journal.disk }
+    {
+        'steps: while self.done < self.steps.len() {
+            if self.run_one()? {
+                return Ok(());
+            }
+        }
+        Ok(())
+    }
+
+    // Whether a commit stands there that the reader hasn't read whole.
+    fn has_unread(&self) -> bool
+        ensures { result ≡ has_unread self.now.place (length self.now.commits) }
+    {
+        match self.place {
+            Some(place) => commits_upto(place.after) + place.commits < self.commits.len(),
+            None => false,
+        }
+    }
+
+    /// Runs groups of steps until there is a commit to be read, or no step is left; one at the least.
+    pub(crate) fn release_unread(&mut self) -> Result<(), SourceError>
+        requires live { IsTrue self.old.journal.live }
+        requires dead { self.old.live ≡ false }
+        ensures ran { (wal : Wal) (place : Place) → IsRunning D.seen D.may_leave wal self.old
+            → self.old.place ≡ Some place
+            → OnOk result (RanOn D.seen D.may_leave wal place self.old self.new) }
+        ensures images { (wal : Wal) (place : Place) → IsRunning D.seen D.may_leave wal self.old
+            → self.old.place ≡ Some place
+            → LeavesReadRun D.may_leave wal place self.old self.new }
+        ensures end { OnOk result
+            ((has_unread self.new.place (length self.new.commits) ≡ true)
+            ⊎ (length self.new.steps ≤ self.new.done)) }
+        ensures live { OnOk result (IsTrue self.new.journal.live) }
+        ensures same { IsRunOf self.old self.new }
+        ensures comes { ComesOf D.seen D.may_leave self.old.journal self.new.journal }
+        ensures failed { result ≡ Err SourceError.Failed
+            → Rose (D.faults self.old.journal.disk) (D.faults self.new.journal.disk) }
+        ensures later { D.faults self.old.journal.disk ≤ D.faults self.new.journal.disk }
+    {
+        self.release()?;
+        'groups: while self.done < self.steps.len() {
+            if self.has_unread() {
+                return Ok(());
+            }
+            self.release()?;
+        }
+        Ok(())
+    }
+}

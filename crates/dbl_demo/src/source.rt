@@ -1,0 +1,332 @@
+ghost use Rattle.std.specs.Prelude.{◌≡◌, ◌≢◌, ◌⊎◌, ℕ, ◌<◌, ◌≤◌, ◌^◌, List, [], Some, None, Err, IfSome, IfOk, IfErr, OnOk, IsTrue, MatchResult, length, max, option_map, map};
+ghost use Rattle.dbl_base.specs.Streams.{Rose};
+ghost use Rattle.dbl_disk.specs.Disks.{IsOnly};
+ghost use Rattle.dbl_journal.specs.Form.{IsFaultAt};
+ghost use Rattle.dbl_journal.specs.Stored.{IsSteady, Lists, count_of, size};
+ghost use Rattle.dbl_sound.specs.Sound.{steps_in};
+ghost use Rattle.dbl_sound.specs.Wals.{HasBadEntry, IsWal, Wal};
+ghost use Rattle.dbl_sound.specs.Workloads.{IsWorkload, Workload, steps_of};
+ghost use Rattle.dbl_running.specs.Demo.{IsDemo};
+ghost use Rattle.dbl_demo.specs.Errors.{IsMakeFault, IsOpenFault};
+ghost use Rattle.dbl_demo.specs.Numbers.{numbers_of};
+ghost use Rattle.dbl_running.specs.Made.{first_forms, IsFirst};
+ghost use Rattle.dbl_workload.specs.Ready.{IsReady};
+ghost use Rattle.dbl_workload.specs.Refusals.{IsRefused};
+ghost use Rattle.dbl_workload.specs.Steps.{FitAnEntry};
+
+use crate::DemoError;
+use crate::opening::open_journal;
+use dbl_base::Lsn;
+use dbl_disk::{Disk, Refused};
+use dbl_feed::{LogTable, Logged, Place};
+use dbl_journal::{Journal, JournalError};
+use dbl_pgmsg::Message;
+use dbl_script::Step;
+use dbl_table::TableName;
+use dbl_tables::Tables;
+use dbl_wal::{commit_entry, workload_entry};
+use dbl_workload::{Prepared, prepare};
+use std::alloc::Global;
+use std::collections::BTreeSet;
+use std::marker::Model;
+
+/// A source that runs a workload. Its log is on a disk, and isn't held in memory: a stop loses nothing but what a call was adding.
+///
+/// Each call first runs the steps up to the next `tick`; a `select` then takes its rows and runs those up to the one after it; a
+/// `read` goes on until there is a commit to be read, or no step is left.
+#[derive(Drop)]
+pub struct DemoSource<D: Disk> {
+    pub(crate) alloc: Global,
+    pub(crate) journal: Journal<D>,
+    pub(crate) names: Vec<TableName>,
+    pub(crate) tables: Vec<LogTable>,
+    pub(crate) store: Tables,
+    pub(crate) steps: Vec<Step>,
+    pub(crate) done: usize,
+    // The number of each commit's entry.
+    pub(crate) commits: Vec<u64>,
+    pub(crate) confirmed: Lsn,
+    pub(crate) place: Option<Place>,
+    // The tables that Relations have described since the last start.
+    pub(crate) described: BTreeSet<u32>,
+    // The commit that is being read, once its entry was.
+    pub(crate) held: Option<Logged>,
+    // Whether the last read since the last start answered that nothing is left.
+    pub(crate) ended: bool,
+    pub(crate) live: bool,
+}
+
+impl<D: Disk> Model for DemoSource<D> {
+    ghost use Rattle.std.specs.Coded.{codes};
+    ghost use Rattle.dbl_tables.specs.contracts.tables.Tables as t;
+    ghost use Rattle.dbl_running.specs.Demo.{Demo, HasParts};
+
+    ghost Value = { Demo D };
+
+    ghost coded = { Prim.hlevel (codes, t.the_row.coded) };
+
+    ghost view = { λ s. record {
+      journal = s.journal;
+      names = s.names.items;
+      tables = s.tables.items;
+      store = s.store;
+      steps = s.steps.items;
+      done = s.done;
+      commits = s.commits.items;
+      confirmed = s.confirmed;
+      place = s.place;
+      described = s.described;
+      held = s.held;
+      ended = s.ended;
+      live = s.live;
+    } };
+
+    ghost invariant = { λ s. HasParts
+        s.journal s.store s.steps.items s.done s.commits.items s.place s.live };
+}
+
+// Appends the first entries of a wal: the workload, and the commit of its rows.
+fn begin_log<D: Disk>(
+    alloc: Global,
+    journal: &mut Journal<D>,
+    bytes: &[u8],
+    rows: Option<&[Message]>,
+) -> Result<(), DemoError>
+    requires live { IsTrue journal.old.live }
+    requires short { length bytes.now < 2 ^ 28 }
+    requires fits { IfSome rows (λ rows. FitAnEntry rows.now) }
+    ensures begun { Lists D.seen D.may_leave journal.old []
+        → OnOk result (Lists D.seen D.may_leave journal.new
+        (first_forms bytes.now (option_map (λ rows. rows.now) rows.entry))) }
+    ensures live { OnOk result (IsTrue journal.new.live) }
+    ensures count { OnOk result (count_of journal.new
+        ≡ length (first_forms bytes.now (option_map (λ rows. rows.now) rows.entry))) }
+    ensures kinds { IfErr result (λ e. (e ≡ DemoError.Memory)
+        ⊎ (e ≡ DemoError.Journal JournalError.Failed)) }
+    ensures failed { result ≡ Err (DemoError.Journal JournalError.Failed)
+        → Rose (D.faults journal.old.disk) (D.faults journal.new.disk) }
+    ensures grows { (old new : List ℕ) → Lists D.seen D.may_leave journal.old []
+        → D.seen journal.old.disk ≡ Some old → D.seen journal.new.disk ≡ Some new
+        → length new ≤ max (length old)
+        (size (first_forms bytes.now (option_map (λ rows. rows.now) rows.entry))) }
+    ensures later { D.faults journal.old.disk ≤ D.faults journal.new.disk }
+    ensures steady { result ≢ Err (DemoError.Journal JournalError.Failed)
+        → IsSteady D.seen D.faults journal.old.disk journal.new.disk }
+{
+    journal.append_built(workload_entry(alloc, bytes)?)?;
+    match rows {
+        Some(rows) => {
+            journal.append_built(commit_entry(alloc, 0, rows)?)?;
+            Ok(())
+        }
+        None => Ok(()),
+    }
+}
+
+impl<D: Disk> DemoSource<D> {
+    /// A source that begins with a workload, on an empty disk. The workload's lines, its tables and its rows are looked at before the
+    /// first call of the disk, so that no byte is written of one that is refused; memory may be wanting later too.
+    pub fn make(
+        alloc: Global,
+        disk: D,
+        workload: &[u8],
+    ) -> Result<DemoSource<D>, Refused<D, DemoError>>
+        requires empty { (bytes : List ℕ) → D.seen disk ≡ Some bytes → bytes ≡ [] }
+        requires short { length workload.now < 2 ^ 28 }
+        // The wal is of the workload, without marks and confirmed positions, and no step is done.
+        ensures made { D.seen disk ≡ Some [] → IfOk result (λ source. (wal : Wal)
+            × IsDemo D.seen D.may_leave wal source × IsFirst workload.now wal × (source.done ≡ 0)) }
+        ensures workload { IfOk result (λ source. (w : Workload) × IsWorkload workload.now w
+            × (source.names ≡ map (λ table. table.info.name) w.tables)
+            × (source.steps ≡ steps_of w)) }
+        ensures unread { IfOk result (λ source. source.place ≡ None) }
+        ensures live { IfOk result (λ source. IsTrue source.live) }
+        ensures refused { IfErr result (λ refused. (refused.error ≡ DemoError.Memory)
+            ⊎ ((refused.error ≡ DemoError.Journal JournalError.Failed)
+            ⊎ IsRefused workload.now refused.error)) }
+        // A workload that is refused costs no call of the disk.
+        ensures untouched { IfErr result (λ refused.
+            IsRefused workload.now refused.error → refused.disk ≡ disk) }
+        ensures kinds { IfErr result (λ refused. IsMakeFault refused.error) }
+        ensures failed { IfErr result (λ refused.
+            refused.error ≡ DemoError.Journal JournalError.Failed
+            → Rose (D.faults disk) (D.faults refused.disk)) }
+        ensures small { (bytes : List ℕ) → D.seen disk ≡ Some [] → MatchResult result
+            (λ source. D.seen source.journal.disk ≡ Some bytes → length bytes ≤ 2 ^ 30)
+            (λ refused. D.seen refused.disk ≡ Some bytes → length bytes ≤ 2 ^ 30) }
+        ensures later { MatchResult result
+            (λ source. D.faults disk ≤ D.faults source.journal.disk)
+            (λ refused. D.faults disk ≤ D.faults refused.disk) }
+        ensures steady { MatchResult result
+            (λ source. IsSteady D.seen D.faults disk source.journal.disk)
+            (λ refused. refused.error ≢ DemoError.Journal JournalError.Failed
+            → IsSteady D.seen D.faults disk refused.disk) }
+    {
+        let prepared = match prepare(alloc, workload) {
+            Ok(prepared) => prepared,
+            Err(error) => return Err(Refused { disk, error }),
+        };
+        let mut journal = match Journal::make(alloc, disk) {
+            Ok(journal) => journal,
+            Err(Refused { disk, error }) => {
+                return Err(Refused {
+                    disk,
+                    error: DemoError::from(error),
+                });
+            }
+        };
+        let rows = match &prepared.rows {
+            Some(rows) => Some(rows.items().as_slice()),
+            None => None,
+        };
+        let begun = begin_log(alloc, &mut journal, workload, rows);
+        if let Err(error) = begun {
+            return Err(Refused {
+                disk: journal.into_disk(),
+                error,
+            });
+        }
+        first_source(alloc, journal, prepared)
+    }
+
+    /// The source on a disk, as a stop may have left it. It begins with a sync, and reads each entry once; the workload's steps are
+    /// run again in memory as far as the log counts them, and each commit of the log is compared with what they give. Whatever it
+    /// answers but that the disk failed, a stop leaves what was read and nothing else.
+    pub fn open(alloc: Global, disk: D) -> Result<DemoSource<D>, Refused<D, DemoError>>
+        ensures opened { (bytes : List ℕ) → D.seen disk ≡ Some bytes
+            → IfOk result (λ source. (wal : Wal) × IsWal bytes wal
+            × IsDemo D.seen D.may_leave wal source × (source.done ≡ steps_in wal.entries)) }
+        ensures unread { IfOk result (λ source. source.place ≡ None) }
+        ensures live { IfOk result (λ source. IsTrue source.live) }
+        ensures bad { (bytes : List ℕ) (index : ℕ) → D.seen disk ≡ Some bytes
+            → IfErr result (λ refused.
+            refused.error ≡ DemoError.BadEntry index → HasBadEntry bytes index) }
+        ensures not_a_journal { (bytes : List ℕ) (at : ℕ) → D.seen disk ≡ Some bytes
+            → IfErr result (λ refused.
+            refused.error ≡ DemoError.Journal (JournalError.NotAJournal at) → IsFaultAt bytes at) }
+        ensures kinds { IfErr result (λ refused. IsOpenFault refused.error) }
+        ensures failed { IfErr result (λ refused.
+            refused.error ≡ DemoError.Journal JournalError.Failed
+            → Rose (D.faults disk) (D.faults refused.disk)) }
+        ensures seen { MatchResult result
+            (λ source. D.seen source.journal.disk ≡ D.seen disk)
+            (λ refused. D.seen refused.disk ≡ D.seen disk) }
+        ensures images { (image : List ℕ) → MatchResult result
+            (λ source. D.may_leave source.journal.disk image → D.may_leave disk image)
+            (λ refused. D.may_leave refused.disk image → D.may_leave disk image) }
+        ensures stable { (bytes : List ℕ) → D.seen disk ≡ Some bytes → MatchResult result
+            (λ source. IsOnly bytes (D.may_leave source.journal.disk))
+            (λ refused. refused.error ≢ DemoError.Journal JournalError.Failed
+            → IsOnly bytes (D.may_leave refused.disk)) }
+        ensures later { MatchResult result
+            (λ source. D.faults disk ≤ D.faults source.journal.disk)
+            (λ refused. D.faults disk ≤ D.faults refused.disk) }
+        ensures steady { MatchResult result
+            (λ source. IsSteady D.seen D.faults disk source.journal.disk)
+            (λ refused. refused.error ≢ DemoError.Journal JournalError.Failed
+            → IsSteady D.seen D.faults disk refused.disk) }
+    {
+        match Journal::open(alloc, disk) {
+            Ok(journal) => open_journal(alloc, journal),
+            Err(Refused { disk, error }) => Err(Refused {
+                disk,
+                error: DemoError::from(error),
+            }),
+        }
+    }
+
+    /// The names of the workload's tables, in the order of their lines. Takes no memory.
+    pub fn table_names(&self) -> &Vec<TableName>
+        ensures { result.now.items ≡ self.now.names }
+    {
+        &self.names
+    }
+
+    /// The disk, as it stands. Takes no memory and makes no call of the disk.
+    pub fn into_disk(self) -> D
+        ensures { result ≡ self.journal.disk }
+    {
+        let DemoSource {
+            alloc: _,
+            journal,
+            names: _,
+            tables: _,
+            store: _,
+            steps: _,
+            done: _,
+            commits: _,
+            confirmed: _,
+            place: _,
+            described: _,
+            held: _,
+            ended: _,
+            live: _,
+        } = self;
+        journal.into_disk()
+    }
+}
+
+// The numbers of the first commits: 1 is that of rows, where there are any.
+fn first_numbers(alloc: Global, has_rows: bool) -> Result<Vec<u64>, DemoError>
+    ensures numbers { IfOk result (λ numbers. numbers.items ≡ numbers_of has_rows) }
+    ensures memory { IfErr result (λ e. e ≡ DemoError.Memory) }
+{
+    let mut numbers = Vec::new(alloc);
+    if has_rows {
+        numbers.push(1)?;
+    }
+    Ok(numbers)
+}
+
+// The source over a journal to which the first entries were appended.
+fn first_source<D: Disk>(
+    alloc: Global,
+    journal: Journal<D>,
+    prepared: Prepared,
+) -> Result<DemoSource<D>, Refused<D, DemoError>>
+    requires live { IsTrue journal.live }
+    requires ready { (script : List ℕ) × (w : Workload) × IsWorkload script w
+        × IsReady w prepared
+        × (count_of journal ≡ length (first_forms script prepared.rows)) }
+    ensures made { (script : List ℕ) (w : Workload) → IsWorkload script w → IsReady w prepared
+        → Lists D.seen D.may_leave journal (first_forms script prepared.rows)
+        → IfOk result (λ source. (wal : Wal) × IsDemo D.seen D.may_leave wal source
+        × IsFirst script wal × (source.done ≡ 0)) }
+    ensures unread { IfOk result (λ source. source.place ≡ None) }
+    ensures live { IfOk result (λ source. IsTrue source.live) }
+    ensures journal { MatchResult result (λ source. source.journal ≡ journal)
+        (λ refused. (refused.disk ≡ journal.disk) × (refused.error ≡ DemoError.Memory)) }
+{
+    let Prepared {
+        names,
+        tables,
+        store,
+        steps,
+        rows,
+    } = prepared;
+    let commits = match first_numbers(alloc, rows.is_some()) {
+        Ok(commits) => commits,
+        Err(error) => {
+            return Err(Refused {
+                disk: journal.into_disk(),
+                error,
+            });
+        }
+    };
+    Ok(DemoSource {
+        alloc,
+        journal,
+        names,
+        tables,
+        store,
+        steps,
+        done: 0,
+        commits,
+        confirmed: Lsn(0),
+        place: None,
+        described: BTreeSet::new(alloc),
+        held: None,
+        ended: false,
+        live: true,
+    })
+}

@@ -3,3 +3,5 @@ pub mod OneLemmas
 pub mod GroupLemmas
 pub mod NumberLemmas
 pub mod BeginLemmas
+pub mod HeldLemmas
+pub mod OwnExits

@@ -1,7 +1,12 @@
 //! What each call of the source does: it runs a group of steps, and writes an entry of its own. The source is live again only once
 //! the call answers.
 
-ghost use Rattle.std.specs.Prelude.{◌≡◌, ◌<◌, ◌≤◌, [], List, length, false, option_copied, option_map, option_and_then, slice_get, Err, IsTrue, IfSome, IfOk, IfErr};
+ghost use Rattle.std.specs.Prelude.{◌≡◌, ◌⊎◌, ◌+◌, ◌<◌, ◌≤◌, ◌^◌, ◌++◌, ◌∷◌, [], ℕ, List, length, drop, false, option_copied, option_map, option_and_then, slice_get, Err, IsTrue, IfSome, IfOk, IfErr, OnOk};
+ghost use Rattle.std.specs.List.{position_from};
+ghost use Rattle.dbl_table.specs.Tables.{same_name};
+ghost use Rattle.dbl_base.specs.Streams.{Rose};
+ghost use Rattle.dbl_journal.specs.Growth.{ComesOf};
+ghost use Rattle.dbl_journal.specs.Stored.{LeavesEntries, Lists, count_of};
 ghost use Rattle.dbl_history.specs.History.{entry_of};
 ghost use Rattle.dbl_feed.specs.Histories.{history_of};
 ghost use Rattle.dbl_serial.specs.declared.demo_table.DemoTable.{DemoTable};
@@ -15,12 +20,20 @@ use crate::DemoSource;
 use crate::appending::append;
 use dbl_base::{Bytes, Lsn, Text};
 use dbl_disk::Disk;
-use dbl_feed::{Place, lsn_of};
+use dbl_feed::{LogTable, Place, lsn_of};
 use dbl_honest::Started;
 use dbl_serial::StepError;
 use dbl_source::SourceError;
 use dbl_table::{Key, RawRow, RawTable, TableName};
 use dbl_wal::{confirm_entry, mark_entry};
+
+fn place_named(tables: &[LogTable], name: &TableName) -> Option<usize>
+    ensures place { result
+        ≡ position_from (λ table. same_name table.raw.name name.now) 0 tables.now }
+    ensures within { IfSome result (λ place. place < length tables.now) }
+{
+    tables.iter().position(|table| table.raw.name == *name)
+}
 
 impl<D: Disk> DemoSource<D> {
     // The place of the table of this name. The table of the watermarks has none.
@@ -33,7 +46,7 @@ impl<D: Disk> DemoSource<D> {
         if name.is_watermark() {
             return None;
         }
-        self.tables.iter().position(|table| table.raw.name == *name)
+        place_named(self.tables.as_slice(), name)
     }
 
     // A copy of the catalogue's entry of this name.
@@ -42,10 +55,11 @@ impl<D: Disk> DemoSource<D> {
             entry_of (history_of self.now.tables []) name.now) }
         ensures memory { IfErr result (λ e. e ≡ SourceError.Memory) }
     {
-        match self.place_of(name) {
-            Some(place) => Ok(Some(self.tables[place].raw.copy(self.alloc)?)),
-            None => Ok(None),
-        }
+        let Some(place) = self.place_of(name) else {
+            return Ok(None);
+        };
+        let entry = self.tables[place].raw.copy(self.alloc)?;
+        Ok(Some(entry))
     }
 
     // The committed rows of a table; none where there is no such table.
@@ -148,8 +162,8 @@ impl<D: Disk> DemoSource<D> {
     ) -> Result<Vec<RawRow>, SourceError>
         requires { IsTrue self.old.live }
         ensures { Adds D.seen D.may_leave D.faults (second_end self.old) []
-            (AnswersRows D.seen D.may_leave table.now (option_copied above.entry) limit self.old)
-            self.old self.new result }
+            (λ new rows. AnswersRows D.seen D.may_leave table.now (option_copied above.entry)
+            limit self.old new rows.items) self.old self.new result }
     {
         self.live = false;
         self.release()?;
@@ -159,7 +173,42 @@ impl<D: Disk> DemoSource<D> {
         Ok(rows)
     }
 
-    /// A commit of its own behind the group. Where it isn't appended no commit has its number.
+    // Appends the entry of a mark. Where it isn't appended no commit has its number.
+    fn log_mark(&mut self, entry: Vec<u8>) -> Result<(), SourceError>
+        requires live { IsTrue self.old.journal.live }
+        requires dead { self.old.live ≡ false }
+        requires room { 4 ≤ length entry.items }
+        ensures added { (forms : List (List ℕ)) → Lists D.seen D.may_leave self.old.journal forms
+            → OnOk result (Lists D.seen D.may_leave self.new.journal
+            (forms ++ drop 4 entry.items ∷ [])) }
+        ensures left { (forms : List (List ℕ)) → Lists D.seen D.may_leave self.old.journal forms
+            → LeavesEntries D.may_leave self.new.journal.disk
+            (λ left. (left ≡ forms) ⊎ (left ≡ forms ++ drop 4 entry.items ∷ [])) }
+        ensures kept { (forms : List (List ℕ)) → Lists D.seen D.may_leave self.old.journal forms
+            → result ≡ Err SourceError.Memory → Lists D.seen D.may_leave self.new.journal forms }
+        ensures small { count_of self.old.journal < 2 ^ 40 }
+        ensures commits { OnOk result
+            (self.new.commits ≡ self.old.commits ++ count_of self.old.journal ∷ []) }
+        ensures same { self.new ≡ record self.old {
+          journal = self.new.journal;
+          commits = self.new.commits;
+        } }
+        ensures live { OnOk result (IsTrue self.new.journal.live) }
+        ensures comes { ComesOf D.seen D.may_leave self.old.journal self.new.journal }
+        ensures failed { result ≡ Err SourceError.Failed
+            → Rose (D.faults self.old.journal.disk) (D.faults self.new.journal.disk) }
+        ensures later { D.faults self.old.journal.disk ≤ D.faults self.new.journal.disk }
+    {
+        let number = self.journal.count();
+        self.commits.push(number)?;
+        if let Err(error) = append(&mut self.journal, entry) {
+            self.commits.pop();
+            return Err(error);
+        }
+        Ok(())
+    }
+
+    /// A commit of its own behind the group.
     pub(crate) fn answer_mark(&mut self, value: &Text) -> Result<(), SourceError>
         requires live { IsTrue self.old.live }
         requires short { length value.now ≤ 64 }
@@ -172,13 +221,39 @@ impl<D: Disk> DemoSource<D> {
         self.live = false;
         self.release()?;
         let entry = mark_entry(self.alloc, self.done as u64, value)?;
-        let number = self.journal.count();
-        self.commits.push(number)?;
-        if let Err(error) = append(&mut self.journal, entry) {
-            self.commits.pop();
-            return Err(error);
-        }
+        self.log_mark(entry)?;
         self.live = true;
+        Ok(())
+    }
+
+    // Appends the entry of a position that is confirmed.
+    fn log_confirm(&mut self, entry: Vec<u8>, upto: Lsn) -> Result<(), SourceError>
+        requires live { IsTrue self.old.journal.live }
+        requires dead { self.old.live ≡ false }
+        requires room { 4 ≤ length entry.items }
+        ensures added { (forms : List (List ℕ)) → Lists D.seen D.may_leave self.old.journal forms
+            → OnOk result (Lists D.seen D.may_leave self.new.journal
+            (forms ++ drop 4 entry.items ∷ [])) }
+        ensures left { (forms : List (List ℕ)) → Lists D.seen D.may_leave self.old.journal forms
+            → LeavesEntries D.may_leave self.new.journal.disk
+            (λ left. (left ≡ forms) ⊎ (left ≡ forms ++ drop 4 entry.items ∷ [])) }
+        ensures kept { (forms : List (List ℕ)) → Lists D.seen D.may_leave self.old.journal forms
+            → result ≡ Err SourceError.Memory → Lists D.seen D.may_leave self.new.journal forms }
+        ensures small { count_of self.old.journal < 2 ^ 40 }
+        ensures confirmed { OnOk result (self.new.confirmed ≡ upto) }
+        ensures same { self.new ≡ record self.old {
+          journal = self.new.journal;
+          confirmed = self.new.confirmed;
+        } }
+        ensures live { OnOk result (IsTrue self.new.journal.live) }
+        ensures comes { ComesOf D.seen D.may_leave self.old.journal self.new.journal }
+        ensures failed { result ≡ Err SourceError.Failed
+            → Rose (D.faults self.old.journal.disk) (D.faults self.new.journal.disk) }
+        ensures later { D.faults self.old.journal.disk ≤ D.faults self.new.journal.disk }
+    {
+        let _entries = self.journal.count();
+        append(&mut self.journal, entry)?;
+        self.confirmed = upto;
         Ok(())
     }
 
@@ -195,8 +270,7 @@ impl<D: Disk> DemoSource<D> {
         self.release()?;
         if self.confirmed.0 < upto.0 {
             let entry = confirm_entry(self.alloc, upto)?;
-            append(&mut self.journal, entry)?;
-            self.confirmed = upto;
+            self.log_confirm(entry, upto)?;
         }
         self.live = true;
         Ok(())

@@ -1,12 +1,14 @@
 //! The next message of the log. Of a commit the entry is read once from the disk.
 
-ghost use Rattle.std.specs.Prelude.{◌≡◌, ◌<◌, ◌≤◌, ◌^◌, ℕ, List, None, Some, Err, IfOk, IsTrue, slice_get, IfErr, IsSome, is_some, false, length};
+ghost use Rattle.std.specs.Prelude.{◌≡◌, ◌⊎◌, ◌<◌, ◌≤◌, ◌^◌, ℕ, List, None, Some, Err, IfOk, IsTrue, slice_get, IfErr, IsSome, is_some, false, length};
 ghost use Rattle.dbl_base.specs.Streams.{Rose};
 ghost use Rattle.dbl_feed.specs.declared.place.Place.{Place};
 ghost use Rattle.dbl_feed.specs.Sent.{index_of};
 ghost use Rattle.dbl_journal.specs.Growth.{ComesOf};
 ghost use Rattle.dbl_journal.specs.Stored.{count_of};
-ghost use Rattle.dbl_sound.specs.Sound.{logged_in};
+ghost use Rattle.dbl_wal.specs.declared.entry.Entry.{Entry};
+ghost use Rattle.dbl_wal.specs.Entries.{Spells};
+ghost use Rattle.dbl_sound.specs.Sound.{logged_by, logged_in};
 ghost use Rattle.dbl_sound.specs.Wals.{Wal};
 ghost use Rattle.dbl_running.specs.Demo.{IsRunning};
 ghost use Rattle.dbl_running.specs.Reading.{IsHeld, ReadsNext, has_unread};
@@ -16,8 +18,35 @@ use crate::appending::entry;
 use dbl_base::Bytes;
 use dbl_disk::Disk;
 use dbl_feed::{Logged, Place, commits_upto};
-use dbl_source::{SourceError, next_step};
+use dbl_source::{SourceError, next_step, remember};
 use dbl_wal::{Entry, EntryError, decode};
+use std::alloc::Global;
+
+// A journal has fewer entries, 2^40, and so has a wal fewer commits.
+const MOST_COMMITS: usize = 1_099_511_627_776;
+
+// The commit that these bytes spell, where they spell one.
+fn commit_in(alloc: Global, bytes: &[u8]) -> Result<Option<Logged>, SourceError>
+    ensures commit { IfOk result (λ read. (entry : Entry)
+        → Spells bytes.now entry → read ≡ logged_by entry) }
+    ensures memory { IfErr result (λ e. e ≡ SourceError.Memory) }
+{
+    match decode(alloc, bytes) {
+        Ok(Entry::Commits { steps: _, messages }) => Ok(Some(Logged::Changes(messages))),
+        Ok(Entry::Marks { steps: _, value }) => Ok(Some(Logged::Mark(value))),
+        Ok(Entry::Confirms { upto: _ }) | Err(EntryError::Bad) => Ok(None),
+        Err(EntryError::Memory) => Err(SourceError::Memory),
+    }
+}
+
+// Once a commit was read whole it isn't held any more.
+fn keep_held(held: &mut Option<Logged>, whole: bool)
+    ensures { (held.new ≡ None) ⊎ ((held.new ≡ held.old) × (whole ≡ false)) }
+{
+    if whole {
+        *held = None;
+    }
+}
 
 impl<D: Disk> DemoSource<D> {
     // Reads the commit of the entry with this number, unless it is held. A disk that changes what it holds may give what is no commit:
@@ -45,18 +74,11 @@ impl<D: Disk> DemoSource<D> {
             return Ok(None);
         }
         let bytes = entry(&mut self.journal, self.alloc, number)?;
-        match decode(self.alloc, bytes.items().as_slice()) {
-            Ok(Entry::Commits { steps: _, messages }) => {
-                self.held = Some(Logged::Changes(messages));
-                Ok(None)
-            }
-            Ok(Entry::Marks { steps: _, value }) => {
-                self.held = Some(Logged::Mark(value));
-                Ok(None)
-            }
-            Ok(Entry::Confirms { upto: _ }) | Err(EntryError::Bad) => Ok(Some(bytes)),
-            Err(EntryError::Memory) => Err(SourceError::Memory),
-        }
+        let Some(logged) = commit_in(self.alloc, bytes.items().as_slice())? else {
+            return Ok(Some(bytes));
+        };
+        self.held = Some(logged);
+        Ok(None)
     }
 
     // The next message of the commit that is held. The reader stands behind it then. Each message of a wal has a spelling, and so has
@@ -89,12 +111,11 @@ impl<D: Disk> DemoSource<D> {
         ) else {
             return Err(SourceError::Memory);
         };
-        if let Some(oid) = next.described {
-            self.described.insert(oid)?;
+        if next.place.commits > MOST_COMMITS {
+            return Ok(Some(next.bytes));
         }
-        if next.place.commits > place.commits {
-            self.held = None;
-        }
+        remember(&mut self.described, next.described)?;
+        keep_held(&mut self.held, next.place.commits != place.commits);
         self.place = Some(next.place);
         Ok(Some(next.bytes))
     }
@@ -126,6 +147,8 @@ impl<D: Disk> DemoSource<D> {
         let Some(place) = self.place else {
             return Ok(None);
         };
+        // A journal has fewer than 2^40 entries, and so has its log of commits.
+        let _entries = self.journal.count();
         let index = commits_upto(place.after) + place.commits;
         let Some(number) = self.commits.get(index).copied() else {
             return Ok(None);

@@ -1,9 +1,13 @@
--- Not seen by the prover: the names of steps are guessed.
-use Rattle.std.proofs.Common.{◌∙◌, Err, [], ap, sym, arith}
+use Rattle.std.proofs.Common.{◌≡◌, ◌∙◌, Err, [], ap, sym, subst, arith}
 use Rattle.std.proofs.lemmas.Result.{err_from_is_err_and}
-use Rattle.dbl_running.specs.Answers.{AnswersEntry}
+use Rattle.std.specs.Prelude.{Ok}
+use Rattle.dbl_history.specs.History.{entry_of}
+use Rattle.dbl_feed.specs.Histories.{history_of}
+use Rattle.dbl_reading.specs.declared.error.SourceError.{SourceError}
+use Rattle.dbl_reading.specs.declared.error.SourceError.TheVariants.{Failed, Memory}
+use Rattle.dbl_running.specs.Answers.{Adds, AnswersEntry}
 use Rattle.dbl_running.specs.Calls.{next_end}
-use Rattle.dbl_running.proofs.ExitLemmas.{answers_from, fails_from, kept_is}
+use Rattle.dbl_running.proofs.ExitLemmas.{answering, answers_from, fails_from}
 use Rattle.dbl_running.specs.Demo.{Demo}
 use Rattle.dbl_demo.proofs.source.DemoSource.answer_describe.Goals as goal
 
@@ -28,9 +32,11 @@ returns-in_err-release g c =
 pub returns-in_err-entry : goal.returns-in_err-entry
 returns-in_err-entry g c =
     let p = err_from_is_err_and c.from_residual-in_err-entry.result c.from_residual-in_err-entry.ensures.1 in
-    fails_from g.D.Disk.seen g.D.Disk.may_leave g.D.Disk.faults c.self.view_is c.release.new.self c.release.ensures.same c.release.ensures.images c.release.ensures.comes c.release.ensures.later next_end (λ s. []) (AnswersEntry c.args.name.now) c.from_residual-in_err-entry.result p.0 p.1 (omega arith) (λ is. cc)
+    fails_from g.D.Disk.seen g.D.Disk.may_leave g.D.Disk.faults c.self.view_is c.release.new.self c.release.ensures.same c.release.ensures.images c.release.ensures.comes c.release.ensures.later next_end (λ s. []) (AnswersEntry c.args.name.now) c.from_residual-in_err-entry.result p.0 p.1 (omega arith) (λ is. absurd (let wrong : Memory ≡ Failed = sym c.in_err-entry.ensures.memory ∙ sym p.2 ∙ is in cc))
 
 pub returns : goal.returns
 returns g c =
-    answers_from g.D.Disk.seen g.D.Disk.may_leave g.D.Disk.faults c.self.view_is c.release.new.self c.release.ensures.same c.release.ensures.images c.release.ensures.comes c.release.ensures.later (AnswersEntry c.args.name.now) c.in_ok-entry.entry c.in_ok-release.ensures.ran c.in_ok-release.ensures.end
-    (record { reader = record { place = ap (λ (d : Demo _). d.place) c.release.ensures.same; ended = ap (λ (d : Demo _). d.ended) c.release.ensures.same }; is = c.in_ok-entry.ensures.entry })
+    let entry = c.in_ok-entry.ensures.entry ∙ ap (λ (d : Demo _). entry_of (history_of d.tables []) c.args.name.now) c.release.ensures.same in
+    subst (λ (d : Demo _). Adds g.D.Disk.seen g.D.Disk.may_leave g.D.Disk.faults (next_end c.args.self.now) [] (AnswersEntry c.args.name.now c.args.self.now) c.args.self.now (answering d) (Ok c.in_ok-entry.entry)) (sym c.self-2.view_is)
+    (answers_from g.D.Disk.seen g.D.Disk.may_leave g.D.Disk.faults c.self.view_is c.release.new.self c.release.ensures.same c.release.ensures.images c.release.ensures.comes c.release.ensures.later (AnswersEntry c.args.name.now) c.in_ok-entry.entry c.in_ok-release.ensures.ran c.in_ok-release.ensures.end
+    (record { reader = record { place = ap (λ (d : Demo _). d.place) c.release.ensures.same; ended = ap (λ (d : Demo _). d.ended) c.release.ensures.same }; is = entry }))

@@ -1,11 +1,10 @@
--- Not seen by the prover: the names of steps are guessed.
 use Rattle.std.proofs.Common.{◌≡◌, ◌∙◌, Err, [], length, ap, sym, subst, arith}
 use Rattle.std.proofs.lemmas.Result.{err_from_is_err_and}
 use Rattle.dbl_feed.specs.Numbers.{lsn_of}
 use Rattle.std.specs.Prelude.{Ok}
 use Rattle.dbl_running.specs.Answers.{Adds, AnswersHead}
 use Rattle.dbl_running.specs.Calls.{next_end}
-use Rattle.dbl_running.proofs.ExitLemmas.{answering, answers_from, fails_from, kept_is}
+use Rattle.dbl_running.proofs.ExitLemmas.{answering, answers_from, fails_from}
 use Rattle.dbl_running.specs.Demo.{Demo}
 use Rattle.dbl_demo.proofs.source.DemoSource.answer_head.Goals as goal
 

@@ -1,10 +1,15 @@
--- Not seen by the prover: the names of steps are guessed.
-use Rattle.std.proofs.Common.{◌∙◌, Err, [], ap, sym, arith}
+use Rattle.std.proofs.Common.{◌≡◌, ◌∙◌, ℕ, Err, List, [], drop, ap, sym, subst, arith}
+use Rattle.std.specs.Prelude.{Ok}
 use Rattle.std.proofs.lemmas.Result.{err_from_is_err_and}
-use Rattle.dbl_running.specs.Answers.{AnswersNothing}
-use Rattle.dbl_running.specs.Calls.{mark_of, next_end}
-use Rattle.dbl_running.proofs.ExitLemmas.{fails_from}
+use Rattle.dbl_reading.specs.declared.error.SourceError.{SourceError}
+use Rattle.dbl_reading.specs.declared.error.SourceError.TheVariants.{Failed, Memory}
+use Rattle.dbl_wal.specs.declared.entry.Entry.TheVariants.{Marks}
+use Rattle.dbl_wal.specs.Entries.{Spells}
+use Rattle.dbl_running.specs.Answers.{Adds, AnswersNothing}
+use Rattle.dbl_running.specs.Calls.{LeavesFirst, mark_of, next_end}
+use Rattle.dbl_running.proofs.ExitLemmas.{answering, fails_from}
 use Rattle.dbl_running.specs.Demo.{Demo}
+use Rattle.dbl_demo.proofs.OwnExits.{first_from, mark_answers, mark_fails, starved_from}
 use Rattle.dbl_demo.proofs.source.DemoSource.answer_mark.Goals as goal
 
 pub release-requires-clause-live : goal.release-requires-clause-live
@@ -20,12 +25,54 @@ invariant_of-self g c = record {
   near = c.self.invariant.near;
 }
 
+-- the group failed
 pub returns-in_err-release-clause-added : goal.returns-in_err-release-clause-added
 returns-in_err-release-clause-added g c =
     let p = err_from_is_err_and c.from_residual.result c.from_residual.ensures.1 in
     fails_from g.D.Disk.seen g.D.Disk.may_leave g.D.Disk.faults c.self.view_is c.release.new.self c.release.ensures.same c.release.ensures.images c.release.ensures.comes c.release.ensures.later next_end (λ s. mark_of c.args.value.now (next_end s)) AnswersNothing c.from_residual.result p.0 p.1 (omega arith) (λ is. c.release.ensures.failed (c.in_err-release.was ∙ ap Err (sym p.2 ∙ is)))
 
+pub returns-in_err-release-clause-starved : goal.returns-in_err-release-clause-starved
+returns-in_err-release-clause-starved g c = λ is. first_from g.D.Disk.seen g.D.Disk.may_leave g.D.Disk.faults c.self.view_is c.release.new.self c.release.ensures.images
+
+-- memory was wanting for the mark's entry
 pub returns-in_err-entry-clause-added : goal.returns-in_err-entry-clause-added
 returns-in_err-entry-clause-added g c =
     let p = err_from_is_err_and c.from_residual-in_err-entry.result c.from_residual-in_err-entry.ensures.1 in
-    fails_from g.D.Disk.seen g.D.Disk.may_leave g.D.Disk.faults c.self.view_is c.release.new.self c.release.ensures.same c.release.ensures.images c.release.ensures.comes c.release.ensures.later next_end (λ s. mark_of c.args.value.now (next_end s)) AnswersNothing c.from_residual-in_err-entry.result p.0 p.1 (omega arith) (λ is. cc)
+    subst (λ (d : Demo _). Adds g.D.Disk.seen g.D.Disk.may_leave g.D.Disk.faults (next_end c.args.self.now) (mark_of c.args.value.now (next_end c.args.self.now)) (AnswersNothing c.args.self.now) c.args.self.now d c.from_residual-in_err-entry.result) (sym c.self-2.view_is)
+    (fails_from g.D.Disk.seen g.D.Disk.may_leave g.D.Disk.faults c.self.view_is c.release.new.self c.release.ensures.same c.release.ensures.images c.release.ensures.comes c.release.ensures.later next_end (λ s. mark_of c.args.value.now (next_end s)) AnswersNothing c.from_residual-in_err-entry.result p.0 p.1 (omega arith) (λ is. absurd (let wrong : Memory ≡ Failed = sym p.2 ∙ is in cc)))
+
+pub returns-in_err-entry-clause-starved : goal.returns-in_err-entry-clause-starved
+returns-in_err-entry-clause-starved g c = λ is.
+    subst (λ (d : Demo _). LeavesFirst g.D.Disk.seen g.D.Disk.may_leave (next_end c.args.self.now) [] c.args.self.now d) (sym c.self-2.view_is)
+    (first_from g.D.Disk.seen g.D.Disk.may_leave g.D.Disk.faults c.self.view_is c.release.new.self c.release.ensures.images)
+
+pub log_mark-requires-clause-live : goal.log_mark-requires-clause-live
+log_mark-requires-clause-live g c = c.in_ok-release.ensures.live
+
+-- the mark is that of the steps that are done
+spelled : {D : Type 0} (mid : Demo D) (done steps : ℕ) (bytes value : List ℕ) → done ≡ mid.done → mid.done ≡ steps → Spells bytes (Marks done value) → Spells bytes (Marks steps value)
+spelled mid done steps bytes value same end spells = subst (λ (n : ℕ). Spells bytes (Marks n value)) (same ∙ end) spells
+
+-- it wasn't appended
+pub returns-in_err-log_mark-clause-added : goal.returns-in_err-log_mark-clause-added
+returns-in_err-log_mark-clause-added g c =
+    let p = err_from_is_err_and c.from_residual-in_err-log_mark.result c.from_residual-in_err-log_mark.ensures.1 in
+    let log = c.log_mark.ensures in
+    let spells = spelled c.release.new.self c.self-2.inside.done (next_end c.self.view) (drop 4 c.in_ok-entry.entry.items) c.args.value.now (ap (λ (d : Demo _). d.done) c.self-2.view_is) c.in_ok-release.ensures.end c.in_ok-entry.ensures.entry in
+    mark_fails g.D.Disk.seen g.D.Disk.may_leave g.D.Disk.faults c.self.view_is c.release.new.self c.release.ensures.same c.in_ok-release.ensures.ran c.in_ok-release.ensures.end c.release.ensures.comes c.release.ensures.later log.small c.log_mark.new.self log.comes log.later (drop 4 c.in_ok-entry.entry.items) log.left c.args.value.now spells log.same
+    c.from_residual-in_err-log_mark.result p.0 p.1 (λ is. log.failed (c.in_err-log_mark.was ∙ ap Err (sym p.2 ∙ is)))
+
+pub returns-in_err-log_mark-clause-starved : goal.returns-in_err-log_mark-clause-starved
+returns-in_err-log_mark-clause-starved g c = λ is.
+    let p = err_from_is_err_and c.from_residual-in_err-log_mark.result c.from_residual-in_err-log_mark.ensures.1 in
+    let same : ◌≡◌ {A = SourceError} p.0 Memory = (let both = sym p.1 ∙ is in cc) in
+    starved_from g.D.Disk.seen g.D.Disk.may_leave g.D.Disk.faults c.self.view_is c.release.new.self c.log_mark.new.self c.in_ok-release.ensures.ran (λ forms lists. c.log_mark.ensures.kept forms lists (c.in_err-log_mark.was ∙ ap Err (sym p.2 ∙ same)))
+
+-- it was
+pub returns-clause-added : goal.returns-clause-added
+returns-clause-added g c =
+    let log = c.log_mark.ensures in
+    let spells = spelled c.release.new.self c.self-2.inside.done (next_end c.self.view) (drop 4 c.in_ok-entry.entry.items) c.args.value.now (ap (λ (d : Demo _). d.done) c.self-2.view_is) c.in_ok-release.ensures.end c.in_ok-entry.ensures.entry in
+    subst (λ (d : Demo _). Adds g.D.Disk.seen g.D.Disk.may_leave g.D.Disk.faults (next_end c.args.self.now) (mark_of c.args.value.now (next_end c.args.self.now)) (AnswersNothing c.args.self.now) c.args.self.now (answering d) (Ok tt)) (sym c.self-3.view_is)
+    (mark_answers g.D.Disk.seen g.D.Disk.may_leave g.D.Disk.faults c.self.view_is c.release.new.self c.release.ensures.same c.in_ok-release.ensures.ran c.in_ok-release.ensures.end c.release.ensures.comes c.release.ensures.later log.small c.log_mark.new.self log.comes log.later (drop 4 c.in_ok-entry.entry.items) log.left c.args.value.now spells log.same
+    c.in_ok-log_mark.ensures.commits c.in_ok-log_mark.ensures.added)

@@ -1,11 +1,14 @@
--- Not seen by the prover: the names of steps are guessed.
-use Rattle.std.proofs.Common.{◌∙◌, Err, ap, sym}
-use Rattle.std.specs.Prelude.{is_some}
+use Rattle.std.proofs.Common.{◌≡◌, ◌∙◌, ◌≤◌, Bool, true, Err, length, ap, sym, subst, arith}
+use Rattle.std.specs.Prelude.{is_some, Ok}
 use Rattle.std.proofs.lemmas.Result.{err_from_is_err_and}
-use Rattle.dbl_running.proofs.ExitLemmas.{dead_is, kept_is}
+use Rattle.dbl_running.specs.Answers.{AddsRead}
 use Rattle.dbl_running.proofs.ReaderLemmas.{read_answers_there, read_fails, read_fails_there}
 use Rattle.dbl_running.specs.Demo.{Demo}
 use Rattle.dbl_demo.proofs.source.DemoSource.answer_read.Goals as goal
+
+-- a source that read, and answers
+abbrev read_so : {D : Type 0} → Demo D → Bool → Demo D
+read_so demo ended = record demo { ended = ended; live = true }
 
 pub release_unread-requires-clause-live : goal.release_unread-requires-clause-live
 release_unread-requires-clause-live g c = c.self.invariant.usable (ap (λ (s : Demo _). s.live) c.self.view_is ∙ c.requires)
@@ -27,8 +30,8 @@ pub returns-in_err-release_unread : goal.returns-in_err-release_unread
 returns-in_err-release_unread g c =
     let p = err_from_is_err_and c.from_residual.result c.from_residual.ensures.1 in
     let ran = c.release_unread.ensures in
-    read_fails g.D.Disk.seen g.D.Disk.may_leave g.D.Disk.faults c.self.view_is c.release_unread.new.self c.from_residual.result p.0 p.1 ran.images (dead_is g.D.Disk.seen g.D.Disk.may_leave g.D.Disk.faults _ c.release_unread.new.self ran.same) ran.comes ran.later (λ is. ran.failed (c.in_err-release_unread.was ∙ ap Err (sym p.2 ∙ is)))
-    (ap (λ (s : Demo _). is_some s.place) ran.same) (kept_is g.D.Disk.seen g.D.Disk.may_leave g.D.Disk.faults _ c.release_unread.new.self ran.same).ended
+    read_fails g.D.Disk.seen g.D.Disk.may_leave g.D.Disk.faults c.self.view_is c.release_unread.new.self c.from_residual.result p.0 p.1 ran.images (ap (λ (d : Demo _). d.live) ran.same) ran.comes ran.later (λ is. ran.failed (c.in_err-release_unread.was ∙ ap Err (sym p.2 ∙ is)))
+    (ap (λ (d : Demo _). is_some d.place) ran.same) (ap (λ (d : Demo _). d.ended) ran.same)
 
 pub returns-in_err-read : goal.returns-in_err-read
 returns-in_err-read g c =
@@ -38,10 +41,13 @@ returns-in_err-read g c =
     read_fails_there g.D.Disk.seen g.D.Disk.may_leave g.D.Disk.faults c.self.view_is c.release_unread.new.self c.next_bytes.new.self ran.same ran.images ran.comes ran.later next.same next.images next.comes next.later next.reading c.from_residual-in_err-read.result p.0 p.1
     (λ is. next.failed (c.in_err-read.was ∙ ap Err (sym p.2 ∙ is)))
 
--- behind the groups the reader's parts are those of the source's invariant, so no more steps are done than there are
+-- no more steps are done than there are, as always
 pub returns : goal.returns
 returns g c =
     let ran = c.release_unread.ensures in
     let next = c.next_bytes.ensures in
-    read_answers_there g.D.Disk.seen g.D.Disk.may_leave g.D.Disk.faults c.self.view_is c.release_unread.new.self c.next_bytes.new.self ran.same ran.images ran.comes ran.later next.same next.images next.comes next.later next.reading c.in_ok-read.read c.is_none.result c.is_none.ensures
-    c.in_ok-release_unread.ensures.ran c.in_ok-read.ensures.read c.in_ok-release_unread.ensures.end c.in_ok-read.ensures.none c.release_unread.new.self.invariant.behind.there
+    let same : c.self-2.view ≡ record c.release_unread.new.self { journal = c.next_bytes.new.self.journal; place = c.next_bytes.new.self.place; described = c.next_bytes.new.self.described; held = c.next_bytes.new.self.held } = c.self-2.view_is ∙ next.same in
+    let upto : c.release_unread.new.self.done ≤ length c.release_unread.new.self.steps = omega (arith, c.self-2.invariant.behind.there, ap (λ (d : Demo _). d.done) same, ap (λ (d : Demo _). length d.steps) same) in
+    subst (λ (d : Demo _). AddsRead g.D.Disk.seen g.D.Disk.may_leave g.D.Disk.faults c.args.self.now (read_so d c.is_none.result) (Ok c.in_ok-read.read)) (sym c.self-2.view_is)
+    (read_answers_there g.D.Disk.seen g.D.Disk.may_leave g.D.Disk.faults c.self.view_is c.release_unread.new.self c.next_bytes.new.self ran.same ran.images ran.comes ran.later next.same next.images next.comes next.later next.reading c.in_ok-read.read c.is_none.result c.is_none.ensures
+    c.in_ok-release_unread.ensures.ran c.in_ok-read.ensures.read c.in_ok-release_unread.ensures.end c.in_ok-read.ensures.none upto)

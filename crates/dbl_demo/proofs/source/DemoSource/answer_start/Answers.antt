@@ -1,15 +1,19 @@
--- Not seen by the prover: the names of steps are guessed.
-use Rattle.std.proofs.Common.{◌∙◌, Err, None, Some, [], ap, sym, refl, arith}
+use Rattle.std.proofs.Common.{◌≡◌, ◌∙◌, ℕ, Bool, true, false, Option, Err, None, Some, [], ap, sym, subst, refl, arith}
 use Rattle.std.proofs.lemmas.Result.{err_from_is_err_and}
-use Rattle.std.proofs.lemmas.Bool.{ltb-true, ltb-false}
-use Rattle.std.specs.Prelude.{if◌then◌else◌}
+use Rattle.std.specs.Prelude.{if◌then◌else◌, Ok}
 use Rattle.dbl_honest.specs.declared.started.Started.TheVariants.{Gone, Ready}
-use Rattle.dbl_running.specs.Answers.{AnswersStart}
-use Rattle.dbl_running.specs.Calls.{next_end}
+use Rattle.dbl_running.specs.Answers.{Adds, AnswersStart}
+use Rattle.dbl_running.specs.Calls.{next_end, started_at}
 use Rattle.dbl_running.proofs.ExitLemmas.{fails_from}
 use Rattle.dbl_running.proofs.ReaderLemmas.{begun_reader, gone_reader, nothing_in, starts_from}
 use Rattle.dbl_running.specs.Demo.{Demo}
+use Rattle.dbl_feed.specs.declared.place.Place.{Place}
+use Rattle.std.specs.BTreeSet.{BTreeSet}
 use Rattle.dbl_demo.proofs.source.DemoSource.answer_start.Goals as goal
+
+-- a source whose reader begins
+abbrev started : {D : Type 0} → Demo D → Option Place → BTreeSet ℕ → Demo D
+started demo place described = record demo { place = place; described = described; held = None; ended = false; live = true }
 
 pub release-requires-clause-live : goal.release-requires-clause-live
 release-requires-clause-live g c = c.self.invariant.usable (ap (λ (s : Demo _). s.live) c.self.view_is ∙ c.requires)
@@ -32,12 +36,18 @@ returns-in_err-release g c =
 -- the log is gone below the confirmed position, which no step moves
 pub returns-then-after-lt : goal.returns-then-after-lt
 returns-then-after-lt g c =
-    let gone = Gone c.self.confirmed in
-    starts_from g.D.Disk.seen g.D.Disk.may_leave g.D.Disk.faults c.self.view_is c.release.new.self c.release.ensures.images c.release.ensures.comes c.release.ensures.later c.in_ok-release.ensures.ran c.in_ok-release.ensures.end c.args.after None c.clear.new.described gone
-    (λ tables log. gone_reader tables log c.clear.new.described None) (ap (λ b. if b then gone else Ready) (sym (ltb-true c.if-after-lt.true))) refl
+    let confirmed : c.self-2.inside.confirmed ≡ c.self.inside.confirmed = ap (λ (d : Demo _). d.confirmed) (c.self-2.view_is ∙ c.release.ensures.same) in
+    let gone = Gone c.self-2.inside.confirmed in
+    let says : gone ≡ started_at c.args.after c.self.inside.confirmed = ap (λ (b : Bool). if b then gone else Ready) (sym c.if-after-lt.true) ∙ ap (started_at c.args.after) confirmed in
+    subst (λ (d : Demo _). Adds g.D.Disk.seen g.D.Disk.may_leave g.D.Disk.faults (next_end c.args.self.now) [] (AnswersStart c.args.after c.args.self.now) c.args.self.now (started d None c.clear.new.described) (Ok gone)) (sym c.self-2.view_is)
+    (starts_from g.D.Disk.seen g.D.Disk.may_leave g.D.Disk.faults c.self.view_is c.release.new.self c.release.ensures.images c.release.ensures.comes c.release.ensures.later c.in_ok-release.ensures.ran c.in_ok-release.ensures.end c.args.after None c.clear.new.described gone
+    (λ tables log. gone_reader tables log c.clear.new.described None) says refl)
 
 pub returns : goal.returns
 returns g c =
-    starts_from g.D.Disk.seen g.D.Disk.may_leave g.D.Disk.faults c.self.view_is c.release.new.self c.release.ensures.images c.release.ensures.comes c.release.ensures.later c.in_ok-release.ensures.ran c.in_ok-release.ensures.end c.args.after
+    let confirmed : c.self-2.inside.confirmed ≡ c.self.inside.confirmed = ap (λ (d : Demo _). d.confirmed) (c.self-2.view_is ∙ c.release.ensures.same) in
+    let says : Ready ≡ started_at c.args.after c.self.inside.confirmed = ap (λ (b : Bool). if b then Gone c.self-2.inside.confirmed else Ready) (sym c.if-after-lt.false) ∙ ap (started_at c.args.after) confirmed in
+    subst (λ (d : Demo _). Adds g.D.Disk.seen g.D.Disk.may_leave g.D.Disk.faults (next_end c.args.self.now) [] (AnswersStart c.args.after c.args.self.now) c.args.self.now (started d (Some (record { after = c.args.after; commits = 0; begun = false; change = 0; table = 0 })) c.clear.new.described) (Ok Ready)) (sym c.self-2.view_is)
+    (starts_from g.D.Disk.seen g.D.Disk.may_leave g.D.Disk.faults c.self.view_is c.release.new.self c.release.ensures.images c.release.ensures.comes c.release.ensures.later c.in_ok-release.ensures.ran c.in_ok-release.ensures.end c.args.after
     (Some (record { after = c.args.after; commits = 0; begun = false; change = 0; table = 0 })) c.clear.new.described Ready
-    (λ tables log. begun_reader tables log c.args.after c.clear.new.described (nothing_in c.clear.new.described c.clear.ensures.empty)) (ap (λ b. if b then Gone c.self.confirmed else Ready) (sym (ltb-false c.if-after-lt.false))) refl
+    (λ tables log. begun_reader tables log c.args.after c.clear.new.described (nothing_in c.clear.new.described c.clear.ensures.empty)) says refl)

@@ -2,7 +2,6 @@ use Rattle.std.proofs.Common.{◌-◌, length}
 use Rattle.dbl_running.specs.Running.{IsReleasing}
 use Rattle.dbl_demo.proofs.source.DemoSource.release.Given as goal
 
--- Unseen: under which name the source stands in `l` before the call and now (`l.fn.self` and `l.self` here).
 abbrev pub invariant-steps : goal.invariant-steps
 invariant-steps g l = IsReleasing g.D.Disk.seen g.D.Disk.may_leave g.D.Disk.faults l.fn.self l.self
 

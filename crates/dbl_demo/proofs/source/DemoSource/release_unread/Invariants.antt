@@ -2,7 +2,6 @@ use Rattle.std.proofs.Common.{◌-◌, length}
 use Rattle.dbl_running.specs.Reading.{HasRunOn}
 use Rattle.dbl_demo.proofs.source.DemoSource.release_unread.Given as goal
 
--- Unseen: under which name the source stands in `l` before the call and now (`l.fn.self` and `l.self` here).
 abbrev pub invariant-groups : goal.invariant-groups
 invariant-groups g l = HasRunOn g.D.Disk.seen g.D.Disk.may_leave g.D.Disk.faults l.fn.self l.self
 

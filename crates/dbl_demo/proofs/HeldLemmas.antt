@@ -1,8 +1,9 @@
 -- The commit at the reader's place, as it was read from the disk, and the message of it that is read next.
-use Rattle.std.proofs.Common.{◌≡◌, ◌∙◌, ◌⊎◌, ℕ, zero, suc, ◌+◌, ◌-◌, ◌<◌, ◌≤◌, ◌^◌, Bool, true, false, Option, None, Some, List, [], ◌∷◌, length, refl, sym, ap, subst, arith, inl, inr}
-use Rattle.std.specs.Prelude.{slice_get, IsSome}
+use Rattle.std.proofs.Common.{Bor, ◌≡◌, ◌∙◌, ◌⊎◌, ℕ, zero, suc, ◌+◌, ◌-◌, ◌<◌, ◌≤◌, ◌^◌, Bool, true, false, Option, None, Some, List, [], ◌∷◌, length, refl, sym, ap, subst, arith, inl, inr}
+use Rattle.std.specs.Prelude.{slice_get, IsSome, option_copied}
+use Rattle.std.specs.Slice.{IsItemAt}
 use Rattle.std.specs.BTreeSet.{BTreeSet}
-use Rattle.std.proofs.lemmas.Option.{slice_get_within}
+use Rattle.std.proofs.lemmas.Option.{slice_get_read, slice_get_within}
 use Rattle.dbl_pgmsg.specs.declared.messages.Message.{Message}
 use Rattle.dbl_feed.specs.declared.logged.Logged.{Logged}
 use Rattle.dbl_feed.specs.declared.place.Place.{Place}
@@ -106,3 +107,13 @@ module _ {D : Type 0} (seen : D → Option (List ℕ)) (may_leave : D → List �
     one_read described held remembers holds =
         let more : Describes described (next.message ∷ told_at old.tables log place) = remembers next.message (told_at old.tables log place) (sym next.described) (running.reader.recalled place at) in
         read_behind seen may_leave old wal place running at step next described held (subst (Describes described) (sym next.told) more) holds
+
+-- ---- the number of a commit's entry, as it is looked up
+
+pub number_none : (xs : List ℕ) (at : ℕ) (found : Option (Bor ℕ)) → IsItemAt xs at found → option_copied found ≡ None → length xs ≤ at
+number_none xs at None item is = item.3
+number_none xs at (Some x) item is = absurd (let wrong : ◌≡◌ {A = Option ℕ} (Some x.now) None = is in cc)
+
+pub number_some : (xs : List ℕ) (at number : ℕ) (found : Option (Bor ℕ)) → IsItemAt xs at found → option_copied found ≡ Some number → slice_get xs at ≡ Some number
+number_some xs at number None item is = absurd (let wrong : ◌≡◌ {A = Option ℕ} None (Some number) = is in cc)
+number_some xs at number (Some x) item is = slice_get_read xs (length xs) at x.now refl item.3.0 item.1 ∙ is

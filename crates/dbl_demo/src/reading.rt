@@ -34,7 +34,8 @@ fn commit_in(alloc: Global, bytes: &[u8]) -> Result<Option<Logged>, SourceError>
     match decode(alloc, bytes) {
         Ok(Entry::Commits { steps: _, messages }) => Ok(Some(Logged::Changes(messages))),
         Ok(Entry::Marks { steps: _, value }) => Ok(Some(Logged::Mark(value))),
-        Ok(Entry::Confirms { upto: _ }) | Err(EntryError::Bad) => Ok(None),
+        Ok(Entry::Confirms { upto: _ }) => Ok(None),
+        Err(EntryError::Bad) => Ok(None),
         Err(EntryError::Memory) => Err(SourceError::Memory),
     }
 }
@@ -91,6 +92,7 @@ impl<D: Disk> DemoSource<D> {
             → self.old.held ≡ slice_get (logged_in wal.entries) index → IsSome self.old.held
             → IfOk result (ReadsNext D.seen D.may_leave wal place self.new) }
         ensures some { IsSome self.old.held → IfOk result IsSome }
+        ensures reading { IsSome self.old.place → IsSome self.new.place }
         ensures same { self.new ≡ record self.old {
           place = self.new.place;
           described = self.new.described;

@@ -56,7 +56,7 @@ returns-in_err-log_confirm-clause-added g c =
     let log = c.log_confirm.ensures in
     let before = ap (λ (d : Demo _). d.confirmed.0) c.self-2.view_is in
     let parts = ap (λ (d : Demo _). d.confirmed.0) (c.self-2.view_is ∙ c.release.ensures.same) in
-    let own : confirm_of c.self.view.confirmed c.args.upto ≡ Confirms c.args.upto ∷ [] = ap (λ (b : Bool). if b then Confirms c.args.upto ∷ [] else []) (ap (λ (n : ℕ). nat_lt n c.args.upto.0) (sym parts) ∙ c.if-lt.true) in
+    let own : confirm_of c.self.inside.confirmed c.args.upto ≡ Confirms c.args.upto ∷ [] = ap (λ (b : Bool). if b then Confirms c.args.upto ∷ [] else []) (ap (λ (n : ℕ). nat_lt n c.args.upto.0) (sym parts) ∙ c.if-lt.true) in
     confirm_fails g.D.Disk.seen g.D.Disk.may_leave g.D.Disk.faults c.self.view_is c.release.new.self c.release.ensures.same c.in_ok-release.ensures.ran c.in_ok-release.ensures.end c.release.ensures.comes c.release.ensures.later log.small c.log_confirm.new.self log.comes log.later (drop 4 c.in_ok-entry.entry.items) log.left
     c.args.upto c.in_ok-entry.ensures.entry (omega (arith, before, c.if-lt.true)) own log.same
     c.from_residual-in_err-log_confirm.result p.0 p.1 (λ is. log.failed (c.in_err-log_confirm.was ∙ ap Err (sym p.2 ∙ is)))

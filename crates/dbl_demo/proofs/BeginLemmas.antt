@@ -1,10 +1,12 @@
--- The first entries of a log are appended: which fault that can have, how many they are, and how long the disk gets.
+-- The first entries of a log are appended: which fault that can have, how many they are, how long the disk gets, and what is left
+-- of it.
 use Rattle.std.proofs.Common.{◌≡◌, ◌∙◌, ◌⊎◌, ℕ, ◌+◌, ◌<◌, ◌≤◌, ◌^◌, Option, None, Some, Result, Ok, Err, List, [], ◌∷◌, ◌++◌, length, max, refl, sym, ap, subst, arith, inl, inr}
 use Rattle.std.specs.Prelude.{IfSome}
 use Rattle.dbl_pgmsg.specs.declared.messages.Message.{Message}
 use Rattle.dbl_journal.specs.declared.error.JournalError.{JournalError}
 use Rattle.dbl_journal.specs.declared.error.JournalError.TheVariants as broken
-use Rattle.dbl_journal.specs.Stored.{size}
+use Rattle.dbl_base.specs.Streams.{Rose}
+use Rattle.dbl_journal.specs.Stored.{IsSteady, Lists, OnDisk, size}
 use Rattle.dbl_wal.specs.declared.entry.Entry.TheVariants.{Commits}
 use Rattle.dbl_wal.specs.Entries.{Spells, entry_form, workload_form}
 use Rattle.dbl_sound.proofs.SizeLemmas.{commit_size}
@@ -12,24 +14,23 @@ use Rattle.dbl_serial.specs.Sending.{entry_limit, entry_size}
 use Rattle.dbl_workload.specs.declared.error.DemoError.{DemoError}
 use Rattle.dbl_workload.specs.declared.error.DemoError.TheVariants as fault
 use Rattle.dbl_workload.specs.Errors.{journal_error}
+use Rattle.dbl_workload.specs.Logs.{IsFailed}
 use Rattle.dbl_workload.specs.Steps.{FitAnEntry}
 use Rattle.dbl_running.specs.Made.{first_forms}
-use Rattle.dbl_running.proofs.MakeLemmas.{first_less, grew_once, grew_twice}
+use Rattle.dbl_running.proofs.MakeLemmas.{first_less, first_small, grew_once, grew_twice, none_small}
+use Rattle.dbl_demo.specs.Begun.{IsBeginFault, IsDiskBegun}
 
 -- ---- the fault of an entry that isn't too long
 
-abbrev IsKind : DemoError → Type 0
-IsKind e = (e ≡ fault.Memory) ⊎ (e ≡ fault.Journal broken.Failed)
-
-kind_of : (e : JournalError) → ((at : ℕ) → e ≡ broken.NotAJournal at → ⊥) → ((len : ℕ) → e ≡ broken.EntryTooLong len → ⊥) → IsKind (journal_error e)
+kind_of : (e : JournalError) → ((at : ℕ) → e ≡ broken.NotAJournal at → ⊥) → ((len : ℕ) → e ≡ broken.EntryTooLong len → ⊥) → IsBeginFault (journal_error e)
 kind_of broken.Failed no_journal short = inr refl
 kind_of (broken.NotAJournal at) no_journal short = absurd (no_journal at refl)
 kind_of (broken.EntryTooLong len) no_journal short = absurd (short len refl)
 kind_of broken.Memory no_journal short = inl refl
 
-pub append_kind : (result : Result Unit JournalError) (e : JournalError) (f : DemoError) → result ≡ Err e → f ≡ journal_error e → ((at : ℕ) → result ≡ Err (broken.NotAJournal at) → ⊥) → ((len : ℕ) → result ≡ Err (broken.EntryTooLong len) → ⊥) → IsKind f
+pub append_kind : (result : Result Unit JournalError) (e : JournalError) (f : DemoError) → result ≡ Err e → f ≡ journal_error e → ((at : ℕ) → result ≡ Err (broken.NotAJournal at) → ⊥) → ((len : ℕ) → result ≡ Err (broken.EntryTooLong len) → ⊥) → IsBeginFault f
 append_kind result e f is told no_journal short =
-    subst IsKind (sym told) (kind_of e (λ at same. no_journal at (is ∙ ap Err same)) (λ len same. short len (is ∙ ap Err same)))
+    subst IsBeginFault (sym told) (kind_of e (λ at same. no_journal at (is ∙ ap Err same)) (λ len same. short len (is ∙ ap Err same)))
 
 workload_size : (script : List ℕ) → length (workload_form script) ≡ 1 + length script
 unfolding workload_form
@@ -66,3 +67,43 @@ grown_twice script first second rows messages old mid new some is spells once ag
     ap (λ (w : List ℕ). size (w ∷ second ∷ [])) is ∙ ap (λ (w : List ℕ). size (workload_form script ∷ w ∷ [])) spells.spelled ∙ ap (λ (o : Option (List Message)). size (first_forms script o)) (sym some) in
     let less : size ([] ++ first ∷ []) ≤ size (first_forms script rows) = subst (λ (w : List ℕ). size (w ∷ []) ≤ size (first_forms script rows)) (sym is) (first_less script rows) in
     grew_twice old mid new (size ([] ++ first ∷ [])) (size (first_forms script rows)) once (subst (λ (n : ℕ). new ≤ max mid n) whole again) less
+
+-- ---- what is left of the disk
+
+-- the journal couldn't be made
+pub unmade_disk : {D : Type 0} (seen : D → Option (List ℕ)) (faults : D → ℕ) (old new : D) (e : DemoError) → ((bytes : List ℕ) → seen old ≡ Some [] → seen new ≡ Some bytes → length bytes ≤ size []) → faults old ≤ faults new → Rose (faults old) (faults new) → IsFailed e
+    → IsDiskBegun seen faults (IsFailed e) old new
+unmade_disk seen faults old new e short later rose failed = record {
+  small = λ told bytes is. omega (arith, none_small, short bytes told is);
+  later = later;
+  cause = λ again. rose;
+  steady = λ no. absurd (no failed);
+}
+
+-- it was made, and entries were appended, or not all
+module _ {D : Type 0} (seen : D → Option (List ℕ)) (may_leave : D → List ℕ → Type 0) (faults : D → ℕ) (disk : D) (first last : OnDisk D) (all : List (List ℕ)) where
+  abbrev Grows : Type 0
+  Grows = (old new : List ℕ) → Lists seen may_leave first [] → seen first.disk ≡ Some old → seen last.disk ≡ Some new → length new ≤ max (length old) (size all)
+
+  abbrev IsMade : Type 0
+  IsMade = seen disk ≡ Some [] → Lists seen may_leave first []
+
+  begun_small : IsMade → ((bytes : List ℕ) → seen disk ≡ Some [] → seen first.disk ≡ Some bytes → length bytes ≤ size []) → Grows → size all ≤ 2 ^ 30 → seen disk ≡ Some [] → (bytes : List ℕ) → seen last.disk ≡ Some bytes → length bytes ≤ 2 ^ 30
+  begun_small made once grows small told bytes is =
+      let lists = made told in
+      let short : length lists.bytes ≤ size [] = once lists.bytes told lists.told in
+      omega (arith, small, none_small, short, grows lists.bytes bytes lists lists.told is)
+
+  begun_steady : ((bytes : List ℕ) → seen disk ≡ Some bytes → bytes ≡ []) → IsMade → IsSteady seen faults disk first.disk → IsSteady seen faults first.disk last.disk → IsSteady seen faults disk last.disk
+  begun_steady empty made one two bytes told =
+      let lists = made (told ∙ ap Some (empty bytes told)) in
+      two lists.bytes lists.told ∙ one bytes told
+
+  pub begun_disk : (failed : Type 0) → ((bytes : List ℕ) → seen disk ≡ Some bytes → bytes ≡ []) → IsMade → ((bytes : List ℕ) → seen disk ≡ Some [] → seen first.disk ≡ Some bytes → length bytes ≤ size []) → Grows → size all ≤ 2 ^ 30
+      → faults disk ≤ faults first.disk → faults first.disk ≤ faults last.disk → (failed → Rose (faults first.disk) (faults last.disk)) → IsSteady seen faults disk first.disk → ((failed → ⊥) → IsSteady seen faults first.disk last.disk) → IsDiskBegun seen faults failed disk last.disk
+  begun_disk failed empty made once grows small later on cause one two = record {
+    small = begun_small made once grows small;
+    later = omega (arith, later, on);
+    cause = λ is. (let rose = cause is in omega (arith, later, rose));
+    steady = λ no. begun_steady empty made one (two no);
+  }

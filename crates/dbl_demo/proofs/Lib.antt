@@ -5,3 +5,5 @@ pub mod NumberLemmas
 pub mod BeginLemmas
 pub mod HeldLemmas
 pub mod OwnExits
+pub mod MakingLemmas
+pub mod OpeningLemmas

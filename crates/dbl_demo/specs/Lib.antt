@@ -1,2 +1,2 @@
 pub mod Errors
-pub mod Numbers
+pub mod Begun

@@ -4,6 +4,7 @@
 mod answering;
 mod appending;
 mod calls;
+mod making;
 mod opening;
 mod reading;
 mod releasing;

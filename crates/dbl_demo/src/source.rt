@@ -1,31 +1,27 @@
-ghost use Rattle.std.specs.Prelude.{◌≡◌, ◌≢◌, ◌⊎◌, ℕ, ◌<◌, ◌≤◌, ◌^◌, List, [], Some, None, Err, IfSome, IfOk, IfErr, OnOk, IsTrue, MatchResult, length, max, option_map, map};
+ghost use Rattle.std.specs.Prelude.{◌≡◌, ◌≢◌, ◌⊎◌, ℕ, ◌<◌, ◌≤◌, ◌^◌, List, [], Some, None, IfOk, IfErr, IsTrue, MatchResult, length, map};
 ghost use Rattle.dbl_base.specs.Streams.{Rose};
 ghost use Rattle.dbl_disk.specs.Disks.{IsOnly};
 ghost use Rattle.dbl_journal.specs.Form.{IsFaultAt};
-ghost use Rattle.dbl_journal.specs.Stored.{IsSteady, Lists, count_of, size};
+ghost use Rattle.dbl_journal.specs.Stored.{IsSteady};
 ghost use Rattle.dbl_sound.specs.Sound.{steps_in};
 ghost use Rattle.dbl_sound.specs.Wals.{HasBadEntry, IsWal, Wal};
 ghost use Rattle.dbl_sound.specs.Workloads.{IsWorkload, Workload, steps_of};
 ghost use Rattle.dbl_running.specs.Demo.{IsDemo};
 ghost use Rattle.dbl_demo.specs.Errors.{IsMakeFault, IsOpenFault};
-ghost use Rattle.dbl_demo.specs.Numbers.{numbers_of};
-ghost use Rattle.dbl_running.specs.Made.{first_forms, IsFirst};
-ghost use Rattle.dbl_workload.specs.Ready.{IsReady};
+ghost use Rattle.dbl_running.specs.Made.{IsFirst};
 ghost use Rattle.dbl_workload.specs.Refusals.{IsRefused};
-ghost use Rattle.dbl_workload.specs.Steps.{FitAnEntry};
 
 use crate::DemoError;
+use crate::making::{first_numbers, first_source, make_log};
 use crate::opening::open_journal;
 use dbl_base::Lsn;
 use dbl_disk::{Disk, Refused};
 use dbl_feed::{LogTable, Logged, Place};
 use dbl_journal::{Journal, JournalError};
-use dbl_pgmsg::Message;
 use dbl_script::Step;
 use dbl_table::TableName;
 use dbl_tables::Tables;
-use dbl_wal::{commit_entry, workload_entry};
-use dbl_workload::{Prepared, prepare};
+use dbl_workload::prepare;
 use std::alloc::Global;
 use std::collections::BTreeSet;
 use std::marker::Model;
@@ -85,44 +81,6 @@ impl<D: Disk> Model for DemoSource<D> {
         s.journal s.store s.steps.items s.done s.commits.items s.place s.live };
 }
 
-// Appends the first entries of a wal: the workload, and the commit of its rows.
-fn begin_log<D: Disk>(
-    alloc: Global,
-    journal: &mut Journal<D>,
-    bytes: &[u8],
-    rows: Option<&[Message]>,
-) -> Result<(), DemoError>
-    requires live { IsTrue journal.old.live }
-    requires short { length bytes.now < 2 ^ 28 }
-    requires fits { IfSome rows (λ rows. FitAnEntry rows.now) }
-    ensures begun { Lists D.seen D.may_leave journal.old []
-        → OnOk result (Lists D.seen D.may_leave journal.new
-        (first_forms bytes.now (option_map (λ rows. rows.now) rows.entry))) }
-    ensures live { OnOk result (IsTrue journal.new.live) }
-    ensures count { OnOk result (count_of journal.new
-        ≡ length (first_forms bytes.now (option_map (λ rows. rows.now) rows.entry))) }
-    ensures kinds { IfErr result (λ e. (e ≡ DemoError.Memory)
-        ⊎ (e ≡ DemoError.Journal JournalError.Failed)) }
-    ensures failed { result ≡ Err (DemoError.Journal JournalError.Failed)
-        → Rose (D.faults journal.old.disk) (D.faults journal.new.disk) }
-    ensures grows { (old new : List ℕ) → Lists D.seen D.may_leave journal.old []
-        → D.seen journal.old.disk ≡ Some old → D.seen journal.new.disk ≡ Some new
-        → length new ≤ max (length old)
-        (size (first_forms bytes.now (option_map (λ rows. rows.now) rows.entry))) }
-    ensures later { D.faults journal.old.disk ≤ D.faults journal.new.disk }
-    ensures steady { result ≢ Err (DemoError.Journal JournalError.Failed)
-        → IsSteady D.seen D.faults journal.old.disk journal.new.disk }
-{
-    journal.append_built(workload_entry(alloc, bytes)?)?;
-    match rows {
-        Some(rows) => {
-            journal.append_built(commit_entry(alloc, 0, rows)?)?;
-            Ok(())
-        }
-        None => Ok(()),
-    }
-}
-
 impl<D: Disk> DemoSource<D> {
     /// A source that begins with a workload, on an empty disk. The workload's lines, its tables and its rows are looked at before the
     /// first call of the disk, so that no byte is written of one that is refused; memory may be wanting later too.
@@ -166,27 +124,12 @@ impl<D: Disk> DemoSource<D> {
             Ok(prepared) => prepared,
             Err(error) => return Err(Refused { disk, error }),
         };
-        let mut journal = match Journal::make(alloc, disk) {
-            Ok(journal) => journal,
-            Err(Refused { disk, error }) => {
-                return Err(Refused {
-                    disk,
-                    error: DemoError::from(error),
-                });
-            }
+        let commits = match first_numbers(alloc, prepared.rows.is_some()) {
+            Ok(commits) => commits,
+            Err(error) => return Err(Refused { disk, error }),
         };
-        let rows = match &prepared.rows {
-            Some(rows) => Some(rows.items().as_slice()),
-            None => None,
-        };
-        let begun = begin_log(alloc, &mut journal, workload, rows);
-        if let Err(error) = begun {
-            return Err(Refused {
-                disk: journal.into_disk(),
-                error,
-            });
-        }
-        first_source(alloc, journal, prepared)
+        let journal = make_log(alloc, disk, workload, &prepared)?;
+        Ok(first_source(alloc, journal, prepared, commits))
     }
 
     /// The source on a disk, as a stop may have left it. It begins with a sync, and reads each entry once; the workload's steps are
@@ -196,6 +139,9 @@ impl<D: Disk> DemoSource<D> {
         ensures opened { (bytes : List ℕ) → D.seen disk ≡ Some bytes
             → IfOk result (λ source. (wal : Wal) × IsWal bytes wal
             × IsDemo D.seen D.may_leave wal source × (source.done ≡ steps_in wal.entries)) }
+        // Of every disk, also one that tells nothing.
+        ensures named { IfOk result (λ source. (script : List ℕ) × (w : Workload)
+            × IsWorkload script w × (source.names ≡ map (λ table. table.info.name) w.tables)) }
         ensures unread { IfOk result (λ source. source.place ≡ None) }
         ensures live { IfOk result (λ source. IsTrue source.live) }
         ensures bad { (bytes : List ℕ) (index : ℕ) → D.seen disk ≡ Some bytes
@@ -264,69 +210,4 @@ impl<D: Disk> DemoSource<D> {
         } = self;
         journal.into_disk()
     }
-}
-
-// The numbers of the first commits: 1 is that of rows, where there are any.
-fn first_numbers(alloc: Global, has_rows: bool) -> Result<Vec<u64>, DemoError>
-    ensures numbers { IfOk result (λ numbers. numbers.items ≡ numbers_of has_rows) }
-    ensures memory { IfErr result (λ e. e ≡ DemoError.Memory) }
-{
-    let mut numbers = Vec::new(alloc);
-    if has_rows {
-        numbers.push(1)?;
-    }
-    Ok(numbers)
-}
-
-// The source over a journal to which the first entries were appended.
-fn first_source<D: Disk>(
-    alloc: Global,
-    journal: Journal<D>,
-    prepared: Prepared,
-) -> Result<DemoSource<D>, Refused<D, DemoError>>
-    requires live { IsTrue journal.live }
-    requires ready { (script : List ℕ) × (w : Workload) × IsWorkload script w
-        × IsReady w prepared
-        × (count_of journal ≡ length (first_forms script prepared.rows)) }
-    ensures made { (script : List ℕ) (w : Workload) → IsWorkload script w → IsReady w prepared
-        → Lists D.seen D.may_leave journal (first_forms script prepared.rows)
-        → IfOk result (λ source. (wal : Wal) × IsDemo D.seen D.may_leave wal source
-        × IsFirst script wal × (source.done ≡ 0)) }
-    ensures unread { IfOk result (λ source. source.place ≡ None) }
-    ensures live { IfOk result (λ source. IsTrue source.live) }
-    ensures journal { MatchResult result (λ source. source.journal ≡ journal)
-        (λ refused. (refused.disk ≡ journal.disk) × (refused.error ≡ DemoError.Memory)) }
-{
-    let Prepared {
-        names,
-        tables,
-        store,
-        steps,
-        rows,
-    } = prepared;
-    let commits = match first_numbers(alloc, rows.is_some()) {
-        Ok(commits) => commits,
-        Err(error) => {
-            return Err(Refused {
-                disk: journal.into_disk(),
-                error,
-            });
-        }
-    };
-    Ok(DemoSource {
-        alloc,
-        journal,
-        names,
-        tables,
-        store,
-        steps,
-        done: 0,
-        commits,
-        confirmed: Lsn(0),
-        place: None,
-        described: BTreeSet::new(alloc),
-        held: None,
-        ended: false,
-        live: true,
-    })
 }

@@ -1,0 +1,76 @@
+use Rattle.std.proofs.Common.{◌≡◌, ◌∙◌, Some, sym, arith}
+use Rattle.std.proofs.lemmas.Result.{IfErr-weaker, IfOk-weaker, MatchResult-weaker}
+use Rattle.dbl_running.proofs.OpenLemmas.{bad_of_bytes, only_on, wal_of_bytes}
+use Rattle.dbl_demo.proofs.OpeningLemmas.{as_failed, as_no_journal, is_failed, journal_kind, log_journal, log_kind, no_bad_entry}
+use Rattle.dbl_demo.proofs.source.DemoSource.open.Goals as goal
+
+-- ---- its entries were read
+
+pub returns-in-Ok-clause-opened : goal.returns-in-Ok-clause-opened
+returns-in-Ok-clause-opened g c = λ bytes told.
+    let opened = c.in-Ok.ensures.opened bytes told in
+    IfOk-weaker c.open_journal.result _ _ (λ source found. wal_of_bytes g.D.Disk.seen g.D.Disk.may_leave bytes opened.0 opened.1 _ found) (c.open_journal.ensures.opened opened.0 opened.2)
+
+pub returns-in-Ok-clause-bad : goal.returns-in-Ok-clause-bad
+returns-in-Ok-clause-bad g c = λ bytes index told.
+    let opened = c.in-Ok.ensures.opened bytes told in
+    IfErr-weaker c.open_journal.result _ _ (λ refused bad is. bad_of_bytes g.D.Disk.seen g.D.Disk.may_leave bytes opened.0 opened.1 index (bad is)) (c.open_journal.ensures.bad opened.0 index opened.2)
+
+pub returns-in-Ok-clause-not_a_journal : goal.returns-in-Ok-clause-not_a_journal
+returns-in-Ok-clause-not_a_journal g c = λ bytes at told.
+    IfErr-weaker c.open_journal.result _ _ (λ refused kinds is. absurd (log_journal refused.error kinds at is)) c.open_journal.ensures.kinds
+
+pub returns-in-Ok-clause-kinds : goal.returns-in-Ok-clause-kinds
+returns-in-Ok-clause-kinds g c =
+    IfErr-weaker c.open_journal.result _ _ (λ refused kinds. log_kind refused.error kinds) c.open_journal.ensures.kinds
+
+pub returns-in-Ok-clause-failed : goal.returns-in-Ok-clause-failed
+returns-in-Ok-clause-failed g c =
+    let later = c.in-Ok.ensures.later in
+    MatchResult-weaker c.open_journal.result c.open_journal.ensures.read (λ source read. tt) (λ refused read is. omega (arith, later, read.cause is))
+
+pub returns-in-Ok-clause-seen : goal.returns-in-Ok-clause-seen
+returns-in-Ok-clause-seen g c =
+    MatchResult-weaker c.open_journal.result c.open_journal.ensures.read (λ source read. read.same ∙ c.in-Ok.ensures.seen) (λ refused read. read.same ∙ c.in-Ok.ensures.seen)
+
+pub returns-in-Ok-clause-images : goal.returns-in-Ok-clause-images
+returns-in-Ok-clause-images g c = λ image.
+    MatchResult-weaker c.open_journal.result c.open_journal.ensures.read (λ source read may. c.in-Ok.ensures.images image (read.images image may)) (λ refused read may. c.in-Ok.ensures.images image (read.images image may))
+
+pub returns-in-Ok-clause-stable : goal.returns-in-Ok-clause-stable
+returns-in-Ok-clause-stable g c = λ bytes told.
+    let opened = c.in-Ok.ensures.opened bytes told in
+    let is : Some opened.2.bytes ≡ Some bytes = sym opened.2.told ∙ c.in-Ok.ensures.seen ∙ told in
+    let same : opened.2.bytes ≡ bytes = cc in
+    MatchResult-weaker c.open_journal.result c.open_journal.ensures.read (λ source read image may. opened.2.only image (read.images image may) ∙ same) (λ refused read no image may. opened.2.only image (read.images image may) ∙ same)
+
+pub returns-in-Ok-clause-later : goal.returns-in-Ok-clause-later
+returns-in-Ok-clause-later g c =
+    let later = c.in-Ok.ensures.later in
+    MatchResult-weaker c.open_journal.result c.open_journal.ensures.read (λ source read. omega (arith, later, read.later)) (λ refused read. omega (arith, later, read.later))
+
+pub returns-in-Ok-clause-steady : goal.returns-in-Ok-clause-steady
+returns-in-Ok-clause-steady g c =
+    MatchResult-weaker c.open_journal.result c.open_journal.ensures.read
+    (λ source read bytes told. read.steady (λ never. never) bytes (c.in-Ok.ensures.seen ∙ told) ∙ c.in-Ok.ensures.steady bytes told)
+    (λ refused read no bytes told. read.steady no bytes (c.in-Ok.ensures.seen ∙ told) ∙ c.in-Ok.ensures.steady bytes told)
+
+-- ---- the journal couldn't be opened
+
+pub returns-in-Err-clause-bad : goal.returns-in-Err-clause-bad
+returns-in-Err-clause-bad g c = λ bytes index told is. absurd (no_bad_entry c.in-Err.error c.from.result c.from.ensures index is)
+
+pub returns-in-Err-clause-not_a_journal : goal.returns-in-Err-clause-not_a_journal
+returns-in-Err-clause-not_a_journal g c = λ bytes at told is. c.in-Err.ensures.refused bytes told at (as_no_journal c.in-Err.error c.from.result c.from.ensures at is)
+
+pub returns-in-Err-clause-kinds : goal.returns-in-Err-clause-kinds
+returns-in-Err-clause-kinds g c = journal_kind c.in-Err.error c.from.result c.from.ensures c.in-Err.ensures.short
+
+pub returns-in-Err-clause-failed : goal.returns-in-Err-clause-failed
+returns-in-Err-clause-failed g c = λ is. c.in-Err.ensures.failed (as_failed c.in-Err.error c.from.result c.from.ensures is)
+
+pub returns-in-Err-clause-stable : goal.returns-in-Err-clause-stable
+returns-in-Err-clause-stable g c = λ bytes told no. c.in-Err.ensures.stable bytes told (λ is. no (is_failed c.in-Err.error c.from.result c.from.ensures is))
+
+pub returns-in-Err-clause-steady : goal.returns-in-Err-clause-steady
+returns-in-Err-clause-steady g c = λ no bytes told. c.in-Err.ensures.steady bytes told (λ is. no (is_failed c.in-Err.error c.from.result c.from.ensures is))

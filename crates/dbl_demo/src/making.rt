@@ -1,0 +1,157 @@
+//! A log that begins.
+
+ghost use Rattle.std.specs.Prelude.{◌≡◌, ◌≢◌, ◌⊎◌, ℕ, ◌<◌, ◌≤◌, ◌^◌, List, [], Some, None, Err, IfSome, IfOk, IfErr, OnOk, IsTrue, MatchResult, is_some, length, max};
+ghost use Rattle.dbl_base.specs.Streams.{Rose};
+ghost use Rattle.dbl_journal.specs.Stored.{IsSteady, Lists, count_of, size};
+ghost use Rattle.dbl_sound.specs.Wals.{Wal};
+ghost use Rattle.dbl_sound.specs.Workloads.{IsWorkload, Workload};
+ghost use Rattle.dbl_running.specs.Demo.{IsDemo};
+ghost use Rattle.dbl_running.specs.Made.{first_forms, IsFirst};
+ghost use Rattle.dbl_workload.specs.Logs.{IsFailed};
+ghost use Rattle.dbl_workload.specs.Ready.{IsReady};
+ghost use Rattle.dbl_workload.specs.Steps.{FitAnEntry};
+ghost use Rattle.dbl_demo.specs.Begun.{IsBeginFault, IsDiskBegun, numbers_of};
+
+use crate::{DemoError, DemoSource};
+use dbl_base::Lsn;
+use dbl_disk::{Disk, Refused};
+use dbl_journal::{Journal, JournalError};
+use dbl_wal::{commit_entry, workload_entry};
+use dbl_workload::Prepared;
+use std::alloc::Global;
+use std::collections::BTreeSet;
+
+/// The numbers of the first commits' entries: 1 is that of the rows, where there are any.
+pub(crate) fn first_numbers(alloc: Global, has_rows: bool) -> Result<Vec<u64>, DemoError>
+    ensures numbers { IfOk result (λ numbers. numbers.items ≡ numbers_of has_rows) }
+    ensures memory { IfErr result (λ e. e ≡ DemoError.Memory) }
+{
+    let mut numbers = Vec::new(alloc);
+    if has_rows {
+        numbers.push(1)?;
+    }
+    Ok(numbers)
+}
+
+// Appends the first entries of a wal: the workload, and the commit of its rows.
+fn begin_log<D: Disk>(
+    alloc: Global,
+    journal: &mut Journal<D>,
+    bytes: &[u8],
+    prepared: &Prepared,
+) -> Result<(), DemoError>
+    requires live { IsTrue journal.old.live }
+    requires empty { count_of journal.old ≡ 0 }
+    requires short { length bytes.now < 2 ^ 28 }
+    requires fits { IfSome prepared.now.rows FitAnEntry }
+    ensures begun { Lists D.seen D.may_leave journal.old []
+        → OnOk result (Lists D.seen D.may_leave journal.new
+        (first_forms bytes.now prepared.now.rows)) }
+    ensures live { OnOk result (IsTrue journal.new.live) }
+    ensures count { OnOk result (count_of journal.new
+        ≡ length (first_forms bytes.now prepared.now.rows)) }
+    ensures kinds { IfErr result IsBeginFault }
+    ensures failed { result ≡ Err (DemoError.Journal JournalError.Failed)
+        → Rose (D.faults journal.old.disk) (D.faults journal.new.disk) }
+    ensures grows { (old new : List ℕ) → Lists D.seen D.may_leave journal.old []
+        → D.seen journal.old.disk ≡ Some old → D.seen journal.new.disk ≡ Some new
+        → length new ≤ max (length old)
+        (size (first_forms bytes.now prepared.now.rows)) }
+    ensures later { D.faults journal.old.disk ≤ D.faults journal.new.disk }
+    ensures steady { result ≢ Err (DemoError.Journal JournalError.Failed)
+        → IsSteady D.seen D.faults journal.old.disk journal.new.disk }
+{
+    journal.append_built(workload_entry(alloc, bytes)?)?;
+    match &prepared.rows {
+        Some(rows) => {
+            journal.append_built(commit_entry(alloc, 0, rows.items().as_slice())?)?;
+            Ok(())
+        }
+        None => Ok(()),
+    }
+}
+
+/// A journal on an empty disk, with the first entries of a wal.
+pub(crate) fn make_log<D: Disk>(
+    alloc: Global,
+    disk: D,
+    bytes: &[u8],
+    prepared: &Prepared,
+) -> Result<Journal<D>, Refused<D, DemoError>>
+    requires empty { (was : List ℕ) → D.seen disk ≡ Some was → was ≡ [] }
+    requires short { length bytes.now < 2 ^ 28 }
+    requires fits { IfSome prepared.now.rows FitAnEntry }
+    ensures begun { D.seen disk ≡ Some [] → IfOk result (λ journal.
+        Lists D.seen D.may_leave journal (first_forms bytes.now prepared.now.rows)) }
+    ensures live { IfOk result (λ journal. IsTrue journal.live) }
+    ensures count { IfOk result (λ journal. count_of journal
+        ≡ length (first_forms bytes.now prepared.now.rows)) }
+    ensures kinds { IfErr result (λ refused. IsBeginFault refused.error) }
+    ensures disk { MatchResult result
+        (λ journal. IsDiskBegun D.seen D.faults ⊥ disk journal.disk)
+        (λ refused. IsDiskBegun D.seen D.faults (IsFailed refused.error) disk refused.disk) }
+{
+    let mut journal = match Journal::make(alloc, disk) {
+        Ok(journal) => journal,
+        Err(Refused { disk, error }) => {
+            return Err(Refused {
+                disk,
+                error: DemoError::from(error),
+            });
+        }
+    };
+    match begin_log(alloc, &mut journal, bytes, prepared) {
+        Ok(()) => Ok(journal),
+        Err(error) => Err(Refused {
+            disk: journal.into_disk(),
+            error,
+        }),
+    }
+}
+
+/// The source over a journal with the first entries of a wal; `commits` are the numbers of those that are commits.
+pub(crate) fn first_source<D: Disk>(
+    alloc: Global,
+    journal: Journal<D>,
+    prepared: Prepared,
+    commits: Vec<u64>,
+) -> DemoSource<D>
+    requires live { IsTrue journal.live }
+    requires ready { (script : List ℕ) × (w : Workload) × IsWorkload script w
+        × IsReady w prepared
+        × (count_of journal ≡ length (first_forms script prepared.rows)) }
+    requires numbers { commits.items ≡ numbers_of (is_some prepared.rows) }
+    ensures made { (script : List ℕ) (w : Workload) → IsWorkload script w → IsReady w prepared
+        → Lists D.seen D.may_leave journal (first_forms script prepared.rows)
+        → (wal : Wal) × IsDemo D.seen D.may_leave wal result
+        × IsFirst script wal × (result.done ≡ 0) }
+    ensures unread { result.place ≡ None }
+    ensures live { IsTrue result.live }
+    ensures names { result.names ≡ prepared.names.items }
+    ensures steps { result.steps ≡ prepared.steps.items }
+    ensures journal { result.journal ≡ journal }
+{
+    let Prepared {
+        names,
+        tables,
+        store,
+        steps,
+        rows: _,
+    } = prepared;
+    DemoSource {
+        alloc,
+        journal,
+        names,
+        tables,
+        store,
+        steps,
+        done: 0,
+        commits,
+        confirmed: Lsn(0),
+        place: None,
+        described: BTreeSet::new(alloc),
+        held: None,
+        ended: false,
+        live: true,
+    }
+}

@@ -58,19 +58,19 @@ returns-in-Ok-clause-steady g c =
 -- ---- the journal couldn't be opened
 
 pub returns-in-Err-clause-bad : goal.returns-in-Err-clause-bad
-returns-in-Err-clause-bad g c = λ bytes index told is. absurd (no_bad_entry c.in-Err.error c.from.result c.from.ensures index is)
+returns-in-Err-clause-bad g c = λ bytes index told is. absurd (no_bad_entry c.in-Err.field-0.error c.from.result c.from.ensures index is)
 
 pub returns-in-Err-clause-not_a_journal : goal.returns-in-Err-clause-not_a_journal
-returns-in-Err-clause-not_a_journal g c = λ bytes at told is. c.in-Err.ensures.refused bytes told at (as_no_journal c.in-Err.error c.from.result c.from.ensures at is)
+returns-in-Err-clause-not_a_journal g c = λ bytes at told is. c.in-Err.ensures.refused bytes told at (as_no_journal c.in-Err.field-0.error c.from.result c.from.ensures at is)
 
 pub returns-in-Err-clause-kinds : goal.returns-in-Err-clause-kinds
-returns-in-Err-clause-kinds g c = journal_kind c.in-Err.error c.from.result c.from.ensures c.in-Err.ensures.short
+returns-in-Err-clause-kinds g c = journal_kind c.in-Err.field-0.error c.from.result c.from.ensures c.in-Err.ensures.short
 
 pub returns-in-Err-clause-failed : goal.returns-in-Err-clause-failed
-returns-in-Err-clause-failed g c = λ is. c.in-Err.ensures.failed (as_failed c.in-Err.error c.from.result c.from.ensures is)
+returns-in-Err-clause-failed g c = λ is. c.in-Err.ensures.failed (as_failed c.in-Err.field-0.error c.from.result c.from.ensures is)
 
 pub returns-in-Err-clause-stable : goal.returns-in-Err-clause-stable
-returns-in-Err-clause-stable g c = λ bytes told no. c.in-Err.ensures.stable bytes told (λ is. no (is_failed c.in-Err.error c.from.result c.from.ensures is))
+returns-in-Err-clause-stable g c = λ bytes told no. c.in-Err.ensures.stable bytes told (λ is. no (is_failed c.in-Err.field-0.error c.from.result c.from.ensures is))
 
 pub returns-in-Err-clause-steady : goal.returns-in-Err-clause-steady
-returns-in-Err-clause-steady g c = λ no bytes told. c.in-Err.ensures.steady bytes told (λ is. no (is_failed c.in-Err.error c.from.result c.from.ensures is))
+returns-in-Err-clause-steady g c = λ no bytes told. c.in-Err.ensures.steady bytes told (λ is. no (is_failed c.in-Err.field-0.error c.from.result c.from.ensures is))

@@ -1,12 +1,12 @@
 //! A log that is opened.
 
-ghost use Rattle.std.specs.Prelude.{◌≡◌, ◌⊎◌, ℕ, ◌<◌, List, None, Err, IfOk, IfErr, IsTrue, MatchResult, map};
+ghost use Rattle.std.specs.Prelude.{◌≡◌, ◌⊎◌, ℕ, ◌<◌, List, None, Err, IfOk, IfErr, IsTrue, MatchResult};
 ghost use Rattle.dbl_journal.specs.Stored.{Lists};
 ghost use Rattle.dbl_sound.specs.Sound.{steps_in};
 ghost use Rattle.dbl_sound.specs.Wals.{IsFirstBad, Wal, forms_of};
-ghost use Rattle.dbl_sound.specs.Workloads.{IsWorkload, Workload};
 ghost use Rattle.dbl_running.specs.Demo.{IsDemo};
 ghost use Rattle.dbl_workload.specs.Logs.{IsDiskRead, IsFailed};
+ghost use Rattle.dbl_workload.specs.Ready.{AreTableNames};
 
 use crate::{DemoError, DemoSource};
 use dbl_disk::{Disk, Refused};
@@ -24,8 +24,7 @@ pub(crate) fn open_journal<D: Disk>(
     ensures opened { (forms : List (List ℕ)) → Lists D.seen D.may_leave journal forms
         → IfOk result (λ source. (wal : Wal) × (forms ≡ forms_of wal)
         × IsDemo D.seen D.may_leave wal source × (source.done ≡ steps_in wal.entries)) }
-    ensures named { IfOk result (λ source. (script : List ℕ) × (w : Workload)
-        × IsWorkload script w × (source.names ≡ map (λ table. table.info.name) w.tables)) }
+    ensures named { IfOk result (λ source. AreTableNames source.names) }
     ensures unread { IfOk result (λ source. source.place ≡ None) }
     ensures live { IfOk result (λ source. IsTrue source.live) }
     ensures bad { (forms : List (List ℕ)) (index : ℕ) → Lists D.seen D.may_leave journal forms

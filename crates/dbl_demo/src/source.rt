@@ -9,6 +9,7 @@ ghost use Rattle.dbl_sound.specs.Workloads.{IsWorkload, Workload, steps_of};
 ghost use Rattle.dbl_running.specs.Demo.{IsDemo};
 ghost use Rattle.dbl_demo.specs.Errors.{IsMakeFault, IsOpenFault};
 ghost use Rattle.dbl_running.specs.Made.{IsFirst};
+ghost use Rattle.dbl_workload.specs.Ready.{AreTableNames};
 ghost use Rattle.dbl_workload.specs.Refusals.{IsRefused};
 
 use crate::DemoError;
@@ -140,8 +141,7 @@ impl<D: Disk> DemoSource<D> {
             → IfOk result (λ source. (wal : Wal) × IsWal bytes wal
             × IsDemo D.seen D.may_leave wal source × (source.done ≡ steps_in wal.entries)) }
         // Of every disk, also one that tells nothing.
-        ensures named { IfOk result (λ source. (script : List ℕ) × (w : Workload)
-            × IsWorkload script w × (source.names ≡ map (λ table. table.info.name) w.tables)) }
+        ensures named { IfOk result (λ source. AreTableNames source.names) }
         ensures unread { IfOk result (λ source. source.place ≡ None) }
         ensures live { IfOk result (λ source. IsTrue source.live) }
         ensures bad { (bytes : List ℕ) (index : ℕ) → D.seen disk ≡ Some bytes

@@ -2,15 +2,11 @@
 use Rattle.std.proofs.Common.{Bor, ◌≡◌, ◌∙◌, ◌⊎◌, ℕ, zero, suc, ◌+◌, ◌-◌, ◌<◌, ◌≤◌, ◌^◌, Bool, true, false, Option, None, Some, List, [], ◌∷◌, length, refl, sym, ap, subst, arith, inl, inr}
 use Rattle.std.specs.Prelude.{slice_get, IsSome, option_copied}
 use Rattle.std.specs.Slice.{IsItemAt}
-use Rattle.std.specs.BTreeSet.{BTreeSet}
 use Rattle.std.proofs.lemmas.Option.{slice_get_read, slice_get_within}
-use Rattle.dbl_pgmsg.specs.declared.messages.Message.{Message}
 use Rattle.dbl_feed.specs.declared.logged.Logged.{Logged}
 use Rattle.dbl_feed.specs.declared.place.Place.{Place}
-use Rattle.dbl_feed.specs.Sent.{described_in, index_of, told_at}
+use Rattle.dbl_feed.specs.Sent.{index_of, IsPlaceIn}
 use Rattle.dbl_journal.specs.Stored.{Lists, OnDisk}
-use Rattle.dbl_reading.specs.Readings.{Describes, IsNext}
-use Rattle.dbl_reading.specs.declared.reading.Step.{Step}
 use Rattle.dbl_wal.specs.declared.entry.Entry.{Entry}
 use Rattle.dbl_wal.specs.declared.entry.Entry.TheVariants.{Commits, Marks, Confirms}
 use Rattle.dbl_wal.specs.Entries.{Spells}
@@ -18,9 +14,8 @@ use Rattle.dbl_sound.specs.Sound.{logged_by, logged_in}
 use Rattle.dbl_sound.specs.Wals.{Wal, forms_of}
 use Rattle.dbl_workload.specs.Checking.{commit_places}
 use Rattle.dbl_running.specs.Demo.{Demo, IsRunning}
-use Rattle.dbl_running.specs.Reading.{ReadNone, ReadOne}
+use Rattle.dbl_running.specs.Reading.{ReadNone}
 use Rattle.dbl_running.proofs.HoldLemmas.{count_places, held_some}
-use Rattle.dbl_running.proofs.NextLemmas.{read_behind}
 
 some_at : {A : Type 0} (xs : List A) (n : ℕ) → n < length xs → (x : A) × (slice_get xs n ≡ Some x)
 some_at [] n lt = absurd (omega (arith, lt))
@@ -97,16 +92,9 @@ module _ {D : Type 0} (seen : D → Option (List ℕ)) (may_leave : D → List �
 
   -- ---- one more message
 
-  module _ (step : Step) (next : IsNext old.tables log place step) where
-    -- a place of the log has no more commits before it than a wal has entries
-    pub place_near : step.place.commits < 2 ^ 40
-    place_near = omega (arith, next.placed.few, log_short wal.entries, running.few)
-
-    pub one_read : (described : BTreeSet ℕ) (held : Option Logged) → ((message : Message) (past : List Message) → described_in message ≡ step.described → Describes old.described past → Describes described (message ∷ past)) → (held ≡ None) ⊎ ((held ≡ old.held) × (step.place.commits ≡ place.commits))
-        → ReadOne seen may_leave wal place (record old { place = Some step.place; described = described; held = held }) step.bytes
-    one_read described held remembers holds =
-        let more : Describes described (next.message ∷ told_at old.tables log place) = remembers next.message (told_at old.tables log place) (sym next.described) (running.reader.recalled place at) in
-        read_behind seen may_leave old wal place running at step next described held (subst (Describes described) (sym next.told) more) holds
+  -- a place of the log has no more commits before it than a wal has entries
+  pub place_near : (next : Place) → IsPlaceIn log next → next.commits < 2 ^ 40
+  place_near next placed = omega (arith, placed.few, log_short wal.entries, running.few)
 
 -- ---- the number of a commit's entry, as it is looked up
 

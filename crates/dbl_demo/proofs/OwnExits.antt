@@ -1,8 +1,11 @@
 -- How a call ends that writes an entry of its own behind the group that it ran.
 use Rattle.std.proofs.Common.{◌≡◌, ◌∙◌, ◌⊎◌, ℕ, ◌+◌, ◌<◌, ◌≤◌, ◌^◌, Bool, true, false, Option, List, [], ◌∷◌, ◌++◌, length, refl, sym, ap, subst, arith}
 use Rattle.std.specs.Prelude.{IsTrue, Result, Ok, Err, nat_lt, if◌then◌else◌}
+use Rattle.std.proofs.lemmas.Bool.{ltb-true}
+use Rattle.std.proofs.lemmas.Bool.Decides.{Decides-ltb}
 use Rattle.dbl_base.specs.declared.lsn.Lsn.{Lsn}
 use Rattle.dbl_base.specs.Streams.{Rose}
+use Rattle.dbl_honest.specs.declared.started.Started.TheVariants.{Gone, Ready}
 use Rattle.dbl_journal.specs.Growth as journals
 use Rattle.dbl_journal.specs.Stored.{LeavesEntries, Lists, OnDisk, count_of}
 use Rattle.dbl_reading.specs.declared.error.SourceError.{SourceError}
@@ -15,7 +18,7 @@ use Rattle.dbl_sound.specs.Sound.{logged_in}
 use Rattle.dbl_sound.specs.Wals.{Wal, forms_of}
 use Rattle.dbl_sound.specs.Left.{added_by, with_entries}
 use Rattle.dbl_running.specs.Answers.{Adds, AnswersNothing, IsReaderKept}
-use Rattle.dbl_running.specs.Calls.{LeavesFirst, confirm_of, mark_of, next_end}
+use Rattle.dbl_running.specs.Calls.{LeavesFirst, confirm_of, mark_of, next_end, started_at}
 use Rattle.dbl_running.specs.Demo.{Demo, IsRunning}
 use Rattle.dbl_running.specs.Running.{IsRunOf}
 use Rattle.dbl_running.proofs.CallLemmas.{running_live}
@@ -24,6 +27,30 @@ use Rattle.dbl_running.proofs.ExitLemmas.{Leaves, Runs, answering, answers, fail
 use Rattle.dbl_running.proofs.LoopLemmas.{end_none, left_whole}
 use Rattle.dbl_running.proofs.OwnLemmas.{confirm_next, confirm_running, mark_next, mark_running, own_left}
 use Rattle.dbl_demo.proofs.AppendLemmas.{entry_left, entry_listed}
+
+-- ---- which of two it is
+
+lt_true : (a b : ℕ) → a < b → nat_lt a b ≡ true
+lt_true a b lt = (Decides-ltb a b).1 lt
+
+lt_false : (a b : ℕ) → b ≤ a → nat_lt a b ≡ false
+lt_false a b le = by (nat_lt a b) refl
+  where
+    by : (c : Bool) → nat_lt a b ≡ c → c ≡ false
+    by true is = absurd (omega (arith, le, ltb-true a b is))
+    by false is = refl
+
+pub rises_so : (old upto : Lsn) → old.0 < upto.0 → confirm_of old upto ≡ Confirms upto ∷ []
+rises_so old upto lt = ap (λ (b : Bool). if b then Confirms upto ∷ [] else []) (lt_true old.0 upto.0 lt)
+
+pub rises_not : (old upto : Lsn) → upto.0 ≤ old.0 → confirm_of old upto ≡ []
+rises_not old upto le = ap (λ (b : Bool). if b then Confirms upto ∷ [] else []) (lt_false old.0 upto.0 le)
+
+pub gone_so : (after confirmed : Lsn) → after.0 < confirmed.0 → started_at after confirmed ≡ Gone confirmed
+gone_so after confirmed lt = ap (λ (b : Bool). if b then Gone confirmed else Ready) (lt_true after.0 confirmed.0 lt)
+
+pub ready_so : (after confirmed : Lsn) → confirmed.0 ≤ after.0 → started_at after confirmed ≡ Ready
+ready_so after confirmed le = ap (λ (b : Bool). if b then Gone confirmed else Ready) (lt_false after.0 confirmed.0 le)
 
 -- a source whose journal lists the same
 running_lists : {D : Type 0} (seen : D → Option (List ℕ)) (may_leave : D → List ℕ → Type 0) (wal : Wal) (demo : Demo D) (journal : OnDisk D) → Lists seen may_leave journal (forms_of wal) → IsRunning seen may_leave wal demo → IsRunning seen may_leave wal (record demo { journal = journal })

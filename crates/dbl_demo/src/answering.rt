@@ -268,10 +268,12 @@ impl<D: Disk> DemoSource<D> {
     {
         self.live = false;
         self.release()?;
-        if self.confirmed.0 < upto.0 {
-            let entry = confirm_entry(self.alloc, upto)?;
-            self.log_confirm(entry, upto)?;
+        if upto.0 <= self.confirmed.0 {
+            self.live = true;
+            return Ok(());
         }
+        let entry = confirm_entry(self.alloc, upto)?;
+        self.log_confirm(entry, upto)?;
         self.live = true;
         Ok(())
     }

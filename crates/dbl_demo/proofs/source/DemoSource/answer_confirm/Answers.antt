@@ -9,7 +9,7 @@ use Rattle.dbl_running.specs.Answers.{Adds, AnswersNothing}
 use Rattle.dbl_running.specs.Calls.{LeavesFirst, confirm_of, next_end}
 use Rattle.dbl_running.proofs.ExitLemmas.{answering, fails_from}
 use Rattle.dbl_running.specs.Demo.{Demo}
-use Rattle.dbl_demo.proofs.OwnExits.{confirm_answers, confirm_fails, first_from, starved_from, unrisen_answers}
+use Rattle.dbl_demo.proofs.OwnExits.{confirm_answers, confirm_fails, first_from, rises_not, rises_so, starved_from, unrisen_answers}
 use Rattle.dbl_demo.proofs.source.DemoSource.answer_confirm.Goals as goal
 
 pub release-requires-clause-live : goal.release-requires-clause-live
@@ -38,13 +38,10 @@ returns-in_err-release-clause-starved g c = λ is. first_from g.D.Disk.seen g.D.
 pub returns-in_err-entry-clause-added : goal.returns-in_err-entry-clause-added
 returns-in_err-entry-clause-added g c =
     let p = err_from_is_err_and c.from_residual-in_err-entry.result c.from_residual-in_err-entry.ensures.1 in
-    subst (λ (d : Demo _). Adds g.D.Disk.seen g.D.Disk.may_leave g.D.Disk.faults (next_end c.args.self.now) (confirm_of c.args.self.now.confirmed c.args.upto) (AnswersNothing c.args.self.now) c.args.self.now d c.from_residual-in_err-entry.result) (sym c.self-2.view_is)
-    (fails_from g.D.Disk.seen g.D.Disk.may_leave g.D.Disk.faults c.self.view_is c.release.new.self c.release.ensures.same c.release.ensures.images c.release.ensures.comes c.release.ensures.later next_end (λ s. confirm_of s.confirmed c.args.upto) AnswersNothing c.from_residual-in_err-entry.result p.0 p.1 (omega arith) (λ is. absurd (let wrong : Memory ≡ Failed = sym p.2 ∙ is in cc)))
+    fails_from g.D.Disk.seen g.D.Disk.may_leave g.D.Disk.faults c.self.view_is c.release.new.self c.release.ensures.same c.release.ensures.images c.release.ensures.comes c.release.ensures.later next_end (λ s. confirm_of s.confirmed c.args.upto) AnswersNothing c.from_residual-in_err-entry.result p.0 p.1 (omega arith) (λ is. absurd (let wrong : Memory ≡ Failed = sym p.2 ∙ is in cc))
 
 pub returns-in_err-entry-clause-starved : goal.returns-in_err-entry-clause-starved
-returns-in_err-entry-clause-starved g c = λ is.
-    subst (λ (d : Demo _). LeavesFirst g.D.Disk.seen g.D.Disk.may_leave (next_end c.args.self.now) [] c.args.self.now d) (sym c.self-2.view_is)
-    (first_from g.D.Disk.seen g.D.Disk.may_leave g.D.Disk.faults c.self.view_is c.release.new.self c.release.ensures.images)
+returns-in_err-entry-clause-starved g c = λ is. first_from g.D.Disk.seen g.D.Disk.may_leave g.D.Disk.faults c.self.view_is c.release.new.self c.release.ensures.images
 
 pub log_confirm-requires-clause-live : goal.log_confirm-requires-clause-live
 log_confirm-requires-clause-live g c = c.in_ok-release.ensures.live
@@ -54,11 +51,9 @@ pub returns-in_err-log_confirm-clause-added : goal.returns-in_err-log_confirm-cl
 returns-in_err-log_confirm-clause-added g c =
     let p = err_from_is_err_and c.from_residual-in_err-log_confirm.result c.from_residual-in_err-log_confirm.ensures.1 in
     let log = c.log_confirm.ensures in
-    let before = ap (λ (d : Demo _). d.confirmed.0) c.self-2.view_is in
-    let parts = ap (λ (d : Demo _). d.confirmed.0) (c.self-2.view_is ∙ c.release.ensures.same) in
-    let own : confirm_of c.self.inside.confirmed c.args.upto ≡ Confirms c.args.upto ∷ [] = ap (λ (b : Bool). if b then Confirms c.args.upto ∷ [] else []) (ap (λ (n : ℕ). nat_lt n c.args.upto.0) (sym parts) ∙ c.if-lt.true) in
+    let own = rises_so c.self.inside.confirmed c.args.upto (omega (arith, c.if-upto-self.false, ap (λ (d : Demo _). d.confirmed.0) (c.self-2.view_is ∙ c.release.ensures.same))) in
     confirm_fails g.D.Disk.seen g.D.Disk.may_leave g.D.Disk.faults c.self.view_is c.release.new.self c.release.ensures.same c.in_ok-release.ensures.ran c.in_ok-release.ensures.end c.release.ensures.comes c.release.ensures.later log.small c.log_confirm.new.self log.comes log.later (drop 4 c.in_ok-entry.entry.items) log.left
-    c.args.upto c.in_ok-entry.ensures.entry (omega (arith, before, c.if-lt.true)) own log.same
+    c.args.upto c.in_ok-entry.ensures.entry (omega (arith, c.if-upto-self.false, ap (λ (d : Demo _). d.confirmed.0) c.self-2.view_is)) own log.same
     c.from_residual-in_err-log_confirm.result p.0 p.1 (λ is. log.failed (c.in_err-log_confirm.was ∙ ap Err (sym p.2 ∙ is)))
 
 pub returns-in_err-log_confirm-clause-starved : goal.returns-in_err-log_confirm-clause-starved
@@ -66,3 +61,19 @@ returns-in_err-log_confirm-clause-starved g c = λ is.
     let p = err_from_is_err_and c.from_residual-in_err-log_confirm.result c.from_residual-in_err-log_confirm.ensures.1 in
     let same : ◌≡◌ {A = SourceError} p.0 Memory = (let both = sym p.1 ∙ is in cc) in
     starved_from g.D.Disk.seen g.D.Disk.may_leave g.D.Disk.faults c.self.view_is c.release.new.self c.log_confirm.new.self c.in_ok-release.ensures.ran (λ forms lists. c.log_confirm.ensures.kept forms lists (c.in_err-log_confirm.was ∙ ap Err (sym p.2 ∙ same)))
+
+-- it was
+pub returns-clause-added : goal.returns-clause-added
+returns-clause-added g c =
+    let log = c.log_confirm.ensures in
+    let own = rises_so c.self.inside.confirmed c.args.upto (omega (arith, c.if-upto-self.false, ap (λ (d : Demo _). d.confirmed.0) (c.self-2.view_is ∙ c.release.ensures.same))) in
+    subst (λ (d : Demo _). Adds g.D.Disk.seen g.D.Disk.may_leave g.D.Disk.faults (next_end c.args.self.now) (confirm_of c.args.self.now.confirmed c.args.upto) (AnswersNothing c.args.self.now) c.args.self.now (answering d) (Ok tt)) (sym c.self-3.view_is)
+    (confirm_answers g.D.Disk.seen g.D.Disk.may_leave g.D.Disk.faults c.self.view_is c.release.new.self c.release.ensures.same c.in_ok-release.ensures.ran c.in_ok-release.ensures.end c.release.ensures.comes c.release.ensures.later log.small c.log_confirm.new.self log.comes log.later (drop 4 c.in_ok-entry.entry.items) log.left
+    c.args.upto c.in_ok-entry.ensures.entry (omega (arith, c.if-upto-self.false, ap (λ (d : Demo _). d.confirmed.0) c.self-2.view_is)) own log.same c.in_ok-log_confirm.ensures.confirmed c.in_ok-log_confirm.ensures.added)
+
+-- a position that doesn't rise
+pub returns-then-upto-self-clause-added : goal.returns-then-upto-self-clause-added
+returns-then-upto-self-clause-added g c =
+    let own = rises_not c.self.inside.confirmed c.args.upto (omega (arith, c.if-upto-self.true, ap (λ (d : Demo _). d.confirmed.0) (c.self-2.view_is ∙ c.release.ensures.same))) in
+    subst (λ (d : Demo _). Adds g.D.Disk.seen g.D.Disk.may_leave g.D.Disk.faults (next_end c.args.self.now) (confirm_of c.args.self.now.confirmed c.args.upto) (AnswersNothing c.args.self.now) c.args.self.now (answering d) (Ok tt)) (sym c.self-2.view_is)
+    (unrisen_answers g.D.Disk.seen g.D.Disk.may_leave g.D.Disk.faults c.self.view_is c.release.new.self c.release.ensures.same c.in_ok-release.ensures.ran c.in_ok-release.ensures.end c.release.ensures.images c.release.ensures.comes c.release.ensures.later c.args.upto own)

@@ -38,13 +38,10 @@ returns-in_err-release-clause-starved g c = λ is. first_from g.D.Disk.seen g.D.
 pub returns-in_err-entry-clause-added : goal.returns-in_err-entry-clause-added
 returns-in_err-entry-clause-added g c =
     let p = err_from_is_err_and c.from_residual-in_err-entry.result c.from_residual-in_err-entry.ensures.1 in
-    subst (λ (d : Demo _). Adds g.D.Disk.seen g.D.Disk.may_leave g.D.Disk.faults (next_end c.args.self.now) (mark_of c.args.value.now (next_end c.args.self.now)) (AnswersNothing c.args.self.now) c.args.self.now d c.from_residual-in_err-entry.result) (sym c.self-2.view_is)
-    (fails_from g.D.Disk.seen g.D.Disk.may_leave g.D.Disk.faults c.self.view_is c.release.new.self c.release.ensures.same c.release.ensures.images c.release.ensures.comes c.release.ensures.later next_end (λ s. mark_of c.args.value.now (next_end s)) AnswersNothing c.from_residual-in_err-entry.result p.0 p.1 (omega arith) (λ is. absurd (let wrong : Memory ≡ Failed = sym p.2 ∙ is in cc)))
+    fails_from g.D.Disk.seen g.D.Disk.may_leave g.D.Disk.faults c.self.view_is c.release.new.self c.release.ensures.same c.release.ensures.images c.release.ensures.comes c.release.ensures.later next_end (λ s. mark_of c.args.value.now (next_end s)) AnswersNothing c.from_residual-in_err-entry.result p.0 p.1 (omega arith) (λ is. absurd (let wrong : Memory ≡ Failed = sym p.2 ∙ is in cc))
 
 pub returns-in_err-entry-clause-starved : goal.returns-in_err-entry-clause-starved
-returns-in_err-entry-clause-starved g c = λ is.
-    subst (λ (d : Demo _). LeavesFirst g.D.Disk.seen g.D.Disk.may_leave (next_end c.args.self.now) [] c.args.self.now d) (sym c.self-2.view_is)
-    (first_from g.D.Disk.seen g.D.Disk.may_leave g.D.Disk.faults c.self.view_is c.release.new.self c.release.ensures.images)
+returns-in_err-entry-clause-starved g c = λ is. first_from g.D.Disk.seen g.D.Disk.may_leave g.D.Disk.faults c.self.view_is c.release.new.self c.release.ensures.images
 
 pub log_mark-requires-clause-live : goal.log_mark-requires-clause-live
 log_mark-requires-clause-live g c = c.in_ok-release.ensures.live

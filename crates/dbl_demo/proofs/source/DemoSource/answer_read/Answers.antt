@@ -48,6 +48,6 @@ returns g c =
     let next = c.next_bytes.ensures in
     let same = c.self-2.view_is ∙ next.same in
     let upto : c.release_unread.new.self.done ≤ length c.release_unread.new.self.steps = omega (arith, c.self-2.invariant.behind.there, ap (λ (d : Demo _). d.done) same, ap (λ (d : Demo _). length d.steps) same) in
-    subst (λ (d : Demo _). AddsRead g.D.Disk.seen g.D.Disk.may_leave g.D.Disk.faults c.args.self.now (read_so d c.is_none.result) (Ok c.in_ok-read.read)) (sym c.self-2.view_is)
-    (read_answers_there g.D.Disk.seen g.D.Disk.may_leave g.D.Disk.faults c.self.view_is c.release_unread.new.self c.next_bytes.new.self ran.same ran.images ran.comes ran.later next.same next.images next.comes next.later next.reading c.in_ok-read.read c.is_none.result c.is_none.ensures
+    subst (λ (d : Demo _). AddsRead g.D.Disk.seen g.D.Disk.may_leave g.D.Disk.faults c.args.self.now (read_so d c.is_none-self-inside.result) (Ok c.in_ok-read.read)) (sym c.self-2.view_is)
+    (read_answers_there g.D.Disk.seen g.D.Disk.may_leave g.D.Disk.faults c.self.view_is c.release_unread.new.self c.next_bytes.new.self ran.same ran.images ran.comes ran.later next.same next.images next.comes next.later next.reading c.in_ok-read.read c.is_none-self-inside.result c.is_none-self-inside.ensures
     c.in_ok-release_unread.ensures.ran c.in_ok-read.ensures.read c.in_ok-release_unread.ensures.end c.in_ok-read.ensures.none upto)

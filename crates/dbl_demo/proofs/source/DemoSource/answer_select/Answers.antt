@@ -27,26 +27,26 @@ invariant_of-self g c = record {
 pub returns-in_err-release : goal.returns-in_err-release
 returns-in_err-release g c =
     let p = err_from_is_err_and c.from_residual.result c.from_residual.ensures.1 in
-    fails_from g.D.Disk.seen g.D.Disk.may_leave g.D.Disk.faults c.self.view_is c.release.new.self c.release.ensures.same c.release.ensures.images c.release.ensures.comes c.release.ensures.later second_end (λ s. []) (λ s new rows. AnswersRows g.D.Disk.seen g.D.Disk.may_leave c.args.table.now (option_copied c.args.above.entry) c.args.limit s new rows.items) c.from_residual.result p.0 p.1 (end_later _ _) (λ is. c.release.ensures.failed (c.in_err-release.was ∙ ap Err (sym p.2 ∙ is)))
+    fails_from g.D.Disk.seen g.D.Disk.may_leave g.D.Disk.faults c.self.view_is c.release.new.self c.release.ensures.same c.release.ensures.images c.release.ensures.comes c.release.ensures.later second_end (λ s. []) (λ s new rows. AnswersRows g.D.Disk.seen g.D.Disk.may_leave c.args.table.now (option_copied c.args.above) c.args.limit s new rows.items) c.from_residual.result p.0 p.1 (end_later _ _) (λ is. c.release.ensures.failed (c.in_err-release.was ∙ ap Err (sym p.2 ∙ is)))
 
 pub returns-in_err-rows : goal.returns-in_err-rows
 returns-in_err-rows g c =
     let p = err_from_is_err_and c.from_residual-in_err-rows.result c.from_residual-in_err-rows.ensures.1 in
-    fails_from g.D.Disk.seen g.D.Disk.may_leave g.D.Disk.faults c.self.view_is c.release.new.self c.release.ensures.same c.release.ensures.images c.release.ensures.comes c.release.ensures.later second_end (λ s. []) (λ s new rows. AnswersRows g.D.Disk.seen g.D.Disk.may_leave c.args.table.now (option_copied c.args.above.entry) c.args.limit s new rows.items) c.from_residual-in_err-rows.result p.0 p.1 (end_later _ _) (λ is. absurd (let wrong : Memory ≡ Failed = sym c.in_err-rows.ensures.memory ∙ sym p.2 ∙ is in cc))
+    fails_from g.D.Disk.seen g.D.Disk.may_leave g.D.Disk.faults c.self.view_is c.release.new.self c.release.ensures.same c.release.ensures.images c.release.ensures.comes c.release.ensures.later second_end (λ s. []) (λ s new rows. AnswersRows g.D.Disk.seen g.D.Disk.may_leave c.args.table.now (option_copied c.args.above) c.args.limit s new rows.items) c.from_residual-in_err-rows.result p.0 p.1 (end_later _ _) (λ is. absurd (let wrong : Memory ≡ Failed = sym c.in_err-rows.ensures.memory ∙ sym p.2 ∙ is in cc))
 
-pub release-2-requires-clause-live : goal.release-2-requires-clause-live
-release-2-requires-clause-live g c = c.in_ok-release.ensures.live
+pub release-requires-2-clause-live : goal.release-requires-2-clause-live
+release-requires-2-clause-live g c = c.in_ok-release.ensures.live
 
 pub returns-in_err-release-2 : goal.returns-in_err-release-2
 returns-in_err-release-2 g c =
     let p = err_from_is_err_and c.from_residual-in_err-release-2.result c.from_residual-in_err-release-2.ensures.1 in
-    fails_again g.D.Disk.seen g.D.Disk.may_leave g.D.Disk.faults c.self.view_is c.release.new.self c.release.ensures.same c.in_ok-release.ensures.ran c.in_ok-release.ensures.end c.release-2.new.self c.release-2.ensures.same c.release-2.ensures.images c.release.ensures.comes c.release.ensures.later c.release-2.ensures.comes c.release-2.ensures.later (λ s new rows. AnswersRows g.D.Disk.seen g.D.Disk.may_leave c.args.table.now (option_copied c.args.above.entry) c.args.limit s new rows.items) c.from_residual-in_err-release-2.result p.0 p.1 (λ is. c.release-2.ensures.failed (c.in_err-release-2.was ∙ ap Err (sym p.2 ∙ is)))
+    fails_again g.D.Disk.seen g.D.Disk.may_leave g.D.Disk.faults c.self.view_is c.release.new.self c.release.ensures.same c.in_ok-release.ensures.ran c.in_ok-release.ensures.end c.release-2.new.self c.release-2.ensures.same c.release-2.ensures.images c.release.ensures.comes c.release.ensures.later c.release-2.ensures.comes c.release-2.ensures.later (λ s new rows. AnswersRows g.D.Disk.seen g.D.Disk.may_leave c.args.table.now (option_copied c.args.above) c.args.limit s new rows.items) c.from_residual-in_err-release-2.result p.0 p.1 (λ is. c.release-2.ensures.failed (c.in_err-release-2.was ∙ ap Err (sym p.2 ∙ is)))
 
 pub returns : goal.returns
 returns g c =
-    subst (λ (d : Demo _). Adds g.D.Disk.seen g.D.Disk.may_leave g.D.Disk.faults (second_end c.args.self.now) [] (λ new rows. AnswersRows g.D.Disk.seen g.D.Disk.may_leave c.args.table.now (option_copied c.args.above.entry) c.args.limit c.args.self.now new rows.items) c.args.self.now (answering d) (Ok c.in_ok-rows.rows)) (sym c.self-2.view_is)
-    (answers_again g.D.Disk.seen g.D.Disk.may_leave g.D.Disk.faults c.self.view_is c.release.new.self c.release.ensures.same c.in_ok-release.ensures.ran c.in_ok-release.ensures.end c.release-2.new.self c.release-2.ensures.same c.release-2.ensures.images c.release.ensures.comes c.release.ensures.later c.release-2.ensures.comes c.release-2.ensures.later (λ s new rows. AnswersRows g.D.Disk.seen g.D.Disk.may_leave c.args.table.now (option_copied c.args.above.entry) c.args.limit s new rows.items) c.in_ok-rows.rows c.in_ok-release-2.ensures.ran c.in_ok-release-2.ensures.end
+    subst (λ (d : Demo _). Adds g.D.Disk.seen g.D.Disk.may_leave g.D.Disk.faults (second_end c.args.self.now) [] (λ new rows. AnswersRows g.D.Disk.seen g.D.Disk.may_leave c.args.table.now (option_copied c.args.above) c.args.limit c.args.self.now new rows.items) c.args.self.now (answering d) (Ok c.in_ok-rows.rows)) (sym c.self-2.view_is)
+    (answers_again g.D.Disk.seen g.D.Disk.may_leave g.D.Disk.faults c.self.view_is c.release.new.self c.release.ensures.same c.in_ok-release.ensures.ran c.in_ok-release.ensures.end c.release-2.new.self c.release-2.ensures.same c.release-2.ensures.images c.release.ensures.comes c.release.ensures.later c.release-2.ensures.comes c.release-2.ensures.later (λ s new rows. AnswersRows g.D.Disk.seen g.D.Disk.may_leave c.args.table.now (option_copied c.args.above) c.args.limit s new rows.items) c.in_ok-rows.rows c.in_ok-release-2.ensures.ran c.in_ok-release-2.ensures.end
     (record {
       reader = kept_both g.D.Disk.seen g.D.Disk.may_leave g.D.Disk.faults c.self.view_is c.release.new.self c.release.ensures.same c.in_ok-release.ensures.ran c.in_ok-release.ensures.end c.release-2.new.self c.release-2.ensures.same c.release-2.ensures.images c.release.ensures.comes c.release.ensures.later c.release-2.ensures.comes c.release-2.ensures.later;
-      are = rows_shown g.D.Disk.seen g.D.Disk.may_leave g.D.Disk.faults c.self.view_is c.release.new.self c.release.ensures.same c.in_ok-release.ensures.ran c.in_ok-release.ensures.end c.args.table.now (option_copied c.args.above.entry) c.args.limit c.in_ok-rows.rows.items c.in_ok-rows.ensures.rows;
+      are = rows_shown g.D.Disk.seen g.D.Disk.may_leave g.D.Disk.faults c.self.view_is c.release.new.self c.release.ensures.same c.in_ok-release.ensures.ran c.in_ok-release.ensures.end c.args.table.now (option_copied c.args.above) c.args.limit c.in_ok-rows.rows.items c.in_ok-rows.ensures.rows;
     }))

@@ -1,6 +1,6 @@
 use Rattle.std.proofs.Common.{◌≡◌, ◌∙◌, ℕ, Bool, true, false, Option, Err, None, Some, [], ap, sym, subst, refl, arith}
 use Rattle.std.proofs.lemmas.Result.{err_from_is_err_and}
-use Rattle.std.specs.Prelude.{if◌then◌else◌, Ok}
+use Rattle.std.specs.Prelude.{Ok}
 use Rattle.dbl_honest.specs.declared.started.Started.TheVariants.{Gone, Ready}
 use Rattle.dbl_running.specs.Answers.{Adds, AnswersStart}
 use Rattle.dbl_running.specs.Calls.{next_end, started_at}
@@ -9,6 +9,7 @@ use Rattle.dbl_running.proofs.ReaderLemmas.{begun_reader, gone_reader, nothing_i
 use Rattle.dbl_running.specs.Demo.{Demo}
 use Rattle.dbl_feed.specs.declared.place.Place.{Place}
 use Rattle.std.specs.BTreeSet.{BTreeSet}
+use Rattle.dbl_demo.proofs.OwnExits.{gone_so, ready_so}
 use Rattle.dbl_demo.proofs.source.DemoSource.answer_start.Goals as goal
 
 -- a source whose reader begins
@@ -34,11 +35,11 @@ returns-in_err-release g c =
     fails_from g.D.Disk.seen g.D.Disk.may_leave g.D.Disk.faults c.self.view_is c.release.new.self c.release.ensures.same c.release.ensures.images c.release.ensures.comes c.release.ensures.later next_end (λ s. []) (AnswersStart c.args.after) c.from_residual.result p.0 p.1 (omega arith) (λ is. c.release.ensures.failed (c.in_err-release.was ∙ ap Err (sym p.2 ∙ is)))
 
 -- the log is gone below the confirmed position, which no step moves
-pub returns-then-after-lt : goal.returns-then-after-lt
-returns-then-after-lt g c =
+pub returns-then-after-self : goal.returns-then-after-self
+returns-then-after-self g c =
     let confirmed : c.self-2.inside.confirmed ≡ c.self.inside.confirmed = ap (λ (d : Demo _). d.confirmed) (c.self-2.view_is ∙ c.release.ensures.same) in
     let gone = Gone c.self-2.inside.confirmed in
-    let says : gone ≡ started_at c.args.after c.self.inside.confirmed = ap (λ (b : Bool). if b then gone else Ready) (sym c.if-after-lt.true) ∙ ap (started_at c.args.after) confirmed in
+    let says : gone ≡ started_at c.args.after c.self.inside.confirmed = sym (gone_so c.args.after c.self-2.inside.confirmed c.if-after-self.true) ∙ ap (started_at c.args.after) confirmed in
     subst (λ (d : Demo _). Adds g.D.Disk.seen g.D.Disk.may_leave g.D.Disk.faults (next_end c.args.self.now) [] (AnswersStart c.args.after c.args.self.now) c.args.self.now (started d None c.clear.new.described) (Ok gone)) (sym c.self-2.view_is)
     (starts_from g.D.Disk.seen g.D.Disk.may_leave g.D.Disk.faults c.self.view_is c.release.new.self c.release.ensures.images c.release.ensures.comes c.release.ensures.later c.in_ok-release.ensures.ran c.in_ok-release.ensures.end c.args.after None c.clear.new.described gone
     (λ tables log. gone_reader tables log c.clear.new.described None) says refl)
@@ -46,7 +47,7 @@ returns-then-after-lt g c =
 pub returns : goal.returns
 returns g c =
     let confirmed : c.self-2.inside.confirmed ≡ c.self.inside.confirmed = ap (λ (d : Demo _). d.confirmed) (c.self-2.view_is ∙ c.release.ensures.same) in
-    let says : Ready ≡ started_at c.args.after c.self.inside.confirmed = ap (λ (b : Bool). if b then Gone c.self-2.inside.confirmed else Ready) (sym c.if-after-lt.false) ∙ ap (started_at c.args.after) confirmed in
+    let says : Ready ≡ started_at c.args.after c.self.inside.confirmed = sym (ready_so c.args.after c.self-2.inside.confirmed c.if-after-self.false) ∙ ap (started_at c.args.after) confirmed in
     subst (λ (d : Demo _). Adds g.D.Disk.seen g.D.Disk.may_leave g.D.Disk.faults (next_end c.args.self.now) [] (AnswersStart c.args.after c.args.self.now) c.args.self.now (started d (Some (record { after = c.args.after; commits = 0; begun = false; change = 0; table = 0 })) c.clear.new.described) (Ok Ready)) (sym c.self-2.view_is)
     (starts_from g.D.Disk.seen g.D.Disk.may_leave g.D.Disk.faults c.self.view_is c.release.new.self c.release.ensures.images c.release.ensures.comes c.release.ensures.later c.in_ok-release.ensures.ran c.in_ok-release.ensures.end c.args.after
     (Some (record { after = c.args.after; commits = 0; begun = false; change = 0; table = 0 })) c.clear.new.described Ready

@@ -1,10 +1,15 @@
-use Rattle.std.proofs.Common.{◌≡◌, ◌∙◌, ◌≤◌, Bool, true, Err, length, ap, sym, subst, arith}
-use Rattle.std.specs.Prelude.{is_some, Ok}
+use Rattle.std.proofs.Common.{◌≡◌, ◌∙◌, ◌≤◌, Bool, true, false, Err, length, ap, sym, subst, arith}
+use Rattle.std.specs.Prelude.{is_some, not, Ok}
 use Rattle.std.proofs.lemmas.Result.{err_from_is_err_and}
 use Rattle.dbl_running.specs.Answers.{AddsRead}
 use Rattle.dbl_running.proofs.ReaderLemmas.{read_answers_there, read_fails, read_fails_there}
 use Rattle.dbl_running.specs.Demo.{Demo}
 use Rattle.dbl_demo.proofs.source.DemoSource.answer_read.Goals as goal
+
+-- nothing is what isn't something
+none_is : (none some : Bool) → some ≡ not none → none ≡ not some
+none_is true some is = sym (ap not is)
+none_is false some is = sym (ap not is)
 
 -- a source that read, and answers
 abbrev read_so : {D : Type 0} → Demo D → Bool → Demo D
@@ -49,5 +54,5 @@ returns g c =
     let same = c.self-2.view_is ∙ next.same in
     let upto : c.release_unread.new.self.done ≤ length c.release_unread.new.self.steps = omega (arith, c.self-2.invariant.behind.there, ap (λ (d : Demo _). d.done) same, ap (λ (d : Demo _). length d.steps) same) in
     subst (λ (d : Demo _). AddsRead g.D.Disk.seen g.D.Disk.may_leave g.D.Disk.faults c.args.self.now (read_so d c.is_none-self-inside.result) (Ok c.in_ok-read.read)) (sym c.self-2.view_is)
-    (read_answers_there g.D.Disk.seen g.D.Disk.may_leave g.D.Disk.faults c.self.view_is c.release_unread.new.self c.next_bytes.new.self ran.same ran.images ran.comes ran.later next.same next.images next.comes next.later next.reading c.in_ok-read.read c.is_none-self-inside.result c.is_none-self-inside.ensures
+    (read_answers_there g.D.Disk.seen g.D.Disk.may_leave g.D.Disk.faults c.self.view_is c.release_unread.new.self c.next_bytes.new.self ran.same ran.images ran.comes ran.later next.same next.images next.comes next.later next.reading c.in_ok-read.read c.is_none-self-inside.result (none_is c.is_none-self-inside.result _ c.is_none-self-inside.ensures)
     c.in_ok-release_unread.ensures.ran c.in_ok-read.ensures.read c.in_ok-release_unread.ensures.end c.in_ok-read.ensures.none upto)

@@ -40,15 +40,15 @@ returns-then-after-self g c =
     let confirmed : c.self-2.inside.confirmed ≡ c.self.inside.confirmed = ap (λ (d : Demo _). d.confirmed) (c.self-2.view_is ∙ c.release.ensures.same) in
     let gone = Gone c.self-2.inside.confirmed in
     let says : gone ≡ started_at c.args.after c.self.inside.confirmed = sym (gone_so c.args.after c.self-2.inside.confirmed c.if-after-self.true) ∙ ap (started_at c.args.after) confirmed in
-    subst (λ (d : Demo _). Adds g.D.Disk.seen g.D.Disk.may_leave g.D.Disk.faults (next_end c.args.self.now) [] (AnswersStart c.args.after c.args.self.now) c.args.self.now (started d None c.clear.new.described) (Ok gone)) (sym c.self-2.view_is)
-    (starts_from g.D.Disk.seen g.D.Disk.may_leave g.D.Disk.faults c.self.view_is c.release.new.self c.release.ensures.images c.release.ensures.comes c.release.ensures.later c.in_ok-release.ensures.ran c.in_ok-release.ensures.end c.args.after None c.clear.new.described gone
-    (λ tables log. gone_reader tables log c.clear.new.described None) says refl)
+    subst (λ (d : Demo _). Adds g.D.Disk.seen g.D.Disk.may_leave g.D.Disk.faults (next_end c.args.self.now) [] (AnswersStart c.args.after c.args.self.now) c.args.self.now (started d None c.clear.new.self) (Ok gone)) (sym c.self-2.view_is)
+    (starts_from g.D.Disk.seen g.D.Disk.may_leave g.D.Disk.faults c.self.view_is c.release.new.self c.release.ensures.images c.release.ensures.comes c.release.ensures.later c.in_ok-release.ensures.ran c.in_ok-release.ensures.end c.args.after None c.clear.new.self gone
+    (λ tables log. gone_reader tables log c.clear.new.self None) says refl)
 
 pub returns : goal.returns
 returns g c =
     let confirmed : c.self-2.inside.confirmed ≡ c.self.inside.confirmed = ap (λ (d : Demo _). d.confirmed) (c.self-2.view_is ∙ c.release.ensures.same) in
     let says : Ready ≡ started_at c.args.after c.self.inside.confirmed = sym (ready_so c.args.after c.self-2.inside.confirmed c.if-after-self.false) ∙ ap (started_at c.args.after) confirmed in
-    subst (λ (d : Demo _). Adds g.D.Disk.seen g.D.Disk.may_leave g.D.Disk.faults (next_end c.args.self.now) [] (AnswersStart c.args.after c.args.self.now) c.args.self.now (started d (Some (record { after = c.args.after; commits = 0; begun = false; change = 0; table = 0 })) c.clear.new.described) (Ok Ready)) (sym c.self-2.view_is)
+    subst (λ (d : Demo _). Adds g.D.Disk.seen g.D.Disk.may_leave g.D.Disk.faults (next_end c.args.self.now) [] (AnswersStart c.args.after c.args.self.now) c.args.self.now (started d (Some (record { after = c.args.after; commits = 0; begun = false; change = 0; table = 0 })) c.clear.new.self) (Ok Ready)) (sym c.self-2.view_is)
     (starts_from g.D.Disk.seen g.D.Disk.may_leave g.D.Disk.faults c.self.view_is c.release.new.self c.release.ensures.images c.release.ensures.comes c.release.ensures.later c.in_ok-release.ensures.ran c.in_ok-release.ensures.end c.args.after
-    (Some (record { after = c.args.after; commits = 0; begun = false; change = 0; table = 0 })) c.clear.new.described Ready
-    (λ tables log. begun_reader tables log c.args.after c.clear.new.described (nothing_in c.clear.new.described c.clear.ensures.empty)) says refl)
+    (Some (record { after = c.args.after; commits = 0; begun = false; change = 0; table = 0 })) c.clear.new.self Ready
+    (λ tables log. begun_reader tables log c.args.after c.clear.new.self (nothing_in c.clear.new.self c.clear.ensures.empty)) says refl)

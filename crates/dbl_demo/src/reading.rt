@@ -22,7 +22,7 @@ use dbl_source::{SourceError, next_step, remember};
 use dbl_wal::{Entry, EntryError, decode};
 use std::alloc::Global;
 
-// A journal has fewer entries, 2^40, and so has a wal fewer commits.
+// 2^40: a journal has fewer entries, and so its wal has fewer commits.
 const MOST_COMMITS: usize = 1_099_511_627_776;
 
 // The commit that these bytes spell, where they spell one.
@@ -113,6 +113,7 @@ impl<D: Disk> DemoSource<D> {
         ) else {
             return Err(SourceError::Memory);
         };
+        // No place of a wal has so many commits before it.
         if next.place.commits > MOST_COMMITS {
             return Ok(Some(next.bytes));
         }

@@ -36,8 +36,7 @@ pub returns-clause-held : goal.returns-clause-held
 returns-clause-held g c = λ wal place running at numbered.
     let lists = subst (λ (j : OnDisk _). Lists g.D.Disk.seen g.D.Disk.may_leave j (forms_of wal)) (sym (ap (λ (d : Demo _). d.journal) c.self.view_is)) running.lists in
     let tells = λ (entry : Entry) (spells : Spells c.in_ok-bytes.bytes entry). c.in_ok-logged.ensures.commit entry (subst (λ (bytes : List ℕ). Spells bytes entry) (sym (c.as_slice.ensures.value ∙ c.items.ensures)) spells) in
-    let held = sym c.in-Some.is ∙ read_is g.D.Disk.seen g.D.Disk.may_leave c.args.self.now wal place running at c.args.number numbered c.in_ok-bytes.bytes (c.in_ok-bytes.ensures.found (forms_of wal) lists) c.in_ok-logged.field-0 tells in
-    (
+    let held = sym c.in-Some.is ∙ read_is g.D.Disk.seen g.D.Disk.may_leave c.args.self.now wal place running at c.args.number numbered c.in_ok-bytes.bytes (c.in_ok-bytes.ensures.found (forms_of wal) lists) c.in_ok-logged.field-0 tells in (
       refl,
       holding g.D.Disk.seen g.D.Disk.may_leave _ wal place (subst (IsRunning g.D.Disk.seen g.D.Disk.may_leave wal) (sym c.self.view_is) running) (ap (λ (d : Demo _). d.place) c.self.view_is ∙ at) c.entry.new.journal (c.entry.ensures.lists (forms_of wal) lists) (Some c.in-Some.logged) held,
       held,

@@ -1,5 +1,5 @@
 -- What a session waits for stands in the log of an honest source, and is read there.
-use Rattle.std.proofs.Common.{◌≡◌, ◌∙◌, ◌⊎◌, inl, inr, ◌+◌, ◌≤◌, ◌<◌, ℕ, zero, suc, Bool, true, false, Option, Some, None, List, [], ◌∷◌, ◌++◌, length, map, bytes_eq, refl, sym, ap, ap₂, subst, arith, append_assoc, append-nil, length-append}
+use Rattle.std.proofs.Common.{◌≡◌, ◌∙◌, inl, inr, ◌+◌, ◌≤◌, ◌<◌, ℕ, zero, suc, Bool, true, false, Option, Some, None, List, [], ◌∷◌, ◌++◌, length, map, bytes_eq, refl, sym, ap, ap₂, subst, arith, append_assoc, append-nil, length-append}
 use Rattle.std.specs.Prelude.{nat_lt, cond, if◌then◌else◌, option_map, slice_get, take}
 use Rattle.std.specs.List.{AllByRecursion}
 use Rattle.std.proofs.Math.Seq.{take-length}
@@ -20,7 +20,6 @@ use Rattle.dbl_table.specs.declared.change.Change.{Change}
 use Rattle.dbl_table.specs.declared.change.Commit.{Commit}
 use Rattle.dbl_history.specs.History.{RawBody, RawCommit, History, AreRising, IsRising}
 use Rattle.dbl_history.specs.History as raw
-use Rattle.dbl_history.specs.Fit.{AreInfosOf}
 use Rattle.dbl_history.specs.Typed.{typed_commit}
 use Rattle.dbl_commit.specs.Blocks.{IsAccepted}
 use Rattle.dbl_commit.specs.Past as past
@@ -28,7 +27,7 @@ use Rattle.dbl_commit.specs.Past.{Begun, begin_of}
 use Rattle.dbl_commit.specs.Stated.{body_of, commit_of, commits_of, ended, list_of, open_changes}
 use Rattle.dbl_honest.specs.Calls.{HasReadAll, IsBegun, IsHead, Moved, Took, head_behind, head_of}
 use Rattle.dbl_honest.specs.Growth.{Grows, Marks}
-use Rattle.dbl_honest.specs.Standings.{Reading, Standing, Stood}
+use Rattle.dbl_honest.specs.Standings.{Reading, Standing}
 use Rattle.dbl_honest.specs.Stated.{IsReadRight, StatesSome, commits_after, to_state}
 use Rattle.dbl_honest.specs.Told.{Told}
 use Rattle.dbl_honest.proofs.GrowthLemmas.{marks_on}
@@ -46,9 +45,9 @@ use Rattle.dbl_work.specs.declared.work.Work.{Work}
 use Rattle.dbl_work.specs.Begins.{IsAgain, IsFirst}
 use Rattle.dbl_work.specs.Takes.{WasStepped, WasTaken}
 use Rattle.dbl_work.specs.Windowed.{HasReadWindow}
-use Rattle.dbl_work.specs.Works.{IsArmedWork, IsWork}
+use Rattle.dbl_work.specs.Works.{IsWork}
 use Rattle.dbl_exits.proofs.Beginnings.{head_position}
-use Rattle.dbl_causes.specs.Carried.{Beginning, StandsAt}
+use Rattle.dbl_causes.specs.Carried.{Beginning}
 use Rattle.dbl_causes.specs.Sources.{IsUnderWay}
 use Rattle.dbl_steps.specs.Awaited.{AreAwaited, Awaits, HasBoth, HasMark, IsWithin, IsWithinLog, StoodOffsetsAreWithin, mark_at, marks_at, marks_behind, marks_of}
 use Rattle.dbl_steps.proofs.Uncaptured.{uncaptured_accepted}

@@ -12,7 +12,6 @@ use Rattle.dbl_offset.specs.declared.offset.Offset.{Offset}
 use Rattle.dbl_work.specs.declared.halt.Halt.{Halt}
 use Rattle.dbl_work.specs.declared.halt.Halt.TheVariants as halt
 use Rattle.dbl_work.specs.Begins.{CanBeCaptured, IsAbsentHalt, IsExhausted, IsFaultOf, IsModelFault}
-use Rattle.dbl_exits.specs.Found.{HasStored}
 use Rattle.dbl_causes.specs.Musts.{CapturesAll}
 use Rattle.dbl_steps.specs.Captured.{CapturesOrHalts, IsOfTable, MustHaltAbsent}
 

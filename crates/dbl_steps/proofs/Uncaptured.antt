@@ -1,5 +1,5 @@
 -- What messages state where nothing is captured: no fault that they don't have otherwise, and the same marks.
-use Rattle.std.proofs.Common.{◌≡◌, ◌∙◌, ℕ, List, [], ◌∷◌, ◌++◌, map, refl, sym, ap, ap₂, subst}
+use Rattle.std.proofs.Common.{◌≡◌, ◌∙◌, ℕ, List, [], ◌∷◌, ◌++◌, refl, sym, ap, ap₂, subst}
 use Rattle.std.specs.Prelude.{Bool, true, false, not, ◌&&◌, ◌||◌, if◌then◌else◌, Option, Some, None, is_some, Result, Ok, Err}
 use Rattle.std.specs.List.{list_any}
 use Rattle.dbl_base.specs.declared.lsn.Lsn.{Lsn}
@@ -14,13 +14,13 @@ use Rattle.dbl_commit.specs.declared.message_parts.Relation.{Relation}
 use Rattle.dbl_commit.specs.declared.message_parts.RowChange.{RowChange}
 use Rattle.dbl_commit.specs.declared.message_parts.RowChange.TheVariants as row
 use Rattle.dbl_commit.specs.declared.message_parts.Target.{Target}
-use Rattle.dbl_commit.specs.declared.message_parts.Target.TheVariants.{Watermark, Captured, Passed}
+use Rattle.dbl_commit.specs.declared.message_parts.Target.TheVariants.{Watermark, Passed}
 use Rattle.dbl_commit.specs.declared.txn_error.TxnError.{TxnError}
 use Rattle.dbl_commit.specs.declared.txn_error.TxnError.TheVariants as errors
 use Rattle.dbl_commit.specs.Tuples.{◌>>=◌, refuse_if, some_or}
-use Rattle.dbl_commit.specs.Past.{begin_of, described, last_lsn, mark_by, mark_in, mark_of, named, relation_of}
+use Rattle.dbl_commit.specs.Past.{begin_of, described, mark_in, mark_of, relation_of}
 use Rattle.dbl_commit.specs.Blocks.{IsAccepted}
-use Rattle.dbl_commit.specs.Stated.{captured_at, clears, err_of, first_of, has_some, is_the_watermark, ok_or_none, open_changes, own_fault, place_fault, row_stated, schema_fault, stated, stated_in, target, targets_at, transaction_fault, truncate_stated, truncated}
+use Rattle.dbl_commit.specs.Stated.{captured_at, clears, err_of, first_of, has_some, is_the_watermark, ok_or_none, open_changes, own_fault, place_fault, row_stated, schema_fault, stated, stated_in, target, targets_at, transaction_fault, truncate_stated}
 use Rattle.dbl_commit.proofs.MarkedLemmas.{first_none}
 
 -- ---- rows

@@ -1,0 +1,30 @@
+use Rattle.std.proofs.Common.{◌∙◌, Err, ap, sym, subst}
+use Rattle.dbl_init.specs.declared.error.InitError.{InitError}
+use Rattle.dbl_init.specs.declared.error.Store.TheVariants.{Topics}
+use Rattle.dbl_init.specs.Disks.{IsUnwritten, Leaves}
+use Rattle.dbl_init.specs.Errors.{topic_error}
+use Rattle.dbl_init.proofs.MadeLemmas.{leaves_none, stored_log}
+use Rattle.dbl_init.proofs.initializing.make_topics.Goals as goal
+
+pub returns-in-Ok-clause-makes : goal.returns-in-Ok-clause-makes
+returns-in-Ok-clause-makes g c = record {
+  made = λ told. stored_log g.D.Disk.seen g.D.Disk.may_leave c.into_disk.result _ (c.in-Ok.ensures.made told) c.into_disk.ensures;
+  untouched = λ no. absurd no;
+  leaves =
+      subst (λ (d : g.row.D.Denot). Leaves g.D.Disk.seen g.D.Disk.faults Topics _ c.args.disk d) (sym c.into_disk.ensures)
+      (leaves_none g.D.Disk.seen g.D.Disk.faults Topics _ c.args.disk _ c.requires c.in-Ok.ensures.later (λ is. let t = is in cc) (λ no. c.in-Ok.ensures.steady) c.in-Ok.ensures.small);
+}
+
+pub returns-in-Err-clause-kinds : goal.returns-in-Err-clause-kinds
+returns-in-Err-clause-kinds g c = c.from.ensures ∙ ap topic_error c.in-Err.ensures.refused
+
+pub returns-in-Err-clause-makes : goal.returns-in-Err-clause-makes
+returns-in-Err-clause-makes g c =
+    let is = c.from.ensures ∙ ap topic_error c.in-Err.ensures.refused in
+    record {
+      made = λ told. tt;
+      untouched = λ unwritten. absurd (subst (λ (e : InitError). IsUnwritten Topics (Err e)) is unwritten);
+      leaves =
+          leaves_none g.D.Disk.seen g.D.Disk.faults Topics _ c.args.disk _ c.requires c.in-Err.ensures.later (λ failed. c.in-Err.ensures.failed)
+          (λ no. absurd (no (ap (λ (e : InitError). Err e) is))) c.in-Err.ensures.small;
+    }

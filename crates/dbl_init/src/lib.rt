@@ -1,0 +1,12 @@
+//! The command `init`: the three stores of a workload, made on empty disks.
+#![tactic(auto)]
+
+mod begun;
+mod error;
+mod initializing;
+mod laws;
+
+pub use begun::Begun;
+pub use error::{InitError, Store};
+pub use initializing::init;
+pub use laws::{init_answers_are_one, init_answers_stand};

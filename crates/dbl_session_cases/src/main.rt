@@ -26,10 +26,14 @@
 //! source, sink and store. A stop stands behind the calls of a session as `left/new`, `left/old` or `left/filled`, which says what
 //! the disk's bytes are; the next session is given a source with the same log, a sink, and a store of the offset that was left.
 //! A fifth field of a session says that a call of it fails: `source 17`, counted from the first session's first call, `sink 2` or
-//! `store 3`, counted from its own. In the script the source's call that fails is `stopped`, whatever it is. Each session is
-//! answered in a line, with `each/` by whether each cell is aged behind each of its records, since the offset with which it began,
-//! and with `held/` by the rows that a consumer of all records holds then. `found/` and the bytes of a store of offsets, in
-//! hexadecimal digits, say which offset the first of them finds.
+//! `store 3`, counted from its own. In the script the source's call that fails is `stopped`, whatever it is. `found/` and the bytes
+//! of a store of offsets, in hexadecimal digits, say which offset the first of them finds. Each session is answered in a line, and
+//! by what else is asked for:
+//!
+//! - `each/`: whether each cell is aged behind each of its records, since the offset with which it began.
+//! - `records/`: the lines of its records, with their positions.
+//! - `held/`: the rows that a consumer of all records holds then. With keys, as `held/{"id":1} {"id":2500}`, the rows of these
+//!   alone, and how many it holds.
 //!
 //! Where a session ends without a halt, its report is followed by the position that the source was confirmed to.
 #![tactic(auto)]

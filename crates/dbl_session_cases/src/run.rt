@@ -200,7 +200,7 @@ pub fn answer(alloc: Global, asked: &str, script: &str, answers: &mut String) ->
     shown::ending(answers, &ran)?;
     shown::offset(alloc, answers, offset.as_ref())?;
     shown::records(alloc, answers, ran.sink.records())?;
-    shown::held(alloc, answers, &config.identity, ran.sink.records())?;
+    shown::held(alloc, answers, &config.identity, ran.sink.records(), "")?;
     if look::is_asked(asked) {
         shown::line(answers)?;
         look::answer(

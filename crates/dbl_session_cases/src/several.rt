@@ -235,8 +235,11 @@ fn show(
             alloc, asked, script, entry, &ran.disk, records, before, answers,
         )?;
     }
-    if has(asked, "held/") {
-        shown::held(alloc, answers, &asked::identity(alloc)?, records)?;
+    if has(asked, "records/") {
+        shown::records(alloc, answers, ran.sink.records())?;
+    }
+    if let Some(keys) = items::first_of(asked, "held/") {
+        shown::held(alloc, answers, &asked::identity(alloc)?, records, keys)?;
     }
     Ok(())
 }

@@ -117,23 +117,46 @@ fn row(answers: &mut String, topic: &Text, key: &Text, row: &Row) -> Result<()> 
     Ok(())
 }
 
-fn table(answers: &mut String, topic: &Text, table: &Table) -> Result<()> {
-    for (key, each) in table.iter() {
-        row(answers, topic, key, each)?;
+// Whether a row is shown: where keys are told, those rows alone.
+fn is_shown(keys: &str, key: &Text) -> bool {
+    if keys.is_empty() {
+        return true;
     }
-    Ok(())
+    for word in keys.split(' ') {
+        if word == key.as_str() {
+            return true;
+        }
+    }
+    false
 }
 
-/// The rows that a consumer of the records holds.
+// How many rows a table has, of which those are shown that are asked for.
+fn table(answers: &mut String, topic: &Text, table: &Table, keys: &str) -> Result<u64> {
+    let mut count: u64 = 0;
+    for (key, each) in table.iter() {
+        count = count.saturating_add(1);
+        if is_shown(keys, key) {
+            row(answers, topic, key, each)?;
+        }
+    }
+    Ok(count)
+}
+
+/// The rows that a consumer of the records holds. Where keys are told, those of these keys, and how many rows it holds in all.
 pub fn held(
     alloc: Global,
     answers: &mut String,
     identity: &Identity,
     records: &Vec<Record>,
+    keys: &str,
 ) -> Result<()> {
     let consumer = consumer(alloc, identity, records, records.len())?;
+    let mut count: u64 = 0;
     for (topic, each) in consumer.tables().iter() {
-        table(answers, topic, each)?;
+        count = count.saturating_add(table(answers, topic, each, keys)?);
+    }
+    if !keys.is_empty() {
+        write!(answers, "\n  holds {count} rows")?;
     }
     Ok(())
 }

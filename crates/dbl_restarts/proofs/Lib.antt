@@ -5,5 +5,6 @@ pub mod Repeats
 pub mod Again
 pub mod Farther
 pub mod Chains
+pub mod Calling
 pub mod Telling
 pub mod Sample

@@ -1,9 +1,12 @@
-//! Any number of sessions and stops, one behind the other: definitions and laws over lists. No source, sink or store is named.
+//! Any number of sessions and stops, one behind the other: definitions and laws over lists. None names a source, a sink or a store,
+//! but for the law that calls of a session over these keep the promise that the others ask for.
 #![tactic(auto)]
 
+mod call_laws;
 mod laws;
 mod session_laws;
 
+pub use call_laws::calls_keep_promises;
 pub use laws::{
     completed_restarts_are_images, first_sessions_are_faithful, logs_tell_the_source,
     restarts_go_on, restarts_stay_faithful, rules_keep_promises, three_sessions_stand,

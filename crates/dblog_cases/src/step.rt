@@ -17,6 +17,8 @@ pub enum Step<'a> {
     Disk { place: Place, digits: &'a str },
     /// The program and the machine stop, and this is left of the disks.
     Crash { choice: Choice },
+    /// The bytes of the disk are to be told.
+    Show { place: Place },
     /// The run has this part more.
     Part { part: Part<'a> },
 }
@@ -56,6 +58,10 @@ pub fn read_step(line: &str) -> Option<Step<'_>> {
         "|" => Some(Step::Piped { words: rest }),
         "wal" | "topics" | "offsets" => disk_step(mark, rest),
         "crash" => crash(rest),
+        "show" => {
+            let place = disk_named(rest)?;
+            Some(Step::Show { place })
+        }
         _ => {
             let part = read_part(mark, rest)?;
             Some(Step::Part { part })

@@ -49,6 +49,11 @@ impl Transcript {
                 self.crash(choice)?;
                 tell_line(line, writer)
             }
+            Some(Step::Show { place }) => {
+                self.end(writer)?;
+                tell_line(line, writer)?;
+                self.show(place, writer)
+            }
             Some(Step::Part { part }) => self.add(part, line, writer),
             None => tell_refusal(line, writer),
         }
@@ -99,6 +104,14 @@ impl Transcript {
             }
             Err(_) => tell_refusal(line, writer),
         }
+    }
+
+    // Writes the disk's bytes in hexadecimal.
+    fn show<W: Write>(&self, place: Place, writer: &mut W) -> io::Result<()> {
+        for byte in self.disks.bytes(place) {
+            write!(writer, "{byte:02x}")?;
+        }
+        writer.write_all(b"\n")
     }
 
     // Ends the run, writes its status alone, and begins one on its text.

@@ -15,13 +15,16 @@ use Rattle.dbl_program.specs.Run.{Answer, fault, whole, Writes, Ends, Says, Ends
 use Rattle.dbl_runs.specs.Answers.{Answer as StoreAnswer, AnswersTopics, AnswersOffsets, AnswersApply}
 use Rattle.dbl_runs.proofs.OnceLaws.{topics_once, offsets_once, apply_once}
 use Rattle.dbl_runs.specs.declared.error.Store.{Store}
-use Rattle.dbl_program.specs.Disks.{IsCutShort, EndsOrFails, IsAnswerOf, RunsStores, store_answer}
-use Rattle.dbl_program.specs.Means.{opens_topics, FindsNoLog, options_of, Given, Answers, Means, usage, spelled, Runs, RunsCommand, InputFails, reads, TellsInput, IsStatusOf}
+use Rattle.dbl_program.specs.Disks.{IsCutShort, EndsOrFails, IsAnswerOf, OfDisk, RunsStores, store_answer}
+use Rattle.dbl_init.proofs.AnswerLaws.{one_answer}
+use Rattle.dbl_program.specs.Inits.{FailsSource, IsInitAnswer, init_answer}
+use Rattle.dbl_program.specs.Means.{opens_offsets, opens_topics, uses_offsets, uses_topics, makes, FindsNoLog, options_of, Given, given_init, Answers, Means, usage, spelled, Runs, RunsCommand, RunsInit, InputFails, WalFails, reads, TellsInput, IsStatusOf}
 use Rattle.dbl_program.proofs.ApplyLaws.{applies_one}
 use Rattle.dbl_program.proofs.ApplyRunLemmas.{memory_outside, memory_written, says_is}
 use Rattle.dbl_program.proofs.ReplayRunLemmas.{outside_no_answer}
 use Rattle.dbl_program.proofs.RunLemmas.{replays_one, says_ends, memory_ends, written_or_outside}
-use Rattle.dbl_program.proofs.StatusLemmas.{switched}
+use Rattle.dbl_program.proofs.StatusLemmas.{cut_other, switched}
+use Rattle.dbl_program.proofs.StoreRunLemmas.{both_opened}
 
 -- ---- one answer
 
@@ -31,7 +34,7 @@ stores_one Told one a b is is' = is.2 ∙ ap (λ (s : StoreAnswer). store_answer
 
 -- a command has one answer
 pub answers_one : (c : Command) (now : ℤ) (given : Given) (a b : Answer) → Answers c now given a → Answers c now given b → a ≡ b
-answers_one command.Init now given a b is is' = is ∙ sym is'
+answers_one command.Init now given a b is is' = is.2 ∙ ap init_answer (one_answer (given_init given) is.0 is'.0 is.1 is'.1) ∙ sym is'.2
 answers_one command.Topics now given a b is is' = stores_one (AnswersTopics given.topics) (topics_once given.topics) a b is is'
 answers_one command.Offsets now given a b is is' = stores_one (AnswersOffsets given.offsets) (offsets_once given.offsets) a b is is'
 answers_one (command.Capture options) now given a b is is' = is ∙ sym is'
@@ -86,12 +89,39 @@ memory_runs words now given failed status before after says = record {
   meant = inl (memory_outside status before after says);
 }
 
--- as its command runs, unless the input failed
-pub spelled_or_fails : (words : List (List ℕ)) (now : ℤ) (given : Given) (failed : Store → Type 0) (was later : ℕ) (status : ℕ) (before after : Option (List ℕ)) (c : Command) → Spells words c
-    → RunsCommand c now given failed status before after ⊎ ((reads c ≡ true) × FailsReading was later status before after)
-    → Runs words now given failed status before after ⊎ InputFails words was later status before after
-spelled_or_fails words now given failed was later status before after c spells (inl runs) = inl (spelled_runs words now given failed status before after c spells runs)
-spelled_or_fails words now given failed was later status before after c spells (inr fails) = inr (record { command = c; spells = spells; reading = fails.0; fails = fails.1 })
+-- as its command runs, unless the input failed, or the disk of the source's log
+pub spelled_or_fails : (words : List (List ℕ)) (now : ℤ) (given : Given) (failed : Store → Type 0) (was later wal now_wal : ℕ) (status : ℕ) (before after : Option (List ℕ)) (c : Command) → Spells words c
+    → RunsCommand c now given failed status before after ⊎ (((reads c ≡ true) × FailsReading was later status before after) ⊎ ((makes c ≡ true) × FailsSource wal now_wal status before after))
+    → Runs words now given failed status before after ⊎ (InputFails words was later status before after ⊎ WalFails words wal now_wal status before after)
+spelled_or_fails words now given failed was later wal now_wal status before after c spells (inl runs) = inl (spelled_runs words now given failed status before after c spells runs)
+spelled_or_fails words now given failed was later wal now_wal status before after c spells (inr (inl fails)) = inr (inl (record { command = c; spells = spells; reading = fails.0; fails = fails.1 }))
+spelled_or_fails words now given failed was later wal now_wal status before after c spells (inr (inr fails)) = inr (inr (record { command = c; spells = spells; making = fails.0; fails = fails.1 }))
+
+-- one that can't fail with the source's log
+pub or_source : {P Q R : Type 0} → P ⊎ Q → P ⊎ (Q ⊎ R)
+or_source (inl p) = inl p
+or_source (inr q) = inr (inl q)
+
+-- a command that reads a disk uses it
+pub reads_topics : (c : Command) → opens_topics c ≡ true → uses_topics c ≡ true
+reads_topics command.Init opens = refl
+reads_topics command.Topics opens = opens
+reads_topics command.Offsets opens = opens
+reads_topics (command.Capture options) opens = opens
+reads_topics (command.Resume chunk every messages) opens = opens
+reads_topics (command.Apply lines placeholder) opens = opens
+reads_topics (command.Replay prefix db placeholder keys) opens = opens
+reads_topics (command.Gen number rows groups run) opens = opens
+
+pub reads_offsets : (c : Command) → opens_offsets c ≡ true → uses_offsets c ≡ true
+reads_offsets command.Init opens = refl
+reads_offsets command.Topics opens = opens
+reads_offsets command.Offsets opens = opens
+reads_offsets (command.Capture options) opens = opens
+reads_offsets (command.Resume chunk every messages) opens = opens
+reads_offsets (command.Apply lines placeholder) opens = opens
+reads_offsets (command.Replay prefix db placeholder keys) opens = opens
+reads_offsets (command.Gen number rows groups run) opens = opens
 
 -- a run in which fewer disks can have failed
 wider_ends : (few failed : Store → Type 0) → ((s : Store) → few s → failed s) → (answer : Answer) (status : ℕ) (before after : Option (List ℕ)) → EndsOrFails few answer status before after → EndsOrFails failed answer status before after
@@ -102,6 +132,21 @@ pub wider_or_fails : (c : Command) (now : ℤ) (given : Given) (few failed : Sto
     → RunsCommand c now given few status before after ⊎ P → RunsCommand c now given failed status before after ⊎ P
 wider_or_fails c now given few failed status before after P wider (inl runs) = inl (record { ended = λ answer answers. wider_ends few failed wider answer status before after (runs.ended answer answers); meant = runs.meant })
 wider_or_fails c now given few failed status before after P wider (inr fails) = inr fails
+
+-- `init` runs as a command
+pub init_command : (c : Command) (now : ℤ) (given : Given) (failed : Store → Type 0) (status : ℕ) (before after : Option (List ℕ)) → c ≡ command.Init → RunsInit (given_init given) failed status before after → RunsCommand c now given failed status before after
+init_command c now given failed status before after is runs = subst (λ (k : Command). RunsCommand k now given failed status before after) (sym is) (record { ended = runs.ended; meant = runs.meant })
+
+pub init_or_fails : (c : Command) (now : ℤ) (given : Given) (P Q : Type 0) (was later wal now_wal status : ℕ) (before after : Option (List ℕ)) → c ≡ command.Init
+    → RunsInit (given_init given) (OfDisk P Q) status before after ⊎ (FailsReading was later status before after ⊎ FailsSource wal now_wal status before after)
+    → RunsCommand c now given (OfDisk ((uses_topics c ≡ true) × P) ((uses_offsets c ≡ true) × Q)) status before after ⊎ (((reads c ≡ true) × FailsReading was later status before after) ⊎ ((makes c ≡ true) × FailsSource wal now_wal status before after))
+init_or_fails c now given P Q was later wal now_wal status before after is (inl runs) =
+    let few : Store → Type 0 = OfDisk P Q in
+    let failed : Store → Type 0 = OfDisk ((uses_topics c ≡ true) × P) ((uses_offsets c ≡ true) × Q) in
+    let wider : (s : Store) → few s → failed s = both_opened (uses_topics c ≡ true) (uses_offsets c ≡ true) P Q (ap uses_topics is) (ap uses_offsets is) in
+    inl (init_command c now given failed status before after is (record { ended = λ answer told. wider_ends few failed wider answer status before after (runs.ended answer told); meant = runs.meant }))
+init_or_fails c now given P Q was later wal now_wal status before after is (inr (inl fails)) = inr (inl (ap reads is, fails))
+init_or_fails c now given P Q was later wal now_wal status before after is (inr (inr fails)) = inr (inr (ap makes is, fails))
 
 -- what is said of the command that words spell holds of each that they spell
 pub as_spelled : (words : List (List ℕ)) (P : Command → Type 0) (c d : Command) → Spells words c → Spells words d → P c → P d
@@ -132,7 +177,7 @@ pub cut_short : (status : ℕ) (before after : Option (List ℕ)) → Says Memor
 cut_short status before after says = elim (says_is Memory status before after says) [ inl is ↦ inr is | inr outside ↦ outside ]
 
 pub memory_status : (c : Command) (status : ℕ) (before after : Option (List ℕ)) → Says Memory status before after → IsStatusOf c status
-memory_status command.Init status before after says = inr (cut_short status before after says)
+memory_status command.Init status before after says = inr (inr (inr (inr (inr (inr (inr (inr (cut_short status before after says))))))))
 memory_status command.Topics status before after says = inr (inr (inr (cut_short status before after says)))
 memory_status command.Offsets status before after says = inr (inr (inr (inr (cut_short status before after says))))
 memory_status (command.Capture options) status before after says = inr (cut_short status before after says)
@@ -149,8 +194,13 @@ apply_apart status (inl is) (inr told) = cc
 apply_apart status (inr is) (inl told) = cc
 apply_apart status (inr is) (inr told) = cc
 
+init_apart : (status : ℕ) → IsCutShort status → IsInitAnswer status → ⊥
+init_apart status cut (inl is) = cut_other 0 status (λ e. cc, λ e. cc) cut is
+init_apart status cut (inr (inl is)) = cut_other 6 status (λ e. cc, λ e. cc) cut is
+init_apart status cut (inr (inr is)) = cut_other 13 status (λ e. cc, λ e. cc) cut is
+
 pub memory_tells : (c : Command) (status : ℕ) (before after : Option (List ℕ)) → Says Memory status before after → TellsInput c status → ⊥
-memory_tells command.Init status before after says told = told
+memory_tells command.Init status before after says told = init_apart status (cut_short status before after says) told
 memory_tells command.Topics status before after says told = told
 memory_tells command.Offsets status before after says told = told
 memory_tells (command.Capture options) status before after says told = told

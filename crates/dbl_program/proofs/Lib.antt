@@ -3,6 +3,8 @@ pub mod ApplyRunLemmas
 pub mod CommandLemmas
 pub mod DiskLemmas
 pub mod FinishLemmas
+pub mod InitEndLemmas
+pub mod InitLemmas
 pub mod RefusalLaws
 pub mod ReplayRunLemmas
 pub mod RunLemmas

@@ -14,8 +14,19 @@ use Rattle.dbl_consume.specs.Printing.{row_line}
 use Rattle.dbl_program.specs.declared.halt.Halt.TheVariants.{BadLine, InputTooLong, Usage}
 use Rattle.dbl_program.specs.Run.{Answer, Applies, Replays, applied, bad_line, done, fault, line_fault, log_answer, long_input, refused, replayed, too_long}
 use Rattle.dbl_program.specs.Disks.{store_answer, store_fault}
-use Rattle.dbl_program.specs.Means.{Answers, Given, Means, made, not_built, options_of, spelled, usage}
-use Rattle.dbl_program.specs.Laws.{AreRefused, StoreFaultsAreTold, StoresTell}
+use Rattle.dbl_program.specs.Means.{Answers, Given, Means, given_init, made, not_built, options_of, spelled, usage}
+use Rattle.dbl_journal.specs.declared.error.JournalError.TheVariants as journal
+use Rattle.dbl_workload.specs.declared.error.DemoError.{DemoError}
+use Rattle.dbl_workload.specs.declared.error.DemoError.TheVariants as demo
+use Rattle.dbl_init.specs.declared.error.InitError.TheVariants as init
+use Rattle.dbl_init.specs.declared.error.Store.{Store}
+use Rattle.dbl_init.specs.declared.error.Store.TheVariants as store
+use Rattle.dbl_init.specs.Answers as inits
+use Rattle.dbl_init.specs.Answers.Answers.{wal_holds, topics_hold, offsets_hold, all_empty}
+use Rattle.dbl_init.specs.Answers.AnswersInput.{too_long as too_long_input, refused as refused_input, made as made_input}
+use Rattle.dbl_init.specs.Errors.{demo_error}
+use Rattle.dbl_program.specs.Inits.{init_answer, init_fault}
+use Rattle.dbl_program.specs.Laws.{AreFull, AreRefused, StoreFaultsAreTold, StoresTell}
 use Rattle.dbl_program.proofs.ReplayRunLemmas.{end_known}
 use Rattle.dbl_program.proofs.StatusLemmas.{replay_other}
 use Rattle.dbl_program.proofs.StoreRunLemmas.{apply_refuses, offsets_refuse, topics_refuse}
@@ -50,23 +61,52 @@ lines_refuse placeholder bytes answer (long_input long is) refuses = other_statu
 lines_refuse placeholder bytes answer (refused at within found is) refuses = other_status 13 (λ e. cc) (λ e. cc) answer.status (status_is answer (line_fault at) is) refuses
 lines_refuse placeholder bytes answer (applied rows within (none, are) is) refuses = other_status 0 (λ e. cc) (λ e. cc) answer.status (status_is answer (done (map row_line rows)) is) refuses
 
+-- what the input means is told with another status
+demo_refuses : (e : DemoError) (answer : Answer) → answer ≡ init_fault (demo_error e) → Refuses answer.status → ⊥
+demo_refuses (demo.Script e) answer is refuses = other_status 13 (λ e. cc) (λ e. cc) answer.status (status_is answer (init_fault (init.Script e)) is) refuses
+demo_refuses (demo.Model e) answer is refuses = other_status 6 (λ e. cc) (λ e. cc) answer.status (status_is answer (init_fault (init.Model e)) is) refuses
+demo_refuses (demo.BadEntry index) answer is refuses = other_status 12 (λ e. cc) (λ e. cc) answer.status (status_is answer (init_fault init.Memory) is) refuses
+demo_refuses demo.Memory answer is refuses = other_status 12 (λ e. cc) (λ e. cc) answer.status (status_is answer (init_fault init.Memory) is) refuses
+demo_refuses (demo.Journal journal.Failed) answer is refuses = other_status 7 (λ e. cc) (λ e. cc) answer.status (status_is answer (init_fault (init.Failed store.Wal)) is) refuses
+demo_refuses (demo.Journal (journal.NotAJournal at)) answer is refuses = other_status 12 (λ e. cc) (λ e. cc) answer.status (status_is answer (init_fault init.Memory) is) refuses
+demo_refuses (demo.Journal (journal.EntryTooLong len)) answer is refuses = other_status 12 (λ e. cc) (λ e. cc) answer.status (status_is answer (init_fault init.Memory) is) refuses
+demo_refuses (demo.Journal journal.Memory) answer is refuses = other_status 12 (λ e. cc) (λ e. cc) answer.status (status_is answer (init_fault init.Memory) is) refuses
+
+input_refuses : (bytes : List ℕ) (end : inits.End) → inits.AnswersInput bytes end → (answer : Answer) → answer ≡ init_answer end → Refuses answer.status → ⊥
+input_refuses bytes end (too_long_input long is) answer same refuses = other_status 13 (λ e. cc) (λ e. cc) answer.status (status_is answer (init_fault init.InputTooLong) (same ∙ ap init_answer is)) refuses
+input_refuses bytes end (refused_input short e why is) answer same refuses = demo_refuses e answer (same ∙ ap init_answer is) refuses
+input_refuses bytes end (made_input short w of is) answer same refuses = other_status 0 (λ e. cc) (λ e. cc) answer.status (status_is answer (done []) (same ∙ ap init_answer is)) refuses
+
 abbrev IsRefused : List (List ℕ) → Given → Answer → Type 0
-IsRefused words given answer = (e : RunError) × AreRefused words given e answer
+IsRefused words given answer = ((e : RunError) × AreRefused words given e answer) ⊎ ((s : Store) × AreFull words given s answer)
+
+-- `init` refuses a disk that isn't empty
+init_refuses : (words : List (List ℕ)) (given : Given) (answer : Answer) → Spells words command.Init → (end : inits.End) → inits.Answers (given_init given) end → answer ≡ init_answer end → Refuses answer.status → IsRefused words given answer
+init_refuses words given answer spells end (wal_holds some is) same refuses =
+    inr (store.Wal, record { spells = spells; first = some; answer_is = same ∙ ap init_answer is })
+init_refuses words given answer spells end (topics_hold wal some is) same refuses =
+    inr (store.Topics, record { spells = spells; first = (wal, some); answer_is = same ∙ ap init_answer is })
+init_refuses words given answer spells end (offsets_hold wal topics some is) same refuses =
+    inr (store.Offsets, record { spells = spells; first = (wal, (topics, some)); answer_is = same ∙ ap init_answer is })
+init_refuses words given answer spells end (all_empty none input) same refuses = absurd (input_refuses given.input end input answer same refuses)
+
+full_refuses : (words : List (List ℕ)) (given : Given) (answer : Answer) (s : Store) → AreFull words given s answer → Refuses answer.status
+full_refuses words given answer s full = inr (status_is answer (init_fault (init.NotEmpty s)) full.answer_is)
 
 unbuilt_refuses : (answer : Answer) (P : Type 0) → answer ≡ not_built → Refuses answer.status → P
 unbuilt_refuses answer P is refuses = absurd (other_status 16 (λ e. cc) (λ e. cc) answer.status (status_is answer not_built is) refuses)
 
 forth : (words : List (List ℕ)) (now : ℤ) (given : Given) (answer : Answer) (c : Command) → Spells words c → Answers c now given answer → Refuses answer.status → IsRefused words given answer
-forth words now given answer command.Init spells is refuses = unbuilt_refuses answer (IsRefused words given answer) is refuses
+forth words now given answer command.Init spells is refuses = init_refuses words given answer spells is.0 is.1 is.2 refuses
 forth words now given answer command.Topics spells is refuses =
-    stores_told (AnswersTopics given.topics) answer (IsRefused words given answer) (λ e told same. (e, record { command = command.Topics; spells = spells; tells = told; answer_is = same })) refuses is.0 is.1 is.2
+    stores_told (AnswersTopics given.topics) answer (IsRefused words given answer) (λ e told same. inl (e, record { command = command.Topics; spells = spells; tells = told; answer_is = same })) refuses is.0 is.1 is.2
 forth words now given answer command.Offsets spells is refuses =
-    stores_told (AnswersOffsets given.offsets) answer (IsRefused words given answer) (λ e told same. (e, record { command = command.Offsets; spells = spells; tells = told; answer_is = same })) refuses is.0 is.1 is.2
+    stores_told (AnswersOffsets given.offsets) answer (IsRefused words given answer) (λ e told same. inl (e, record { command = command.Offsets; spells = spells; tells = told; answer_is = same })) refuses is.0 is.1 is.2
 forth words now given answer (command.Capture options) spells is refuses = unbuilt_refuses answer (IsRefused words given answer) is refuses
 forth words now given answer (command.Resume chunk every messages) spells is refuses = unbuilt_refuses answer (IsRefused words given answer) is refuses
 forth words now given answer (command.Apply true placeholder) spells is refuses = absurd (lines_refuse placeholder given.input answer is refuses)
 forth words now given answer (command.Apply false placeholder) spells is refuses =
-    stores_told (AnswersApply given.topics given.offsets) answer (IsRefused words given answer) (λ e told same. (e, record { command = command.Apply false placeholder; spells = spells; tells = told; answer_is = same })) refuses is.0 is.1 is.2
+    stores_told (AnswersApply given.topics given.offsets) answer (IsRefused words given answer) (λ e told same. inl (e, record { command = command.Apply false placeholder; spells = spells; tells = told; answer_is = same })) refuses is.0 is.1 is.2
 forth words now given answer (command.Replay prefix db placeholder keys) spells is refuses = absurd (replay_refuses (options_of prefix db placeholder keys) now given.input answer is refuses)
 forth words now given answer (command.Gen number rows groups true) spells is refuses = unbuilt_refuses answer (IsRefused words given answer) is refuses
 forth words now given answer (command.Gen number rows groups false) spells is refuses = absurd (other_status 0 (λ e. cc) (λ e. cc) answer.status (status_is answer (made number rows groups) is) refuses)
@@ -100,7 +140,7 @@ back words given answer e is =
     ]
 
 pub faults_told : StoreFaultsAreTold
-faults_told words now given answer means = (told means, λ found. back words given answer found.0 found.1)
+faults_told words now given answer means = (told means, λ found. elim found [ inl e ↦ back words given answer e.0 e.1 | inr s ↦ full_refuses words given answer s.0 s.1 ])
   where
     told : Means words now given answer → Refuses answer.status → IsRefused words given answer
     told (usage none is) refuses = absurd (other_status 2 (λ e. cc) (λ e. cc) answer.status (status_is answer (fault Usage) is) refuses)

@@ -40,7 +40,9 @@ use Rattle.dbl_program.specs.Run.{Answer, fault, done, line_fault, log_answer, R
 use Rattle.dbl_runs.specs.Answers.{Answer as StoreAnswer, AnswersTopics, AnswersOffsets, AnswersApply}
 use Rattle.dbl_runs.proofs.StandLaws.{topics_stand, offsets_stand, apply_stands as consumer_stands}
 use Rattle.dbl_program.specs.Disks.{IsAnswerOf, store_answer}
-use Rattle.dbl_program.specs.Means.{made, not_built, options_of, Given, Answers, Means, usage, spelled}
+use Rattle.dbl_init.proofs.StandLaws.{answers_stand}
+use Rattle.dbl_program.specs.Inits.{init_answer}
+use Rattle.dbl_program.specs.Means.{made, not_built, options_of, Given, given_init, Answers, Means, usage, spelled}
 use Rattle.dbl_replay.proofs.CommitLaws.{commits_written}
 use Rattle.dbl_replay.proofs.CaptureLemmas.{captured_still, captured_more}
 
@@ -186,7 +188,7 @@ stores_stand : (Told : StoreAnswer → Type 0) → (found : StoreAnswer) → Tol
 stores_stand Told found told = (store_answer found, (found, told, refl))
 
 command_stands : (c : Command) (now : ℤ) (given : Given) → AreBytes given.topics → AreBytes given.offsets → (answer : Answer) × Answers c now given answer
-command_stands command.Init now given t f = (not_built, refl)
+command_stands command.Init now given t f = let end = answers_stand (given_init given) in (init_answer end.0, (end.0, end.1, refl))
 command_stands command.Topics now given t f = let found = topics_stand given.topics t in stores_stand (AnswersTopics given.topics) found.0 found.1
 command_stands command.Offsets now given t f = let found = offsets_stand given.offsets f in stores_stand (AnswersOffsets given.offsets) found.0 found.1
 command_stands (command.Capture options) now given t f = (not_built, refl)

@@ -8,7 +8,8 @@ use Rattle.dbl_program.specs.declared.halt.Halt.TheVariants.{Usage, Memory}
 use Rattle.dbl_program.specs.Faults.{status_of}
 use Rattle.dbl_program.specs.Run.{IsApplyStatus, IsOutside, IsReplayStatus, Says}
 use Rattle.dbl_program.specs.Disks.{IsCutShort, offsets_status, topics_status, wal_status}
-use Rattle.dbl_program.specs.Means.{HasOpenedOffsets, HasOpenedTopics, IsOffsetsStatus, IsRowsStatus, IsStatusOf, IsTopicsStatus, SpellUnbuilt, is_built, opens_offsets, opens_topics}
+use Rattle.dbl_program.specs.Inits.{IsInitStatus}
+use Rattle.dbl_program.specs.Means.{HasOpenedOffsets, HasOpenedTopics, IsOffsetsStatus, IsRowsStatus, IsStatusOf, IsTopicsStatus, SpellUnbuilt, is_built, makes, opens_offsets, opens_topics, uses_offsets, uses_topics}
 use Rattle.dbl_program.proofs.ApplyRunLemmas.{says_is}
 
 -- ---- by the kind of the command
@@ -99,24 +100,36 @@ told_rows c status opens (inl is) = inl is
 told_rows c status opens (inr (inl is)) = inr is
 told_rows c status opens (inr (inr told)) = absurd (switched (sym opens ∙ told.0))
 
+-- the statuses of `init`
+pub init_other : (n status : ℕ) → (n ≢ 0) × (n ≢ 6) × (n ≢ 7) × (n ≢ 8) × (n ≢ 9) → (n ≢ 10) × (n ≢ 13) × (n ≢ 14) → (n ≢ 11) × (n ≢ 12) → IsInitStatus status → status ≡ n → ⊥
+init_other n status own other short (inl is) same = own.0 (sym same ∙ is)
+init_other n status own other short (inr (inl is)) same = own.1 (sym same ∙ is)
+init_other n status own other short (inr (inr (inl is))) same = own.2 (sym same ∙ is)
+init_other n status own other short (inr (inr (inr (inl is)))) same = own.3 (sym same ∙ is)
+init_other n status own other short (inr (inr (inr (inr (inl is))))) same = own.4 (sym same ∙ is)
+init_other n status own other short (inr (inr (inr (inr (inr (inl is)))))) same = other.0 (sym same ∙ is)
+init_other n status own other short (inr (inr (inr (inr (inr (inr (inl is))))))) same = other.1 (sym same ∙ is)
+init_other n status own other short (inr (inr (inr (inr (inr (inr (inr (inl is)))))))) same = other.2 (sym same ∙ is)
+init_other n status own other short (inr (inr (inr (inr (inr (inr (inr (inr cut)))))))) same = cut_other n status short cut same
+
 -- ---- by the command
 
--- the disk of the source's log fails nowhere
-pub no_wal : (c : Command) (status : ℕ) → IsStatusOf c status → status ≡ wal_status → ⊥
-no_wal command.Init status known same = one_other 16 7 status (λ e. cc) (λ e. cc, λ e. cc) known same
-no_wal command.Topics status known same = topics_other 7 status (λ e. cc, λ e. cc, λ e. cc) (λ e. cc, λ e. cc) known same
-no_wal command.Offsets status known same = offsets_other 7 status (λ e. cc, λ e. cc, λ e. cc, λ e. cc) (λ e. cc, λ e. cc) known same
-no_wal (command.Capture options) status known same = one_other 16 7 status (λ e. cc) (λ e. cc, λ e. cc) known same
-no_wal (command.Resume chunk every messages) status known same = one_other 16 7 status (λ e. cc) (λ e. cc, λ e. cc) known same
-no_wal (command.Apply true placeholder) status known same = lines_other 7 status (λ e. cc, λ e. cc) (λ e. cc, λ e. cc, λ e. cc) known same
-no_wal (command.Apply false placeholder) status known same = rows_other 7 status (λ e. cc) (λ e. cc, λ e. cc, λ e. cc, λ e. cc) (λ e. cc, λ e. cc) known same
-no_wal (command.Replay prefix db placeholder keys) status known same = replay_other 7 status (λ e. cc, λ e. cc, λ e. cc, λ e. cc) (λ e. cc, λ e. cc, λ e. cc) known same
-no_wal (command.Gen number rows groups true) status known same = one_other 16 7 status (λ e. cc) (λ e. cc, λ e. cc) known same
-no_wal (command.Gen number rows groups false) status known same = one_other 0 7 status (λ e. cc) (λ e. cc, λ e. cc) known same
+-- the disk of the source's log fails nowhere but where the stores are made
+pub no_wal : (c : Command) (status : ℕ) → makes c ≡ false → IsStatusOf c status → status ≡ wal_status → ⊥
+no_wal command.Init status none known same = switched none
+no_wal command.Topics status none known same = topics_other 7 status (λ e. cc, λ e. cc, λ e. cc) (λ e. cc, λ e. cc) known same
+no_wal command.Offsets status none known same = offsets_other 7 status (λ e. cc, λ e. cc, λ e. cc, λ e. cc) (λ e. cc, λ e. cc) known same
+no_wal (command.Capture options) status none known same = one_other 16 7 status (λ e. cc) (λ e. cc, λ e. cc) known same
+no_wal (command.Resume chunk every messages) status none known same = one_other 16 7 status (λ e. cc) (λ e. cc, λ e. cc) known same
+no_wal (command.Apply true placeholder) status none known same = lines_other 7 status (λ e. cc, λ e. cc) (λ e. cc, λ e. cc, λ e. cc) known same
+no_wal (command.Apply false placeholder) status none known same = rows_other 7 status (λ e. cc) (λ e. cc, λ e. cc, λ e. cc, λ e. cc) (λ e. cc, λ e. cc) known same
+no_wal (command.Replay prefix db placeholder keys) status none known same = replay_other 7 status (λ e. cc, λ e. cc, λ e. cc, λ e. cc) (λ e. cc, λ e. cc, λ e. cc) known same
+no_wal (command.Gen number rows groups true) status none known same = one_other 16 7 status (λ e. cc) (λ e. cc, λ e. cc) known same
+no_wal (command.Gen number rows groups false) status none known same = one_other 0 7 status (λ e. cc) (λ e. cc, λ e. cc) known same
 
 -- nor does a disk that the command doesn't read
-pub no_topics : (c : Command) (status : ℕ) → IsStatusOf c status → opens_topics c ≡ false → status ≡ topics_status → ⊥
-no_topics command.Init status known shut same = one_other 16 8 status (λ e. cc) (λ e. cc, λ e. cc) known same
+pub no_topics : (c : Command) (status : ℕ) → IsStatusOf c status → uses_topics c ≡ false → status ≡ topics_status → ⊥
+no_topics command.Init status known shut same = switched shut
 no_topics command.Topics status known shut same = switched shut
 no_topics command.Offsets status known shut same = offsets_other 8 status (λ e. cc, λ e. cc, λ e. cc, λ e. cc) (λ e. cc, λ e. cc) known same
 no_topics (command.Capture options) status known shut same = one_other 16 8 status (λ e. cc) (λ e. cc, λ e. cc) known same
@@ -127,8 +140,8 @@ no_topics (command.Replay prefix db placeholder keys) status known shut same = r
 no_topics (command.Gen number rows groups true) status known shut same = one_other 16 8 status (λ e. cc) (λ e. cc, λ e. cc) known same
 no_topics (command.Gen number rows groups false) status known shut same = one_other 0 8 status (λ e. cc) (λ e. cc, λ e. cc) known same
 
-pub no_offsets : (c : Command) (status : ℕ) → IsStatusOf c status → opens_offsets c ≡ false → status ≡ offsets_status → ⊥
-no_offsets command.Init status known shut same = one_other 16 9 status (λ e. cc) (λ e. cc, λ e. cc) known same
+pub no_offsets : (c : Command) (status : ℕ) → IsStatusOf c status → uses_offsets c ≡ false → status ≡ offsets_status → ⊥
+no_offsets command.Init status known shut same = switched shut
 no_offsets command.Topics status known shut same = topics_other 9 status (λ e. cc, λ e. cc, λ e. cc) (λ e. cc, λ e. cc) known same
 no_offsets command.Offsets status known shut same = switched shut
 no_offsets (command.Capture options) status known shut same = one_other 16 9 status (λ e. cc) (λ e. cc, λ e. cc) known same
@@ -138,6 +151,27 @@ no_offsets (command.Apply false placeholder) status known shut same = switched s
 no_offsets (command.Replay prefix db placeholder keys) status known shut same = replay_other 9 status (λ e. cc, λ e. cc, λ e. cc, λ e. cc) (λ e. cc, λ e. cc, λ e. cc) known same
 no_offsets (command.Gen number rows groups true) status known shut same = one_other 16 9 status (λ e. cc) (λ e. cc, λ e. cc) known same
 no_offsets (command.Gen number rows groups false) status known shut same = one_other 0 9 status (λ e. cc) (λ e. cc, λ e. cc) known same
+
+-- a command that neither reads a disk nor makes the stores doesn't use it
+pub unused_topics : (c : Command) → makes c ≡ false → opens_topics c ≡ false → uses_topics c ≡ false
+unused_topics command.Init none shut = none
+unused_topics command.Topics none shut = shut
+unused_topics command.Offsets none shut = shut
+unused_topics (command.Capture options) none shut = shut
+unused_topics (command.Resume chunk every messages) none shut = shut
+unused_topics (command.Apply lines placeholder) none shut = shut
+unused_topics (command.Replay prefix db placeholder keys) none shut = shut
+unused_topics (command.Gen number rows groups run) none shut = shut
+
+pub unused_offsets : (c : Command) → makes c ≡ false → opens_offsets c ≡ false → uses_offsets c ≡ false
+unused_offsets command.Init none shut = none
+unused_offsets command.Topics none shut = shut
+unused_offsets command.Offsets none shut = shut
+unused_offsets (command.Capture options) none shut = shut
+unused_offsets (command.Resume chunk every messages) none shut = shut
+unused_offsets (command.Apply lines placeholder) none shut = shut
+unused_offsets (command.Replay prefix db placeholder keys) none shut = shut
+unused_offsets (command.Gen number rows groups run) none shut = shut
 
 -- status 16 is that of the commands that aren't built
 abbrev NotBuilt : ℕ → Type 0
@@ -167,8 +201,14 @@ no_offset = (no_zero, λ e. cc, λ e. cc, no_fourteen)
 no_log : NotBuilt 0 × NotBuilt 5 × NotBuilt 6 × NotBuilt 13
 no_log = (no_zero, λ e. cc, λ e. cc, no_bad)
 
+no_init : NotBuilt 0 × NotBuilt 6 × NotBuilt 7 × NotBuilt 8 × NotBuilt 9
+no_init = (no_zero, λ e. cc, λ e. cc, no_eight, λ e. cc)
+
+no_refusal : NotBuilt 10 × NotBuilt 13 × NotBuilt 14
+no_refusal = (λ e. cc, no_bad, no_fourteen)
+
 built_other : (c : Command) (status : ℕ) → IsStatusOf c status → is_built c ≡ true → status ≡ 16 → ⊥
-built_other command.Init status known built same = switched (sym built)
+built_other command.Init status known built same = init_other 16 status no_init no_refusal no_outside known same
 built_other command.Topics status known built same = topics_other 16 status (no_zero, no_eight, no_fourteen) no_outside known same
 built_other command.Offsets status known built same = offsets_other 16 status no_offset no_outside known same
 built_other (command.Capture options) status known built same = switched (sym built)

@@ -1,12 +1,17 @@
 -- What the definitions of the program's answers determine, and what they come to.
-use Rattle.std.specs.Prelude.{◌≡◌, ◌⊎◌, ◌↔◌, ℕ, ℤ, false, List}
+use Rattle.std.specs.Prelude.{◌≡◌, ◌≢◌, ◌⊎◌, ◌↔◌, ℕ, ℤ, false, List, []}
 use Rattle.dbl_pgmsg.specs.Faults.{AreBytes}
 use Rattle.dbl_cli.specs.declared.commands.Command.{Command}
-use Rattle.dbl_cli.specs.declared.commands.Command.TheVariants.{Topics, Offsets, Apply}
+use Rattle.dbl_cli.specs.declared.commands.Command.TheVariants.{Init, Topics, Offsets, Apply}
 use Rattle.dbl_cli.specs.Commands.{Spells}
 use Rattle.dbl_runs.specs.declared.error.RunError.{RunError}
 use Rattle.dbl_runs.specs.Answers.{AppliesNot, HasNoOffset, IsNoLog}
+use Rattle.dbl_init.specs.declared.error.InitError.TheVariants.{NotEmpty}
+use Rattle.dbl_init.specs.declared.error.Store.{Store}
+use Rattle.dbl_init.specs.declared.error.Store.TheVariants as init
+use Rattle.dbl_init.specs.declared.error.Store.TheVariants.{Wal}
 use Rattle.dbl_program.specs.Run.{Answer}
+use Rattle.dbl_program.specs.Inits.{init_fault}
 use Rattle.dbl_program.specs.Disks.{store_fault}
 use Rattle.dbl_program.specs.Means.{Given, Means}
 
@@ -32,8 +37,20 @@ pub record AreRefused (words : List (List ℕ)) (given : Given) (error : RunErro
   pub tells : StoresTell command given error
   pub answer_is : answer ≡ store_fault error
 
+-- the first disk that isn't empty, in the order in which they are asked
+abbrev pub IsFirstFull : Given → Store → Type 0
+IsFirstFull given Wal = given.wal ≢ []
+IsFirstFull given init.Topics = (given.wal ≡ []) × (given.topics ≢ [])
+IsFirstFull given init.Offsets = (given.wal ≡ []) × ((given.topics ≡ []) × (given.offsets ≢ []))
+
+-- the words spell `init`, this is the first disk that isn't empty, and the answer is that
+pub record AreFull (words : List (List ℕ)) (given : Given) (store : Store) (answer : Answer) : Type 0 where
+  pub spells : Spells words Init
+  pub first : IsFirstFull given store
+  pub answer_is : answer ≡ init_fault (NotEmpty store)
+
 -- the statuses 4 and 14 are answered exactly where the stores tell an error: that no offset is stored, or the store and the
--- place or the entry
+-- place or the entry; or where `init` finds a disk that isn't empty
 abbrev pub StoreFaultsAreTold : Type 0
 StoreFaultsAreTold = (words : List (List ℕ)) (now : ℤ) (given : Given) (answer : Answer) → Means words now given answer
-    → ((answer.status ≡ 4) ⊎ (answer.status ≡ 14)) ↔ ((error : RunError) × AreRefused words given error answer)
+    → ((answer.status ≡ 4) ⊎ (answer.status ≡ 14)) ↔ (((error : RunError) × AreRefused words given error answer) ⊎ ((store : Store) × AreFull words given store answer))

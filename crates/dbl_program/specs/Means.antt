@@ -7,11 +7,13 @@ use Rattle.dbl_gen.specs.Workload.{workload_lines}
 use Rattle.dbl_cli.specs.declared.commands.Command.{Command}
 use Rattle.dbl_cli.specs.declared.commands.Command.TheVariants.{Init, Topics, Offsets, Capture, Resume, Replay, Apply, Gen}
 use Rattle.dbl_cli.specs.Commands.{Spells}
+use Rattle.dbl_init.specs.Answers as inits
 use Rattle.dbl_program.specs.declared.halt.Halt.TheVariants.{Usage}
 use Rattle.dbl_replay.specs.declared.options.ReplayOptions.{ReplayOptions}
 use Rattle.dbl_runs.specs.Answers.{AnswersTopics, AnswersOffsets, AnswersApply}
 use Rattle.dbl_runs.specs.declared.error.Store.{Store}
 use Rattle.dbl_program.specs.Disks.{EndsOrFails, IsAnswerOf, IsCutShort, IsDiskStatus, topics_status, offsets_status}
+use Rattle.dbl_program.specs.Inits.{AnswersInit, FailsSource, IsInitAnswer, IsInitStatus}
 use Rattle.dbl_program.specs.Run.{Answer, fault, Replays, Applies, FailsReading, IsOutside, IsReplayAnswer, IsReplayStatus, IsApplyStatus}
 
 -- the answer of `gen`: the lines of the workload, which are written at once
@@ -25,11 +27,17 @@ not_built = record { status = 16; lines = codes "dblog: not built" ∷ []; one_b
 abbrev pub options_of : List ℕ → List ℕ → List ℕ → List TableKey → ReplayOptions
 options_of prefix db placeholder keys = record { identity = record { prefix = prefix; db = db; placeholder = placeholder }; keys = keys }
 
--- what a run is given to read: what is left of the input, and the bytes of the disks of the topic log and of the offset
+-- what a run is given to read: what is left of the input, and the bytes of the disks of the source's log, of the topic log and of
+-- the offset
 pub record Given : Type 0 where
   pub input : List ℕ
+  pub wal : List ℕ
   pub topics : List ℕ
   pub offsets : List ℕ
+
+-- the same as `init` has it
+abbrev pub given_init : Given → inits.Given
+given_init given = record { wal = given.wal; topics = given.topics; offsets = given.offsets; input = given.input }
 
 -- what a command answers at a moment for what it is given
 abbrev pub Answers : Command → ℤ → Given → Answer → Type 0
@@ -38,6 +46,7 @@ Answers (Apply true placeholder) now given answer = Applies placeholder given.in
 Answers (Apply false placeholder) now given answer = IsAnswerOf (AnswersApply given.topics given.offsets) answer
 Answers Topics now given answer = IsAnswerOf (AnswersTopics given.topics) answer
 Answers Offsets now given answer = IsAnswerOf (AnswersOffsets given.offsets) answer
+Answers Init now given answer = AnswersInit (given_init given) answer
 Answers (Gen number rows groups false) now given answer = answer ≡ made number rows groups
 Answers command now given answer = answer ≡ not_built
 
@@ -56,6 +65,7 @@ pub record Runs (words : List (List ℕ)) (now : ℤ) (given : Given) (failed : 
 abbrev pub reads : Command → Bool
 reads (Replay prefix db placeholder keys) = true
 reads (Apply lines placeholder) = lines
+reads Init = true
 reads command = false
 
 -- the command reads the disk of the topic log
@@ -70,6 +80,20 @@ opens_offsets Offsets = true
 opens_offsets (Apply false placeholder) = true
 opens_offsets command = false
 
+-- the command makes the stores, on all of the disks
+abbrev pub makes : Command → Bool
+makes Init = true
+makes command = false
+
+-- the command reads the disk of the topic log, or makes the store there; and that of the offset
+abbrev pub uses_topics : Command → Bool
+uses_topics Init = true
+uses_topics command = opens_topics command
+
+abbrev pub uses_offsets : Command → Bool
+uses_offsets Init = true
+uses_offsets command = opens_offsets command
+
 -- with this status a command that opens the disk of the topic log has opened it
 abbrev pub HasOpenedTopics : ℕ → Type 0
 HasOpenedTopics status = (status ≡ 0) ⊎ ((status ≡ 4) ⊎ ((status ≡ offsets_status) ⊎ (status ≡ 14)))
@@ -83,22 +107,26 @@ abbrev pub FindsNoLog : Command → List ℕ → Type 0
 FindsNoLog command topics = (opens_topics command ≡ true) × ((groups : List (List Record)) → ¬ IsLog topics groups)
 
 -- of what a command reads, the input and the disks tell what is given
-pub record AreTold (command : Command) (input topics offsets : Option (List ℕ)) (given : Given) : Type 0 where
+pub record AreTold (command : Command) (input wal topics offsets : Option (List ℕ)) (given : Given) : Type 0 where
   pub input_is : reads command ≡ true → input ≡ Some given.input
-  pub topics_are : opens_topics command ≡ true → topics ≡ Some given.topics
-  pub offsets_are : opens_offsets command ≡ true → FindsNoLog command given.topics ⊎ (offsets ≡ Some given.offsets)
+  pub wal_is : makes command ≡ true → wal ≡ Some given.wal
+  pub topics_are : uses_topics command ≡ true → topics ≡ Some given.topics
+  pub offsets_are : uses_offsets command ≡ true → FindsNoLog command given.topics ⊎ (offsets ≡ Some given.offsets)
 
 -- the same of the command that the words spell, if they spell one
-abbrev pub Tell : List (List ℕ) → Option (List ℕ) → Option (List ℕ) → Option (List ℕ) → Given → Type 0
-Tell words input topics offsets given = (command : Command) → Spells words command → AreTold command input topics offsets given
+abbrev pub Tell : List (List ℕ) → Option (List ℕ) → Option (List ℕ) → Option (List ℕ) → Option (List ℕ) → Given → Type 0
+Tell words input wal topics offsets given = (command : Command) → Spells words command → AreTold command input wal topics offsets given
 
 -- the words spell a command of which this holds
 abbrev pub SpellSome : List (List ℕ) → (Command → Bool) → Type 0
 SpellSome words holds = (command : Command) × Spells words command × (holds command ≡ true)
 
+-- the words spell no command of which this holds
+abbrev pub SpellNone : List (List ℕ) → (Command → Bool) → Type 0
+SpellNone words holds = (command : Command) → Spells words command → holds command ≡ false
+
 -- the command is built
 abbrev pub is_built : Command → Bool
-is_built Init = false
 is_built (Capture options) = false
 is_built (Resume chunk every messages) = false
 is_built (Gen number rows groups true) = false
@@ -116,10 +144,19 @@ pub record InputFails (words : List (List ℕ)) (was now : ℕ) (status : ℕ) (
   pub reading : reads command ≡ true
   pub fails : FailsReading was now status before after
 
+-- a run over these words, in which the disk of the source's log failed, ended so: they spell a command that makes the store there, and
+-- the line of that fault was to be written
+pub record WalFails (words : List (List ℕ)) (was now : ℕ) (status : ℕ) (before after : Option (List ℕ)) : Type 0 where
+  pub command : Command
+  pub spells : Spells words command
+  pub making : makes command ≡ true
+  pub fails : FailsSource was now status before after
+
 -- a command that reads neither the input nor a disk has this answer
 abbrev pub StandsAlone : Command → Answer → Type 0
 StandsAlone (Replay prefix db placeholder keys) answer = ⊥
 StandsAlone (Apply lines placeholder) answer = ⊥
+StandsAlone Init answer = ⊥
 StandsAlone Topics answer = ⊥
 StandsAlone Offsets answer = ⊥
 StandsAlone (Gen number rows groups false) answer = answer ≡ made number rows groups
@@ -129,6 +166,7 @@ StandsAlone command answer = answer ≡ not_built
 abbrev pub TellsInput : Command → ℕ → Type 0
 TellsInput (Replay prefix db placeholder keys) status = IsReplayAnswer status
 TellsInput (Apply true placeholder) status = (status ≡ 0) ⊎ (status ≡ 13)
+TellsInput Init status = IsInitAnswer status
 TellsInput command status = ⊥
 
 -- the statuses of the commands over the stores, whatever the disks and the output tell
@@ -146,10 +184,16 @@ abbrev pub IsStatusOf : Command → ℕ → Type 0
 IsStatusOf (Replay prefix db placeholder keys) status = IsReplayStatus status
 IsStatusOf (Apply true placeholder) status = IsApplyStatus status
 IsStatusOf (Apply false placeholder) status = IsRowsStatus status
+IsStatusOf Init status = IsInitStatus status
 IsStatusOf Topics status = IsTopicsStatus status
 IsStatusOf Offsets status = IsOffsetsStatus status
 IsStatusOf (Gen number rows groups false) status = (status ≡ 0) ⊎ IsCutShort status
 IsStatusOf command status = (status ≡ 16) ⊎ IsCutShort status
+
+-- for private clauses: a run of `init` ended so
+pub record RunsInit (given : inits.Given) (failed : Store → Type 0) (status : ℕ) (before after : Option (List ℕ)) : Type 0 where
+  pub ended : (answer : Answer) → AnswersInit given answer → EndsOrFails failed answer status before after
+  pub meant : IsOutside status ⊎ (IsDiskStatus status ⊎ ((answer : Answer) × AnswersInit given answer × (answer.status ≡ status)))
 
 -- for private clauses: a run of a command ended so
 pub record RunsCommand (command : Command) (now : ℤ) (given : Given) (failed : Store → Type 0) (status : ℕ) (before after : Option (List ℕ)) : Type 0 where

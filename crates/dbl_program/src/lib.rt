@@ -4,6 +4,7 @@
 
 mod finished;
 mod halt;
+mod initializing;
 pub mod laws;
 mod program;
 mod saying;

@@ -12,7 +12,12 @@ ghost use Rattle.dbl_cli.specs.Commands.{Spells};
 ghost use Rattle.dbl_cli.specs.Limits.{IsWithin};
 ghost use Rattle.dbl_program.specs.Run.{RunsLog};
 ghost use Rattle.dbl_runs.specs.Ends.{IsSynced};
-ghost use Rattle.dbl_program.specs.Means.{made, not_built, options_of, AreTold, Given, HasOpenedOffsets, HasOpenedTopics, InputFails, Runs, RunsCommand, SpellSome, SpellUnbuilt, Tell, reads, opens_offsets, opens_topics, StandsAlone, TellsInput, IsStatusOf};
+ghost use Rattle.dbl_program.specs.Means.{made, not_built, options_of, AreTold, Given, HasOpenedOffsets, HasOpenedTopics, InputFails, Runs, RunsCommand, SpellNone, SpellSome, SpellUnbuilt, Tell, WalFails, makes, reads, opens_offsets, opens_topics, uses_offsets, uses_topics, StandsAlone, TellsInput, IsStatusOf};
+ghost use Rattle.dbl_running.specs.Made.{IsFreshWal};
+ghost use Rattle.dbl_init.specs.declared.error.Store.TheVariants.{Wal, Topics, Offsets};
+ghost use Rattle.dbl_init.specs.Disks.{HasStored, HoldsBytes};
+ghost use Rattle.dbl_init.specs.Fresh.{IsEmptyLog, IsEmptyStore};
+ghost use Rattle.dbl_program.specs.Inits.{FailsSource, IsInitLeft, IsUntouched};
 ghost use Rattle.dbl_program.specs.Disks.{IsOnlyRead, OfDisk, offsets_status, topics_status, wal_status};
 ghost use Rattle.dbl_record.specs.declared.record.Record.{Record};
 ghost use Rattle.dbl_topic.specs.Logs.{IsLog};
@@ -20,6 +25,7 @@ ghost use Rattle.dbl_program.specs.Run.{Answer, Says, FailsReading, HaltsReplayi
 
 use crate::finished::Finished;
 use crate::halt::Halt;
+use crate::initializing::run_init;
 use crate::saying::{OUTPUT_FAILED, say, write_text};
 use crate::stores::{run_apply, run_offsets, run_topics};
 use dbl_base::{Bytes, Input, InputError, Output, Seq, Text, read_all};
@@ -52,15 +58,18 @@ pub fn run<I: Input, O: Output, W: Disk, T: Disk, F: Disk>(
     // What is written and answered is what the words mean with what they read: the input, and the bytes of the disks that the
     // command opens. Only a failed input is told besides, or a failed disk that it opens, whose count of faults rose.
     ensures told { (given : Given) →
-        Tell words.now.items (I.left input.old) (T.seen topics) (F.seen offsets) given →
+        Tell words.now.items
+        (I.left input.old) (W.seen wal) (T.seen topics) (F.seen offsets) given →
         Runs words.now.items now_ms given
         (OfDisk
-        (SpellSome words.now.items opens_topics × Rose (T.faults topics) (T.faults result.topics))
-        (SpellSome words.now.items opens_offsets ×
+        (SpellSome words.now.items uses_topics × Rose (T.faults topics) (T.faults result.topics))
+        (SpellSome words.now.items uses_offsets ×
         Rose (F.faults offsets) (F.faults result.offsets)))
         result.status (O.written output.old) (O.written output.new)
-        ⊎ InputFails words.now.items (I.faults input.old) (I.faults input.new) result.status
-        (O.written output.old) (O.written output.new) }
+        ⊎ (InputFails words.now.items (I.faults input.old) (I.faults input.new) result.status
+        (O.written output.old) (O.written output.new)
+        ⊎ WalFails words.now.items (W.faults wal) (W.faults result.wal) result.status
+        (O.written output.old) (O.written output.new)) }
 
     // Invalid arguments are usage, whatever the streams and the disks tell.
     ensures usage { ((command : Command) → Spells words.now.items command → ⊥) →
@@ -74,6 +83,9 @@ pub fn run<I: Input, O: Output, W: Disk, T: Disk, F: Disk>(
     // Where the words spell no command that reads the input, nothing is read.
     ensures unread { ((command : Command) → Spells words.now.items command →
         reads command ≡ false) → input.new ≡ input.old }
+
+    // Nor is it where a store is refused, or a disk that isn't empty.
+    ensures refused_unread { result.status ≡ 14 → input.new ≡ input.old }
 
     // An input within the limit is read to its end.
     ensures whole { (bytes : List ℕ) (command : Command) → I.left input.old ≡ Some bytes →
@@ -91,13 +103,11 @@ pub fn run<I: Input, O: Output, W: Disk, T: Disk, F: Disk>(
     ensures wal_failed { result.status ≡ wal_status →
         Rose (W.faults wal) (W.faults result.wal) }
 
-    // A disk that the command doesn't read comes back as it was passed. `apply` doesn't read the offset where the disk of the
-    // topic log holds none.
-    ensures wal_stays { result.wal ≡ wal }
-    ensures topics_stay { ((command : Command) → Spells words.now.items command →
-        opens_topics command ≡ false) → result.topics ≡ topics }
-    ensures offsets_stay { ((command : Command) → Spells words.now.items command →
-        opens_offsets command ≡ false) → result.offsets ≡ offsets }
+    // A disk that the command neither reads nor makes comes back as it was passed. `apply` doesn't read the offset where the disk
+    // of the topic log holds none.
+    ensures wal_stays { SpellNone words.now.items makes → result.wal ≡ wal }
+    ensures topics_stay { SpellNone words.now.items uses_topics → result.topics ≡ topics }
+    ensures offsets_stay { SpellNone words.now.items uses_offsets → result.offsets ≡ offsets }
     ensures unopened { (command : Command) (bytes : List ℕ) → Spells words.now.items command →
         opens_topics command ≡ true → T.seen topics ≡ Some bytes →
         ((groups : List (List Record)) → ¬ IsLog bytes groups) → result.offsets ≡ offsets }
@@ -110,11 +120,40 @@ pub fn run<I: Input, O: Output, W: Disk, T: Disk, F: Disk>(
         opens_offsets command ≡ true → HasOpenedOffsets command result.status →
         IsSynced F.seen F.may_leave offsets result.offsets }
 
-    // Whatever the disks tell, they are only read, and each has failed where the status says so.
-    ensures topics_read { IsOnlyRead T.seen T.may_leave T.faults
+    // Whatever the disks tell, they are only read by every command but `init`, and each has failed where the status says so.
+    ensures topics_read { SpellNone words.now.items makes →
+        IsOnlyRead T.seen T.may_leave T.faults
         topics_status result.status topics result.topics }
-    ensures offsets_read { IsOnlyRead F.seen F.may_leave F.faults
+    ensures offsets_read { SpellNone words.now.items makes →
+        IsOnlyRead F.seen F.may_leave F.faults
         offsets_status result.status offsets result.offsets }
+
+    // An `init` that answers 0 leaves the stores of its input, and a crash leaves them alone: a sound log of the workload, whose first
+    // entry has the bytes that were read, without marks and confirmed positions; a topic log without a record; and no offset.
+    ensures wal_made { (bytes before : List ℕ) → Spells words.now.items Command.Init →
+        I.left input.old ≡ Some bytes → W.seen wal ≡ Some before → result.status ≡ 0 →
+        HasStored W.seen W.may_leave (IsFreshWal bytes) result.wal }
+    ensures topics_made { (before : List ℕ) → Spells words.now.items Command.Init →
+        T.seen topics ≡ Some before → result.status ≡ 0 →
+        HasStored T.seen T.may_leave IsEmptyLog result.topics }
+    ensures offsets_made { (before : List ℕ) → Spells words.now.items Command.Init →
+        F.seen offsets ≡ Some before → result.status ≡ 0 →
+        HasStored F.seen F.may_leave IsEmptyStore result.offsets }
+
+    // Where one of the disks holds a byte, `init` writes none of them, whatever it answers.
+    ensures full_stay { Spells words.now.items Command.Init →
+        HoldsBytes W.seen wal ⊎ (HoldsBytes T.seen topics ⊎ HoldsBytes F.seen offsets) →
+        IsUntouched W.seen W.may_leave wal result.wal ×
+        (IsUntouched T.seen T.may_leave topics result.topics ×
+        IsUntouched F.seen F.may_leave offsets result.offsets) }
+
+    // What another one leaves of a disk: nothing is written before the workload was found to be one.
+    ensures wal_left { Spells words.now.items Command.Init →
+        IsInitLeft W.seen W.may_leave W.faults Wal result.status wal result.wal }
+    ensures topics_left { Spells words.now.items Command.Init →
+        IsInitLeft T.seen T.may_leave T.faults Topics result.status topics result.topics }
+    ensures offsets_left { Spells words.now.items Command.Init →
+        IsInitLeft F.seen F.may_leave F.faults Offsets result.status offsets result.offsets }
 {
     match dbl_cli::command(alloc, words) {
         Ok(command) => run_command(alloc, command, &now_ms, input, output, wal, topics, offsets),
@@ -133,7 +172,7 @@ pub fn run<I: Input, O: Output, W: Disk, T: Disk, F: Disk>(
     }
 }
 
-fn run_command<I: Input, O: Output, W, T: Disk, F: Disk>(
+fn run_command<I: Input, O: Output, W: Disk, T: Disk, F: Disk>(
     alloc: Global,
     command: Command,
     now_ms: &i64,
@@ -145,16 +184,19 @@ fn run_command<I: Input, O: Output, W, T: Disk, F: Disk>(
 ) -> Finished<W, T, F>
     requires { IsWithin command }
     ensures told { (given : Given) →
-        AreTold command (I.left input.old) (T.seen topics) (F.seen offsets) given →
+        AreTold command (I.left input.old) (W.seen wal) (T.seen topics) (F.seen offsets) given →
         RunsCommand command now_ms.now given
-        (OfDisk ((opens_topics command ≡ true) × Rose (T.faults topics) (T.faults result.topics))
-        ((opens_offsets command ≡ true) × Rose (F.faults offsets) (F.faults result.offsets)))
+        (OfDisk ((uses_topics command ≡ true) × Rose (T.faults topics) (T.faults result.topics))
+        ((uses_offsets command ≡ true) × Rose (F.faults offsets) (F.faults result.offsets)))
         result.status (O.written output.old) (O.written output.new)
-        ⊎ ((reads command ≡ true) × FailsReading (I.faults input.old) (I.faults input.new)
-        result.status (O.written output.old) (O.written output.new)) }
+        ⊎ (((reads command ≡ true) × FailsReading (I.faults input.old) (I.faults input.new)
+        result.status (O.written output.old) (O.written output.new))
+        ⊎ ((makes command ≡ true) × FailsSource (W.faults wal) (W.faults result.wal)
+        result.status (O.written output.old) (O.written output.new))) }
     ensures alone { (answer : Answer) → StandsAlone command answer →
         EndsAs answer result.status (O.written output.old) (O.written output.new) }
     ensures unread { reads command ≡ false → input.new ≡ input.old }
+    ensures refused_unread { result.status ≡ 14 → input.new ≡ input.old }
     ensures whole { (bytes : List ℕ) → I.left input.old ≡ Some bytes →
         length bytes ≤ input_limit → TellsInput command result.status →
         I.left input.new ≡ Some [] }
@@ -163,9 +205,30 @@ fn run_command<I: Input, O: Output, W, T: Disk, F: Disk>(
         Rose (I.faults input.old) (I.faults input.new) }
     ensures output_failed { result.status ≡ output_failed_status →
         Rose (O.faults output.old) (O.faults output.new) }
-    ensures wal_stays { result.wal ≡ wal }
-    ensures topics_stay { opens_topics command ≡ false → result.topics ≡ topics }
-    ensures offsets_stay { opens_offsets command ≡ false → result.offsets ≡ offsets }
+    ensures wal_failed { result.status ≡ wal_status → Rose (W.faults wal) (W.faults result.wal) }
+    ensures wal_stays { makes command ≡ false → result.wal ≡ wal }
+    ensures topics_stay { uses_topics command ≡ false → result.topics ≡ topics }
+    ensures offsets_stay { uses_offsets command ≡ false → result.offsets ≡ offsets }
+    ensures wal_made { (bytes before : List ℕ) → command ≡ Command.Init →
+        I.left input.old ≡ Some bytes → W.seen wal ≡ Some before → result.status ≡ 0 →
+        HasStored W.seen W.may_leave (IsFreshWal bytes) result.wal }
+    ensures topics_made { (before : List ℕ) → command ≡ Command.Init →
+        T.seen topics ≡ Some before → result.status ≡ 0 →
+        HasStored T.seen T.may_leave IsEmptyLog result.topics }
+    ensures offsets_made { (before : List ℕ) → command ≡ Command.Init →
+        F.seen offsets ≡ Some before → result.status ≡ 0 →
+        HasStored F.seen F.may_leave IsEmptyStore result.offsets }
+    ensures full_stay { command ≡ Command.Init →
+        HoldsBytes W.seen wal ⊎ (HoldsBytes T.seen topics ⊎ HoldsBytes F.seen offsets) →
+        IsUntouched W.seen W.may_leave wal result.wal ×
+        (IsUntouched T.seen T.may_leave topics result.topics ×
+        IsUntouched F.seen F.may_leave offsets result.offsets) }
+    ensures wal_left { command ≡ Command.Init →
+        IsInitLeft W.seen W.may_leave W.faults Wal result.status wal result.wal }
+    ensures topics_left { command ≡ Command.Init →
+        IsInitLeft T.seen T.may_leave T.faults Topics result.status topics result.topics }
+    ensures offsets_left { command ≡ Command.Init →
+        IsInitLeft F.seen F.may_leave F.faults Offsets result.status offsets result.offsets }
     ensures unopened { (bytes : List ℕ) → opens_topics command ≡ true →
         T.seen topics ≡ Some bytes → ((groups : List (List Record)) → ¬ IsLog bytes groups) →
         result.offsets ≡ offsets }
@@ -223,7 +286,7 @@ fn run_command<I: Input, O: Output, W, T: Disk, F: Disk>(
                 }
             }
         }
-        Command::Init => say_not_built(output, wal, topics, offsets),
+        Command::Init => run_init(alloc, input, output, wal, topics, offsets),
         Command::Topics => run_topics(alloc, output, wal, topics, offsets),
         Command::Offsets => run_offsets(alloc, output, wal, topics, offsets),
         Command::Capture { .. } => say_not_built(output, wal, topics, offsets),

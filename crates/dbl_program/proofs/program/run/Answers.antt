@@ -1,7 +1,10 @@
 use Rattle.std.proofs.Common.{◌≡◌, ◌⊎◌, Err, ℤ, true, inl, ap, refl, subst}
 use Rattle.std.proofs.Math.Facts.{to_z-of_z}
 use Rattle.dbl_cli.specs.declared.commands.Command.{Command}
-use Rattle.dbl_program.specs.Means.{HasOpenedOffsets, RunsCommand, SpellSome, StandsAlone, opens_offsets, opens_topics, reads, IsStatusOf, TellsInput}
+use Rattle.dbl_cli.specs.declared.commands.Command.TheVariants as command
+use Rattle.dbl_cli.proofs.SayLemmas.{one_command}
+use Rattle.dbl_program.specs.Inits.{FailsSource}
+use Rattle.dbl_program.specs.Means.{HasOpenedOffsets, RunsCommand, SpellSome, StandsAlone, makes, opens_offsets, opens_topics, reads, uses_offsets, uses_topics, IsStatusOf, TellsInput}
 use Rattle.dbl_base.specs.Streams.{Rose}
 use Rattle.dbl_runs.specs.declared.error.Store.{Store}
 use Rattle.dbl_program.specs.Disks.{OfDisk}
@@ -9,7 +12,7 @@ use Rattle.dbl_program.specs.Run.{FailsReading}
 use Rattle.dbl_program.proofs.CommandLemmas.{cut_short, wider_or_fails, spelled_or_fails, usage_runs, memory_runs, as_spelled, memory_alone, memory_status, memory_tells}
 use Rattle.dbl_program.proofs.DiskLemmas.{not_read, read_or_not}
 use Rattle.dbl_program.proofs.StoreRunLemmas.{opened_by}
-use Rattle.dbl_program.proofs.StatusLemmas.{memory_built, memory_no_offsets, memory_no_topics, memory_no_wal, no_offsets, no_topics, no_wal, offsets_whole, spell_unbuilt, told_offsets, topics_whole, usage_built, usage_no_offsets, usage_no_topics, usage_no_wal}
+use Rattle.dbl_program.proofs.StatusLemmas.{memory_built, memory_no_offsets, memory_no_topics, memory_no_wal, no_offsets, no_topics, offsets_whole, spell_unbuilt, told_offsets, topics_whole, unused_offsets, unused_topics, usage_built, usage_no_offsets, usage_no_topics, usage_no_wal}
 use Rattle.dbl_program.proofs.program.run.Goals as goal
 
 -- ---- a command was spelled
@@ -25,10 +28,12 @@ returns-in-Ok-clause-told g c = λ given tell.
     let spells = c.in-Ok.ensures.spelled in
     let topics : Type 0 = Rose (g.T.Disk.faults c.args.topics) (g.T.Disk.faults left.topics) in
     let offsets : Type 0 = Rose (g.F.Disk.faults c.args.offsets) (g.F.Disk.faults left.offsets) in
-    let few : Store → Type 0 = OfDisk ((opens_topics k ≡ true) × topics) ((opens_offsets k ≡ true) × offsets) in
-    let failed : Store → Type 0 = OfDisk (SpellSome c.args.words.now.items opens_topics × topics) (SpellSome c.args.words.now.items opens_offsets × offsets) in
-    let fails : Type 0 = (reads k ≡ true) × FailsReading was later left.status before after in
-    spelled_or_fails _ c.args.now_ms given failed was later left.status before after k spells
+    let wal = g.W.Disk.faults c.args.wal in
+    let now_wal = g.W.Disk.faults left.wal in
+    let few : Store → Type 0 = OfDisk ((uses_topics k ≡ true) × topics) ((uses_offsets k ≡ true) × offsets) in
+    let failed : Store → Type 0 = OfDisk (SpellSome c.args.words.now.items uses_topics × topics) (SpellSome c.args.words.now.items uses_offsets × offsets) in
+    let fails : Type 0 = ((reads k ≡ true) × FailsReading was later left.status before after) ⊎ ((makes k ≡ true) × FailsSource wal now_wal left.status before after) in
+    spelled_or_fails _ c.args.now_ms given failed was later wal now_wal left.status before after k spells
     (wider_or_fails k c.args.now_ms given few failed left.status before after fails (opened_by _ _ _ _ topics offsets (λ opens. (k, spells, opens)) (λ opens. (k, spells, opens)))
     (subst (λ (m : ℤ). RunsCommand k m given few left.status before after ⊎ fails) (to_z-of_z c.ranges.now_ms) (c.run_command.ensures.told given (tell k spells))))
 
@@ -48,21 +53,25 @@ pub returns-in-Ok-clause-unbuilt : goal.returns-in-Ok-clause-unbuilt
 returns-in-Ok-clause-unbuilt g c = spell_unbuilt _ c.in-Ok.command c.run_command.result.status c.in-Ok.ensures.spelled c.run_command.ensures.known
 
 pub returns-in-Ok-clause-wal_failed : goal.returns-in-Ok-clause-wal_failed
-returns-in-Ok-clause-wal_failed g c = λ is. absurd (no_wal c.in-Ok.command c.run_command.result.status c.run_command.ensures.known is)
+returns-in-Ok-clause-wal_failed g c = c.run_command.ensures.wal_failed
 
 pub returns-in-Ok-clause-unopened : goal.returns-in-Ok-clause-unopened
 returns-in-Ok-clause-unopened g c = λ command bytes spells opens told none.
     c.run_command.ensures.unopened bytes (as_spelled _ (λ (k : Command). opens_topics k ≡ true) command c.in-Ok.command spells c.in-Ok.ensures.spelled opens) told none
 
 pub returns-in-Ok-clause-topics_read : goal.returns-in-Ok-clause-topics_read
-returns-in-Ok-clause-topics_read g c =
-    read_or_not g.T.Disk.seen g.T.Disk.may_leave g.T.Disk.faults (opens_topics c.in-Ok.command) _ _ _ _ (no_topics c.in-Ok.command c.run_command.result.status c.run_command.ensures.known)
-    c.run_command.ensures.topics_stay c.run_command.ensures.topics_read
+returns-in-Ok-clause-topics_read g c = λ none.
+    let other = none c.in-Ok.command c.in-Ok.ensures.spelled in
+    read_or_not g.T.Disk.seen g.T.Disk.may_leave g.T.Disk.faults (opens_topics c.in-Ok.command) _ _ _ _
+    (λ shut. no_topics c.in-Ok.command c.run_command.result.status c.run_command.ensures.known (unused_topics c.in-Ok.command other shut))
+    (λ shut. c.run_command.ensures.topics_stay (unused_topics c.in-Ok.command other shut)) c.run_command.ensures.topics_read
 
 pub returns-in-Ok-clause-offsets_read : goal.returns-in-Ok-clause-offsets_read
-returns-in-Ok-clause-offsets_read g c =
-    read_or_not g.F.Disk.seen g.F.Disk.may_leave g.F.Disk.faults (opens_offsets c.in-Ok.command) _ _ _ _ (no_offsets c.in-Ok.command c.run_command.result.status c.run_command.ensures.known)
-    c.run_command.ensures.offsets_stay c.run_command.ensures.offsets_read
+returns-in-Ok-clause-offsets_read g c = λ none.
+    let other = none c.in-Ok.command c.in-Ok.ensures.spelled in
+    read_or_not g.F.Disk.seen g.F.Disk.may_leave g.F.Disk.faults (opens_offsets c.in-Ok.command) _ _ _ _
+    (λ shut. no_offsets c.in-Ok.command c.run_command.result.status c.run_command.ensures.known (unused_offsets c.in-Ok.command other shut))
+    (λ shut. c.run_command.ensures.offsets_stay (unused_offsets c.in-Ok.command other shut)) c.run_command.ensures.offsets_read
 
 -- ---- none was
 
@@ -82,10 +91,10 @@ pub returns-in-Err-Usage-clause-wal_failed : goal.returns-in-Err-Usage-clause-wa
 returns-in-Err-Usage-clause-wal_failed g c = λ is. absurd (usage_no_wal c.say.result _ _ c.say.ensures.says is)
 
 pub returns-in-Err-Usage-clause-topics_read : goal.returns-in-Err-Usage-clause-topics_read
-returns-in-Err-Usage-clause-topics_read g c = not_read g.T.Disk.seen g.T.Disk.may_leave g.T.Disk.faults _ _ _ _ (usage_no_topics c.say.result _ _ c.say.ensures.says) refl
+returns-in-Err-Usage-clause-topics_read g c = λ none. not_read g.T.Disk.seen g.T.Disk.may_leave g.T.Disk.faults _ _ _ _ (usage_no_topics c.say.result _ _ c.say.ensures.says) refl
 
 pub returns-in-Err-Usage-clause-offsets_read : goal.returns-in-Err-Usage-clause-offsets_read
-returns-in-Err-Usage-clause-offsets_read g c = not_read g.F.Disk.seen g.F.Disk.may_leave g.F.Disk.faults _ _ _ _ (usage_no_offsets c.say.result _ _ c.say.ensures.says) refl
+returns-in-Err-Usage-clause-offsets_read g c = λ none. not_read g.F.Disk.seen g.F.Disk.may_leave g.F.Disk.faults _ _ _ _ (usage_no_offsets c.say.result _ _ c.say.ensures.says) refl
 
 -- ---- memory ran out
 
@@ -108,10 +117,10 @@ pub returns-in-Err-Memory-clause-wal_failed : goal.returns-in-Err-Memory-clause-
 returns-in-Err-Memory-clause-wal_failed g c = λ is. absurd (memory_no_wal c.say-in-Err-Memory.result _ _ c.say-in-Err-Memory.ensures.says is)
 
 pub returns-in-Err-Memory-clause-topics_read : goal.returns-in-Err-Memory-clause-topics_read
-returns-in-Err-Memory-clause-topics_read g c = not_read g.T.Disk.seen g.T.Disk.may_leave g.T.Disk.faults _ _ _ _ (memory_no_topics c.say-in-Err-Memory.result _ _ c.say-in-Err-Memory.ensures.says) refl
+returns-in-Err-Memory-clause-topics_read g c = λ none. not_read g.T.Disk.seen g.T.Disk.may_leave g.T.Disk.faults _ _ _ _ (memory_no_topics c.say-in-Err-Memory.result _ _ c.say-in-Err-Memory.ensures.says) refl
 
 pub returns-in-Err-Memory-clause-offsets_read : goal.returns-in-Err-Memory-clause-offsets_read
-returns-in-Err-Memory-clause-offsets_read g c = not_read g.F.Disk.seen g.F.Disk.may_leave g.F.Disk.faults _ _ _ _ (memory_no_offsets c.say-in-Err-Memory.result _ _ c.say-in-Err-Memory.ensures.says) refl
+returns-in-Err-Memory-clause-offsets_read g c = λ none. not_read g.F.Disk.seen g.F.Disk.may_leave g.F.Disk.faults _ _ _ _ (memory_no_offsets c.say-in-Err-Memory.result _ _ c.say-in-Err-Memory.ensures.says) refl
 
 -- ---- disks that were opened
 
@@ -137,3 +146,26 @@ returns-in-Err-Memory-clause-topics_synced g c = λ command spells opens opened.
 pub returns-in-Err-Memory-clause-offsets_synced : goal.returns-in-Err-Memory-clause-offsets_synced
 returns-in-Err-Memory-clause-offsets_synced g c = λ command spells opens opened.
     absurd (offsets_whole c.say-in-Err-Memory.result (told_offsets command c.say-in-Err-Memory.result opened) (cut_short c.say-in-Err-Memory.result _ _ c.say-in-Err-Memory.ensures.says))
+
+-- ---- `init`
+
+pub returns-in-Ok-clause-wal_made : goal.returns-in-Ok-clause-wal_made
+returns-in-Ok-clause-wal_made g c = λ bytes before spells. c.run_command.ensures.wal_made bytes before (one_command _ c.in-Ok.command command.Init spells c.in-Ok.ensures.spelled)
+
+pub returns-in-Ok-clause-topics_made : goal.returns-in-Ok-clause-topics_made
+returns-in-Ok-clause-topics_made g c = λ before spells. c.run_command.ensures.topics_made before (one_command _ c.in-Ok.command command.Init spells c.in-Ok.ensures.spelled)
+
+pub returns-in-Ok-clause-offsets_made : goal.returns-in-Ok-clause-offsets_made
+returns-in-Ok-clause-offsets_made g c = λ before spells. c.run_command.ensures.offsets_made before (one_command _ c.in-Ok.command command.Init spells c.in-Ok.ensures.spelled)
+
+pub returns-in-Ok-clause-wal_left : goal.returns-in-Ok-clause-wal_left
+returns-in-Ok-clause-wal_left g c = λ spells. c.run_command.ensures.wal_left (one_command _ c.in-Ok.command command.Init spells c.in-Ok.ensures.spelled)
+
+pub returns-in-Ok-clause-topics_left : goal.returns-in-Ok-clause-topics_left
+returns-in-Ok-clause-topics_left g c = λ spells. c.run_command.ensures.topics_left (one_command _ c.in-Ok.command command.Init spells c.in-Ok.ensures.spelled)
+
+pub returns-in-Ok-clause-offsets_left : goal.returns-in-Ok-clause-offsets_left
+returns-in-Ok-clause-offsets_left g c = λ spells. c.run_command.ensures.offsets_left (one_command _ c.in-Ok.command command.Init spells c.in-Ok.ensures.spelled)
+
+pub returns-in-Ok-clause-full_stay : goal.returns-in-Ok-clause-full_stay
+returns-in-Ok-clause-full_stay g c = λ spells. c.run_command.ensures.full_stay (one_command _ c.in-Ok.command command.Init spells c.in-Ok.ensures.spelled)

@@ -3,8 +3,8 @@ use Rattle.dbl_cli.specs.declared.commands.Command.TheVariants as command
 use Rattle.dbl_base.specs.Streams.{Rose}
 use Rattle.dbl_runs.specs.Answers.{AnswersApply, AnswersOffsets, AnswersTopics}
 use Rattle.dbl_program.specs.Disks.{OfDisk}
-use Rattle.dbl_program.specs.Means.{made, not_built, opens_offsets, opens_topics, reads}
-use Rattle.dbl_program.proofs.CommandLemmas.{replay_command, apply_command, alone_command, offset_alone, rows_offsets, stores_command}
+use Rattle.dbl_program.specs.Means.{given_init, made, not_built, makes, opens_offsets, opens_topics, reads, uses_offsets, uses_topics}
+use Rattle.dbl_program.proofs.CommandLemmas.{replay_command, apply_command, alone_command, init_or_fails, offset_alone, or_source, rows_offsets, stores_command}
 use Rattle.dbl_program.proofs.StatusLemmas.{told_offsets, told_rows}
 use Rattle.dbl_program.proofs.StoreRunLemmas.{both_opened, only_offsets, only_topics}
 use Rattle.dbl_program.proofs.program.run_command.Goals as goal
@@ -12,14 +12,14 @@ use Rattle.dbl_program.proofs.program.run_command.Goals as goal
 pub returns-in-Replay-clause-told : goal.returns-in-Replay-clause-told
 returns-in-Replay-clause-told g c = λ given told.
     let here = c.in-Replay in
-    replay_command c.args.command here.prefix here.db here.placeholder here.keys c.options_of.result c.args.now_ms.now given _ _ _ _ _ _ here.is c.options_of.ensures
-    (c.replay_lines.ensures.told given.input (told.input_is (ap reads here.is)))
+    or_source (replay_command c.args.command here.prefix here.db here.placeholder here.keys c.options_of.result c.args.now_ms.now given _ _ _ _ _ _ here.is c.options_of.ensures
+    (c.replay_lines.ensures.told given.input (told.input_is (ap reads here.is))))
 
 pub returns-in-Apply-true-default-clause-told : goal.returns-in-Apply-true-default-clause-told
 returns-in-Apply-true-default-clause-told g c = λ given told.
     let here = c.in-Apply-true-default in
     let is = here.is ∙ ap (λ l. command.Apply l here.placeholder) here.lines-test in
-    apply_command c.args.command here.placeholder c.args.now_ms.now given _ _ _ _ _ _ is (c.apply_lines.ensures.told given.input (told.input_is (ap reads is)))
+    or_source (apply_command c.args.command here.placeholder c.args.now_ms.now given _ _ _ _ _ _ is (c.apply_lines.ensures.told given.input (told.input_is (ap reads is))))
 
 pub returns-in-Apply-clause-told : goal.returns-in-Apply-clause-told
 returns-in-Apply-clause-told g c = λ given told.
@@ -28,8 +28,8 @@ returns-in-Apply-clause-told g c = λ given told.
     let left = c.run_apply.result in
     let topics : Type 0 = Rose (g.T.Disk.faults c.args.topics) (g.T.Disk.faults left.topics) in
     let offsets : Type 0 = Rose (g.F.Disk.faults c.args.offsets) (g.F.Disk.faults left.offsets) in
-    inl (stores_command c.args.command (command.Apply false here.placeholder) c.args.now_ms.now given (AnswersApply given.topics given.offsets) (OfDisk topics offsets) (OfDisk ((opens_topics c.args.command ≡ true) × topics) ((opens_offsets c.args.command ≡ true) × offsets)) left.status _ _ is (both_opened _ _ topics offsets (ap opens_topics is) (ap opens_offsets is)) (λ answer means. means) (λ answer means. means)
-    (c.run_apply.ensures.told given.topics given.offsets (told.topics_are (ap opens_topics is)) (rows_offsets c.args.command given.topics _ (told.offsets_are (ap opens_offsets is)))))
+    inl (stores_command c.args.command (command.Apply false here.placeholder) c.args.now_ms.now given (AnswersApply given.topics given.offsets) (OfDisk topics offsets) (OfDisk ((uses_topics c.args.command ≡ true) × topics) ((uses_offsets c.args.command ≡ true) × offsets)) left.status _ _ is (both_opened _ _ topics offsets (ap uses_topics is) (ap uses_offsets is)) (λ answer means. means) (λ answer means. means)
+    (c.run_apply.ensures.told given.topics given.offsets (told.topics_are (ap uses_topics is)) (rows_offsets c.args.command given.topics _ (told.offsets_are (ap uses_offsets is)))))
 
 pub returns-else-is_run-clause-told : goal.returns-else-is_run-clause-told
 returns-else-is_run-clause-told g c = λ given told.
@@ -46,7 +46,12 @@ returns-then-is_run-clause-told g c = λ given told.
 pub returns-in-Init-clause-told : goal.returns-in-Init-clause-told
 returns-in-Init-clause-told g c = λ given told.
     let here = c.in-Init in
-    inl (alone_command c.args.command command.Init c.args.now_ms.now given _ not_built _ _ _ here.is refl c.say_not_built-in-Init.ensures.ends)
+    let left = c.run_init.result in
+    let topics : Type 0 = Rose (g.T.Disk.faults c.args.topics) (g.T.Disk.faults left.topics) in
+    let offsets : Type 0 = Rose (g.F.Disk.faults c.args.offsets) (g.F.Disk.faults left.offsets) in
+    init_or_fails c.args.command c.args.now_ms.now given topics offsets _ _ _ _ left.status _ _ here.is
+    (c.run_init.ensures.told (given_init given) (told.input_is (ap reads here.is)) (told.wal_is (ap makes here.is)) (told.topics_are (ap uses_topics here.is))
+    (offset_alone c.args.command given.topics _ (ap opens_topics here.is) (told.offsets_are (ap uses_offsets here.is))))
 
 pub returns-in-Topics-clause-told : goal.returns-in-Topics-clause-told
 returns-in-Topics-clause-told g c = λ given told.
@@ -54,8 +59,8 @@ returns-in-Topics-clause-told g c = λ given told.
     let left = c.run_topics.result in
     let topics : Type 0 = Rose (g.T.Disk.faults c.args.topics) (g.T.Disk.faults left.topics) in
     let offsets : Type 0 = Rose (g.F.Disk.faults c.args.offsets) (g.F.Disk.faults left.offsets) in
-    inl (stores_command c.args.command command.Topics c.args.now_ms.now given (AnswersTopics given.topics) (OfDisk topics ⊥) (OfDisk ((opens_topics c.args.command ≡ true) × topics) ((opens_offsets c.args.command ≡ true) × offsets)) left.status _ _ here.is (only_topics _ _ topics offsets (ap opens_topics here.is)) (λ answer means. means) (λ answer means. means)
-    (c.run_topics.ensures.told given.topics (told.topics_are (ap opens_topics here.is))))
+    inl (stores_command c.args.command command.Topics c.args.now_ms.now given (AnswersTopics given.topics) (OfDisk topics ⊥) (OfDisk ((uses_topics c.args.command ≡ true) × topics) ((uses_offsets c.args.command ≡ true) × offsets)) left.status _ _ here.is (only_topics _ _ topics offsets (ap uses_topics here.is)) (λ answer means. means) (λ answer means. means)
+    (c.run_topics.ensures.told given.topics (told.topics_are (ap uses_topics here.is))))
 
 pub returns-in-Offsets-clause-told : goal.returns-in-Offsets-clause-told
 returns-in-Offsets-clause-told g c = λ given told.
@@ -63,8 +68,8 @@ returns-in-Offsets-clause-told g c = λ given told.
     let left = c.run_offsets.result in
     let topics : Type 0 = Rose (g.T.Disk.faults c.args.topics) (g.T.Disk.faults left.topics) in
     let offsets : Type 0 = Rose (g.F.Disk.faults c.args.offsets) (g.F.Disk.faults left.offsets) in
-    inl (stores_command c.args.command command.Offsets c.args.now_ms.now given (AnswersOffsets given.offsets) (OfDisk ⊥ offsets) (OfDisk ((opens_topics c.args.command ≡ true) × topics) ((opens_offsets c.args.command ≡ true) × offsets)) left.status _ _ here.is (only_offsets _ _ topics offsets (ap opens_offsets here.is)) (λ answer means. means) (λ answer means. means)
-    (c.run_offsets.ensures.told given.offsets (offset_alone c.args.command given.topics _ (ap opens_topics here.is) (told.offsets_are (ap opens_offsets here.is)))))
+    inl (stores_command c.args.command command.Offsets c.args.now_ms.now given (AnswersOffsets given.offsets) (OfDisk ⊥ offsets) (OfDisk ((uses_topics c.args.command ≡ true) × topics) ((uses_offsets c.args.command ≡ true) × offsets)) left.status _ _ here.is (only_offsets _ _ topics offsets (ap uses_offsets here.is)) (λ answer means. means) (λ answer means. means)
+    (c.run_offsets.ensures.told given.offsets (offset_alone c.args.command given.topics _ (ap opens_topics here.is) (told.offsets_are (ap uses_offsets here.is)))))
 
 pub returns-in-Capture-clause-told : goal.returns-in-Capture-clause-told
 returns-in-Capture-clause-told g c = λ given told.

@@ -1,0 +1,161 @@
+//! The command `init`: the stores of a workload, made on empty disks.
+ghost use Rattle.std.specs.Prelude.{◌≡◌, ◌≢◌, ◌⊎◌, ℕ, List, [], ◌∷◌, Some, Ok, Err, IfOk};
+ghost use Rattle.std.specs.String.{string_bytes};
+ghost use Rattle.dbl_base.specs.Lines.{lines_text};
+ghost use Rattle.dbl_base.specs.Streams.{Rose};
+ghost use Rattle.dbl_running.specs.Made.{IsFreshWal};
+ghost use Rattle.dbl_init.specs.declared.error.Store.TheVariants.{Wal, Topics, Offsets};
+ghost use Rattle.dbl_init.specs.Answers.{AnswersInput, Given};
+ghost use Rattle.dbl_init.specs.Disks.{HasStored, HoldsBytes};
+ghost use Rattle.dbl_init.specs.Fresh.{IsEmptyLog, IsEmptyStore};
+ghost use Rattle.dbl_program.specs.Disks.{OfDisk};
+ghost use Rattle.dbl_program.specs.Faults.{status_of, output_failed_status};
+ghost use Rattle.dbl_program.specs.Inits.{FailsSource, FinishesInit, IsInitAnswer, IsInitLeft, IsInitStatus, IsUntouched, SaysInit, init_line, init_status};
+ghost use Rattle.dbl_program.specs.Means.{RunsInit};
+ghost use Rattle.dbl_program.specs.Run.{FailsReading};
+
+use crate::finished::Finished;
+use crate::halt::Halt;
+use crate::saying::{OUT_OF_MEMORY, write_text};
+use dbl_base::{Input, Output};
+use dbl_disk::Disk;
+use dbl_init::{Begun, InitError, Store, init};
+use dbl_replay::LogFault;
+use dbl_script::ScriptError;
+use std::alloc::{AllocError, Global};
+
+/// Makes the stores of the workload that the input holds, and writes nothing; or the line of the error.
+pub(crate) fn run_init<I: Input, O: Output, W: Disk, T: Disk, F: Disk>(
+    alloc: Global,
+    input: &mut I,
+    output: &mut O,
+    wal: W,
+    topics: T,
+    offsets: F,
+) -> Finished<W, T, F>
+    ensures told { (given : Given) → I.left input.old ≡ Some given.input
+        → W.seen wal ≡ Some given.wal → T.seen topics ≡ Some given.topics
+        → F.seen offsets ≡ Some given.offsets
+        → RunsInit given
+        (OfDisk (Rose (T.faults topics) (T.faults result.topics))
+        (Rose (F.faults offsets) (F.faults result.offsets)))
+        result.status (O.written output.old) (O.written output.new)
+        ⊎ (FailsReading (I.faults input.old) (I.faults input.new)
+        result.status (O.written output.old) (O.written output.new)
+        ⊎ FailsSource (W.faults wal) (W.faults result.wal)
+        result.status (O.written output.old) (O.written output.new)) }
+    ensures known { IsInitStatus result.status }
+    ensures whole { (bytes : List ℕ) → I.left input.old ≡ Some bytes
+        → IsInitAnswer result.status
+        → AnswersInput bytes (Err InitError.InputTooLong) ⊎ (I.left input.new ≡ Some []) }
+    ensures unread { result.status ≡ 14 → input.new ≡ input.old }
+    ensures wal_made { (bytes before : List ℕ) → I.left input.old ≡ Some bytes
+        → W.seen wal ≡ Some before → result.status ≡ 0
+        → HasStored W.seen W.may_leave (IsFreshWal bytes) result.wal }
+    ensures topics_made { (before : List ℕ) → T.seen topics ≡ Some before → result.status ≡ 0
+        → HasStored T.seen T.may_leave IsEmptyLog result.topics }
+    ensures offsets_made { (before : List ℕ) → F.seen offsets ≡ Some before → result.status ≡ 0
+        → HasStored F.seen F.may_leave IsEmptyStore result.offsets }
+    ensures full_stay { HoldsBytes W.seen wal
+        ⊎ (HoldsBytes T.seen topics ⊎ HoldsBytes F.seen offsets)
+        → IsUntouched W.seen W.may_leave wal result.wal
+        × (IsUntouched T.seen T.may_leave topics result.topics
+        × IsUntouched F.seen F.may_leave offsets result.offsets) }
+    ensures wal_left { IsInitLeft W.seen W.may_leave W.faults Wal result.status wal result.wal }
+    ensures topics_left { IsInitLeft T.seen T.may_leave T.faults Topics
+        result.status topics result.topics }
+    ensures offsets_left { IsInitLeft F.seen F.may_leave F.faults Offsets
+        result.status offsets result.offsets }
+    ensures input_failed { result.status ≡ status_of Halt.InputFailed
+        → Rose (I.faults input.old) (I.faults input.new) }
+    ensures output_failed { result.status ≡ output_failed_status
+        → Rose (O.faults output.old) (O.faults output.new) }
+{
+    let begun = init(alloc, input, wal, topics, offsets);
+    let Begun {
+        wal,
+        topics,
+        offsets,
+        end,
+    } = begun;
+    Finished {
+        status: finish_init(alloc, end, output),
+        wal,
+        topics,
+        offsets,
+    }
+}
+
+// Writes the line of the error with which `init` ended, if it did, and answers the status.
+fn finish_init<O: Output>(alloc: Global, end: Result<(), InitError>, output: &mut O) -> u8
+    ensures finishes { FinishesInit end result (O.written output.old) (O.written output.new) }
+    ensures output_failed { result ≡ output_failed_status
+        → Rose (O.faults output.old) (O.faults output.new) }
+{
+    match end {
+        Ok(()) => 0,
+        Err(error) => say_init(alloc, error, output),
+    }
+}
+
+// Writes the error's line, and answers its status.
+fn say_init<O: Output>(alloc: Global, error: InitError, output: &mut O) -> u8
+    ensures says { SaysInit error result (O.written output.old) (O.written output.new) }
+    ensures output_failed { result ≡ output_failed_status
+        → Rose (O.faults output.old) (O.faults output.new) }
+{
+    let status = error_status(&error);
+    match error_text(alloc, error) {
+        Ok(text) => write_text(text.as_str(), status, output),
+        Err(_) => write_text(OUT_OF_MEMORY, Halt::Memory.status(), output),
+    }
+}
+
+// The exit status of an error.
+fn error_status(error: &InitError) -> u8
+    ensures { result ≡ init_status error.now }
+{
+    match error {
+        InitError::Failed { store: Store::Wal } => 7,
+        InitError::Failed {
+            store: Store::Topics,
+        } => 8,
+        InitError::Failed {
+            store: Store::Offsets,
+        } => 9,
+        InitError::NotEmpty { .. } => 14,
+        InitError::InputFailed => 10,
+        InitError::InputTooLong => 13,
+        InitError::Script(_) => 13,
+        InitError::Model(_) => 6,
+        InitError::Memory => 12,
+    }
+}
+
+// The error's line with its newline.
+fn error_text(alloc: Global, error: InitError) -> Result<String, AllocError>
+    ensures { IfOk result (λ text. string_bytes text ≡ lines_text (init_line error ∷ [])) }
+{
+    let mut line = error_line(alloc, error)?;
+    line.push('\n')?;
+    Ok(line)
+}
+
+fn error_line(alloc: Global, error: InitError) -> Result<String, AllocError>
+    ensures { IfOk result (λ line. string_bytes line ≡ init_line error) }
+{
+    let line = match error {
+        InitError::Failed { store: Store::Wal } => "dblog: source failed",
+        InitError::Failed { store } => return format!(in alloc; "dblog: {store} failed"),
+        InitError::NotEmpty { store } => return format!(in alloc; "dblog: not empty: {store}"),
+        InitError::InputFailed => "dblog: input failed",
+        InitError::InputTooLong => "dblog: input too long",
+        InitError::Script(ScriptError::BadLine { number }) => {
+            return format!(in alloc; "dblog: line {number}: bad line");
+        }
+        InitError::Script(ScriptError::TooManyLines) => "dblog: too many lines",
+        InitError::Model(error) => return LogFault::Table { error }.line(alloc),
+        InitError::Script(ScriptError::Memory) | InitError::Memory => "dblog: out of memory",
+    };
+    String::from_str(alloc, line)
+}

@@ -10,7 +10,7 @@ use Rattle.dbl_init.specs.Answers as inits
 use Rattle.dbl_init.specs.Disks.{IsAsked, Leaves}
 use Rattle.dbl_init.specs.Disks as disks
 use Rattle.dbl_program.specs.Disks.{IsCutShort}
-use Rattle.dbl_program.specs.Inits.{FinishesInit, IsInitAnswer, IsInitLeft, IsUnwritten, IsUntouched, init_status, store_status}
+use Rattle.dbl_program.specs.Inits.{FinishesInit, IsInitAnswer, IsInitLeft, IsUnmade, IsUnwritten, IsUntouched, init_status, store_status}
 use Rattle.dbl_program.proofs.InitLemmas.{end_status, finished_status}
 use Rattle.dbl_program.proofs.StatusLemmas.{cut_other}
 
@@ -152,15 +152,19 @@ unwritten_of store.Wal (Err (init.Model e)) is = tt
 unwritten_of store.Topics (Err (init.Model e)) is = tt
 unwritten_of store.Offsets (Err (init.Model e)) is = tt
 
+unmade_whole : (status : ℕ) → IsUnmade status → IsCutShort status → ⊥
+unmade_whole status (inl is) cut = cut_other 6 status (λ e. cc, λ e. cc) cut is
+unmade_whole status (inr (inl is)) cut = cut_other 10 status (λ e. cc, λ e. cc) cut is
+unmade_whole status (inr (inr (inl is))) cut = cut_other 13 status (λ e. cc, λ e. cc) cut is
+unmade_whole status (inr (inr (inr is))) cut = cut_other 14 status (λ e. cc, λ e. cc) cut is
+
 unwritten_whole : (made : Store) (status : ℕ) → IsUnwritten made status → IsCutShort status → ⊥
-unwritten_whole store.Wal status (inl is) cut = cut_other 6 status (λ e. cc, λ e. cc) cut is
-unwritten_whole store.Wal status (inr (inl is)) cut = cut_other 10 status (λ e. cc, λ e. cc) cut is
-unwritten_whole store.Wal status (inr (inr (inl is))) cut = cut_other 13 status (λ e. cc, λ e. cc) cut is
-unwritten_whole store.Wal status (inr (inr (inr is))) cut = cut_other 14 status (λ e. cc, λ e. cc) cut is
+unwritten_whole store.Wal status unmade cut = unmade_whole status unmade cut
 unwritten_whole store.Topics status (inl is) cut = cut_other 7 status (λ e. cc, λ e. cc) cut is
-unwritten_whole store.Topics status (inr before) cut = unwritten_whole store.Wal status before cut
+unwritten_whole store.Topics status (inr unmade) cut = unmade_whole status unmade cut
 unwritten_whole store.Offsets status (inl is) cut = cut_other 8 status (λ e. cc, λ e. cc) cut is
-unwritten_whole store.Offsets status (inr before) cut = unwritten_whole store.Topics status before cut
+unwritten_whole store.Offsets status (inr (inl is)) cut = cut_other 7 status (λ e. cc, λ e. cc) cut is
+unwritten_whole store.Offsets status (inr (inr unmade)) cut = unmade_whole status unmade cut
 
 -- ---- by the status
 

@@ -1,9 +1,8 @@
 -- How a run of `init` ends, from how `init` ended and what was written behind it.
-use Rattle.std.proofs.Common.{◌≡◌, ◌≢◌, ◌⊎◌, inl, inr, ◌∙◌, ℕ, Option, Ok, Err, List, [], ◌∷◌, ◌++◌, refl, sym, ap, subst}
+use Rattle.std.proofs.Common.{◌≡◌, ◌≢◌, ◌⊎◌, inl, inr, ◌∙◌, ℕ, Option, Some, Ok, Err, List, [], ◌∷◌, ◌++◌, refl, sym, ap, subst}
 use Rattle.std.proofs.lemmas.List.{append-nil}
 use Rattle.dbl_base.specs.Lines.{lines_text}
 use Rattle.dbl_base.specs.Streams.{Rose}
-use Rattle.dbl_consume.specs.Printing.{Wrote}
 use Rattle.dbl_journal.specs.declared.error.JournalError.TheVariants as journal
 use Rattle.dbl_runs.specs.declared.error.Store.{Store as Kept}
 use Rattle.dbl_runs.specs.declared.error.Store.TheVariants as kept

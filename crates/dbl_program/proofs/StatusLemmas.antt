@@ -1,5 +1,6 @@
 -- Statuses that a command doesn't have.
 use Rattle.std.proofs.Common.{◌≡◌, ◌≢◌, ◌⊎◌, inl, inr, ◌∙◌, ℕ, Bool, true, false, Option, List, refl, sym}
+use Rattle.dbl_base.specs.Streams.{Rose}
 use Rattle.dbl_cli.specs.declared.commands.Command.{Command}
 use Rattle.dbl_cli.specs.declared.commands.Command.TheVariants as command
 use Rattle.dbl_cli.specs.Commands.{Spells}
@@ -9,7 +10,7 @@ use Rattle.dbl_program.specs.Faults.{status_of}
 use Rattle.dbl_program.specs.Run.{IsApplyStatus, IsOutside, IsReplayStatus, Says}
 use Rattle.dbl_program.specs.Disks.{IsCutShort, offsets_status, topics_status, wal_status}
 use Rattle.dbl_program.specs.Inits.{IsInitStatus}
-use Rattle.dbl_program.specs.Means.{HasOpenedOffsets, HasOpenedTopics, IsOffsetsStatus, IsRowsStatus, IsStatusOf, IsTopicsStatus, SpellUnbuilt, is_built, makes, opens_offsets, opens_topics, uses_offsets, uses_topics}
+use Rattle.dbl_program.specs.Means.{HasOpenedOffsets, HasOpenedTopics, IsOffsetsStatus, IsRowsStatus, IsStatusOf, IsTopicsStatus, SpellUnbuilt, is_built, makes, opens_offsets, opens_topics, reads, uses_offsets, uses_topics}
 use Rattle.dbl_program.proofs.ApplyRunLemmas.{says_is}
 
 -- ---- by the kind of the command
@@ -126,6 +127,28 @@ no_wal (command.Apply false placeholder) status none known same = rows_other 7 s
 no_wal (command.Replay prefix db placeholder keys) status none known same = replay_other 7 status (λ e. cc, λ e. cc, λ e. cc, λ e. cc) (λ e. cc, λ e. cc, λ e. cc) known same
 no_wal (command.Gen number rows groups true) status none known same = one_other 16 7 status (λ e. cc) (λ e. cc, λ e. cc) known same
 no_wal (command.Gen number rows groups false) status none known same = one_other 0 7 status (λ e. cc) (λ e. cc, λ e. cc) known same
+
+pub wal_fails : (c : Command) (status was now : ℕ) → IsStatusOf c status → (c ≡ command.Init → status ≡ wal_status → Rose was now) → status ≡ wal_status → Rose was now
+wal_fails command.Init status was now known fails is = fails refl is
+wal_fails command.Topics status was now known fails is = absurd (no_wal command.Topics status refl known is)
+wal_fails command.Offsets status was now known fails is = absurd (no_wal command.Offsets status refl known is)
+wal_fails (command.Capture options) status was now known fails is = absurd (no_wal (command.Capture options) status refl known is)
+wal_fails (command.Resume chunk every messages) status was now known fails is = absurd (no_wal (command.Resume chunk every messages) status refl known is)
+wal_fails (command.Apply lines placeholder) status was now known fails is = absurd (no_wal (command.Apply lines placeholder) status refl known is)
+wal_fails (command.Replay prefix db placeholder keys) status was now known fails is = absurd (no_wal (command.Replay prefix db placeholder keys) status refl known is)
+wal_fails (command.Gen number rows groups run) status was now known fails is = absurd (no_wal (command.Gen number rows groups run) status refl known is)
+
+-- what holds where nothing is read holds where a store is refused, or a disk that isn't empty
+pub refused_unread : (P : Type 0) (c : Command) (status : ℕ) → IsStatusOf c status → (reads c ≡ false → P) → (c ≡ command.Init → status ≡ 14 → P) → status ≡ 14 → P
+refused_unread P command.Init status known unread full is = full refl is
+refused_unread P command.Topics status known unread full is = unread refl
+refused_unread P command.Offsets status known unread full is = unread refl
+refused_unread P (command.Capture options) status known unread full is = unread refl
+refused_unread P (command.Resume chunk every messages) status known unread full is = unread refl
+refused_unread P (command.Apply true placeholder) status known unread full is = absurd (lines_other 14 status (λ e. cc, λ e. cc) (λ e. cc, λ e. cc, λ e. cc) known is)
+refused_unread P (command.Apply false placeholder) status known unread full is = unread refl
+refused_unread P (command.Replay prefix db placeholder keys) status known unread full is = absurd (replay_other 14 status (λ e. cc, λ e. cc, λ e. cc, λ e. cc) (λ e. cc, λ e. cc, λ e. cc) known is)
+refused_unread P (command.Gen number rows groups run) status known unread full is = unread refl
 
 -- nor does a disk that the command doesn't read
 pub no_topics : (c : Command) (status : ℕ) → IsStatusOf c status → uses_topics c ≡ false → status ≡ topics_status → ⊥

@@ -67,11 +67,15 @@ IsInitStatus status =
 abbrev pub IsInitAnswer : ℕ → Type 0
 IsInitAnswer status = (status ≡ 0) ⊎ ((status ≡ 6) ⊎ (status ≡ 13))
 
--- the statuses with which it ended before a byte of this store's disk was written: the stores are made in their order
+-- the statuses with which it ended before a byte of any disk was written
+abbrev pub IsUnmade : ℕ → Type 0
+IsUnmade status = (status ≡ 6) ⊎ ((status ≡ status_of halt.InputFailed) ⊎ ((status ≡ 13) ⊎ (status ≡ 14)))
+
+-- the same of one store's disk: the stores are made in their order
 abbrev pub IsUnwritten : Store → ℕ → Type 0
-IsUnwritten store.Wal status = (status ≡ 6) ⊎ ((status ≡ status_of halt.InputFailed) ⊎ ((status ≡ 13) ⊎ (status ≡ 14)))
-IsUnwritten store.Topics status = (status ≡ wal_status) ⊎ IsUnwritten store.Wal status
-IsUnwritten store.Offsets status = (status ≡ topics_status) ⊎ IsUnwritten store.Topics status
+IsUnwritten store.Wal status = IsUnmade status
+IsUnwritten store.Topics status = (status ≡ wal_status) ⊎ IsUnmade status
+IsUnwritten store.Offsets status = (status ≡ topics_status) ⊎ ((status ≡ wal_status) ⊎ IsUnmade status)
 
 -- What an `init` of this status leaves of a disk. Its count of faults never falls, and rose where its fault is told; where it tells
 -- its bytes the count rises nowhere else, unless memory ran out or the output failed. Its bytes become no more than 2^30, unless they

@@ -196,7 +196,8 @@ fn run_command<I: Input, O: Output, W: Disk, T: Disk, F: Disk>(
     ensures alone { (answer : Answer) → StandsAlone command answer →
         EndsAs answer result.status (O.written output.old) (O.written output.new) }
     ensures unread { reads command ≡ false → input.new ≡ input.old }
-    ensures refused_unread { result.status ≡ 14 → input.new ≡ input.old }
+    ensures refused_unread { command ≡ Command.Init → result.status ≡ 14 →
+        input.new ≡ input.old }
     ensures whole { (bytes : List ℕ) → I.left input.old ≡ Some bytes →
         length bytes ≤ input_limit → TellsInput command result.status →
         I.left input.new ≡ Some [] }
@@ -205,7 +206,6 @@ fn run_command<I: Input, O: Output, W: Disk, T: Disk, F: Disk>(
         Rose (I.faults input.old) (I.faults input.new) }
     ensures output_failed { result.status ≡ output_failed_status →
         Rose (O.faults output.old) (O.faults output.new) }
-    ensures wal_failed { result.status ≡ wal_status → Rose (W.faults wal) (W.faults result.wal) }
     ensures wal_stays { makes command ≡ false → result.wal ≡ wal }
     ensures topics_stay { uses_topics command ≡ false → result.topics ≡ topics }
     ensures offsets_stay { uses_offsets command ≡ false → result.offsets ≡ offsets }

@@ -12,7 +12,7 @@ use Rattle.dbl_program.specs.Run.{FailsReading}
 use Rattle.dbl_program.proofs.CommandLemmas.{cut_short, wider_or_fails, spelled_or_fails, usage_runs, memory_runs, as_spelled, memory_alone, memory_status, memory_tells}
 use Rattle.dbl_program.proofs.DiskLemmas.{not_read, read_or_not}
 use Rattle.dbl_program.proofs.StoreRunLemmas.{opened_by}
-use Rattle.dbl_program.proofs.StatusLemmas.{memory_built, memory_no_offsets, memory_no_topics, memory_no_wal, no_offsets, no_topics, offsets_whole, spell_unbuilt, told_offsets, topics_whole, unused_offsets, unused_topics, usage_built, usage_no_offsets, usage_no_topics, usage_no_wal}
+use Rattle.dbl_program.proofs.StatusLemmas.{memory_built, memory_no_offsets, memory_no_topics, memory_no_wal, no_offsets, no_topics, offsets_whole, refused_unread, spell_unbuilt, told_offsets, topics_whole, unused_offsets, unused_topics, usage_built, usage_no_offsets, usage_no_topics, usage_no_wal, wal_fails}
 use Rattle.dbl_program.proofs.program.run.Goals as goal
 
 -- ---- a command was spelled
@@ -53,7 +53,12 @@ pub returns-in-Ok-clause-unbuilt : goal.returns-in-Ok-clause-unbuilt
 returns-in-Ok-clause-unbuilt g c = spell_unbuilt _ c.in-Ok.command c.run_command.result.status c.in-Ok.ensures.spelled c.run_command.ensures.known
 
 pub returns-in-Ok-clause-wal_failed : goal.returns-in-Ok-clause-wal_failed
-returns-in-Ok-clause-wal_failed g c = c.run_command.ensures.wal_failed
+returns-in-Ok-clause-wal_failed g c = λ is.
+    wal_fails c.in-Ok.command c.run_command.result.status _ _ c.run_command.ensures.known (λ init. (c.run_command.ensures.wal_left init).cause) is
+
+pub returns-in-Ok-clause-refused_unread : goal.returns-in-Ok-clause-refused_unread
+returns-in-Ok-clause-refused_unread g c = λ is.
+    refused_unread _ c.in-Ok.command c.run_command.result.status c.run_command.ensures.known c.run_command.ensures.unread c.run_command.ensures.refused_unread is
 
 pub returns-in-Ok-clause-unopened : goal.returns-in-Ok-clause-unopened
 returns-in-Ok-clause-unopened g c = λ command bytes spells opens told none.
@@ -150,22 +155,22 @@ returns-in-Err-Memory-clause-offsets_synced g c = λ command spells opens opened
 -- ---- `init`
 
 pub returns-in-Ok-clause-wal_made : goal.returns-in-Ok-clause-wal_made
-returns-in-Ok-clause-wal_made g c = λ bytes before spells. c.run_command.ensures.wal_made bytes before (one_command _ c.in-Ok.command command.Init spells c.in-Ok.ensures.spelled)
+returns-in-Ok-clause-wal_made g c = λ bytes before spells. c.run_command.ensures.wal_made bytes before (one_command _ c.in-Ok.command command.Init c.in-Ok.ensures.spelled spells)
 
 pub returns-in-Ok-clause-topics_made : goal.returns-in-Ok-clause-topics_made
-returns-in-Ok-clause-topics_made g c = λ before spells. c.run_command.ensures.topics_made before (one_command _ c.in-Ok.command command.Init spells c.in-Ok.ensures.spelled)
+returns-in-Ok-clause-topics_made g c = λ before spells. c.run_command.ensures.topics_made before (one_command _ c.in-Ok.command command.Init c.in-Ok.ensures.spelled spells)
 
 pub returns-in-Ok-clause-offsets_made : goal.returns-in-Ok-clause-offsets_made
-returns-in-Ok-clause-offsets_made g c = λ before spells. c.run_command.ensures.offsets_made before (one_command _ c.in-Ok.command command.Init spells c.in-Ok.ensures.spelled)
+returns-in-Ok-clause-offsets_made g c = λ before spells. c.run_command.ensures.offsets_made before (one_command _ c.in-Ok.command command.Init c.in-Ok.ensures.spelled spells)
 
 pub returns-in-Ok-clause-wal_left : goal.returns-in-Ok-clause-wal_left
-returns-in-Ok-clause-wal_left g c = λ spells. c.run_command.ensures.wal_left (one_command _ c.in-Ok.command command.Init spells c.in-Ok.ensures.spelled)
+returns-in-Ok-clause-wal_left g c = λ spells. c.run_command.ensures.wal_left (one_command _ c.in-Ok.command command.Init c.in-Ok.ensures.spelled spells)
 
 pub returns-in-Ok-clause-topics_left : goal.returns-in-Ok-clause-topics_left
-returns-in-Ok-clause-topics_left g c = λ spells. c.run_command.ensures.topics_left (one_command _ c.in-Ok.command command.Init spells c.in-Ok.ensures.spelled)
+returns-in-Ok-clause-topics_left g c = λ spells. c.run_command.ensures.topics_left (one_command _ c.in-Ok.command command.Init c.in-Ok.ensures.spelled spells)
 
 pub returns-in-Ok-clause-offsets_left : goal.returns-in-Ok-clause-offsets_left
-returns-in-Ok-clause-offsets_left g c = λ spells. c.run_command.ensures.offsets_left (one_command _ c.in-Ok.command command.Init spells c.in-Ok.ensures.spelled)
+returns-in-Ok-clause-offsets_left g c = λ spells. c.run_command.ensures.offsets_left (one_command _ c.in-Ok.command command.Init c.in-Ok.ensures.spelled spells)
 
 pub returns-in-Ok-clause-full_stay : goal.returns-in-Ok-clause-full_stay
-returns-in-Ok-clause-full_stay g c = λ spells. c.run_command.ensures.full_stay (one_command _ c.in-Ok.command command.Init spells c.in-Ok.ensures.spelled)
+returns-in-Ok-clause-full_stay g c = λ spells. c.run_command.ensures.full_stay (one_command _ c.in-Ok.command command.Init c.in-Ok.ensures.spelled spells)

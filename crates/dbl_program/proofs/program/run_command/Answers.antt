@@ -81,6 +81,9 @@ returns-in-Resume-clause-told g c = λ given told.
     let here = c.in-Resume in
     inl (alone_command c.args.command (command.Resume here.chunk here.every here.messages) c.args.now_ms.now given _ not_built _ _ _ here.is refl c.say_not_built-in-Resume.ensures.ends)
 
+pub returns-in-Init-clause-wal_made : goal.returns-in-Init-clause-wal_made
+returns-in-Init-clause-wal_made g c = λ bytes before is left told done. c.run_init.ensures.wal_made bytes before left told done
+
 -- ---- disks that were opened
 
 pub returns-in-Offsets-clause-offsets_synced : goal.returns-in-Offsets-clause-offsets_synced

@@ -1,7 +1,6 @@
 -- What the status of `init` tells of how it ended, and of what it left.
-use Rattle.std.proofs.Common.{◌≡◌, ◌≢◌, ◌⊎◌, inl, inr, ◌∙◌, ℕ, Option, Some, Ok, Err, List, refl, sym, ap, subst}
+use Rattle.std.proofs.Common.{◌≡◌, ◌≢◌, ◌⊎◌, inl, inr, ◌∙◌, ℕ, Option, Ok, Err, List, refl, ap, subst}
 use Rattle.std.specs.Prelude.{OnOk}
-use Rattle.dbl_base.specs.Streams.{Rose}
 use Rattle.dbl_init.specs.declared.error.InitError.{InitError}
 use Rattle.dbl_init.specs.declared.error.InitError.TheVariants as init
 use Rattle.dbl_init.specs.declared.error.Store.{Store}

@@ -1,27 +1,22 @@
 -- How a run of `init` ends, from how `init` ended and what was written behind it.
-use Rattle.std.proofs.Common.{◌≡◌, ◌≢◌, ◌⊎◌, inl, inr, ◌∙◌, ℕ, Option, Some, Ok, Err, List, [], ◌∷◌, ◌++◌, refl, sym, ap, subst}
+use Rattle.std.proofs.Common.{◌≡◌, ◌⊎◌, inl, inr, ◌∙◌, ℕ, Option, Some, Ok, Err, List, [], ◌∷◌, refl, sym, ap, subst}
 use Rattle.std.proofs.lemmas.List.{append-nil}
 use Rattle.dbl_base.specs.Lines.{lines_text}
 use Rattle.dbl_base.specs.Streams.{Rose}
-use Rattle.dbl_journal.specs.declared.error.JournalError.TheVariants as journal
 use Rattle.dbl_runs.specs.declared.error.Store.{Store as Kept}
 use Rattle.dbl_runs.specs.declared.error.Store.TheVariants as kept
 use Rattle.dbl_init.specs.declared.error.InitError.{InitError}
 use Rattle.dbl_init.specs.declared.error.InitError.TheVariants as init
-use Rattle.dbl_init.specs.declared.error.Store.{Store}
 use Rattle.dbl_init.specs.declared.error.Store.TheVariants as store
 use Rattle.dbl_init.specs.Answers as inits
-use Rattle.dbl_init.specs.Disks.{IsAsked, Leaves}
-use Rattle.dbl_init.specs.Disks as disks
 use Rattle.dbl_init.proofs.AnswerLaws.{one_answer}
-use Rattle.dbl_program.specs.declared.halt.Halt.TheVariants.{InputFailed, Memory}
-use Rattle.dbl_program.specs.Disks.{DiskFails, EndsOrFails, IsCutShort, IsDiskStatus, OfDisk}
+use Rattle.dbl_program.specs.declared.halt.Halt.TheVariants.{Memory}
+use Rattle.dbl_program.specs.Disks.{DiskFails, IsCutShort, IsDiskStatus, OfDisk}
 use Rattle.dbl_program.specs.Faults.{fault_line, status_of}
-use Rattle.dbl_program.specs.Inits.{AnswersInit, FailsSource, FinishesInit, IsInitAnswer, IsInitLeft, IsInitStatus, IsUnwritten, SaysInit, init_answer, init_fault, init_line, init_status, store_status}
+use Rattle.dbl_program.specs.Inits.{FailsSource, FinishesInit, IsInitStatus, SaysInit, init_answer, init_fault, init_line, init_status}
 use Rattle.dbl_program.specs.Means.{RunsInit}
-use Rattle.dbl_program.specs.Run.{Answer, Ends, FailsReading, IsOutside, Writes, done, whole}
+use Rattle.dbl_program.specs.Run.{Answer, Ends, FailsReading, IsOutside, Writes, whole}
 use Rattle.dbl_program.proofs.RunLemmas.{memory_ends, memory_is_outside, written_or_outside}
-use Rattle.dbl_program.proofs.StatusLemmas.{cut_other}
 
 abbrev pub end_status : inits.End → ℕ
 end_status (Ok made) = 0

@@ -1,4 +1,4 @@
-use Rattle.std.proofs.Common.{Err, Ok, refl, sym, subst}
+use Rattle.std.proofs.Common.{refl, sym, subst}
 use Rattle.dbl_init.specs.Answers.{End}
 use Rattle.dbl_program.specs.Inits.{FinishesInit}
 use Rattle.dbl_program.proofs.initializing.finish_init.Goals as goal

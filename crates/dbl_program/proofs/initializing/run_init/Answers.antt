@@ -1,4 +1,3 @@
-use Rattle.std.proofs.Common.{◌≡◌, Some, []}
 use Rattle.dbl_base.specs.Streams.{Rose}
 use Rattle.dbl_init.specs.declared.error.Store.TheVariants.{Wal, Topics, Offsets}
 use Rattle.dbl_program.proofs.InitEndLemmas.{answered_whole, full_end, init_left, input_end, made_end, untouched}

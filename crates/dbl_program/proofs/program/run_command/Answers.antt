@@ -3,7 +3,7 @@ use Rattle.dbl_cli.specs.declared.commands.Command.TheVariants as command
 use Rattle.dbl_base.specs.Streams.{Rose}
 use Rattle.dbl_runs.specs.Answers.{AnswersApply, AnswersOffsets, AnswersTopics}
 use Rattle.dbl_program.specs.Disks.{OfDisk}
-use Rattle.dbl_program.specs.Means.{given_init, made, not_built, makes, opens_offsets, opens_topics, reads, uses_offsets, uses_topics}
+use Rattle.dbl_program.specs.Means.{given_init, made, not_built, makes, opens_topics, reads, uses_offsets, uses_topics}
 use Rattle.dbl_program.proofs.CommandLemmas.{replay_command, apply_command, alone_command, init_or_fails, offset_alone, or_source, rows_offsets, stores_command}
 use Rattle.dbl_program.proofs.StatusLemmas.{told_offsets, told_rows}
 use Rattle.dbl_program.proofs.StoreRunLemmas.{both_opened, only_offsets, only_topics}

@@ -13,11 +13,13 @@ use std::alloc::Global;
 use std::fmt::Write;
 
 fn show_entry(alloc: Global, shown: &mut String, bytes: &[u8]) -> Result<()> {
-    match decode(alloc, bytes) {
-        Ok(Entry::Commits { steps, messages: _ }) => write!(shown, " C{steps}")?,
-        Ok(Entry::Marks { steps, value }) => write!(shown, " M{steps} {value}")?,
-        Ok(Entry::Confirms { upto }) => write!(shown, " F{upto}")?,
-        Err(_) => bail!("no entry of a log"),
+    let Ok(entry) = decode(alloc, bytes) else {
+        bail!("no entry of a log");
+    };
+    match &entry {
+        Entry::Commits { steps, messages: _ } => write!(shown, " C{steps}")?,
+        Entry::Marks { steps, value } => write!(shown, " M{steps} {value}")?,
+        Entry::Confirms { upto } => write!(shown, " F{upto}")?,
     }
     Ok(())
 }
@@ -48,8 +50,8 @@ fn entries(alloc: Global, shown: &mut String, journal: &mut Journal<MemDisk>) ->
     Ok(())
 }
 
-// What the source opens, and the entries there.
-fn opened(alloc: Global, shown: &mut String, disk: MemDisk) -> Result<()> {
+/// What the source opens, and the entries there.
+pub fn opened(alloc: Global, shown: &mut String, disk: MemDisk) -> Result<()> {
     let disk = match DemoSource::open(alloc, disk) {
         Ok(source) => source.into_disk(),
         Err(refused) => return words::said(shown, &refused.error),

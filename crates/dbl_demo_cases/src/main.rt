@@ -8,6 +8,7 @@ mod calls;
 mod left;
 mod session;
 mod stops;
+mod wal;
 
 use anyhow::{Result, bail};
 use dbl_case_items::words;
@@ -19,6 +20,9 @@ fn answer(alloc: Global, name: &str, arguments: &str) -> Result<String> {
     let (family, _) = words::split(name, " ");
     match family {
         "stop" => stops::answer(alloc, &mut shown, arguments)?,
+        "wal" => wal::opened(alloc, &mut shown, arguments)?,
+        "cut" => wal::cut(alloc, &mut shown, arguments)?,
+        "changed" => wal::changed(alloc, &mut shown, arguments)?,
         _ => bail!("no such family"),
     }
     Ok(shown)

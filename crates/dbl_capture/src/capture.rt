@@ -10,7 +10,7 @@ ghost use Rattle.dbl_honest.specs.Standings.{Leads, Left, Standing, Stood};
 ghost use Rattle.dbl_honest.specs.Told.{Head, IsTakenBy, Tells, Told};
 ghost use Rattle.dbl_offset.specs.declared.offset.Offset.{Offset as SpecOffset};
 ghost use Rattle.dbl_offset.specs.Offsets.{IsOffset};
-ghost use Rattle.dbl_offset.specs.Stores.{ComesOf, IsLive, disk_of};
+ghost use Rattle.dbl_offset.specs.Stores.{ComesOf, Holds, IsLive, disk_of};
 ghost use Rattle.dbl_session.specs.Entries.{Entry as SpecEntry, HadOwnTables, IsKeptBehind, WasFaithful};
 ghost use Rattle.dbl_work.specs.Begins.{IsAbsentHalt, IsExhausted, IsOffsetFor, MayRest};
 ghost use Rattle.dbl_work.specs.Works.{IsBegun};

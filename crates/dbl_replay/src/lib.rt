@@ -15,5 +15,5 @@ pub use apply::{FaultAt, LineFault, consume};
 pub use dbl_lines::PrintError;
 pub use lines::{LineError, messages};
 pub use log::print_log;
-pub use log_fault::LogFault;
+pub use log_fault::{LogFault, transaction_status};
 pub use options::ReplayOptions;

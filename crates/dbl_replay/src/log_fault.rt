@@ -122,8 +122,8 @@ fn table_text(alloc: Global, error: &ModelError) -> Result<String, AllocError>
     }
 }
 
-// The status of a message's fault where it stands: 6 where the log is well formed but its content isn't supported.
-fn transaction_status(error: &TxnError) -> u8
+/// The status of a message's fault where it stands: 6 where the log is well formed but its content isn't supported.
+pub fn transaction_status(error: &TxnError) -> u8
     ensures { result ≡ transaction_status error.now }
 {
     match error {

@@ -31,6 +31,12 @@ pub record IsNextGroup (records : List Record) (put : List (List Record)) (group
 pub next_handful : (records : List Record) (put : List (List Record)) (group : List Record) → IsNextGroup records put group → IsHandful group
 next_handful records put group n = (all_right IsHandful put (group ∷ n.later) (subst (AllByRecursion IsHandful) n.parted (cuts_are_handfuls records))).0
 
+-- and not all records stand before it
+pub next_more : (records : List Record) (put : List (List Record)) (group : List Record) → IsNextGroup records put group → length (joined put) < length records
+next_more records put group n =
+    let all : length records ≡ length (joined put) + (length group + length n.rest) = ap length n.whole ∙ (length-append (joined put) (group ++ n.rest) ∙ ap (λ (m : ℕ). length (joined put) + m) (length-append group n.rest)) in
+    omega (arith, all, (next_handful records put group n).some)
+
 -- ---- what a put may leave
 
 snoc_case : (xs : List (List Record)) → (xs ≡ []) ⊎ ((front : List (List Record)) × (last : List Record) × (xs ≡ front ++ last ∷ []))

@@ -16,7 +16,7 @@ use Rattle.dbl_work.specs.declared.halt.Halt.{Halt}
 use Rattle.dbl_work.specs.declared.halt.Halt.TheVariants as halt
 use Rattle.dbl_work.specs.Causes.{HasPutBefore, IsLongRecord}
 use Rattle.dbl_work.specs.Groups.{chunks_of, counted, report_with, IsLeftByCut, HasLastsAtItsEnd, HoldsPut, WasTorn, WerePut}
-use Rattle.dbl_work.proofs.Puts.{IsNextGroup, front_cut, group_lasts, joined_push, left_cut, next_handful, none_last, report_none, report_twice, take_more, within}
+use Rattle.dbl_work.proofs.Puts.{IsNextGroup, front_cut, group_lasts, joined_push, left_cut, next_handful, next_more, none_last, report_none, report_twice, take_more, within}
 
 -- a sink takes a group of so many bytes
 pub record IsShortGroup (group : List Record) : Type 0 where
@@ -65,7 +65,7 @@ module _ {K : Type 0} (holds : K → List (List Record) → Type 0) (snapshot : 
 
   pub none_holds : (groups : List (List Record)) (records : List Record) (sink : K) (report : Report) → report.records ≤ 2 ^ 64 - 1 → report.chunks ≤ 2 ^ 64 - 1 → report.snapshot_rows ≤ 2 ^ 64 - 1
       → holds sink groups → HoldsPut holds groups snapshot records report report sink
-  none_holds groups records sink report one two three held = record { count = 0; held = subst (holds sink) (sym (append-nil groups)) held; report = sym (report_none snapshot report one two three) }
+  none_holds groups records sink report one two three held = record { count = 0; few = inl refl; held = subst (holds sink) (sym (append-nil groups)) held; report = sym (report_none snapshot report one two three) }
 
   -- what the iterator has yet
   pub put_at : (records gathered rest more : List Record) (old new : K) (before after : Report) → rest ≡ more → IsPut holds snapshot records gathered rest old new before after
@@ -181,6 +181,7 @@ module _ {K : Type 0} (holds : K → List (List Record) → Type 0) (snapshot : 
       let same = taken_is records gathered rest old new before after p in
       record {
         count = length (joined p.put);
+        few = inr (next_more records p.put some.0 some.1);
         held = subst (λ (l : List (List Record)). holds new (groups ++ l)) (sym (ap cut same ∙ front_cut records p.put some.0 some.1)) (p.held groups held);
         report = p.counted lasts ∙ ap (λ (l : List Record). report_with snapshot l before) (sym same);
       }

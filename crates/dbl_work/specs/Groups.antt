@@ -1,5 +1,5 @@
 -- The groups of a commit's records, as they are gathered and put, and what a report counts of them.
-use Rattle.std.specs.Prelude.{◌≡◌, ℕ, ◌+◌, ◌-◌, ◌^◌, ◌≤◌, min, Bool, true, false, if◌then◌else◌, Some, List, [], ◌∷◌, ◌++◌, length, filter, take, slice_get}
+use Rattle.std.specs.Prelude.{◌≡◌, ◌⊎◌, ℕ, ◌+◌, ◌-◌, ◌^◌, ◌≤◌, ◌<◌, min, Bool, true, false, if◌then◌else◌, Some, List, [], ◌∷◌, ◌++◌, length, filter, take, slice_get}
 use Rattle.dbl_record.specs.declared.record.Record.{Record}
 use Rattle.dbl_record.specs.Cuts.{cut}
 use Rattle.dbl_record.specs.Groups.{group_form}
@@ -59,10 +59,11 @@ ends_commit (first ∷ (second ∷ more)) = ends_commit (second ∷ more)
 pub record HasLastsAtItsEnd (records : List Record) : Type 0 where
   pub each : (place : ℕ) (item : Record) → slice_get records place ≡ Some item → item.last ≡ true → place + 1 ≡ length records
 
--- what the sink and the report have where some first records were put
+-- what the sink and the report have where some first records were put: none of them was, or not all were
 pub record HoldsPut {K : Type 0} (holds : K → List (List Record) → Type 0) (groups : List (List Record)) (snapshot : Bool)
     (records : List Record) (before after : Report) (sink : K) : Type 0 where
   pub count : ℕ
+  pub few : (count ≡ 0) ⊎ (count < length records)
   pub held : holds sink (groups ++ cut (take count records))
   pub report : after ≡ report_with snapshot (take count records) before
 

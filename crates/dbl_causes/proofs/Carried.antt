@@ -1,6 +1,7 @@
 -- What a session carries from step to step, by the messages that it has taken.
-use Rattle.std.proofs.Common.{◌≡◌, ◌∙◌, ◌+◌, ◌<◌, ◌^◌, ℕ, suc, true, false, Option, Some, None, List, [], ◌∷◌, ◌++◌, length, refl, sym, ap, subst, arith, append-nil, length-append}
+use Rattle.std.proofs.Common.{◌≡◌, ◌∙◌, ◌+◌, ◌<◌, ◌≤◌, ◌^◌, ℕ, suc, true, false, Option, Some, None, List, [], ◌∷◌, ◌++◌, length, refl, sym, ap, subst, arith, append-nil, length-append}
 use Rattle.std.specs.Prelude.{is_some, slice_get}
+use Rattle.dbl_base.specs.declared.lsn.Lsn.{Lsn}
 use Rattle.dbl_pgmsg.specs.declared.messages.Message.{Message}
 use Rattle.dbl_table.specs.declared.change.Commit.{Commit}
 use Rattle.dbl_history.specs.declared.cursor.Cursor.{Cursor}
@@ -17,6 +18,7 @@ use Rattle.dbl_work.specs.Takes.{ReportsStep, WasStepped, WasTaken, closes}
 use Rattle.dbl_work.specs.Works.{AreShort, IsWork, next_of}
 use Rattle.dbl_exits.proofs.Arms.{PlanIs, own_chunk, plan_parts}
 use Rattle.dbl_exits.proofs.Keeping.{settled_work}
+use Rattle.dbl_exits.proofs.Rising.{accepted_rise}
 use Rattle.dbl_exits.proofs.Taken.{followed_is, taken_is}
 use Rattle.dbl_causes.specs.Written.{AreClosed}
 use Rattle.dbl_causes.specs.Reported.{IsPlacedOf, end_behind}
@@ -28,6 +30,9 @@ use Rattle.dbl_causes.proofs.Reported.{ends_on, of_session}
 use Rattle.dbl_causes.proofs.Moving.{becomes_ordered, moves_one, steps_open_windows}
 
 -- ---- it begins
+
+same_le : (n m : ℕ) → n ≡ m → n ≤ m
+same_le n m is = omega (arith, is)
 
 none_yet : (n c : ℕ) → n ≡ 0 → c ≡ 0 → n ≡ c + 0
 none_yet n c one two = omega (arith, one, two)
@@ -44,6 +49,7 @@ sessions_begin_at_rest b every work report for begun messages commits chunks = r
       time = begun.now_is;
       most = begun.chunk_is;
     };
+    upto = same_le b.first.lsn.0 work.offset.lsn.0 (ap (λ (o : Offset). o.lsn.0) (sym begun.offset_is));
     is = begun.is;
     end_is = ap (λ (o : Offset). o.end_lsn) begun.offset_is;
     many = sym messages;
@@ -92,6 +98,7 @@ windows_let_it_rest b ms stored old new table report r absent unread armed = sub
         offset = r.is.offset;
         stored_is = r.is.stored_is;
         of = record { for = r.is.of.for; of = r.is.of.of; placed = r.is.of.placed; time = r.is.of.time; most = r.is.of.most };
+        upto = r.is.upto;
         is = works;
         end_is = r.is.end_is;
         many = r.is.many;
@@ -126,6 +133,7 @@ messages_let_it_rest b ms stored old next before report bytes r w counted =
         offset = r.is.offset;
         stored_is = r.is.stored_is;
         of = record { for = r.is.of.for; of = r.is.of.of; placed = r.is.of.placed; time = r.is.of.time; most = r.is.of.most };
+        upto = r.is.upto;
         is = taken_is b.first.lsn ms old r.is.is w.message w.spells.fits.fields next.assembler w.clean w.stands (sym w.commit_is);
         end_is = r.is.end_is ∙ ap (end_behind b.first.end_lsn) same_commits;
         many = one_longer (length ms) before.messages r.is.many;
@@ -139,6 +147,9 @@ messages_let_it_rest b ms stored old next before report bytes r w counted =
     }
 
 -- ---- a commit is followed
+
+lower : (a b c : ℕ) → a ≤ b → b < c → a ≤ c
+lower a b c le lt = omega (arith, le, lt)
 
 some_false : (o : Option Chunk) → is_some o ≡ false → o ≡ None
 some_false None is = refl
@@ -169,6 +180,9 @@ module _ (b : Beginning) (ms : List Message) (stored : Option Offset) (old next 
     closed_are : AreClosed followed report.chunks
     closed_are = subst (λ (x : Work). AreClosed x report.chunks) st.same (steps_close_windows commit taken new counted report small st reports r.is.windows)
 
+    rises : old.offset.lsn.0 < commit.lsn.0
+    rises = subst (λ (l : Lsn). l.0 < commit.lsn.0) (sym r.is.is.lsn) (accepted_rise old.offset.infos b.first.lsn ms w.message commit (w.clean, r.is.is.accepted) (sym w.commit_is))
+
     moved : MovesOne r.is.offset.cursors new.follower.cursors
     moved =
         subst (λ (l : List Cursor). MovesOne l new.follower.cursors) (sym r.same)
@@ -185,6 +199,7 @@ module _ (b : Beginning) (ms : List Message) (stored : Option Offset) (old next 
         time = r.is.of.time;
         most = r.is.of.most;
       };
+      upto = lower r.is.offset.lsn.0 old.offset.lsn.0 commit.lsn.0 r.is.upto rises;
       is = followed_is b.first.lsn ms old r.is.is w.message w.spells.fits.fields next.assembler w.clean w.stands commit (sym w.commit_is) new.follower st.steps st.no_clash short st.listed;
       end_is = sym (ap (end_behind b.first.end_lsn) (sym one_commit) ∙ ends_on b.first.end_lsn (commits_of old.offset.infos ms) (commit ∷ []));
       many = one_longer (length ms) before.messages r.is.many ∙ sym messages_are;
@@ -249,6 +264,7 @@ stores_let_it_rest b ms stored old new before report is same counted =
         offset = next_of old;
         stored_is = refl;
         of = record { for = next.for; of = next.of; placed = next.placed; time = next.time; most = next.most };
+        upto = same_le old.offset.lsn.0 old.offset.lsn.0 refl;
         is = settled_work b.first.lsn ms old is.is;
         end_is = is.end_is;
         many = is.many;

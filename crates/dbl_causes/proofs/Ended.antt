@@ -193,7 +193,7 @@ newest_left number after ms bytes work h (inr sent) = elim sent.3 [
   | inr long ↦ subst (λ (k : Halt). IsLeftOut k 1) (sym long.1.is) refl
 ]
 
-cause_left : (number : ℕ) (after : Lsn) (ms : List Message) (bytes : List ℕ) (work : Work) (h : Halt) → IsNewestCause number after ms bytes work h → IsLeftOut h 1
+pub cause_left : (number : ℕ) (after : Lsn) (ms : List Message) (bytes : List ℕ) (work : Work) (h : Halt) → IsNewestCause number after ms bytes work h → IsLeftOut h 1
 cause_left number after ms bytes work h (inl memory) = subst (λ (k : Halt). IsLeftOut k 1) (sym memory) one_within
 cause_left number after ms bytes work h (inr (inl message)) = subst (λ (k : Halt). IsLeftOut k 1) (sym message.is) refl
 cause_left number after ms bytes work h (inr (inr (inl newest))) = newest_left number after ms bytes work h newest

@@ -32,7 +32,7 @@ use Rattle.dbl_causes.proofs.Ended.{ends_are_stood, ends_are_told, halts_at_mess
 
 -- ---- what the source told
 
-told_still : (found old new : Option Told) (ms : List Message) → AreTold found old ms → IsTakenBy [] old new → AreTold found new ms
+pub told_still : (found old new : Option Told) (ms : List Message) → AreTold found old ms → IsTakenBy [] old new → AreTold found new ms
 told_still found old new ms a none = record {
   begun = a.begun;
   anew = a.anew;
@@ -41,7 +41,7 @@ told_still found old new ms a none = record {
   spelled = a.spelled;
 }
 
-told_on : (found old new : Option Told) (ms : List Message) (bytes : List ℕ) (m : Message) → AreTold found old ms → IsTakenBy (bytes ∷ []) old new → Spells bytes m → AreTold found new (m ∷ ms)
+pub told_on : (found old new : Option Told) (ms : List Message) (bytes : List ℕ) (m : Message) → AreTold found old ms → IsTakenBy (bytes ∷ []) old new → Spells bytes m → AreTold found new (m ∷ ms)
 told_on found old new ms bytes m a one spells = record {
   begun = a.begun;
   anew = a.anew;
@@ -50,7 +50,7 @@ told_on found old new ms bytes m a one spells = record {
   spelled = (spells, a.spelled);
 }
 
-begun_told : (told : Option Told) → IsTakenBy [] told told
+pub begun_told : (told : Option Told) → IsTakenBy [] told told
 begun_told None = tt
 begun_told (Some t) = refl
 
@@ -60,7 +60,7 @@ abbrev pub reading_of : Lsn → List Message → Reading
 reading_of after ms = record { after = after; messages = ms }
 
 -- behind one message more
-took_on : (b : Beginning) (ms : List Message) (m : Message) (s t : Standing) → StandsAt b ms s → Took m s t → StandsAt b (m ∷ ms) t
+pub took_on : (b : Beginning) (ms : List Message) (m : Message) (s t : Standing) → StandsAt b ms s → Took m s t → StandsAt b (m ∷ ms) t
 took_on b ms m s t stands took =
     let same : took.before ≡ reading_of b.first.lsn ms = first_some took.before (reading_of b.first.lsn ms) (sym took.was ∙ stands) in
     took.is ∙ ap (λ (r : Reading). Some (reading_of r.after (m ∷ r.messages))) same
@@ -69,14 +69,14 @@ module _ {S : Type 0} (stands : S → Standing → Type 0) (at : Option Standing
   abbrev Reads : S → S → Type 0
   Reads src src2 = (s : Standing) → stands src s → Stood stands src2 (λ t. t.reading ≡ s.reading)
 
-  still_stood : (b : Beginning) (ms : List Message) (src src2 : S) → Reads src src2 → Stood stands src (StandsAt b ms) → Stood stands src2 (StandsAt b ms)
+  pub still_stood : (b : Beginning) (ms : List Message) (src src2 : S) → Reads src src2 → Stood stands src (StandsAt b ms) → Stood stands src2 (StandsAt b ms)
   still_stood b ms src src2 reads was =
       let now = reads was.standing was.is in
       record { standing = now.standing; is = now.is; holds = now.holds ∙ was.holds }
 
   -- ---- it begins
 
-  pub begins : (b : Beginning) (every : ℕ) (work : Work) (report : Report) (src : S) (told : Option Told) → IsOffsetFor b.config b.held b.first → IsBegun b.first b.now b.config.chunk every work
+  abbrev pub begins : (b : Beginning) (every : ℕ) (work : Work) (report : Report) (src : S) (told : Option Told) → IsOffsetFor b.config b.held b.first → IsBegun b.first b.now b.config.chunk every work
       → report.messages ≡ 0 → report.commits ≡ 0 → report.chunks ≡ 0 → IsTakenAnew found told → ((s : Standing) → at ≡ Some s → Stood stands src (StandsAt b []))
       → IsUnderWay stands at found b (Some b.first) work report src told
   begins b every work report src told for begun messages commits chunks anew stood = record {
@@ -90,7 +90,7 @@ module _ {S : Type 0} (stands : S → Standing → Type 0) (at : Option Standing
 
   module _ (b : Beginning) (stored : Option Offset) (src src2 : S) (told told2 : Option Told) where
     -- nothing is read
-    pub rests_on : (work : Work) (report : Report) → IsUnderWay stands at found b stored work report src told → IsTakenBy [] told told2 → Reads src src2 → IsUnderWay stands at found b stored work report src2 told2
+    abbrev pub rests_on : (work : Work) (report : Report) → IsUnderWay stands at found b stored work report src told → IsTakenBy [] told told2 → Reads src src2 → IsUnderWay stands at found b stored work report src2 told2
     rests_on work report u none reads = record {
       messages = u.messages;
       is = u.is;
@@ -99,7 +99,7 @@ module _ {S : Type 0} (stands : S → Standing → Type 0) (at : Option Standing
     }
 
     -- a window is
-    pub arms_on : (old new : Work) (table : ℕ) (report : Report) → IsUnderWay stands at found b stored old report src told → old.follower.window ≡ Absent → IsOpenTable old table → IsArmedWork table old new
+    abbrev pub arms_on : (old new : Work) (table : ℕ) (report : Report) → IsUnderWay stands at found b stored old report src told → old.follower.window ≡ Absent → IsOpenTable old table → IsArmedWork table old new
         → IsTakenBy [] told told2 → Reads src src2 → IsUnderWay stands at found b stored new report src2 told2
     arms_on old new table report u absent unread armed none reads = record {
       messages = u.messages;
@@ -111,7 +111,7 @@ module _ {S : Type 0} (stands : S → Standing → Type 0) (at : Option Standing
     -- a message is taken
     module _ (old next : Work) (before : Report) (u : IsUnderWay stands at found b stored old before src told) (bytes : List ℕ) (commit : Option Commit) (w : WasTaken b.first.lsn u.messages bytes old next commit)
         (one : IsTakenBy (bytes ∷ []) told told2) (took : (s : Standing) → stands src s → (m : Message) × Spells bytes m × Stood stands src2 (Took m s)) where
-      stood_on : (s : Standing) → at ≡ Some s → Stood stands src2 (StandsAt b (w.message ∷ u.messages))
+      pub stood_on : (s : Standing) → at ≡ Some s → Stood stands src2 (StandsAt b (w.message ∷ u.messages))
       stood_on s first =
           let was = u.stood s first in
           let read = took was.standing was.is in
@@ -122,7 +122,7 @@ module _ {S : Type 0} (stands : S → Standing → Type 0) (at : Option Standing
                 (took_on b u.messages read.0 was.standing read.2.standing was.holds read.2.holds);
           }
 
-    pub takes_on : (old next : Work) (before report : Report) (u : IsUnderWay stands at found b stored old before src told) (bytes : List ℕ) → WasTaken b.first.lsn u.messages bytes old next None
+    abbrev pub takes_on : (old next : Work) (before report : Report) (u : IsUnderWay stands at found b stored old before src told) (bytes : List ℕ) → WasTaken b.first.lsn u.messages bytes old next None
         → report ≡ record before { messages = before.messages + 1 } → IsTakenBy (bytes ∷ []) told told2 → ((s : Standing) → stands src s → (m : Message) × Spells bytes m × Stood stands src2 (Took m s))
         → IsUnderWay stands at found b stored next report src2 told2
     takes_on old next before report u bytes w counted one took = record {
@@ -136,7 +136,7 @@ module _ {S : Type 0} (stands : S → Standing → Type 0) (at : Option Standing
     module _ (old next new : Work) (before report : Report) (u : IsUnderWay stands at found b stored old before src told) (bytes : List ℕ) (commit : Commit) (w : WasTaken b.first.lsn u.messages bytes old next (Some commit))
         (st : WasStepped commit next new) (short : AreShort (records_by next.follower commit next.now_ms)) (small : old.number < 2 ^ 64) (reports : ReportsStep commit next (record before { messages = before.messages + 1 }) report true)
         (one : IsTakenBy (bytes ∷ []) told told2) (took : (s : Standing) → stands src s → (m : Message) × Spells bytes m × Stood stands src2 (Took m s)) where
-      pub follows_on : HasCommitted stands at found b stored new report src2 told2
+      abbrev pub follows_on : HasCommitted stands at found b stored new report src2 told2
       follows_on = record {
         messages = w.message ∷ u.messages;
         is = (commits_leave_it_behind b u.messages stored old next new before report bytes commit u.is w st short small reports).0;
@@ -144,7 +144,7 @@ module _ {S : Type 0} (stands : S → Standing → Type 0) (at : Option Standing
         stood = stood_on old next before u bytes (Some commit) w one took;
       }
 
-      pub follows_at_rest : closes next commit ≡ false → IsUnderWay stands at found b stored new report src2 told2
+      abbrev pub follows_at_rest : closes next commit ≡ false → IsUnderWay stands at found b stored new report src2 told2
       follows_at_rest closed = record {
         messages = w.message ∷ u.messages;
         is = (commits_leave_it_behind b u.messages stored old next new before report bytes commit u.is w st short small reports).1 closed;
@@ -153,15 +153,15 @@ module _ {S : Type 0} (stands : S → Standing → Type 0) (at : Option Standing
       }
 
   -- between two turns it is so, too
-  pub at_rest : (b : Beginning) (stored : Option Offset) (work : Work) (report : Report) (src : S) (told : Option Told) → IsUnderWay stands at found b stored work report src told → HasCommitted stands at found b stored work report src told
+  abbrev pub at_rest : (b : Beginning) (stored : Option Offset) (work : Work) (report : Report) (src : S) (told : Option Told) → IsUnderWay stands at found b stored work report src told → HasCommitted stands at found b stored work report src told
   at_rest b stored work report src told u = record { messages = u.messages; is = u.is.is; tells = u.tells; stood = u.stood }
 
   -- ---- it settles
 
-  far : (n m k : ℕ) → n ≡ max m k → k ≤ n
+  pub far : (n m k : ℕ) → n ≡ max m k → k ≤ n
   far n m k is = omega (arith, is)
 
-  pub settles_on : (b : Beginning) (stored later : Option Offset) (old new : Work) (before report : Report) (src src2 : S) (told told2 : Option Told) → HasCommitted stands at found b stored old before src told
+  abbrev pub settles_on : (b : Beginning) (stored later : Option Offset) (old new : Work) (before report : Report) (src src2 : S) (told told2 : Option Told) → HasCommitted stands at found b stored old before src told
       → later ≡ Some (next_of old) → new ≡ record old { since = 0 } → report ≡ record before { position = report.position } → IsTakenBy [] told told2
       → ((s : Standing) → stands src s → Stood stands src2 (IsConfirmed old.offset.lsn s)) → HasSettledAll stands at found b later new report src2 told2
   settles_on b stored later old new before report src src2 told told2 c later_is same counted none confirms = record {
@@ -184,7 +184,7 @@ module _ {S : Type 0} (stands : S → Standing → Type 0) (at : Option Standing
             );
           }
 
-  pub settled_rests : (b : Beginning) (stored : Option Offset) (work : Work) (report : Report) (src : S) (told : Option Told) → HasSettledAll stands at found b stored work report src told
+  abbrev pub settled_rests : (b : Beginning) (stored : Option Offset) (work : Work) (report : Report) (src : S) (told : Option Told) → HasSettledAll stands at found b stored work report src told
       → IsUnderWay stands at found b stored work report src told
   settled_rests b stored work report src told c = record {
     messages = c.messages;

@@ -35,11 +35,12 @@ pub record Beginning : Type 0 where
   pub first : Offset
 
 -- Behind a commit: the messages were taken, and the commits that they state are followed and counted. Of the cursors one may have moved
--- since an offset was stored.
+-- since an offset was stored, and no offset is stored beyond them.
 pub record IsBehind (b : Beginning) (ms : List Message) (stored : Option Offset) (work : Work) (report : Report) : Type 0 where
   pub offset : Offset
   pub stored_is : stored ≡ Some offset
   pub of : IsOfFirst b.config b.now b.held b.first offset work
+  pub upto : offset.lsn.0 ≤ work.offset.lsn.0
   pub is : IsWork b.first.lsn ms work
   pub end_is : work.offset.end_lsn ≡ end_behind b.first.end_lsn (commits_of work.offset.infos ms)
   pub many : length ms ≡ report.messages

@@ -2,6 +2,7 @@ pub mod Stored
 pub mod Written
 pub mod Gained
 pub mod Reported
+pub mod Tallied
 pub mod Followed
 pub mod Halted
 pub mod Musts

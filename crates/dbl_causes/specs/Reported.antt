@@ -44,8 +44,8 @@ abbrev pub AllCouldBeSent : Course → List Commit → Type 0
 AllCouldBeSent course commits = AllByRecursion (λ commit. CouldBeSent course.identity course.infos course.now commit commit.body) commits
 
 -- How many of the messages that were read aren't counted by a commit of theirs, where a session halts: the newest one where it is at
--- fault, or where the records of the commit that it ends weren't all put; none otherwise. Memory may run out at any place: then the newest commit
--- may be counted or not, though its records were all put.
+-- fault, or where the records of the commit that it ends weren't all put; none otherwise. Memory may run out at any place, so that the
+-- newest one may be left out or not: which of the two, tells what the sink has (`Tallies`).
 abbrev pub IsLeftOut : Halt → ℕ → Type 0
 IsLeftOut halt.Memory n = n ≤ 1
 IsLeftOut (halt.Message number error) n = n ≡ 1

@@ -1,4 +1,5 @@
 pub mod Puts
+pub mod Tallied
 pub mod Sinks
 pub mod Marks
 pub mod Answered

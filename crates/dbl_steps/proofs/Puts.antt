@@ -24,11 +24,11 @@ use Rattle.dbl_work.specs.Groups.{chunks_of, counted, report_with, rows_of}
 use Rattle.dbl_work.specs.Takes.{IsLeftByStep, IsListed, ReportsStep, WasStepped, WasTaken}
 use Rattle.dbl_work.specs.Works.{IsWork}
 use Rattle.dbl_exits.proofs.Rising.{accepted_rise}
-use Rattle.dbl_causes.specs.Gained.{AreCounted, AreSent, Gains, IsGained, Making, making_of}
+use Rattle.dbl_causes.specs.Gained.{AreCounted, AreSent, Gains, IsGained, IsSentFor, Making, making_of}
 use Rattle.dbl_causes.specs.Reported.{IsBehindOf}
 use Rattle.dbl_causes.specs.Underway.{IsOfFirst}
 use Rattle.dbl_steps.specs.Puts.{CommitsGain, GainsBegin, GainsStay, MessagesGainNothing, RestsLeaveGains, StepsAreCounted, StepsLeaveGains}
-use Rattle.dbl_causes.proofs.Gained.{commits_are_sent, puts_are_counted}
+use Rattle.dbl_causes.proofs.Gained.{commits_are_sent, is_sent, puts_are_counted}
 use Rattle.dbl_causes.proofs.Ranged.{stated_commits_are_in_range}
 use Rattle.dbl_causes.proofs.Halting.{behind_stored}
 
@@ -58,7 +58,7 @@ gains_begin first now chunk every work report begun records chunks rows = (
 -- ---- it goes on
 
 -- what a session makes its records by
-abbrev making_at : Work → Making
+abbrev pub making_at : Work → Making
 making_at work = making_of work.offset work.now_ms work.chunk
 
 pub gains_stay : GainsStay
@@ -90,7 +90,7 @@ abbrev making_with : Identity → List TableInfo → ℤ → ℕ → ℕ → Mak
 making_with identity infos now chunk incarnation = record { identity = identity; infos = infos; now = now; chunk = chunk; incarnation = incarnation }
 
 module _ (config : Config) (now : ℤ) (held : Option Offset) (first stored : Offset) (work : Work) (o : IsOfFirst config now held first stored work) where
-  making_stored : making_at work ≡ making_of stored now config.chunk
+  pub making_stored : making_at work ≡ making_of stored now config.chunk
   making_stored =
       ap (λ (x : Offset). making_with x.identity x.infos work.now_ms work.chunk x.incarnation) o.placed
       ∙ (ap (λ (k : ℤ). making_with first.identity first.infos k work.chunk first.incarnation) o.time
@@ -147,6 +147,10 @@ module _ (after : Lsn) (ms : List Message) (bytes : List ℕ) (commit : Commit) 
 
   clear_here : clash_by next.follower commit ≡ None → clash_by old.follower commit ≡ None
   clear_here clear = sym (ap (λ (x : Work). clash_by x.follower commit) w.same) ∙ clear
+
+  -- they are those that it is sent by
+  pub items_sent : clash_by next.follower commit ≡ None → IsListed commit next → IsSentFor (making_at old) commit (records_by next.follower commit next.now_ms)
+  items_sent clear listed = subst (IsSentFor (making_at old) commit) (sym items_are) (is_sent old commit is.identity is.infos is.own (clear_here clear) (listed_here listed) commit.body refl)
 
   -- some first ones of them are counted
   counted_here : (count : ℕ) (before report : Report) (records : List Record) → length ms < 2 ^ 30 → IsMomentInRange old.now_ms → IsListed commit next → AreCounted (cut records) before
@@ -236,11 +240,11 @@ tail_of [] = []
 tail_of (x ∷ xs) = xs
 
 -- nothing is behind a list to which nothing was added
-none_behind : (xs ys : List (List Record)) → xs ++ ys ≡ xs → ys ≡ []
+pub none_behind : (xs ys : List (List Record)) → xs ++ ys ≡ xs → ys ≡ []
 none_behind [] ys is = is
 none_behind (x ∷ xs) ys is = none_behind xs ys (ap tail_of is)
 
-none_cut : (items : List Record) → cut items ≡ [] → items ≡ []
+pub none_cut : (items : List Record) → cut items ≡ [] → items ≡ []
 none_cut items is = sym (cuts_join items) ∙ ap joined is
 
 same_count : (n k most : ℕ) → n ≡ min (0 + k) most → min (n + 0) most ≡ n

@@ -1,14 +1,19 @@
 -- What the sink has where a session goes on, and what is left of it where it halts.
-use Rattle.std.proofs.Common.{◌≡◌, ◌∙◌, ◌⊎◌, inl, inr, ◌+◌, ◌<◌, ◌^◌, ℕ, ℤ, Bool, true, false, Option, Some, None, List, [], ◌++◌, Result, Ok, Err, length, refl, sym, ap, subst, append-nil, arith}
+use Rattle.std.proofs.Common.{◌≡◌, ◌∙◌, ◌⊎◌, inl, inr, ◌+◌, ◌<◌, ◌^◌, ℕ, ℤ, Bool, true, false, Option, Some, None, List, [], ◌∷◌, ◌++◌, Result, Ok, Err, length, refl, sym, ap, subst, append-nil, arith}
 use Rattle.std.specs.Prelude.{IfErr, OnOk, is_some}
+use Rattle.dbl_pgmsg.specs.declared.messages.Message.{Message}
+use Rattle.dbl_pgmsg.specs.Grammar.{Spells}
 use Rattle.dbl_record.specs.declared.record.Record.{Record}
 use Rattle.dbl_record.specs.Cuts.{cut}
 use Rattle.dbl_table.specs.declared.config.Config.{Config}
 use Rattle.dbl_table.specs.declared.change.Commit.{Commit}
 use Rattle.dbl_event.specs.Clashes.{Clash}
 use Rattle.dbl_history.specs.Ranges.{IsMomentInRange}
+use Rattle.dbl_honest.specs.Calls.{Took}
+use Rattle.dbl_honest.specs.Standings.{Standing, Stood}
+use Rattle.dbl_honest.specs.Told.{Told, IsTakenBy}
 use Rattle.dbl_offset.specs.declared.offset.Offset.{Offset}
-use Rattle.dbl_follow.specs.Steps.{mark_of, records_by}
+use Rattle.dbl_follow.specs.Steps.{clash_by, mark_of, records_by}
 use Rattle.dbl_work.specs.declared.halt.Halt.{Halt}
 use Rattle.dbl_work.specs.declared.halt.Halt.TheVariants as halt
 use Rattle.dbl_work.specs.declared.report.Ending.{Ending}
@@ -19,10 +24,12 @@ use Rattle.dbl_work.specs.Groups.{HoldsPut, WasTorn, counted}
 use Rattle.dbl_work.specs.Takes.{IsClashIn, IsLeftByStep, WasTaken}
 use Rattle.dbl_causes.specs.Gained.{Gains, HasCounted, IsReported}
 use Rattle.dbl_causes.specs.Carried.{Beginning}
+use Rattle.dbl_causes.proofs.Ended.{cause_left}
 use Rattle.dbl_steps.specs.Sinks.{HasHaltedPut, HasPutCommit, IsPutting}
 use Rattle.dbl_steps.proofs.Sinks.{commits_halt, puts_fail}
 use Rattle.dbl_steps.specs.Putting.{PutsOn}
 use Rattle.dbl_steps.proofs.Causes.{OfNone, OfSource, OfStore}
+use Rattle.dbl_steps.proofs.Telling.{IsTornCount, follow_cause}
 
 -- ---- halts that aren't the sink's
 
@@ -51,19 +58,23 @@ either_of (Err h) A B C a b f g = g h b
 
 -- ---- it goes on
 
-module _ {K : Type 0} (holds : K → List (List Record) → Type 0) (groups : List (List Record)) (b : Beginning) (stored : Option Offset) (work : Work) (report : Report) (sink : K) where
-  pub puts_due : (due : Bool) → (due ≡ true → HasPutCommit holds groups b stored work report sink) → (due ≡ false → IsPutting holds groups b stored work report sink) → PutsOn holds groups b stored work report sink (Some due)
+module _ {S K : Type 0} (stands : S → Standing → Type 0) (holds : K → List (List Record) → Type 0) (groups : List (List Record)) (at : Option Standing) (found : Option Told) (b : Beginning) (stored : Option Offset) (work : Work) (report : Report)
+    (src : S) (told : Option Told) (sink : K) where
+  abbrev Goes : Option Bool → Type 0
+  Goes o = PutsOn stands holds groups at found b stored work report src told sink o
+
+  pub puts_due : (due : Bool) → (due ≡ true → HasPutCommit stands holds groups at found b stored work report src told sink) → (due ≡ false → IsPutting stands holds groups at found b stored work report src told sink) → Goes (Some due)
   puts_due true committed rests = committed refl
   puts_due false committed rests = rests refl
 
-  pub puts_true : (o : Option Bool) (due : Bool) → o ≡ Some due → due ≡ true → PutsOn holds groups b stored work report sink o → HasPutCommit holds groups b stored work report sink
-  puts_true o due is yes_is puts = subst (λ (x : Option Bool). PutsOn holds groups b stored work report sink x) (is ∙ ap (λ (d : Bool). Some d) yes_is) puts
+  pub puts_true : (o : Option Bool) (due : Bool) → o ≡ Some due → due ≡ true → Goes o → HasPutCommit stands holds groups at found b stored work report src told sink
+  puts_true o due is yes_is puts = subst Goes (is ∙ ap (λ (d : Bool). Some d) yes_is) puts
 
-  pub puts_false : (o : Option Bool) (due : Bool) → o ≡ Some due → due ≡ false → PutsOn holds groups b stored work report sink o → IsPutting holds groups b stored work report sink
-  puts_false o due is no_is puts = subst (λ (x : Option Bool). PutsOn holds groups b stored work report sink x) (is ∙ ap (λ (d : Bool). Some d) no_is) puts
+  pub puts_false : (o : Option Bool) (due : Bool) → o ≡ Some due → due ≡ false → Goes o → IsPutting stands holds groups at found b stored work report src told sink
+  puts_false o due is no_is puts = subst Goes (is ∙ ap (λ (d : Bool). Some d) no_is) puts
 
-  pub puts_none : (o : Option Bool) → o ≡ None → PutsOn holds groups b stored work report sink o → IsPutting holds groups b stored work report sink
-  puts_none o is puts = subst (λ (x : Option Bool). PutsOn holds groups b stored work report sink x) is puts
+  pub puts_none : (o : Option Bool) → o ≡ None → Goes o → IsPutting stands holds groups at found b stored work report src told sink
+  puts_none o is puts = subst Goes is puts
 
 -- so many messages were taken
 pub few_taken : (n m : ℕ) → n ≡ m → m < 2 ^ 30 → n < 2 ^ 30
@@ -71,20 +82,29 @@ few_taken n m is lt = omega (arith, is, lt)
 
 -- ---- in the middle of a commit
 
-module _ {K : Type 0} (holds may_leave : K → List (List Record) → Type 0) (groups : List (List Record)) (b : Beginning) (stored : Option Offset) (sink sink2 : K) (old next : Work) (before report : Report) (u : IsPutting holds groups b stored old before sink)
-    (bytes : List ℕ) (commit : Commit) (w : WasTaken b.first.lsn u.messages bytes old next (Some commit)) (many : length u.messages < 2 ^ 30) (moment : IsMomentInRange old.now_ms) (h : Halt)
+module _ {S K : Type 0} (stands : S → Standing → Type 0) (holds may_leave : K → List (List Record) → Type 0) (groups : List (List Record)) (at : Option Standing) (found : Option Told) (b : Beginning) (stored : Option Offset)
+    (src src2 : S) (told told2 : Option Told) (sink sink2 : K) (old next : Work) (before report : Report) (u : IsPutting stands holds groups at found b stored old before src told sink)
+    (bytes : List ℕ) (commit : Commit) (w : WasTaken b.first.lsn u.way.messages bytes old next (Some commit)) (many : length u.way.messages < 2 ^ 30) (moment : IsMomentInRange old.now_ms) (h : Halt)
     (leaves : (left : List (List Record)) → may_leave sink2 left → IsLeftByStep commit next (groups ++ cut u.put.records) left) (may : (held : List (List Record)) → holds sink2 held → may_leave sink2 held)
     (kept : (h ≡ halt.Sink → ⊥) → HoldsPut holds (groups ++ cut u.put.records) (is_some (mark_of commit)) (records_by next.follower commit next.now_ms) (record before { messages = before.messages + 1 }) report sink2)
     (torn : h ≡ halt.Sink → WasTorn may_leave (groups ++ cut u.put.records) (is_some (mark_of commit)) (records_by next.follower commit next.now_ms) (record before { messages = before.messages + 1 }) report sink2)
-    (some : (left : List (List Record)) × may_leave sink2 left) where
-  other_halts : (h ≡ halt.Sink → ⊥) → HasHaltedPut holds may_leave groups b.config b.now b.held stored report sink2 h
-  other_halts other = commits_halt holds may_leave groups b stored sink sink2 old next before report u bytes commit w many moment h leaves may other (kept other)
+    (some : (left : List (List Record)) × may_leave sink2 left) (counts : IsTornCount before report) (clear : h ≡ halt.Sink → clash_by next.follower commit ≡ None)
+    (one : IsTakenBy (bytes ∷ []) told told2) (took : (s : Standing) → stands src s → (m : Message) × Spells bytes m × Stood stands src2 (Took m s)) (same : (s t : Standing) → stands src2 s → stands src2 t → s ≡ t)
+    (cause : (h ≡ halt.Memory) ⊎ ((h ≡ halt.Sink) ⊎ (IsClashIn (clash_by next.follower commit) h ⊎ ((clash_by next.follower commit ≡ None) × IsLongRecord (records_by next.follower commit next.now_ms) h)))) where
+  other_halts : (h ≡ halt.Sink → ⊥) → HasHaltedPut stands holds may_leave groups at b.config b.now b.held stored report src2 told2 sink2 h
+  other_halts other =
+      commits_halt stands holds may_leave groups at found b stored src src2 told told2 sink sink2 old next before report u bytes commit w many moment h leaves may other (kept other)
+      (cause_left report.messages b.first.lsn u.way.messages bytes old h (follow_cause report.messages b.first.lsn u.way.messages bytes old next commit h w clear cause)) counts.messages counts.commits one took same
 
-  pub follow_puts : (clash : Option Clash) (records : List Record) → (h ≡ halt.Memory) ⊎ ((h ≡ halt.Sink) ⊎ (IsClashIn clash h ⊎ ((clash ≡ None) × IsLongRecord records h))) → HasHaltedPut holds may_leave groups b.config b.now b.held stored report sink2 h
-  follow_puts clash records (inl memory) = other_halts (memory_other h memory)
-  follow_puts clash records (inr (inl failed)) = puts_fail holds may_leave groups b stored sink sink2 old next before report u bytes commit w many moment h leaves failed (torn failed) some
-  follow_puts clash records (inr (inr (inl is))) = other_halts (clash_other clash h is)
-  follow_puts clash records (inr (inr (inr long))) = other_halts (long_other records h long.1)
+  pub follow_puts : HasHaltedPut stands holds may_leave groups at b.config b.now b.held stored report src2 told2 sink2 h
+  follow_puts = by cause
+    where
+      by : (h ≡ halt.Memory) ⊎ ((h ≡ halt.Sink) ⊎ (IsClashIn (clash_by next.follower commit) h ⊎ ((clash_by next.follower commit ≡ None) × IsLongRecord (records_by next.follower commit next.now_ms) h)))
+          → HasHaltedPut stands holds may_leave groups at b.config b.now b.held stored report src2 told2 sink2 h
+      by (inl memory) = other_halts (memory_other h memory)
+      by (inr (inl failed)) = puts_fail stands holds may_leave groups at found b stored src src2 told told2 sink sink2 old next before report u bytes commit w many moment h leaves failed (torn failed) some
+      by (inr (inr (inl is))) = other_halts (clash_other (clash_by next.follower commit) h is)
+      by (inr (inr (inr long))) = other_halts (long_other (records_by next.follower commit next.now_ms) h long.1)
 
 -- ---- nothing was put
 

@@ -1,12 +1,17 @@
 -- What each step of a session over a sink keeps, and what its halts leave of it.
 use Rattle.std.proofs.Common.{◌≡◌, ◌∙◌, ◌⊎◌, inl, inr, ◌+◌, ◌<◌, ◌^◌, ℕ, true, false, Option, Some, None, List, [], ◌∷◌, ◌++◌, Err, length, take, refl, sym, ap, subst, arith, append_assoc, append-nil, length-append}
 use Rattle.std.specs.Prelude.{is_some}
+use Rattle.dbl_pgmsg.specs.declared.messages.Message.{Message}
+use Rattle.dbl_pgmsg.specs.Grammar.{Spells}
 use Rattle.dbl_record.specs.declared.record.Record.{Record}
 use Rattle.dbl_record.specs.Cuts.{cut}
 use Rattle.dbl_table.specs.declared.change.Commit.{Commit}
 use Rattle.dbl_history.specs.Ranges.{IsMomentInRange}
 use Rattle.dbl_follow.specs.declared.window.Window.TheVariants.{Absent}
 use Rattle.dbl_follow.specs.Steps.{mark_of, records_by}
+use Rattle.dbl_honest.specs.Calls.{IsConfirmed, Took}
+use Rattle.dbl_honest.specs.Standings.{Standing, Stood}
+use Rattle.dbl_honest.specs.Told.{Told, IsTakenAnew, IsTakenBy}
 use Rattle.dbl_offset.specs.declared.offset.Offset.{Offset}
 use Rattle.dbl_topic.specs.Sinks.{IsLeftByPut}
 use Rattle.dbl_work.specs.declared.halt.Halt.{Halt}
@@ -20,11 +25,16 @@ use Rattle.dbl_work.specs.Takes.{IsLeftByStep, ReportsStep, WasStepped, WasTaken
 use Rattle.dbl_work.specs.Works.{AreShort, IsArmedWork, IsBegun, IsOpenTable, next_of}
 use Rattle.dbl_causes.specs.Gained.{AreCounted, Gains, HasCounted, HasCountedBefore, IsReported}
 use Rattle.dbl_causes.specs.Underway.{IsOfFirst}
-use Rattle.dbl_causes.specs.Carried.{Beginning, IsResting}
-use Rattle.dbl_causes.proofs.Carried.{commits_leave_it_behind, messages_let_it_rest, of_next, sessions_begin_at_rest, stores_let_it_rest, windows_let_it_rest}
+use Rattle.dbl_causes.specs.Reported.{IsLeftOut}
+use Rattle.dbl_causes.specs.Tallied.{IsFront}
+use Rattle.dbl_causes.specs.Carried.{Beginning, IsNewestCause, StandsAt}
+use Rattle.dbl_causes.proofs.Carried.{of_next}
+use Rattle.dbl_causes.proofs.Ended.{cause_left}
+use Rattle.dbl_causes.proofs.Sources.{arms_on, at_rest, begins, follows_at_rest, follows_on, rests_on, settled_rests, settles_on, takes_on}
 use Rattle.dbl_steps.specs.Puts.{HasPut}
 use Rattle.dbl_steps.specs.Sinks.{HasHaltedPut, HasPutCommit, IsPutting}
-use Rattle.dbl_steps.proofs.Puts.{commits_gain, gains_begin, gains_stay, messages_gain_nothing, rests_leave_gains, steps_are_counted, steps_leave_gains}
+use Rattle.dbl_steps.proofs.Tallied.{between_stood, between_tallied, newest_stood, newest_told, part_so}
+use Rattle.dbl_steps.proofs.Puts.{commits_gain, gains_begin, gains_stay, making_at, messages_gain_nothing, rests_leave_gains, steps_are_counted, steps_leave_gains}
 
 -- a report of the same counts
 same_counts : (more : List (List Record)) (before report : Report) → AreCounted more before → report.records ≡ before.records → report.chunks ≡ before.chunks → report.snapshot_rows ≡ before.snapshot_rows → AreCounted more report
@@ -33,14 +43,20 @@ same_counts more before report c one two three = record { records = one ∙ c.re
 too_many : (n m k : ℕ) → n ≡ k → k ≡ n + m + 1 → ⊥
 too_many n m k one two = omega (arith, one, two)
 
-module _ {K : Type 0} (holds may_leave : K → List (List Record) → Type 0) (groups : List (List Record)) where
+module _ {S K : Type 0} (stands : S → Standing → Type 0) (holds may_leave : K → List (List Record) → Type 0) (groups : List (List Record)) (at : Option Standing) (found : Option Told) where
+  abbrev Reads : S → S → Type 0
+  Reads src src2 = (s : Standing) → stands src s → Stood stands src2 (λ t. t.reading ≡ s.reading)
+
+  abbrev TookOne : S → S → List ℕ → Type 0
+  TookOne src src2 bytes = (s : Standing) → stands src s → (m : Message) × Spells bytes m × Stood stands src2 (Took m s)
+
   -- ---- it begins
 
-  pub puts_begin : (b : Beginning) (every : ℕ) (work : Work) (report : Report) (sink : K) → IsOffsetFor b.config b.held b.first → IsBegun b.first b.now b.config.chunk every work
-      → report.messages ≡ 0 → report.commits ≡ 0 → report.chunks ≡ 0 → report.records ≡ 0 → report.snapshot_rows ≡ 0 → holds sink groups → IsPutting holds groups b (Some b.first) work report sink
-  puts_begin b every work report sink for begun messages commits chunks records rows held = record {
-    messages = [];
-    is = sessions_begin_at_rest b every work report for begun messages commits chunks;
+  pub puts_begin : (b : Beginning) (every : ℕ) (work : Work) (report : Report) (src : S) (told : Option Told) (sink : K) → IsOffsetFor b.config b.held b.first → IsBegun b.first b.now b.config.chunk every work
+      → report.messages ≡ 0 → report.commits ≡ 0 → report.chunks ≡ 0 → report.records ≡ 0 → report.snapshot_rows ≡ 0 → holds sink groups
+      → IsTakenAnew found told → ((s : Standing) → at ≡ Some s → Stood stands src (StandsAt b [])) → IsPutting stands holds groups at found b (Some b.first) work report src told sink
+  puts_begin b every work report src told sink for begun messages commits chunks records rows held anew stood = record {
+    way = begins stands at found b every work report src told for begun messages commits chunks anew stood;
     put = record {
       records = [];
       held = subst (holds sink) (sym (append-nil groups)) held;
@@ -51,42 +67,46 @@ module _ {K : Type 0} (holds may_leave : K → List (List Record) → Type 0) (g
 
   -- ---- it goes on
 
-  module _ (b : Beginning) (stored : Option Offset) (sink : K) where
+  module _ (b : Beginning) (stored : Option Offset) (src src2 : S) (told told2 : Option Told) (sink : K) where
+    -- nothing is
+    pub rests_putting : (work : Work) (report : Report) → IsPutting stands holds groups at found b stored work report src told sink → IsTakenBy [] told told2 → Reads src src2
+        → IsPutting stands holds groups at found b stored work report src2 told2 sink
+    rests_putting work report u none reads = record { way = rests_on stands at found b stored src src2 told told2 work report u.way none reads; put = u.put }
+
     -- a window is read
-    pub windows_put_nothing : (old new : Work) (table : ℕ) (report : Report) → IsPutting holds groups b stored old report sink → old.follower.window ≡ Absent → IsOpenTable old table → IsArmedWork table old new
-        → IsPutting holds groups b stored new report sink
-    windows_put_nothing old new table report u absent unread armed = record {
-      messages = u.messages;
-      is = windows_let_it_rest b u.messages stored old new table report u.is absent unread armed;
+    pub windows_put_nothing : (old new : Work) (table : ℕ) (report : Report) → IsPutting stands holds groups at found b stored old report src told sink → old.follower.window ≡ Absent → IsOpenTable old table → IsArmedWork table old new
+        → IsTakenBy [] told told2 → Reads src src2 → IsPutting stands holds groups at found b stored new report src2 told2 sink
+    windows_put_nothing old new table report u absent unread armed none reads = record {
+      way = arms_on stands at found b stored src src2 told told2 old new table report u.way absent unread armed none reads;
       put = record {
         records = u.put.records;
         held = u.put.held;
-        is = gains_stay b.first.lsn u.messages old new u.put.records (ap (λ (w : Work). w.offset) armed.is) (ap (λ (w : Work). w.now_ms) armed.is) (ap (λ (w : Work). w.chunk) armed.is) u.put.is;
+        is = gains_stay b.first.lsn u.way.messages old new u.put.records (ap (λ (w : Work). w.offset) armed.is) (ap (λ (w : Work). w.now_ms) armed.is) (ap (λ (w : Work). w.chunk) armed.is) u.put.is;
         counts = u.put.counts;
       };
     }
 
     -- a message is taken
-    pub messages_put_nothing : (old next : Work) (before report : Report) (u : IsPutting holds groups b stored old before sink) (bytes : List ℕ) → WasTaken b.first.lsn u.messages bytes old next None
-        → report ≡ record before { messages = before.messages + 1 } → IsPutting holds groups b stored next report sink
-    messages_put_nothing old next before report u bytes w counted = record {
-      messages = w.message ∷ u.messages;
-      is = messages_let_it_rest b u.messages stored old next before report bytes u.is w counted;
+    pub messages_put_nothing : (old next : Work) (before report : Report) (u : IsPutting stands holds groups at found b stored old before src told sink) (bytes : List ℕ) → WasTaken b.first.lsn u.way.messages bytes old next None
+        → report ≡ record before { messages = before.messages + 1 } → IsTakenBy (bytes ∷ []) told told2 → TookOne src src2 bytes → IsPutting stands holds groups at found b stored next report src2 told2 sink
+    messages_put_nothing old next before report u bytes w counted one took = record {
+      way = takes_on stands at found b stored src src2 told told2 old next before report u.way bytes w counted one took;
       put = record {
         records = u.put.records;
         held = u.put.held;
-        is = messages_gain_nothing b.first.lsn u.messages bytes old next u.put.records w u.put.is;
+        is = messages_gain_nothing b.first.lsn u.way.messages bytes old next u.put.records w u.put.is;
         counts = same_counts (cut u.put.records) before report u.put.counts (ap (λ (r : Report). r.records) counted) (ap (λ (r : Report). r.chunks) counted) (ap (λ (r : Report). r.snapshot_rows) counted);
       };
     }
 
     -- and the commit that it ends is followed
-    module _ (sink2 : K) (old next new : Work) (before report : Report) (u : IsPutting holds groups b stored old before sink) (bytes : List ℕ) (commit : Commit) (w : WasTaken b.first.lsn u.messages bytes old next (Some commit))
-        (st : WasStepped commit next new) (short : AreShort (records_by next.follower commit next.now_ms)) (small : old.number < 2 ^ 64) (many : length u.messages < 2 ^ 30) (moment : IsMomentInRange old.now_ms)
-        (reports : ReportsStep commit next (record before { messages = before.messages + 1 }) report true) (held : holds sink2 ((groups ++ cut u.put.records) ++ cut (records_by next.follower commit next.now_ms))) where
-      put_on : HasPut holds groups b.first.lsn (w.message ∷ u.messages) new report sink2
+    module _ (sink2 : K) (old next new : Work) (before report : Report) (u : IsPutting stands holds groups at found b stored old before src told sink) (bytes : List ℕ) (commit : Commit) (w : WasTaken b.first.lsn u.way.messages bytes old next (Some commit))
+        (st : WasStepped commit next new) (short : AreShort (records_by next.follower commit next.now_ms)) (small : old.number < 2 ^ 64) (many : length u.way.messages < 2 ^ 30) (moment : IsMomentInRange old.now_ms)
+        (reports : ReportsStep commit next (record before { messages = before.messages + 1 }) report true) (held : holds sink2 ((groups ++ cut u.put.records) ++ cut (records_by next.follower commit next.now_ms)))
+        (one : IsTakenBy (bytes ∷ []) told told2) (took : TookOne src src2 bytes) where
+      put_on : HasPut holds groups b.first.lsn (w.message ∷ u.way.messages) new report sink2
       put_on =
-          let gains = commits_gain b.first.lsn u.messages bytes commit old next new (record before { messages = before.messages + 1 }) report u.put.records u.is.is.is w st many moment reports u.put.is
+          let gains = commits_gain b.first.lsn u.way.messages bytes commit old next new (record before { messages = before.messages + 1 }) report u.put.records u.way.is.is.is w st many moment reports u.put.is
           (same_counts (cut u.put.records) before (record before { messages = before.messages + 1 }) u.put.counts refl refl refl) in
           record {
             records = u.put.records ++ records_by next.follower commit next.now_ms;
@@ -95,50 +115,48 @@ module _ {K : Type 0} (holds may_leave : K → List (List Record) → Type 0) (g
             counts = gains.1;
           }
 
-      pub commits_put : HasPutCommit holds groups b stored new report sink2
+      pub commits_put : HasPutCommit stands holds groups at found b stored new report src2 told2 sink2
       commits_put = record {
-        messages = w.message ∷ u.messages;
-        is = (commits_leave_it_behind b u.messages stored old next new before report bytes commit u.is w st short small reports).0;
+        way = follows_on stands at found b stored src src2 told told2 old next new before report u.way bytes commit w st short small reports one took;
         put = put_on;
       }
 
-      pub commits_put_at_rest : closes next commit ≡ false → IsPutting holds groups b stored new report sink2
+      pub commits_put_at_rest : closes next commit ≡ false → IsPutting stands holds groups at found b stored new report src2 told2 sink2
       commits_put_at_rest closed = record {
-        messages = w.message ∷ u.messages;
-        is = (commits_leave_it_behind b u.messages stored old next new before report bytes commit u.is w st short small reports).1 closed;
+        way = follows_at_rest stands at found b stored src src2 told told2 old next new before report u.way bytes commit w st short small reports one took closed;
         put = put_on;
       }
 
     -- an offset is stored
-    pub stores_put_nothing : (later : Option Offset) (old new : Work) (before report : Report) → HasPutCommit holds groups b stored old before sink → later ≡ Some (next_of old) → new ≡ record old { since = 0 } → report ≡ record before { position = report.position }
-        → IsPutting holds groups b later new report sink
-    stores_put_nothing later old new before report c later_is same counted = record {
-      messages = c.messages;
-      is = subst (λ (x : Option Offset). IsResting b c.messages x new report) (sym later_is) (stores_let_it_rest b c.messages stored old new before report c.is same counted);
+    pub stores_put_nothing : (later : Option Offset) (old new : Work) (before report : Report) → HasPutCommit stands holds groups at found b stored old before src told sink → later ≡ Some (next_of old) → new ≡ record old { since = 0 } → report ≡ record before { position = report.position }
+        → IsTakenBy [] told told2 → ((s : Standing) → stands src s → Stood stands src2 (IsConfirmed old.offset.lsn s)) → IsPutting stands holds groups at found b later new report src2 told2 sink
+    stores_put_nothing later old new before report c later_is same counted none confirms = record {
+      way = settled_rests stands at found b later new report src2 told2 (settles_on stands at found b stored later old new before report src src2 told told2 c.way later_is same counted none confirms);
       put = record {
         records = c.put.records;
         held = c.put.held;
-        is = gains_stay b.first.lsn c.messages old new c.put.records (ap (λ (w : Work). w.offset) same) (ap (λ (w : Work). w.now_ms) same) (ap (λ (w : Work). w.chunk) same) c.put.is;
+        is = gains_stay b.first.lsn c.way.messages old new c.put.records (ap (λ (w : Work). w.offset) same) (ap (λ (w : Work). w.now_ms) same) (ap (λ (w : Work). w.chunk) same) c.put.is;
         counts = same_counts (cut c.put.records) before report c.put.counts (ap (λ (r : Report). r.records) counted) (ap (λ (r : Report). r.chunks) counted) (ap (λ (r : Report). r.snapshot_rows) counted);
       };
     }
 
-    pub rests_put : (work : Work) (report : Report) → IsPutting holds groups b stored work report sink → HasPutCommit holds groups b stored work report sink
-    rests_put work report u = record { messages = u.messages; is = u.is.is; put = u.put }
+  pub rests_put : (b : Beginning) (stored : Option Offset) (work : Work) (report : Report) (src : S) (told : Option Told) (sink : K) → IsPutting stands holds groups at found b stored work report src told sink
+      → HasPutCommit stands holds groups at found b stored work report src told sink
+  rests_put b stored work report src told sink u = record { way = at_rest stands at found b stored work report src told u.way; put = u.put }
 
   -- ---- what is left
 
   -- of the sink, where nothing more was put
-  module _ (b : Beginning) (stored : Option Offset) (sink : K) (work : Work) (report : Report) (c : HasPutCommit holds groups b stored work report sink) (only : (held left : List (List Record)) → holds sink held → may_leave sink left → left ≡ held) where
+  module _ (b : Beginning) (stored : Option Offset) (src : S) (told : Option Told) (sink : K) (work : Work) (report : Report) (c : HasPutCommit stands holds groups at found b stored work report src told sink) (only : (held left : List (List Record)) → holds sink held → may_leave sink left → left ≡ held) where
     gains_so : (later : Option Offset) → (later ≡ stored) ⊎ (later ≡ Some (next_of work)) → (left : List (List Record)) → may_leave sink left → Gains b.config b.now b.held later groups left
     gains_so later kept left may = by kept
       where
-        at : (o : Offset) → IsOfFirst b.config b.now b.held b.first o work → Gains b.config b.now b.held (Some o) groups left
-        at o of = rests_leave_gains b.config b.now b.held b.first o work c.messages c.put.records groups left of c.put.is (only (groups ++ cut c.put.records) left c.put.held may)
+        here : (o : Offset) → IsOfFirst b.config b.now b.held b.first o work → Gains b.config b.now b.held (Some o) groups left
+        here o of = rests_leave_gains b.config b.now b.held b.first o work c.way.messages c.put.records groups left of c.put.is (only (groups ++ cut c.put.records) left c.put.held may)
 
         by : (later ≡ stored) ⊎ (later ≡ Some (next_of work)) → Gains b.config b.now b.held later groups left
-        by (inl same) = subst (λ (x : Option Offset). Gains b.config b.now b.held x groups left) (sym (same ∙ c.is.stored_is)) (at c.is.offset c.is.of)
-        by (inr next) = subst (λ (x : Option Offset). Gains b.config b.now b.held x groups left) (sym next) (at (next_of work) (of_next b c.is.offset work c.is.of))
+        by (inl same) = subst (λ (x : Option Offset). Gains b.config b.now b.held x groups left) (sym (same ∙ c.way.is.stored_is)) (here c.way.is.offset c.way.is.of)
+        by (inr next) = subst (λ (x : Option Offset). Gains b.config b.now b.held x groups left) (sym next) (here (next_of work) (of_next b c.way.is.offset work c.way.is.of))
 
     pub left_gains : (left : List (List Record)) → may_leave sink left → Gains b.config b.now b.held stored groups left
     left_gains left may = gains_so stored (inl refl) left may
@@ -154,20 +172,47 @@ module _ {K : Type 0} (holds may_leave : K → List (List Record) → Type 0) (g
   reported_sink : (h : Halt) (sink : K) (report : Report) → h ≡ halt.Sink → HasCountedBefore may_leave groups sink report → IsReported {A = Ending} holds may_leave groups (Err h) sink report
   reported_sink h sink report same is = subst (λ (x : Halt). IsReported {A = Ending} holds may_leave groups (Err x) sink report) (sym same) is
 
-  pub halts_put_nothing : (b : Beginning) (stored later : Option Offset) (work : Work) (before report : Report) (sink : K) (h : Halt) → HasPutCommit holds groups b stored work before sink
+  pub halts_put_nothing : (b : Beginning) (stored later : Option Offset) (work : Work) (before report : Report) (src src2 : S) (told told2 : Option Told) (sink : K) (h : Halt)
+      → HasPutCommit stands holds groups at found b stored work before src told sink
       → ((held left : List (List Record)) → holds sink held → may_leave sink left → left ≡ held) → (h ≡ halt.Sink → ⊥) → report.records ≡ before.records → report.chunks ≡ before.chunks → report.snapshot_rows ≡ before.snapshot_rows
-      → (later ≡ stored) ⊎ (later ≡ Some (next_of work)) → HasHaltedPut holds may_leave groups b.config b.now b.held later report sink h
-  halts_put_nothing b stored later work before report sink h c only other one two three kept = record {
-    grouped = λ left may. gains_so b stored sink work before c only later kept left may;
-    counted = reported_so h sink report other (still_counted b stored sink work before c only report one two three);
+      → (later ≡ stored) ⊎ (later ≡ Some (next_of work)) → IsLeftOut h 0 → report.messages ≡ before.messages → report.commits ≡ before.commits → IsTakenBy [] told told2
+      → ((s t : Standing) → stands src s → stands src2 t → t.reading ≡ s.reading) → HasHaltedPut stands holds may_leave groups at b.config b.now b.held later report src2 told2 sink h
+  halts_put_nothing b stored later work before report src src2 told told2 sink h c only other one two three kept few messages commits none reads = record {
+    grouped = λ left may. gains_so b stored src told sink work before c only later kept left may;
+    counted = reported_so h sink report other (still_counted b stored src told sink work before c only report one two three);
+    tallied = λ same. between_tallied stands holds groups at found b stored later work before report src src2 told told2 sink c (Err h) few messages commits kept none;
+    tallied_stood = λ same. between_stood stands holds groups at found b stored later work before report src src2 told told2 sink c (Err h) few messages commits kept reads;
   }
+
+  -- ---- at a message that isn't taken
+
+  pub halts_untaken : (b : Beginning) (stored : Option Offset) (work : Work) (before report : Report) (src src2 : S) (told told2 : Option Told) (sink : K) (bytes : List ℕ) (h : Halt)
+      → (u : IsPutting stands holds groups at found b stored work before src told sink)
+      → ((held left : List (List Record)) → holds sink held → may_leave sink left → left ≡ held) → (h ≡ halt.Sink → ⊥) → report ≡ record before { messages = before.messages + 1 }
+      → IsNewestCause report.messages b.first.lsn u.way.messages bytes work h → IsTakenBy (bytes ∷ []) told told2 → TookOne src src2 bytes → ((s t : Standing) → stands src2 s → stands src2 t → s ≡ t)
+      → HasHaltedPut stands holds may_leave groups at b.config b.now b.held stored report src2 told2 sink h
+  halts_untaken b stored work before report src src2 told told2 sink bytes h u only other counted cause one took same = record {
+    grouped = λ left may. gains_so b stored src told sink work before rests only stored (inl refl) left may;
+    counted = reported_so h sink report other (still_counted b stored src told sink work before rests only report (ap (λ (r : Report). r.records) counted) (ap (λ (r : Report). r.chunks) counted) (ap (λ (r : Report). r.snapshot_rows) counted));
+    tallied = λ x. newest_told stands holds groups at found b stored work before report src src2 told told2 sink sink u bytes h few (ap (λ (r : Report). r.messages) counted) (ap (λ (r : Report). r.commits) counted) [] (inl refl) held one;
+    tallied_stood = λ x. newest_stood stands holds groups at found b stored work before report src src2 told told2 sink sink u bytes h few (ap (λ (r : Report). r.messages) counted) (ap (λ (r : Report). r.commits) counted) [] (inl refl) held took same;
+  }
+    where
+      rests : HasPutCommit stands holds groups at found b stored work before src told sink
+      rests = rests_put b stored work before src told sink u
+
+      few : IsLeftOut h 1
+      few = cause_left report.messages b.first.lsn u.way.messages bytes work h cause
+
+      held : holds sink ((groups ++ cut u.put.records) ++ [])
+      held = subst (holds sink) (sym (append-nil (groups ++ cut u.put.records))) u.put.held
 
   -- ---- in the middle of a commit
 
-  module _ (b : Beginning) (stored : Option Offset) (sink sink2 : K) (old next : Work) (before report : Report) (u : IsPutting holds groups b stored old before sink) (bytes : List ℕ) (commit : Commit) (w : WasTaken b.first.lsn u.messages bytes old next (Some commit))
-      (many : length u.messages < 2 ^ 30) (moment : IsMomentInRange old.now_ms) (h : Halt) (leaves : (left : List (List Record)) → may_leave sink2 left → IsLeftByStep commit next (groups ++ cut u.put.records) left) where
-    abbrev found : List (List Record)
-    found = groups ++ cut u.put.records
+  module _ (b : Beginning) (stored : Option Offset) (src src2 : S) (told told2 : Option Told) (sink sink2 : K) (old next : Work) (before report : Report) (u : IsPutting stands holds groups at found b stored old before src told sink) (bytes : List ℕ) (commit : Commit) (w : WasTaken b.first.lsn u.way.messages bytes old next (Some commit))
+      (many : length u.way.messages < 2 ^ 30) (moment : IsMomentInRange old.now_ms) (h : Halt) (leaves : (left : List (List Record)) → may_leave sink2 left → IsLeftByStep commit next (groups ++ cut u.put.records) left) where
+    abbrev had : List (List Record)
+    had = groups ++ cut u.put.records
 
     abbrev items : List Record
     items = records_by next.follower commit next.now_ms
@@ -175,43 +220,52 @@ module _ {K : Type 0} (holds may_leave : K → List (List Record) → Type 0) (g
     abbrev counting : Report
     counting = record before { messages = before.messages + 1 }
 
-    counts_at : (count : ℕ) → IsLeftByStep commit next found (found ++ cut (take count items)) → report ≡ report_with (is_some (mark_of commit)) (take count items) counting → AreCounted (cut u.put.records ++ cut (take count items)) report
+    counts_at : (count : ℕ) → IsLeftByStep commit next had (had ++ cut (take count items)) → report ≡ report_with (is_some (mark_of commit)) (take count items) counting → AreCounted (cut u.put.records ++ cut (take count items)) report
     counts_at count left is =
-        steps_are_counted b.first.lsn u.messages bytes commit old next count counting report u.put.records found u.is.is.is w many moment left
+        steps_are_counted b.first.lsn u.way.messages bytes commit old next count counting report u.put.records had u.way.is.is.is w many moment left
         (same_counts (cut u.put.records) before counting u.put.counts refl refl refl) is
 
     -- the sink holds what was put
-    kept_counted : ((held : List (List Record)) → holds sink2 held → may_leave sink2 held) → HoldsPut holds found (is_some (mark_of commit)) items counting report sink2 → HasCounted holds groups sink2 report
+    kept_counted : ((held : List (List Record)) → holds sink2 held → may_leave sink2 held) → HoldsPut holds had (is_some (mark_of commit)) items counting report sink2 → HasCounted holds groups sink2 report
     kept_counted may kept = record {
       more = cut u.put.records ++ cut (take kept.count items);
       held = subst (holds sink2) (append_assoc groups (cut u.put.records) (cut (take kept.count items))) kept.held;
-      are = counts_at kept.count (leaves (found ++ cut (take kept.count items)) (may (found ++ cut (take kept.count items)) kept.held)) kept.report;
+      are = counts_at kept.count (leaves (had ++ cut (take kept.count items)) (may (had ++ cut (take kept.count items)) kept.held)) kept.report;
     }
 
     gained_left : (left : List (List Record)) → may_leave sink2 left → Gains b.config b.now b.held stored groups left
     gained_left left may =
-        subst (λ (x : Option Offset). Gains b.config b.now b.held x groups left) (sym u.is.is.stored_is)
-        (steps_leave_gains b.config b.now b.held b.first u.is.is.offset old next u.messages bytes commit u.put.records groups left u.is.is.of u.is.is.is w u.put.is (leaves left may))
+        subst (λ (x : Option Offset). Gains b.config b.now b.held x groups left) (sym u.way.is.is.stored_is)
+        (steps_leave_gains b.config b.now b.held b.first u.way.is.is.offset old next u.way.messages bytes commit u.put.records groups left u.way.is.is.of u.way.is.is.is w u.put.is (leaves left may))
 
-    pub commits_halt : ((held : List (List Record)) → holds sink2 held → may_leave sink2 held) → (h ≡ halt.Sink → ⊥) → HoldsPut holds found (is_some (mark_of commit)) items counting report sink2
-        → HasHaltedPut holds may_leave groups b.config b.now b.held stored report sink2 h
-    commits_halt may other kept = record { grouped = gained_left; counted = reported_so h sink2 report other (kept_counted may kept) }
+    pub commits_halt : ((held : List (List Record)) → holds sink2 held → may_leave sink2 held) → (h ≡ halt.Sink → ⊥) → HoldsPut holds had (is_some (mark_of commit)) items counting report sink2
+        → IsLeftOut h 1 → report.messages ≡ before.messages + 1 → report.commits ≡ before.commits → IsTakenBy (bytes ∷ []) told told2 → TookOne src src2 bytes → ((s t : Standing) → stands src2 s → stands src2 t → s ≡ t)
+        → HasHaltedPut stands holds may_leave groups at b.config b.now b.held stored report src2 told2 sink2 h
+    commits_halt may other kept few messages commits one took same = record {
+      grouped = gained_left;
+      counted = reported_so h sink2 report other (kept_counted may kept);
+      tallied = λ x. newest_told stands holds groups at found b stored old before report src src2 told told2 sink sink2 u bytes h few messages commits (take kept.count items) part kept.held one;
+      tallied_stood = λ x. newest_stood stands holds groups at found b stored old before report src src2 told told2 sink sink2 u bytes h few messages commits (take kept.count items) part kept.held took same;
+    }
+      where
+        part : (take kept.count items ≡ []) ⊎ IsFront (making_at old) u.way.messages (Spells bytes) (take kept.count items)
+        part = part_so holds may_leave had sink2 b.first.lsn u.way.messages bytes commit old next counting report u.way.is.is.is w leaves may kept
 
     -- a put failed: some records of its group may be there
-    none_torn : (rest : List (List Record)) (group : List Record) (left : List (List Record)) → left ≡ found → IsLeftByPut (found ++ rest) group left → found ++ rest ≡ found
+    none_torn : (rest : List (List Record)) (group : List Record) (left : List (List Record)) → left ≡ had → IsLeftByPut (had ++ rest) group left → had ++ rest ≡ had
     none_torn rest group left same (inl is) = sym is ∙ same
     none_torn rest group left same (inr some) =
-        absurd (too_many (length found) (length rest) (length ((found ++ rest) ++ take some.0 group ∷ [])) (ap (λ (l : List (List Record)). length l) (sym same ∙ some.3))
-        (length-append (found ++ rest) (take some.0 group ∷ []) ∙ ap (λ (n : ℕ). n + 1) (length-append found rest)))
+        absurd (too_many (length had) (length rest) (length ((had ++ rest) ++ take some.0 group ∷ [])) (ap (λ (l : List (List Record)). length l) (sym same ∙ some.3))
+        (length-append (had ++ rest) (take some.0 group ∷ []) ∙ ap (λ (n : ℕ). n + 1) (length-append had rest)))
 
-    torn_left : (t : WasTorn may_leave found (is_some (mark_of commit)) items counting report sink2) → (left : List (List Record)) → may_leave sink2 left → IsLeftByStep commit next found (found ++ cut (take t.count items))
+    torn_left : (t : WasTorn may_leave had (is_some (mark_of commit)) items counting report sink2) → (left : List (List Record)) → may_leave sink2 left → IsLeftByStep commit next had (had ++ cut (take t.count items))
     torn_left t left may = by (leaves left may)
       where
-        by : IsLeftByStep commit next found left → IsLeftByStep commit next found (found ++ cut (take t.count items))
+        by : IsLeftByStep commit next had left → IsLeftByStep commit next had (had ++ cut (take t.count items))
         by (inl same) = inl (none_torn (cut (take t.count items)) t.group left same (t.left left may))
         by (inr some) = inr (record { following = some.following; steps = some.steps; no_clash = some.no_clash; listed = some.listed; cut_is = (t.count, refl) })
 
-    pub puts_fail : h ≡ halt.Sink → WasTorn may_leave found (is_some (mark_of commit)) items counting report sink2 → (left : List (List Record)) × may_leave sink2 left → HasHaltedPut holds may_leave groups b.config b.now b.held stored report sink2 h
+    pub puts_fail : h ≡ halt.Sink → WasTorn may_leave had (is_some (mark_of commit)) items counting report sink2 → (left : List (List Record)) × may_leave sink2 left → HasHaltedPut stands holds may_leave groups at b.config b.now b.held stored report src2 told2 sink2 h
     puts_fail same t left = record {
       grouped = gained_left;
       counted = reported_sink h sink2 report same (record {
@@ -220,4 +274,6 @@ module _ {K : Type 0} (holds may_leave : K → List (List Record) → Type 0) (g
         left = λ there may. subst (λ (g : List (List Record)). IsLeftByPut g t.group there) (append_assoc groups (cut u.put.records) (cut (take t.count items))) (t.left there may);
         are = counts_at t.count (torn_left t left.0 left.1) t.report;
       });
+      tallied = λ other. absurd (other same);
+      tallied_stood = λ other. absurd (other same);
     }

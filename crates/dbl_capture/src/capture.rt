@@ -20,6 +20,7 @@ ghost use Rattle.dbl_exits.specs.Sessions.{AddsFew, InSession, LeavesBy, LeavesG
 ghost use Rattle.dbl_causes.specs.Gained.{Gains, IsReported};
 ghost use Rattle.dbl_causes.specs.Halted.{IsHalt};
 ghost use Rattle.dbl_causes.specs.Musts.{CapturesAll, MustExhaust, MustHalt, MustHaltStood, MustHaltTold};
+ghost use Rattle.dbl_causes.specs.Tallied.{IsTallied, IsTalliedBehind};
 ghost use Rattle.dbl_causes.specs.Reported.{HasReadMessages, HasSettled, HasStoodBehind, IsFollowed, StoodAtLast};
 ghost use Rattle.dbl_honest.specs.Growth.{marks_in};
 ghost use Rattle.dbl_causes.specs.Nevers.{IsFaithfulHalt, IsHonestHalt};
@@ -245,11 +246,12 @@ fn opened<S: Source, K: Sink, D: Disk>(
 
     // What the sink has.
     ensures putting { (groups : List (List SpecRecord)) → K.holds sink.now groups →
-        (report.old.messages ≡ 0) × (report.old.commits ≡ 0) × (report.old.chunks ≡ 0)
-        × (report.old.records ≡ 0) × (report.old.snapshot_rows ≡ 0) →
-        IfOk result (λ work. (first : SpecOffset) × IsPutting K.holds groups
-        (beginning_at config.now now_ms store.old.offset first) store.new.offset work report.new
-        sink.now) }
+        (at : Option Standing) → ((s : Standing) → at ≡ Some s → S.stands src.old s) →
+        (report.old.messages ≡ 0) × (report.old.commits ≡ 0) × (report.old.chunks ≡ 0) ×
+        (report.old.records ≡ 0) × (report.old.snapshot_rows ≡ 0) →
+        IfOk result (λ work. (first : SpecOffset) × IsPutting S.stands K.holds groups at
+        (S.told src.old) (beginning_at config.now now_ms store.old.offset first) store.new.offset
+        work report.new src.new (S.told src.new) sink.now) }
     ensures counts { (report.new.records ≡ report.old.records) ×
         (report.new.chunks ≡ report.old.chunks) ×
         (report.new.snapshot_rows ≡ report.old.snapshot_rows) }
@@ -399,6 +401,16 @@ pub fn session<S: Source, K: Sink, D: Disk>(
         Gains config.now now_ms offsets.old.offset offsets.new.offset groups left }
     ensures counted { (groups : List (List SpecRecord)) → K.holds sink.old groups →
         IsReported K.holds K.may_leave groups result sink.new report.new }
+
+    // And which commits it counts, unless a put failed: those of which the sink has all records, by
+    // what the source told, and by the messages behind which it stands.
+    ensures tallied { (groups : List (List SpecRecord)) → K.holds sink.old groups →
+        result ≢ Err Halt.Sink → IsTallied K.holds groups config.now now_ms offsets.old.offset
+        offsets.new.offset report.new (S.told src.new) sink.new result }
+    ensures tallied_stood { (groups : List (List SpecRecord)) → K.holds sink.old groups →
+        result ≢ Err Halt.Sink → (s t : Standing) → S.stands src.old s → S.stands src.new t →
+        IsTalliedBehind K.holds groups config.now now_ms offsets.old.offset offsets.new.offset
+        report.new t sink.new result }
 
     // Where it has to halt for what it found, for a table that can't be captured, and for the newest
     // message, by what the source told, and stands for.

@@ -110,13 +110,18 @@ pub(crate) fn next<S: Source, K: Sink, D: Disk>(
     ensures quiet { OnOk result (IsQuiet (S.told src.new)) }
 
     // What the sink has, and what is left of it.
-    ensures putting { (groups : List (List SpecRecord)) (b : Beginning) →
-        IsPutting K.holds groups b store.now.offset work.old report.old sink.old →
-        IfOk result (PutsOn K.holds groups b store.now.offset work.new report.new sink.new) }
-    ensures put { (groups : List (List SpecRecord)) (b : Beginning) →
-        IsPutting K.holds groups b store.now.offset work.old report.old sink.old →
-        IfErr result (HasHaltedPut K.holds K.may_leave groups b.config b.now b.held
-        store.now.offset report.new sink.new) }
+    ensures putting { (groups : List (List SpecRecord)) (at : Option Standing) (found : Option Told)
+        (b : Beginning) →
+        IsPutting S.stands K.holds groups at found b store.now.offset work.old report.old src.old
+        (S.told src.old) sink.old →
+        IfOk result (PutsOn S.stands K.holds groups at found b store.now.offset work.new report.new
+        src.new (S.told src.new) sink.new) }
+    ensures put { (groups : List (List SpecRecord)) (at : Option Standing) (found : Option Told)
+        (b : Beginning) →
+        IsPutting S.stands K.holds groups at found b store.now.offset work.old report.old src.old
+        (S.told src.old) sink.old →
+        IfErr result (HasHaltedPut S.stands K.holds K.may_leave groups at b.config b.now b.held
+        store.now.offset report.new src.new (S.told src.new) sink.new) }
     ensures own { (tell : Bool) (entry : SpecEntry) (at : Option Standing) (found : Option Told)
         (b : Beginning) → InSession tell S.stands K.holds D.seen D.may_leave entry
         work.old src.old sink.old store.now →

@@ -92,13 +92,18 @@ pub(crate) fn settle<S: Source, K: Sink, D: Disk>(
     ensures quiet { OnOk result (IsQuiet (S.told src.new)) }
 
     // What the sink has, and what is left of it.
-    ensures putting { (groups : List (List SpecRecord)) (b : Beginning) →
-        HasPutCommit K.holds groups b store.old.offset work.old report.old sink.now →
-        OnOk result (IsPutting K.holds groups b store.new.offset work.new report.new sink.now) }
-    ensures put { (groups : List (List SpecRecord)) (b : Beginning) →
-        HasPutCommit K.holds groups b store.old.offset work.old report.old sink.now →
-        IfErr result (HasHaltedPut K.holds K.may_leave groups b.config b.now b.held
-        store.new.offset report.new sink.now) }
+    ensures putting { (groups : List (List SpecRecord)) (at : Option Standing) (found : Option Told)
+        (b : Beginning) →
+        HasPutCommit S.stands K.holds groups at found b store.old.offset work.old report.old src.old
+        (S.told src.old) sink.now →
+        OnOk result (IsPutting S.stands K.holds groups at found b store.new.offset work.new
+        report.new src.new (S.told src.new) sink.now) }
+    ensures put { (groups : List (List SpecRecord)) (at : Option Standing) (found : Option Told)
+        (b : Beginning) →
+        HasPutCommit S.stands K.holds groups at found b store.old.offset work.old report.old src.old
+        (S.told src.old) sink.now →
+        IfErr result (HasHaltedPut S.stands K.holds K.may_leave groups at b.config b.now b.held
+        store.new.offset report.new src.new (S.told src.new) sink.now) }
     ensures own { (entry : SpecEntry) → IfErr result (IsHonestHalt entry (S.stands src.new)) }
     ensures awaits { Awaits S.stands work.old src.old →
         OnOk result (Awaits S.stands work.new src.new) }

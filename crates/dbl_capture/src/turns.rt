@@ -88,13 +88,18 @@ fn arm_next<S: Source, K: Sink, D: Disk>(
         IfErr result (Halts S.stands at found b.config b.now b.held store.now.offset report
         src.new (S.told src.new)) }
     ensures quiet { IsQuiet (S.told src.old) → OnOk result (IsQuiet (S.told src.new)) }
-    ensures putting { (groups : List (List SpecRecord)) (b : Beginning) (report : SpecReport) →
-        IsPutting K.holds groups b store.now.offset work.old report sink.now →
-        OnOk result (IsPutting K.holds groups b store.now.offset work.new report sink.now) }
-    ensures put { (groups : List (List SpecRecord)) (b : Beginning) (report : SpecReport) →
-        IsPutting K.holds groups b store.now.offset work.old report sink.now →
-        IfErr result (HasHaltedPut K.holds K.may_leave groups b.config b.now b.held
-        store.now.offset report sink.now) }
+    ensures putting { (groups : List (List SpecRecord)) (at : Option Standing) (found : Option Told)
+        (b : Beginning) (report : SpecReport) →
+        IsPutting S.stands K.holds groups at found b store.now.offset work.old report src.old
+        (S.told src.old) sink.now →
+        OnOk result (IsPutting S.stands K.holds groups at found b store.now.offset work.new report
+        src.new (S.told src.new) sink.now) }
+    ensures put { (groups : List (List SpecRecord)) (at : Option Standing) (found : Option Told)
+        (b : Beginning) (report : SpecReport) →
+        IsPutting S.stands K.holds groups at found b store.now.offset work.old report src.old
+        (S.told src.old) sink.now →
+        IfErr result (HasHaltedPut S.stands K.holds K.may_leave groups at b.config b.now b.held
+        store.now.offset report src.new (S.told src.new) sink.now) }
     ensures own { (tell : Bool) (entry : SpecEntry) →
         InSession tell S.stands K.holds D.seen D.may_leave entry
         work.old src.old sink.now store.now →
@@ -173,13 +178,18 @@ fn end<S: Source, K: Sink, D: Disk>(
     ensures quiet { OnOk result (IsQuiet (S.told src.new)) }
 
     // What the sink has, and what is left of it.
-    ensures putting { (groups : List (List SpecRecord)) (b : Beginning) →
-        IsPutting K.holds groups b store.old.offset work.old report.old sink.now →
-        OnOk result (IsPutting K.holds groups b store.new.offset work.new report.new sink.now) }
-    ensures put { (groups : List (List SpecRecord)) (b : Beginning) →
-        IsPutting K.holds groups b store.old.offset work.old report.old sink.now →
-        IfErr result (HasHaltedPut K.holds K.may_leave groups b.config b.now b.held
-        store.new.offset report.new sink.now) }
+    ensures putting { (groups : List (List SpecRecord)) (at : Option Standing) (found : Option Told)
+        (b : Beginning) →
+        IsPutting S.stands K.holds groups at found b store.old.offset work.old report.old src.old
+        (S.told src.old) sink.now →
+        OnOk result (IsPutting S.stands K.holds groups at found b store.new.offset work.new
+        report.new src.new (S.told src.new) sink.now) }
+    ensures put { (groups : List (List SpecRecord)) (at : Option Standing) (found : Option Told)
+        (b : Beginning) →
+        IsPutting S.stands K.holds groups at found b store.old.offset work.old report.old src.old
+        (S.told src.old) sink.now →
+        IfErr result (HasHaltedPut S.stands K.holds K.may_leave groups at b.config b.now b.held
+        store.new.offset report.new src.new (S.told src.new) sink.now) }
     ensures own { (entry : SpecEntry) → IfErr result (IsHonestHalt entry (S.stands src.new)) }
     ensures most { (tell : Bool) (entry : SpecEntry) →
         InSession tell S.stands K.holds D.seen D.may_leave entry
@@ -305,13 +315,18 @@ fn turn<S: Source, K: Sink, D: Disk>(
     ensures quiet { OnOk result (IsQuiet (S.told src.new)) }
 
     // What the sink has, and what is left of it.
-    ensures putting { (groups : List (List SpecRecord)) (b : Beginning) →
-        IsPutting K.holds groups b store.old.offset work.old report.old sink.old →
-        OnOk result (IsPutting K.holds groups b store.new.offset work.new report.new sink.new) }
-    ensures put { (groups : List (List SpecRecord)) (b : Beginning) →
-        IsPutting K.holds groups b store.old.offset work.old report.old sink.old →
-        IfErr result (HasHaltedPut K.holds K.may_leave groups b.config b.now b.held
-        store.new.offset report.new sink.new) }
+    ensures putting { (groups : List (List SpecRecord)) (at : Option Standing) (found : Option Told)
+        (b : Beginning) →
+        IsPutting S.stands K.holds groups at found b store.old.offset work.old report.old src.old
+        (S.told src.old) sink.old →
+        OnOk result (IsPutting S.stands K.holds groups at found b store.new.offset work.new
+        report.new src.new (S.told src.new) sink.new) }
+    ensures put { (groups : List (List SpecRecord)) (at : Option Standing) (found : Option Told)
+        (b : Beginning) →
+        IsPutting S.stands K.holds groups at found b store.old.offset work.old report.old src.old
+        (S.told src.old) sink.old →
+        IfErr result (HasHaltedPut S.stands K.holds K.may_leave groups at b.config b.now b.held
+        store.new.offset report.new src.new (S.told src.new) sink.new) }
     ensures own { (tell : Bool) (entry : SpecEntry) (at : Option Standing) (found : Option Told)
         (b : Beginning) → InSession tell S.stands K.holds D.seen D.may_leave entry
         work.old src.old sink.old store.old →
@@ -442,13 +457,18 @@ pub(crate) fn run<S: Source, K: Sink, D: Disk>(
     ensures quiet { OnOk result (IsQuiet (S.told src.new)) }
 
     // What the sink has, and what is left of it.
-    ensures putting { (groups : List (List SpecRecord)) (b : Beginning) →
-        IsPutting K.holds groups b store.old.offset work.old report.old sink.old →
-        OnOk result (IsPutting K.holds groups b store.new.offset work.new report.new sink.new) }
-    ensures put { (groups : List (List SpecRecord)) (b : Beginning) →
-        IsPutting K.holds groups b store.old.offset work.old report.old sink.old →
-        IfErr result (HasHaltedPut K.holds K.may_leave groups b.config b.now b.held
-        store.new.offset report.new sink.new) }
+    ensures putting { (groups : List (List SpecRecord)) (at : Option Standing) (found : Option Told)
+        (b : Beginning) →
+        IsPutting S.stands K.holds groups at found b store.old.offset work.old report.old src.old
+        (S.told src.old) sink.old →
+        OnOk result (IsPutting S.stands K.holds groups at found b store.new.offset work.new
+        report.new src.new (S.told src.new) sink.new) }
+    ensures put { (groups : List (List SpecRecord)) (at : Option Standing) (found : Option Told)
+        (b : Beginning) →
+        IsPutting S.stands K.holds groups at found b store.old.offset work.old report.old src.old
+        (S.told src.old) sink.old →
+        IfErr result (HasHaltedPut S.stands K.holds K.may_leave groups at b.config b.now b.held
+        store.new.offset report.new src.new (S.told src.new) sink.new) }
     ensures own { (tell : Bool) (entry : SpecEntry) (at : Option Standing) (found : Option Told)
         (b : Beginning) → InSession tell S.stands K.holds D.seen D.may_leave entry
         work.old src.old sink.old store.old →

@@ -71,13 +71,18 @@ pub(crate) fn arm<S: Source, K: Sink, D: Disk>(
         IfErr result (Halts S.stands at found b.config b.now b.held store.now.offset report
         src.new (S.told src.new)) }
     ensures quiet { OnOk result (IsQuiet (S.told src.new)) }
-    ensures putting { (groups : List (List SpecRecord)) (b : Beginning) (report : SpecReport) →
-        IsPutting K.holds groups b store.now.offset work.old report sink.now →
-        OnOk result (IsPutting K.holds groups b store.now.offset work.new report sink.now) }
-    ensures put { (groups : List (List SpecRecord)) (b : Beginning) (report : SpecReport) →
-        IsPutting K.holds groups b store.now.offset work.old report sink.now →
-        IfErr result (HasHaltedPut K.holds K.may_leave groups b.config b.now b.held
-        store.now.offset report sink.now) }
+    ensures putting { (groups : List (List SpecRecord)) (at : Option Standing) (found : Option Told)
+        (b : Beginning) (report : SpecReport) →
+        IsPutting S.stands K.holds groups at found b store.now.offset work.old report src.old
+        (S.told src.old) sink.now →
+        OnOk result (IsPutting S.stands K.holds groups at found b store.now.offset work.new report
+        src.new (S.told src.new) sink.now) }
+    ensures put { (groups : List (List SpecRecord)) (at : Option Standing) (found : Option Told)
+        (b : Beginning) (report : SpecReport) →
+        IsPutting S.stands K.holds groups at found b store.now.offset work.old report src.old
+        (S.told src.old) sink.now →
+        IfErr result (HasHaltedPut S.stands K.holds K.may_leave groups at b.config b.now b.held
+        store.now.offset report src.new (S.told src.new) sink.now) }
     ensures own { (tell : Bool) (entry : SpecEntry) →
         InSession tell S.stands K.holds D.seen D.may_leave entry
         work.old src.old sink.now store.now →

@@ -228,13 +228,18 @@ pub returns-clause-exhausted : goal.returns-clause-exhausted
 returns-clause-exhausted g c h is = absurd (not_both c.begun.result _ h (c.begun.ensures.exhausted h is) c.in_ok-offset.was)
 
 pub returns-clause-putting : goal.returns-clause-putting
-returns-clause-putting g c groups held none =
+returns-clause-putting g c groups held at stood none =
     answer_then c.make.result _ _ c.make.ensures.made
     (λ work made. (
       c.in_ok-offset.offset,
-      subst (λ (o : Option Offset). IsPutting g.K.Sink.holds groups (beginning_at c.args.config.now c.args.now_ms c.args.store.now.offset c.in_ok-offset.offset) o work (record c.args.report.now { position = c.in_ok-offset.offset.lsn.0 }) c.args.sink.now) (sym c.in_ok-offset.ensures.loads)
-          (puts_begin g.K.Sink.holds g.K.Sink.may_leave groups (beginning_at c.args.config.now c.args.now_ms c.args.store.now.offset c.in_ok-offset.offset) c.args.config.now.every work (record c.args.report.now { position = c.in_ok-offset.offset.lsn.0 }) c.args.sink.now c.in_ok-offset.ensures.of
-          (subst (λ (n : ℤ). IsBegun c.in_ok-offset.offset n c.args.config.now.chunk c.args.config.now.every work) (to_z-of_z c.ranges.now_ms) made) none.0 none.1 none.2 none.3 none.4 held),
+      subst (λ (o : Option Offset). IsPutting g.S.Source.stands g.K.Sink.holds groups at (g.S.Source.told c.args.src.now) (beginning_at c.args.config.now c.args.now_ms c.args.store.now.offset c.in_ok-offset.offset) o work (record c.args.report.now { position = c.in_ok-offset.offset.lsn.0 }) c.start.new.src (g.S.Source.told c.start.new.src) c.args.sink.now) (sym c.in_ok-offset.ensures.loads)
+          (puts_begin g.S.Source.stands g.K.Sink.holds g.K.Sink.may_leave groups at (g.S.Source.told c.args.src.now) (beginning_at c.args.config.now c.args.now_ms c.args.store.now.offset c.in_ok-offset.offset) c.args.config.now.every work (record c.args.report.now { position = c.in_ok-offset.offset.lsn.0 }) c.start.new.src (g.S.Source.told c.start.new.src) c.args.sink.now c.in_ok-offset.ensures.of
+          (subst (λ (n : ℤ). IsBegun c.in_ok-offset.offset n c.args.config.now.chunk c.args.config.now.every work) (to_z-of_z c.ranges.now_ms) made) none.0 none.1 none.2 none.3 none.4 held
+          (anew_on (g.S.Source.told c.args.src.now) (g.S.Source.told c.begun.new.src) (g.S.Source.told c.start.new.src) c.begun.ensures.taken c.in_ok-start.ensures.taken)
+          (λ s first.
+          let mid = c.in_ok-offset.ensures.stood s (stood s first) in
+          let began = c.in_ok-start.ensures.started mid.standing mid.is in
+          record { standing = began.standing; is = began.is; holds = began.holds.reading })),
     ))
 
 pub returns-in_err-offset-clause-counts : goal.returns-in_err-offset-clause-counts

@@ -27,7 +27,11 @@ use Rattle.dbl_steps.proofs.Marking.{exact_budget, exact_complete, exact_left, e
 use Rattle.dbl_steps.proofs.Lasting.{left_rests, none_most, same_most, stored_most, either_most}
 use Rattle.dbl_steps.proofs.Telling.{not_both, residual_on}
 use Rattle.dbl_work.specs.declared.halt.Halt.{Halt}
+use Rattle.dbl_work.specs.declared.halt.Halt.TheVariants as halt
+use Rattle.dbl_work.proofs.Exits.{none_taken}
 use Rattle.dbl_causes.specs.Gained.{IsReported}
+use Rattle.dbl_causes.specs.Tallied.{IsTallied, IsTalliedBehind}
+use Rattle.dbl_steps.proofs.Tallied.{between_stood, between_tallied}
 use Rattle.dbl_steps.specs.Sinks.{IsPutting}
 use Rattle.dbl_steps.proofs.Sinks.{left_gains, rests_put, still_counted}
 use Rattle.dbl_steps.proofs.Sinking.{counts_nothing, either_of, gains_nothing, reported_other}
@@ -290,21 +294,21 @@ returns-in_err-work-clause-counted g c groups held =
 
 pub returns-clause-grouped : goal.returns-clause-grouped
 returns-clause-grouped g c groups left held may =
-    let way = c.in_ok-work.ensures.putting groups held (refl, refl, refl, refl, refl) in
+    let way = c.in_ok-work.ensures.putting groups held None (at_none g.S.Source.stands c.args.src.now) (refl, refl, refl, refl, refl) in
     let b = beginning_at c.args.config.now c.args.now_ms c.args.offsets.now.offset way.0 in
-    let u = subst (λ (n : ℤ). IsPutting g.K.Sink.holds groups (beginning_at c.args.config.now n c.args.offsets.now.offset way.0) c.opened.new.store.offset c.in_ok-work.work c.opened.new.report c.args.sink.now) (to_z-of_z c.ranges.now_ms) way.1 in
-    let on = c.run.ensures.putting groups b u in
-    let put = c.run.ensures.put groups b u in
-    either_of c.run.result _ _ _ on put (λ x. left_gains g.K.Sink.holds g.K.Sink.may_leave groups b c.run.new.store.offset c.run.new.sink c.run.new.work c.run.new.report (rests_put g.K.Sink.holds g.K.Sink.may_leave groups b c.run.new.store.offset c.run.new.sink c.run.new.work c.run.new.report x) (g.met.K.Sink.only c.run.new.sink) left may) (λ h x. x.grouped left may)
+    let u = subst (λ (n : ℤ). IsPutting g.S.Source.stands g.K.Sink.holds groups None (g.S.Source.told c.args.src.now) (beginning_at c.args.config.now n c.args.offsets.now.offset way.0) c.opened.new.store.offset c.in_ok-work.work c.opened.new.report c.opened.new.src (g.S.Source.told c.opened.new.src) c.args.sink.now) (to_z-of_z c.ranges.now_ms) way.1 in
+    let on = c.run.ensures.putting groups None (g.S.Source.told c.args.src.now) b u in
+    let put = c.run.ensures.put groups None (g.S.Source.told c.args.src.now) b u in
+    either_of c.run.result _ _ _ on put (λ x. left_gains g.S.Source.stands g.K.Sink.holds g.K.Sink.may_leave groups None (g.S.Source.told c.args.src.now) b c.run.new.store.offset c.run.new.src (g.S.Source.told c.run.new.src) c.run.new.sink c.run.new.work c.run.new.report (rests_put g.S.Source.stands g.K.Sink.holds g.K.Sink.may_leave groups None (g.S.Source.told c.args.src.now) b c.run.new.store.offset c.run.new.work c.run.new.report c.run.new.src (g.S.Source.told c.run.new.src) c.run.new.sink x) (g.met.K.Sink.only c.run.new.sink) left may) (λ h x. x.grouped left may)
 
 pub returns-clause-counted : goal.returns-clause-counted
 returns-clause-counted g c groups held =
-    let way = c.in_ok-work.ensures.putting groups held (refl, refl, refl, refl, refl) in
+    let way = c.in_ok-work.ensures.putting groups held None (at_none g.S.Source.stands c.args.src.now) (refl, refl, refl, refl, refl) in
     let b = beginning_at c.args.config.now c.args.now_ms c.args.offsets.now.offset way.0 in
-    let u = subst (λ (n : ℤ). IsPutting g.K.Sink.holds groups (beginning_at c.args.config.now n c.args.offsets.now.offset way.0) c.opened.new.store.offset c.in_ok-work.work c.opened.new.report c.args.sink.now) (to_z-of_z c.ranges.now_ms) way.1 in
-    let on = c.run.ensures.putting groups b u in
-    let put = c.run.ensures.put groups b u in
-    answer_as c.run.result _ _ (λ r. IsReported g.K.Sink.holds g.K.Sink.may_leave groups r c.run.new.sink c.run.new.report) on put (λ x e. still_counted g.K.Sink.holds g.K.Sink.may_leave groups b c.run.new.store.offset c.run.new.sink c.run.new.work c.run.new.report (rests_put g.K.Sink.holds g.K.Sink.may_leave groups b c.run.new.store.offset c.run.new.sink c.run.new.work c.run.new.report x) (g.met.K.Sink.only c.run.new.sink) c.run.new.report refl refl refl) (λ h x. x.counted)
+    let u = subst (λ (n : ℤ). IsPutting g.S.Source.stands g.K.Sink.holds groups None (g.S.Source.told c.args.src.now) (beginning_at c.args.config.now n c.args.offsets.now.offset way.0) c.opened.new.store.offset c.in_ok-work.work c.opened.new.report c.opened.new.src (g.S.Source.told c.opened.new.src) c.args.sink.now) (to_z-of_z c.ranges.now_ms) way.1 in
+    let on = c.run.ensures.putting groups None (g.S.Source.told c.args.src.now) b u in
+    let put = c.run.ensures.put groups None (g.S.Source.told c.args.src.now) b u in
+    answer_as c.run.result _ _ (λ r. IsReported g.K.Sink.holds g.K.Sink.may_leave groups r c.run.new.sink c.run.new.report) on put (λ x e. still_counted g.S.Source.stands g.K.Sink.holds g.K.Sink.may_leave groups None (g.S.Source.told c.args.src.now) b c.run.new.store.offset c.run.new.src (g.S.Source.told c.run.new.src) c.run.new.sink c.run.new.work c.run.new.report (rests_put g.S.Source.stands g.K.Sink.holds g.K.Sink.may_leave groups None (g.S.Source.told c.args.src.now) b c.run.new.store.offset c.run.new.work c.run.new.report c.run.new.src (g.S.Source.told c.run.new.src) c.run.new.sink x) (g.met.K.Sink.only c.run.new.sink) c.run.new.report refl refl refl) (λ h x. x.counted)
 
 pub returns-in_err-work-clause-absent : goal.returns-in_err-work-clause-absent
 returns-in_err-work-clause-absent g c s is = residual_of c.from_residual.result _ (IsAbsentHalt c.args.config.now.tables s.history) c.from_residual.ensures.1 (c.in_err-work.ensures.absent s is)
@@ -444,3 +448,31 @@ returns-in_err-work-clause-must_absent g c s is =
 
 pub returns-clause-must_absent : goal.returns-clause-must_absent
 returns-clause-must_absent g c s is = must_captured c.args.config.now s.history c.args.offsets.now.offset c.run.result (λ none. c.in_ok-work.ensures.captures s is none)
+
+pub returns-in_err-work-clause-tallied : goal.returns-in_err-work-clause-tallied
+returns-in_err-work-clause-tallied g c groups held other = inl (c.opened.ensures.report.0, c.opened.ensures.report.1, held)
+
+pub returns-in_err-work-clause-tallied_stood : goal.returns-in_err-work-clause-tallied_stood
+returns-in_err-work-clause-tallied_stood g c groups held other s t was now = inl (c.opened.ensures.report.0, c.opened.ensures.report.1, held)
+
+pub returns-clause-tallied : goal.returns-clause-tallied
+returns-clause-tallied g c groups held other =
+    let way = c.in_ok-work.ensures.putting groups held None (at_none g.S.Source.stands c.args.src.now) (refl, refl, refl, refl, refl) in
+    let b = beginning_at c.args.config.now c.args.now_ms c.args.offsets.now.offset way.0 in
+    let u = subst (λ (n : ℤ). IsPutting g.S.Source.stands g.K.Sink.holds groups None (g.S.Source.told c.args.src.now) (beginning_at c.args.config.now n c.args.offsets.now.offset way.0) c.opened.new.store.offset c.in_ok-work.work c.opened.new.report c.opened.new.src (g.S.Source.told c.opened.new.src) c.args.sink.now) (to_z-of_z c.ranges.now_ms) way.1 in
+    let on = c.run.ensures.putting groups None (g.S.Source.told c.args.src.now) b u in
+    let put = c.run.ensures.put groups None (g.S.Source.told c.args.src.now) b u in
+    answer_as c.run.result _ _ (λ r. (r ≡ Err halt.Sink → ⊥) → IsTallied g.K.Sink.holds groups c.args.config.now c.args.now_ms c.args.offsets.now.offset c.run.new.store.offset c.run.new.report (g.S.Source.told c.run.new.src) c.run.new.sink r) on put
+    (λ x e ok. between_tallied g.S.Source.stands g.K.Sink.holds groups None (g.S.Source.told c.args.src.now) b c.run.new.store.offset c.run.new.store.offset c.run.new.work c.run.new.report c.run.new.report c.run.new.src c.run.new.src (g.S.Source.told c.run.new.src) (g.S.Source.told c.run.new.src) c.run.new.sink (rests_put g.S.Source.stands g.K.Sink.holds g.K.Sink.may_leave groups None (g.S.Source.told c.args.src.now) b c.run.new.store.offset c.run.new.work c.run.new.report c.run.new.src (g.S.Source.told c.run.new.src) c.run.new.sink x) (Ok e) refl refl refl (inl refl) (none_taken (g.S.Source.told c.run.new.src)))
+    (λ h x ok. x.tallied (λ is. ok (ap (λ (k : Halt). Err k) is))) other
+
+pub returns-clause-tallied_stood : goal.returns-clause-tallied_stood
+returns-clause-tallied_stood g c groups held other s t was now =
+    let way = c.in_ok-work.ensures.putting groups held (Some s) (at_some g.S.Source.stands c.args.src.now s was) (refl, refl, refl, refl, refl) in
+    let b = beginning_at c.args.config.now c.args.now_ms c.args.offsets.now.offset way.0 in
+    let u = subst (λ (n : ℤ). IsPutting g.S.Source.stands g.K.Sink.holds groups (Some s) (g.S.Source.told c.args.src.now) (beginning_at c.args.config.now n c.args.offsets.now.offset way.0) c.opened.new.store.offset c.in_ok-work.work c.opened.new.report c.opened.new.src (g.S.Source.told c.opened.new.src) c.args.sink.now) (to_z-of_z c.ranges.now_ms) way.1 in
+    let on = c.run.ensures.putting groups (Some s) (g.S.Source.told c.args.src.now) b u in
+    let put = c.run.ensures.put groups (Some s) (g.S.Source.told c.args.src.now) b u in
+    answer_as c.run.result _ _ (λ r. (r ≡ Err halt.Sink → ⊥) → IsTalliedBehind g.K.Sink.holds groups c.args.config.now c.args.now_ms c.args.offsets.now.offset c.run.new.store.offset c.run.new.report t c.run.new.sink r) on put
+    (λ x e ok. between_stood g.S.Source.stands g.K.Sink.holds groups (Some s) (g.S.Source.told c.args.src.now) b c.run.new.store.offset c.run.new.store.offset c.run.new.work c.run.new.report c.run.new.report c.run.new.src c.run.new.src (g.S.Source.told c.run.new.src) (g.S.Source.told c.run.new.src) c.run.new.sink (rests_put g.S.Source.stands g.K.Sink.holds g.K.Sink.may_leave groups (Some s) (g.S.Source.told c.args.src.now) b c.run.new.store.offset c.run.new.work c.run.new.report c.run.new.src (g.S.Source.told c.run.new.src) c.run.new.sink x) (Ok e) refl refl refl (inl refl) (λ a z one two. ap (λ (y : Standing). y.reading) (g.met.S.Source.one c.run.new.src z a two one)) s t refl now)
+    (λ h x ok. x.tallied_stood (λ is. ok (ap (λ (k : Halt). Err k) is)) s t refl now) other

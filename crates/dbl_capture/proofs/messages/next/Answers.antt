@@ -23,7 +23,7 @@ use Rattle.dbl_honest.specs.Told.{Read, Tells}
 use Rattle.dbl_record.specs.Cuts.{cut}
 use Rattle.dbl_work.specs.declared.halt.Halt.TheVariants as halt
 use Rattle.dbl_steps.specs.Sinks.{HasHaltedPut}
-use Rattle.dbl_steps.proofs.Sinks.{commits_put, commits_put_at_rest, halts_put_nothing, messages_put_nothing, rests_put}
+use Rattle.dbl_steps.proofs.Sinks.{commits_put, commits_put_at_rest, halts_put_nothing, halts_untaken, messages_put_nothing, rests_put, rests_putting}
 use Rattle.dbl_steps.proofs.Sinking.{few_taken, follow_puts, none_other, puts_due, source_other}
 use Rattle.dbl_steps.proofs.Going.{follow_reads, source_reads, taken_reads}
 use Rattle.dbl_steps.proofs.Nevers.{follow_honest, many_at, one_longer, source_honest, taken_honest, took_at}
@@ -246,35 +246,40 @@ pub returns-clause-nothing : goal.returns-clause-nothing
 returns-clause-nothing g c is = subst (λ (o : Option (List ℕ)). Tells (g.S.Source.told c.read.new.self) (Read o)) c.in-None.is c.in_ok-bytes.ensures.told
 
 pub returns-in_err-bytes-clause-put : goal.returns-in_err-bytes-clause-put
-returns-in_err-bytes-clause-put g c groups b u =
-    residual_of c.from_residual.result _ (HasHaltedPut g.K.Sink.holds g.K.Sink.may_leave groups b.config b.now b.held c.args.store.now.offset c.args.report.now c.args.sink.now) c.from_residual.ensures.1
-    (halts_put_nothing g.K.Sink.holds g.K.Sink.may_leave groups b c.args.store.now.offset c.args.store.now.offset c.args.work.now c.args.report.now c.args.report.now c.args.sink.now _ (rests_put g.K.Sink.holds g.K.Sink.may_leave groups b c.args.store.now.offset c.args.sink.now c.args.work.now c.args.report.now u) (g.met.K.Sink.only c.args.sink.now) (source_other _ (source_of c.in_err-bytes.field-0.0)) refl refl refl (inl refl))
+returns-in_err-bytes-clause-put g c groups at found b u =
+    residual_of c.from_residual.result _ (HasHaltedPut g.S.Source.stands g.K.Sink.holds g.K.Sink.may_leave groups at b.config b.now b.held c.args.store.now.offset c.args.report.now c.read.new.self (g.S.Source.told c.read.new.self) c.args.sink.now) c.from_residual.ensures.1
+    (halts_put_nothing g.S.Source.stands g.K.Sink.holds g.K.Sink.may_leave groups at found b c.args.store.now.offset c.args.store.now.offset c.args.work.now c.args.report.now c.args.report.now c.args.src.now c.read.new.self (g.S.Source.told c.args.src.now) (g.S.Source.told c.read.new.self) c.args.sink.now _ (rests_put g.S.Source.stands g.K.Sink.holds g.K.Sink.may_leave groups at found b c.args.store.now.offset c.args.work.now c.args.report.now c.args.src.now (g.S.Source.told c.args.src.now) c.args.sink.now u) (g.met.K.Sink.only c.args.sink.now) (source_other _ (source_of c.in_err-bytes.field-0.0)) refl refl refl (inl refl)
+    (source_left c.in_err-bytes.field-0.0) refl refl c.in_err-bytes.ensures.untaken (λ s t was now. absurd (dead_source (g.S.Source.is_live c.read.new.self) (g.met.S.Source.lives c.read.new.self t now) c.in_err-bytes.ensures.dead)))
 
 pub returns-in_err-commit-in-Some-clause-put : goal.returns-in_err-commit-in-Some-clause-put
-returns-in_err-commit-in-Some-clause-put g c groups b u =
-    residual_of c.from_residual-in_err-commit-in-Some.result _ (HasHaltedPut g.K.Sink.holds g.K.Sink.may_leave groups b.config b.now b.held c.args.store.now.offset (record c.args.report.now { messages = c.args.report.now.messages + 1 }) c.args.sink.now) c.from_residual-in_err-commit-in-Some.ensures.1
-    (halts_put_nothing g.K.Sink.holds g.K.Sink.may_leave groups b c.args.store.now.offset c.args.store.now.offset c.args.work.now c.args.report.now (record c.args.report.now { messages = c.args.report.now.messages + 1 }) c.args.sink.now _ (rests_put g.K.Sink.holds g.K.Sink.may_leave groups b c.args.store.now.offset c.args.sink.now c.args.work.now c.args.report.now u) (g.met.K.Sink.only c.args.sink.now) (none_other _ (taken_of _ c.requires.ready.after c.requires.ready.messages c.in-Some.bytes c.args.work.now _ (c.in_err-commit-in-Some.ensures.halt c.requires.ready.after c.requires.ready.messages c.requires.ready.is))) refl refl refl (inl refl))
+returns-in_err-commit-in-Some-clause-put g c groups at found b u =
+    residual_of c.from_residual-in_err-commit-in-Some.result _ (HasHaltedPut g.S.Source.stands g.K.Sink.holds g.K.Sink.may_leave groups at b.config b.now b.held c.args.store.now.offset (record c.args.report.now { messages = c.args.report.now.messages + 1 }) c.read.new.self (g.S.Source.told c.read.new.self) c.args.sink.now) c.from_residual-in_err-commit-in-Some.ensures.1
+    (halts_untaken g.S.Source.stands g.K.Sink.holds g.K.Sink.may_leave groups at found b c.args.store.now.offset c.args.work.now c.args.report.now (record c.args.report.now { messages = c.args.report.now.messages + 1 }) c.args.src.now c.read.new.self (g.S.Source.told c.args.src.now) (g.S.Source.told c.read.new.self) c.args.sink.now c.in-Some.bytes _ u (g.met.K.Sink.only c.args.sink.now) (none_other _ (taken_of _ c.requires.ready.after c.requires.ready.messages c.in-Some.bytes c.args.work.now _ (c.in_err-commit-in-Some.ensures.halt c.requires.ready.after c.requires.ready.messages c.requires.ready.is))) refl
+    (taken_cause (c.args.report.now.messages + 1) b.first.lsn u.way.messages c.in-Some.bytes c.args.work.now _ (c.in_err-commit-in-Some.ensures.halt b.first.lsn u.way.messages u.way.is.is.is)) (some_read _ _ _ _ c.in-Some.is c.in_ok-bytes.ensures.taken) (λ s is. some_read _ _ _ _ c.in-Some.is (c.in_ok-bytes.ensures.took s is)) (g.met.S.Source.one c.read.new.self))
 
 pub returns-in_err-closed-in-Some-2-clause-put : goal.returns-in_err-closed-in-Some-2-clause-put
-returns-in_err-closed-in-Some-2-clause-put g c groups b u =
-    residual_of c.from_residual-in_err-closed-in-Some-2.result _ (HasHaltedPut g.K.Sink.holds g.K.Sink.may_leave groups b.config b.now b.held c.args.store.now.offset c.follow.new.report c.follow.new.sink) c.from_residual-in_err-closed-in-Some-2.ensures.1
-    (follow_puts g.K.Sink.holds g.K.Sink.may_leave groups b c.args.store.now.offset c.args.sink.now c.follow.new.sink c.args.work.now c.taken.new.work c.args.report.now c.follow.new.report u c.in-Some.bytes c.in-Some-2.commit (subst (WasTaken b.first.lsn u.messages c.in-Some.bytes c.args.work.now c.taken.new.work) c.in-Some-2.is (c.in_ok-commit-in-Some.ensures.taken b.first.lsn u.messages u.is.is.is)) (few_taken (length u.messages) c.args.report.now.messages u.is.is.many c.requires.messages) c.requires.time c.in_err-closed-in-Some-2.field-0.0
+returns-in_err-closed-in-Some-2-clause-put g c groups at found b u =
+    residual_of c.from_residual-in_err-closed-in-Some-2.result _ (HasHaltedPut g.S.Source.stands g.K.Sink.holds g.K.Sink.may_leave groups at b.config b.now b.held c.args.store.now.offset c.follow.new.report c.read.new.self (g.S.Source.told c.read.new.self) c.follow.new.sink) c.from_residual-in_err-closed-in-Some-2.ensures.1
+    (follow_puts g.S.Source.stands g.K.Sink.holds g.K.Sink.may_leave groups at found b c.args.store.now.offset c.args.src.now c.read.new.self (g.S.Source.told c.args.src.now) (g.S.Source.told c.read.new.self) c.args.sink.now c.follow.new.sink c.args.work.now c.taken.new.work c.args.report.now c.follow.new.report u c.in-Some.bytes c.in-Some-2.commit (subst (WasTaken b.first.lsn u.way.messages c.in-Some.bytes c.args.work.now c.taken.new.work) c.in-Some-2.is (c.in_ok-commit-in-Some.ensures.taken b.first.lsn u.way.messages u.way.is.is.is)) (few_taken (length u.way.messages) c.args.report.now.messages u.way.is.is.many c.requires.messages) c.requires.time c.in_err-closed-in-Some-2.field-0.0
     (λ left may. c.follow.ensures.left (groups ++ cut u.put.records) left u.put.held may) (g.met.K.Sink.may c.follow.new.sink)
     (λ other. c.in_err-closed-in-Some-2.ensures.kept (groups ++ cut u.put.records) u.put.held (λ is. let same : c.in_err-closed-in-Some-2.field-0.0 ≡ halt.Sink = cc in other same))
-    (λ is. c.in_err-closed-in-Some-2.ensures.torn (groups ++ cut u.put.records) u.put.held (ap (λ (k : Halt). Err k) is)) (c.follow.ensures.some (groups ++ cut u.put.records) u.put.held) _ _ c.in_err-closed-in-Some-2.ensures.halt)
+    (λ is. c.in_err-closed-in-Some-2.ensures.torn (groups ++ cut u.put.records) u.put.held (ap (λ (k : Halt). Err k) is)) (c.follow.ensures.some (groups ++ cut u.put.records) u.put.held)
+    (torn_counts c.in-Some-2.commit c.taken.new.work c.args.report.now c.follow.new.report c.in_err-closed-in-Some-2.ensures.noted) (λ is. c.in_err-closed-in-Some-2.ensures.sink (ap (λ (k : Halt). Err k) is)) (some_read _ _ _ _ c.in-Some.is c.in_ok-bytes.ensures.taken) (λ s is. some_read _ _ _ _ c.in-Some.is (c.in_ok-bytes.ensures.took s is)) (g.met.S.Source.one c.read.new.self) c.in_err-closed-in-Some-2.ensures.halt)
 
 pub returns-in-Some-2-clause-putting : goal.returns-in-Some-2-clause-putting
-returns-in-Some-2-clause-putting g c groups b u =
-    puts_due g.K.Sink.holds groups b c.args.store.now.offset c.follow.new.work c.follow.new.report c.follow.new.sink c.is_due.result
-    (λ due. commits_put g.K.Sink.holds g.K.Sink.may_leave groups b c.args.store.now.offset c.args.sink.now c.follow.new.sink c.args.work.now c.taken.new.work c.follow.new.work c.args.report.now c.follow.new.report u c.in-Some.bytes c.in-Some-2.commit (subst (WasTaken b.first.lsn u.messages c.in-Some.bytes c.args.work.now c.taken.new.work) c.in-Some-2.is (c.in_ok-commit-in-Some.ensures.taken b.first.lsn u.messages u.is.is.is)) c.in_ok-closed-in-Some-2.ensures.stepped c.in_ok-closed-in-Some-2.ensures.long c.requires.number (few_taken (length u.messages) c.args.report.now.messages u.is.is.many c.requires.messages) c.requires.time c.in_ok-closed-in-Some-2.ensures.noted (c.in_ok-closed-in-Some-2.ensures.put (groups ++ cut u.put.records) u.put.held))
-    (λ due. commits_put_at_rest g.K.Sink.holds g.K.Sink.may_leave groups b c.args.store.now.offset c.args.sink.now c.follow.new.sink c.args.work.now c.taken.new.work c.follow.new.work c.args.report.now c.follow.new.report u c.in-Some.bytes c.in-Some-2.commit (subst (WasTaken b.first.lsn u.messages c.in-Some.bytes c.args.work.now c.taken.new.work) c.in-Some-2.is (c.in_ok-commit-in-Some.ensures.taken b.first.lsn u.messages u.is.is.is)) c.in_ok-closed-in-Some-2.ensures.stepped c.in_ok-closed-in-Some-2.ensures.long c.requires.number (few_taken (length u.messages) c.args.report.now.messages u.is.is.many c.requires.messages) c.requires.time c.in_ok-closed-in-Some-2.ensures.noted (c.in_ok-closed-in-Some-2.ensures.put (groups ++ cut u.put.records) u.put.held) (sym c.in_ok-closed-in-Some-2.ensures.closes ∙ c.is_due.ensures.open due))
+returns-in-Some-2-clause-putting g c groups at found b u =
+    puts_due g.S.Source.stands g.K.Sink.holds groups at found b c.args.store.now.offset c.follow.new.work c.follow.new.report c.read.new.self (g.S.Source.told c.read.new.self) c.follow.new.sink c.is_due.result
+    (λ due. commits_put g.S.Source.stands g.K.Sink.holds g.K.Sink.may_leave groups at found b c.args.store.now.offset c.args.src.now c.read.new.self (g.S.Source.told c.args.src.now) (g.S.Source.told c.read.new.self) c.args.sink.now c.follow.new.sink c.args.work.now c.taken.new.work c.follow.new.work c.args.report.now c.follow.new.report u c.in-Some.bytes c.in-Some-2.commit (subst (WasTaken b.first.lsn u.way.messages c.in-Some.bytes c.args.work.now c.taken.new.work) c.in-Some-2.is (c.in_ok-commit-in-Some.ensures.taken b.first.lsn u.way.messages u.way.is.is.is)) c.in_ok-closed-in-Some-2.ensures.stepped c.in_ok-closed-in-Some-2.ensures.long c.requires.number (few_taken (length u.way.messages) c.args.report.now.messages u.way.is.is.many c.requires.messages) c.requires.time c.in_ok-closed-in-Some-2.ensures.noted (c.in_ok-closed-in-Some-2.ensures.put (groups ++ cut u.put.records) u.put.held) (some_read _ _ _ _ c.in-Some.is c.in_ok-bytes.ensures.taken) (λ s is. some_read _ _ _ _ c.in-Some.is (c.in_ok-bytes.ensures.took s is)))
+    (λ due. commits_put_at_rest g.S.Source.stands g.K.Sink.holds g.K.Sink.may_leave groups at found b c.args.store.now.offset c.args.src.now c.read.new.self (g.S.Source.told c.args.src.now) (g.S.Source.told c.read.new.self) c.args.sink.now c.follow.new.sink c.args.work.now c.taken.new.work c.follow.new.work c.args.report.now c.follow.new.report u c.in-Some.bytes c.in-Some-2.commit (subst (WasTaken b.first.lsn u.way.messages c.in-Some.bytes c.args.work.now c.taken.new.work) c.in-Some-2.is (c.in_ok-commit-in-Some.ensures.taken b.first.lsn u.way.messages u.way.is.is.is)) c.in_ok-closed-in-Some-2.ensures.stepped c.in_ok-closed-in-Some-2.ensures.long c.requires.number (few_taken (length u.way.messages) c.args.report.now.messages u.way.is.is.many c.requires.messages) c.requires.time c.in_ok-closed-in-Some-2.ensures.noted (c.in_ok-closed-in-Some-2.ensures.put (groups ++ cut u.put.records) u.put.held) (some_read _ _ _ _ c.in-Some.is c.in_ok-bytes.ensures.taken) (λ s is. some_read _ _ _ _ c.in-Some.is (c.in_ok-bytes.ensures.took s is)) (sym c.in_ok-closed-in-Some-2.ensures.closes ∙ c.is_due.ensures.open due))
 
 pub returns-in-Some-clause-putting : goal.returns-in-Some-clause-putting
-returns-in-Some-clause-putting g c groups b u =
-    messages_put_nothing g.K.Sink.holds g.K.Sink.may_leave groups b c.args.store.now.offset c.args.sink.now c.args.work.now c.taken.new.work c.args.report.now (record c.args.report.now { messages = c.args.report.now.messages + 1 }) u c.in-Some.bytes (subst (WasTaken b.first.lsn u.messages c.in-Some.bytes c.args.work.now c.taken.new.work) c.in-None-2.is (c.in_ok-commit-in-Some.ensures.taken b.first.lsn u.messages u.is.is.is)) refl
+returns-in-Some-clause-putting g c groups at found b u =
+    messages_put_nothing g.S.Source.stands g.K.Sink.holds g.K.Sink.may_leave groups at found b c.args.store.now.offset c.args.src.now c.read.new.self (g.S.Source.told c.args.src.now) (g.S.Source.told c.read.new.self) c.args.sink.now c.args.work.now c.taken.new.work c.args.report.now (record c.args.report.now { messages = c.args.report.now.messages + 1 }) u c.in-Some.bytes (subst (WasTaken b.first.lsn u.way.messages c.in-Some.bytes c.args.work.now c.taken.new.work) c.in-None-2.is (c.in_ok-commit-in-Some.ensures.taken b.first.lsn u.way.messages u.way.is.is.is)) refl (some_read _ _ _ _ c.in-Some.is c.in_ok-bytes.ensures.taken) (λ s is. some_read _ _ _ _ c.in-Some.is (c.in_ok-bytes.ensures.took s is))
 
 pub returns-clause-putting : goal.returns-clause-putting
-returns-clause-putting g c groups b u = u
+returns-clause-putting g c groups at found b u =
+    rests_putting g.S.Source.stands g.K.Sink.holds g.K.Sink.may_leave groups at found b c.args.store.now.offset c.args.src.now c.read.new.self (g.S.Source.told c.args.src.now) (g.S.Source.told c.read.new.self) c.args.sink.now c.args.work.now c.args.report.now u (none_read _ _ _ c.in-None.is c.in_ok-bytes.ensures.taken)
+    (λ s is. let t = none_read _ _ _ c.in-None.is (c.in_ok-bytes.ensures.took s is) in record { standing = t.standing; is = t.is; holds = t.holds.0.reading })
 
 pub returns-in_err-bytes-clause-reads : goal.returns-in_err-bytes-clause-reads
 returns-in_err-bytes-clause-reads g c = residual_of c.from_residual.result _ IsNotGone c.from_residual.ensures.1 (source_reads c.in_err-bytes.field-0.0)

@@ -169,22 +169,27 @@ returns-clause-all g c at found b u =
     (λ s is. subst (λ (o : Offset). Stood g.S.Source.stands c.confirm.new.self (IsConfirmed o.lsn s)) c.in_ok-offset.ensures.next (c.in_ok-confirm.ensures.confirmed s is))
 
 pub returns-in_err-offset-clause-put : goal.returns-in_err-offset-clause-put
-returns-in_err-offset-clause-put g c groups b u =
-    residual_of c.from_residual.result halt.Memory (HasHaltedPut g.K.Sink.holds g.K.Sink.may_leave groups b.config b.now b.held c.args.store.now.offset c.args.report.now c.args.sink.now) c.from_residual.ensures.1
-    (halts_put_nothing g.K.Sink.holds g.K.Sink.may_leave groups b c.args.store.now.offset c.args.store.now.offset c.args.work.now c.args.report.now c.args.report.now c.args.sink.now halt.Memory u (g.met.K.Sink.only c.args.sink.now) (none_other halt.Memory tt) refl refl refl (inl refl))
+returns-in_err-offset-clause-put g c groups at found b u =
+    residual_of c.from_residual.result halt.Memory (HasHaltedPut g.S.Source.stands g.K.Sink.holds g.K.Sink.may_leave groups at b.config b.now b.held c.args.store.now.offset c.args.report.now c.args.src.now (g.S.Source.told c.args.src.now) c.args.sink.now) c.from_residual.ensures.1
+    (halts_put_nothing g.S.Source.stands g.K.Sink.holds g.K.Sink.may_leave groups at found b c.args.store.now.offset c.args.store.now.offset c.args.work.now c.args.report.now c.args.report.now c.args.src.now c.args.src.now (g.S.Source.told c.args.src.now) (g.S.Source.told c.args.src.now) c.args.sink.now halt.Memory u (g.met.K.Sink.only c.args.sink.now) (none_other halt.Memory tt) refl refl refl (inl refl)
+    memory_left refl refl (none_taken (g.S.Source.told c.args.src.now)) (λ s t was now. ap (λ (x : Standing). x.reading) (g.met.S.Source.one c.args.src.now t s now was)))
 
 pub returns-in_err-put_offset-clause-put : goal.returns-in_err-put_offset-clause-put
-returns-in_err-put_offset-clause-put g c groups b u =
-    residual_of c.from_residual-in_err-put_offset.result _ (HasHaltedPut g.K.Sink.holds g.K.Sink.may_leave groups b.config b.now b.held c.put_offset.new.store.offset c.args.report.now c.args.sink.now) c.from_residual-in_err-put_offset.ensures.1
-    (halts_put_nothing g.K.Sink.holds g.K.Sink.may_leave groups b c.args.store.now.offset c.put_offset.new.store.offset c.args.work.now c.args.report.now c.args.report.now c.args.sink.now _ u (g.met.K.Sink.only c.args.sink.now) (store_other _ (store_of _ _ c.in_err-put_offset.ensures.halt)) refl refl refl (inl c.in_err-put_offset.ensures.keeps))
+returns-in_err-put_offset-clause-put g c groups at found b u =
+    residual_of c.from_residual-in_err-put_offset.result _ (HasHaltedPut g.S.Source.stands g.K.Sink.holds g.K.Sink.may_leave groups at b.config b.now b.held c.put_offset.new.store.offset c.args.report.now c.args.src.now (g.S.Source.told c.args.src.now) c.args.sink.now) c.from_residual-in_err-put_offset.ensures.1
+    (halts_put_nothing g.S.Source.stands g.K.Sink.holds g.K.Sink.may_leave groups at found b c.args.store.now.offset c.put_offset.new.store.offset c.args.work.now c.args.report.now c.args.report.now c.args.src.now c.args.src.now (g.S.Source.told c.args.src.now) (g.S.Source.told c.args.src.now) c.args.sink.now _ u (g.met.K.Sink.only c.args.sink.now) (store_other _ (store_of _ _ c.in_err-put_offset.ensures.halt)) refl refl refl (inl c.in_err-put_offset.ensures.keeps)
+    (store_left _ _ c.in_err-put_offset.ensures.halt) refl refl (none_taken (g.S.Source.told c.args.src.now)) (λ s t was now. ap (λ (x : Standing). x.reading) (g.met.S.Source.one c.args.src.now t s now was)))
 
 pub returns-in_err-confirm-clause-put : goal.returns-in_err-confirm-clause-put
-returns-in_err-confirm-clause-put g c groups b u =
-    residual_of c.from_residual-in_err-confirm.result _ (HasHaltedPut g.K.Sink.holds g.K.Sink.may_leave groups b.config b.now b.held c.put_offset.new.store.offset (record c.args.report.now { position = c.in_ok-offset.offset.lsn.0 }) c.args.sink.now) c.from_residual-in_err-confirm.ensures.1
-    (halts_put_nothing g.K.Sink.holds g.K.Sink.may_leave groups b c.args.store.now.offset c.put_offset.new.store.offset c.args.work.now c.args.report.now (record c.args.report.now { position = c.in_ok-offset.offset.lsn.0 }) c.args.sink.now _ u (g.met.K.Sink.only c.args.sink.now) (source_other _ (source_of c.in_err-confirm.field-0.0)) refl refl refl (inr (c.in_ok-put_offset.ensures.loads ∙ ap (λ (o : Offset). Some o) c.in_ok-offset.ensures.next)))
+returns-in_err-confirm-clause-put g c groups at found b u =
+    residual_of c.from_residual-in_err-confirm.result _ (HasHaltedPut g.S.Source.stands g.K.Sink.holds g.K.Sink.may_leave groups at b.config b.now b.held c.put_offset.new.store.offset (record c.args.report.now { position = c.in_ok-offset.offset.lsn.0 }) c.confirm.new.self (g.S.Source.told c.confirm.new.self) c.args.sink.now) c.from_residual-in_err-confirm.ensures.1
+    (halts_put_nothing g.S.Source.stands g.K.Sink.holds g.K.Sink.may_leave groups at found b c.args.store.now.offset c.put_offset.new.store.offset c.args.work.now c.args.report.now (record c.args.report.now { position = c.in_ok-offset.offset.lsn.0 }) c.args.src.now c.confirm.new.self (g.S.Source.told c.args.src.now) (g.S.Source.told c.confirm.new.self) c.args.sink.now _ u (g.met.K.Sink.only c.args.sink.now) (source_other _ (source_of c.in_err-confirm.field-0.0)) refl refl refl (inr (c.in_ok-put_offset.ensures.loads ∙ ap (λ (o : Offset). Some o) c.in_ok-offset.ensures.next))
+    (source_left c.in_err-confirm.field-0.0) refl refl c.confirm.ensures.taken (λ s t was now. absurd (dead_source (g.S.Source.is_live c.confirm.new.self) (g.met.S.Source.lives c.confirm.new.self t now) c.in_err-confirm.ensures.dead)))
 
 pub returns-clause-putting : goal.returns-clause-putting
-returns-clause-putting g c groups b u = stores_put_nothing g.K.Sink.holds g.K.Sink.may_leave groups b c.args.store.now.offset c.args.sink.now c.put_offset.new.store.offset c.args.work.now (record c.args.work.now { since = 0 }) c.args.report.now (record c.args.report.now { position = c.in_ok-offset.offset.lsn.0 }) u (c.in_ok-put_offset.ensures.loads ∙ ap (λ (o : Offset). Some o) c.in_ok-offset.ensures.next) refl refl
+returns-clause-putting g c groups at found b u =
+    stores_put_nothing g.S.Source.stands g.K.Sink.holds g.K.Sink.may_leave groups at found b c.args.store.now.offset c.args.src.now c.confirm.new.self (g.S.Source.told c.args.src.now) (g.S.Source.told c.confirm.new.self) c.args.sink.now c.put_offset.new.store.offset c.args.work.now (record c.args.work.now { since = 0 }) c.args.report.now (record c.args.report.now { position = c.in_ok-offset.offset.lsn.0 }) u (c.in_ok-put_offset.ensures.loads ∙ ap (λ (o : Offset). Some o) c.in_ok-offset.ensures.next) refl refl c.confirm.ensures.taken
+    (λ s is. subst (λ (o : Offset). Stood g.S.Source.stands c.confirm.new.self (IsConfirmed o.lsn s)) c.in_ok-offset.ensures.next (c.in_ok-confirm.ensures.confirmed s is))
 
 pub returns-in_err-offset-clause-reads : goal.returns-in_err-offset-clause-reads
 returns-in_err-offset-clause-reads g c = residual_of c.from_residual.result halt.Memory IsNotGone c.from_residual.ensures.1 tt

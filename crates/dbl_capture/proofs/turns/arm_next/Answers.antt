@@ -48,7 +48,7 @@ pub returns-in-Some-clause-put : goal.returns-in-Some-clause-put
 returns-in-Some-clause-put g c = c.arm.ensures.put
 
 pub returns-in-None-clause-putting : goal.returns-in-None-clause-putting
-returns-in-None-clause-putting g c groups b report u = u
+returns-in-None-clause-putting g c groups at found b report u = u
 
 pub returns-in-Some-clause-reads : goal.returns-in-Some-clause-reads
 returns-in-Some-clause-reads g c = c.arm.ensures.reads

@@ -80,19 +80,21 @@ pub returns-in-None-clause-halted : goal.returns-in-None-clause-halted
 returns-in-None-clause-halted g c at found b u answer = c.settle.ensures.halted at found b (at_rest g.S.Source.stands at found b c.args.store.now.offset c.args.work.now c.args.report.now c.args.src.now (g.S.Source.told c.args.src.now) u) (read_quiet (g.S.Source.told c.args.src.now) None answer)
 
 pub returns-in_err-copy-in-Some-clause-put : goal.returns-in_err-copy-in-Some-clause-put
-returns-in_err-copy-in-Some-clause-put g c groups b u =
-    residual_of c.from_residual.result halt.Memory (HasHaltedPut g.K.Sink.holds g.K.Sink.may_leave groups b.config b.now b.held c.args.store.now.offset c.args.report.now c.args.sink.now) c.from_residual.ensures.1
-    (halts_put_nothing g.K.Sink.holds g.K.Sink.may_leave groups b c.args.store.now.offset c.args.store.now.offset c.args.work.now c.args.report.now c.args.report.now c.args.sink.now halt.Memory (rests_put g.K.Sink.holds g.K.Sink.may_leave groups b c.args.store.now.offset c.args.sink.now c.args.work.now c.args.report.now u) (g.met.K.Sink.only c.args.sink.now) (none_other halt.Memory tt) refl refl refl (inl refl))
+returns-in_err-copy-in-Some-clause-put g c groups at found b u =
+    residual_of c.from_residual.result halt.Memory (HasHaltedPut g.S.Source.stands g.K.Sink.holds g.K.Sink.may_leave groups at b.config b.now b.held c.args.store.now.offset c.args.report.now c.args.src.now (g.S.Source.told c.args.src.now) c.args.sink.now) c.from_residual.ensures.1
+    (halts_put_nothing g.S.Source.stands g.K.Sink.holds g.K.Sink.may_leave groups at found b c.args.store.now.offset c.args.store.now.offset c.args.work.now c.args.report.now c.args.report.now c.args.src.now c.args.src.now (g.S.Source.told c.args.src.now) (g.S.Source.told c.args.src.now) c.args.sink.now halt.Memory (rests_put g.S.Source.stands g.K.Sink.holds g.K.Sink.may_leave groups at found b c.args.store.now.offset c.args.work.now c.args.report.now c.args.src.now (g.S.Source.told c.args.src.now) c.args.sink.now u) (g.met.K.Sink.only c.args.sink.now) (none_other halt.Memory tt) refl refl refl (inl refl)
+    memory_left refl refl (none_taken (g.S.Source.told c.args.src.now)) (λ s t was now. ap (λ (x : Standing). x.reading) (g.met.S.Source.one c.args.src.now t s now was)))
 
 pub returns-in_ok-copy-in-Some-clause-put : goal.returns-in_ok-copy-in-Some-clause-put
-returns-in_ok-copy-in-Some-clause-put g c groups b u =
-    halts_put_nothing g.K.Sink.holds g.K.Sink.may_leave groups b c.args.store.now.offset c.args.store.now.offset c.args.work.now c.args.report.now c.args.report.now c.args.sink.now _ (rests_put g.K.Sink.holds g.K.Sink.may_leave groups b c.args.store.now.offset c.args.sink.now c.args.work.now c.args.report.now u) (g.met.K.Sink.only c.args.sink.now) (λ is. cc) refl refl refl (inl refl)
+returns-in_ok-copy-in-Some-clause-put g c groups at found b u =
+    halts_put_nothing g.S.Source.stands g.K.Sink.holds g.K.Sink.may_leave groups at found b c.args.store.now.offset c.args.store.now.offset c.args.work.now c.args.report.now c.args.report.now c.args.src.now c.args.src.now (g.S.Source.told c.args.src.now) (g.S.Source.told c.args.src.now) c.args.sink.now _ (rests_put g.S.Source.stands g.K.Sink.holds g.K.Sink.may_leave groups at found b c.args.store.now.offset c.args.work.now c.args.report.now c.args.src.now (g.S.Source.told c.args.src.now) c.args.sink.now u) (g.met.K.Sink.only c.args.sink.now) (λ is. cc) refl refl refl (inl refl)
+    refl refl refl (none_taken (g.S.Source.told c.args.src.now)) (λ s t was now. ap (λ (x : Standing). x.reading) (g.met.S.Source.one c.args.src.now t s now was))
 
 pub returns-in-None-clause-putting : goal.returns-in-None-clause-putting
-returns-in-None-clause-putting g c groups b u = c.settle.ensures.putting groups b (rests_put g.K.Sink.holds g.K.Sink.may_leave groups b c.args.store.now.offset c.args.sink.now c.args.work.now c.args.report.now u)
+returns-in-None-clause-putting g c groups at found b u = c.settle.ensures.putting groups at found b (rests_put g.S.Source.stands g.K.Sink.holds g.K.Sink.may_leave groups at found b c.args.store.now.offset c.args.work.now c.args.report.now c.args.src.now (g.S.Source.told c.args.src.now) c.args.sink.now u)
 
 pub returns-in-None-clause-put : goal.returns-in-None-clause-put
-returns-in-None-clause-put g c groups b u = c.settle.ensures.put groups b (rests_put g.K.Sink.holds g.K.Sink.may_leave groups b c.args.store.now.offset c.args.sink.now c.args.work.now c.args.report.now u)
+returns-in-None-clause-put g c groups at found b u = c.settle.ensures.put groups at found b (rests_put g.S.Source.stands g.K.Sink.holds g.K.Sink.may_leave groups at found b c.args.store.now.offset c.args.work.now c.args.report.now c.args.src.now (g.S.Source.told c.args.src.now) c.args.sink.now u)
 
 pub returns-in_err-copy-in-Some-clause-reads : goal.returns-in_err-copy-in-Some-clause-reads
 returns-in_err-copy-in-Some-clause-reads g c = residual_of c.from_residual.result halt.Memory IsNotGone c.from_residual.ensures.1 tt

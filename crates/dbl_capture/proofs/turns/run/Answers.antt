@@ -21,7 +21,7 @@ turns-init g c = record {
   kept = λ tell entry s honest. s;
   under_way = λ at found b u. u;
   awaits = λ at found b u s first a honest. a;
-  putting = λ groups b u. u;
+  putting = λ groups at found b u. u;
   quiet = λ some. absurd (omega (arith, some));
   ready = c.requires.ready;
   offset_is = refl;
@@ -50,7 +50,7 @@ turns-preserved g c = record {
   kept = λ tell entry s honest. c.in_ok-turn.ensures.turned tell entry (c.turns.invariant.kept tell entry s (c.turn.ensures.honest honest)) honest;
   under_way = λ at found b u. c.in_ok-turn.ensures.under_way at found b (c.turns.invariant.under_way at found b u);
   awaits = λ at found b u s first a honest. c.in_ok-turn.ensures.awaits at found b (c.turns.invariant.under_way at found b u) s first honest (c.turns.invariant.awaits at found b u s first a (c.turn.ensures.honest honest)) c.if-branch.false;
-  putting = λ groups b u. c.in_ok-turn.ensures.putting groups b (c.turns.invariant.putting groups b u);
+  putting = λ groups at found b u. c.in_ok-turn.ensures.putting groups at found b (c.turns.invariant.putting groups at found b u);
   quiet = λ some. c.in_ok-turn.ensures.quiet;
   ready = c.in_ok-turn.ensures.ready;
   offset_is = placed_on c.args.work.now.offset c.turns.work.offset c.turn.new.work.offset c.turns.invariant.offset_is c.in_ok-turn.ensures.offset_is;
@@ -406,19 +406,19 @@ pub returns-then-branch-clause-waited : goal.returns-then-branch-clause-waited
 returns-then-branch-clause-waited g c is = (c.turn.ensures.none (c.in_ok-turn.was ∙ ap (λ (x : Bool). Ok x) c.if-branch.true)).1
 
 pub returns-in_err-turn-clause-put : goal.returns-in_err-turn-clause-put
-returns-in_err-turn-clause-put g c groups b u = residual_of c.from_residual.result _ (HasHaltedPut g.K.Sink.holds g.K.Sink.may_leave groups b.config b.now b.held c.turn.new.store.offset c.turn.new.report c.turn.new.sink) c.from_residual.ensures.1 (c.in_err-turn.ensures.put groups b (c.turns.invariant.putting groups b u))
+returns-in_err-turn-clause-put g c groups at found b u = residual_of c.from_residual.result _ (HasHaltedPut g.S.Source.stands g.K.Sink.holds g.K.Sink.may_leave groups at b.config b.now b.held c.turn.new.store.offset c.turn.new.report c.turn.new.src (g.S.Source.told c.turn.new.src) c.turn.new.sink) c.from_residual.ensures.1 (c.in_err-turn.ensures.put groups at found b (c.turns.invariant.putting groups at found b u))
 
 pub returns-in_err-arm_next-clause-put : goal.returns-in_err-arm_next-clause-put
-returns-in_err-arm_next-clause-put g c groups b u = residual_of c.from_residual-in_err-arm_next.result _ (HasHaltedPut g.K.Sink.holds g.K.Sink.may_leave groups b.config b.now b.held c.turns.store.offset c.turns.report c.turns.sink) c.from_residual-in_err-arm_next.ensures.1 (c.in_err-arm_next.ensures.put groups b c.turns.report (c.turns.invariant.putting groups b u))
+returns-in_err-arm_next-clause-put g c groups at found b u = residual_of c.from_residual-in_err-arm_next.result _ (HasHaltedPut g.S.Source.stands g.K.Sink.holds g.K.Sink.may_leave groups at b.config b.now b.held c.turns.store.offset c.turns.report c.arm_next.new.src (g.S.Source.told c.arm_next.new.src) c.turns.sink) c.from_residual-in_err-arm_next.ensures.1 (c.in_err-arm_next.ensures.put groups at found b c.turns.report (c.turns.invariant.putting groups at found b u))
 
 pub returns-in_err-settle-clause-put : goal.returns-in_err-settle-clause-put
-returns-in_err-settle-clause-put g c groups b u = residual_of c.from_residual-in_err-settle.result _ (HasHaltedPut g.K.Sink.holds g.K.Sink.may_leave groups b.config b.now b.held c.settle.new.store.offset c.settle.new.report c.turns.sink) c.from_residual-in_err-settle.ensures.1 (c.in_err-settle.ensures.put groups b (rests_put g.K.Sink.holds g.K.Sink.may_leave groups b c.turns.store.offset c.turns.sink c.arm_next.new.work c.turns.report (c.in_ok-arm_next.ensures.putting groups b c.turns.report (c.turns.invariant.putting groups b u))))
+returns-in_err-settle-clause-put g c groups at found b u = residual_of c.from_residual-in_err-settle.result _ (HasHaltedPut g.S.Source.stands g.K.Sink.holds g.K.Sink.may_leave groups at b.config b.now b.held c.settle.new.store.offset c.settle.new.report c.settle.new.src (g.S.Source.told c.settle.new.src) c.turns.sink) c.from_residual-in_err-settle.ensures.1 (c.in_err-settle.ensures.put groups at found b (rests_put g.S.Source.stands g.K.Sink.holds g.K.Sink.may_leave groups at found b c.turns.store.offset c.arm_next.new.work c.turns.report c.arm_next.new.src (g.S.Source.told c.arm_next.new.src) c.turns.sink (c.in_ok-arm_next.ensures.putting groups at found b c.turns.report (c.turns.invariant.putting groups at found b u))))
 
 pub returns-clause-putting : goal.returns-clause-putting
-returns-clause-putting g c groups b u = c.in_ok-settle.ensures.putting groups b (rests_put g.K.Sink.holds g.K.Sink.may_leave groups b c.turns.store.offset c.turns.sink c.arm_next.new.work c.turns.report (c.in_ok-arm_next.ensures.putting groups b c.turns.report (c.turns.invariant.putting groups b u)))
+returns-clause-putting g c groups at found b u = c.in_ok-settle.ensures.putting groups at found b (rests_put g.S.Source.stands g.K.Sink.holds g.K.Sink.may_leave groups at found b c.turns.store.offset c.arm_next.new.work c.turns.report c.arm_next.new.src (g.S.Source.told c.arm_next.new.src) c.turns.sink (c.in_ok-arm_next.ensures.putting groups at found b c.turns.report (c.turns.invariant.putting groups at found b u)))
 
 pub returns-then-branch-clause-putting : goal.returns-then-branch-clause-putting
-returns-then-branch-clause-putting g c groups b u = c.in_ok-turn.ensures.putting groups b (c.turns.invariant.putting groups b u)
+returns-then-branch-clause-putting g c groups at found b u = c.in_ok-turn.ensures.putting groups at found b (c.turns.invariant.putting groups at found b u)
 
 pub returns-in_err-turn-clause-reads : goal.returns-in_err-turn-clause-reads
 returns-in_err-turn-clause-reads g c = residual_of c.from_residual.result _ IsNotGone c.from_residual.ensures.1 c.in_err-turn.ensures.reads

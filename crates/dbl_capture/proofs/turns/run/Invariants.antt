@@ -22,7 +22,8 @@ invariant-turns g l = record {
       IsUnderWay g.S.Source.stands at found b l.store.offset l.work l.report l.src (g.S.Source.told l.src);
   awaits : (at : Option Standing) (found : Option Told) (b : Beginning) → IsUnderWay g.S.Source.stands at found b l.fn.store.offset l.fn.work l.fn.report l.fn.src (g.S.Source.told l.fn.src) → (s : Standing) → at ≡ Some s →
       Awaits g.S.Source.stands l.fn.work l.fn.src → g.S.Source.honest l.src → Awaits g.S.Source.stands l.work l.src;
-  putting : (groups : List (List Record)) (b : Beginning) → IsPutting g.K.Sink.holds groups b l.fn.store.offset l.fn.work l.fn.report l.fn.sink → IsPutting g.K.Sink.holds groups b l.store.offset l.work l.report l.sink;
+  putting : (groups : List (List Record)) (at : Option Standing) (found : Option Told) (b : Beginning) → IsPutting g.S.Source.stands g.K.Sink.holds groups at found b l.fn.store.offset l.fn.work l.fn.report l.fn.src (g.S.Source.told l.fn.src) l.fn.sink →
+      IsPutting g.S.Source.stands g.K.Sink.holds groups at found b l.store.offset l.work l.report l.src (g.S.Source.told l.src) l.sink;
   quiet : 1 ≤ l._count → IsQuiet (g.S.Source.told l.src);
   ready : IsReady l.work;
   offset_is : l.work.offset ≡ record l.fn.work.offset { lsn = l.work.offset.lsn; end_lsn = l.work.offset.end_lsn };

@@ -399,25 +399,25 @@ returns-in_ok-end-in-None-clause-none g c is =
     (none_settled c.arm_next.new.work c.next.new.work c.end.new.work c.in_ok-arm_next.ensures.waits.none same c.in_ok-end-in-None.ensures.same, absent_settled c.next.new.work c.end.new.work c.in_ok-end-in-None.ensures.waited c.in_ok-end-in-None.ensures.same)
 
 pub returns-in_err-arm_next-clause-put : goal.returns-in_err-arm_next-clause-put
-returns-in_err-arm_next-clause-put g c groups b u = residual_of c.from_residual.result _ (HasHaltedPut g.K.Sink.holds g.K.Sink.may_leave groups b.config b.now b.held c.args.store.now.offset c.args.report.now c.args.sink.now) c.from_residual.ensures.1 (c.in_err-arm_next.ensures.put groups b c.args.report.now u)
+returns-in_err-arm_next-clause-put g c groups at found b u = residual_of c.from_residual.result _ (HasHaltedPut g.S.Source.stands g.K.Sink.holds g.K.Sink.may_leave groups at b.config b.now b.held c.args.store.now.offset c.args.report.now c.arm_next.new.src (g.S.Source.told c.arm_next.new.src) c.args.sink.now) c.from_residual.ensures.1 (c.in_err-arm_next.ensures.put groups at found b c.args.report.now u)
 
 pub returns-in_err-next-clause-put : goal.returns-in_err-next-clause-put
-returns-in_err-next-clause-put g c groups b u = residual_of c.from_residual-in_err-next.result _ (HasHaltedPut g.K.Sink.holds g.K.Sink.may_leave groups b.config b.now b.held c.args.store.now.offset c.next.new.report c.next.new.sink) c.from_residual-in_err-next.ensures.1 (c.in_err-next.ensures.put groups b (c.in_ok-arm_next.ensures.putting groups b c.args.report.now u))
+returns-in_err-next-clause-put g c groups at found b u = residual_of c.from_residual-in_err-next.result _ (HasHaltedPut g.S.Source.stands g.K.Sink.holds g.K.Sink.may_leave groups at b.config b.now b.held c.args.store.now.offset c.next.new.report c.next.new.src (g.S.Source.told c.next.new.src) c.next.new.sink) c.from_residual-in_err-next.ensures.1 (c.in_err-next.ensures.put groups at found b (c.in_ok-arm_next.ensures.putting groups at found b c.args.report.now u))
 
 pub returns-in_err-settle-in-Some-true-clause-put : goal.returns-in_err-settle-in-Some-true-clause-put
-returns-in_err-settle-in-Some-true-clause-put g c groups b u = residual_of c.from_residual-in_err-settle-in-Some-true.result _ (HasHaltedPut g.K.Sink.holds g.K.Sink.may_leave groups b.config b.now b.held c.settle.new.store.offset c.settle.new.report c.next.new.sink) c.from_residual-in_err-settle-in-Some-true.ensures.1 (c.in_err-settle-in-Some-true.ensures.put groups b (puts_true g.K.Sink.holds groups b c.args.store.now.offset c.next.new.work c.next.new.report c.next.new.sink _ c.in-Some-true.field-0 c.in-Some-true.is c.in-Some-true.field-0-test (c.in_ok-next.ensures.putting groups b (c.in_ok-arm_next.ensures.putting groups b c.args.report.now u))))
+returns-in_err-settle-in-Some-true-clause-put g c groups at found b u = residual_of c.from_residual-in_err-settle-in-Some-true.result _ (HasHaltedPut g.S.Source.stands g.K.Sink.holds g.K.Sink.may_leave groups at b.config b.now b.held c.settle.new.store.offset c.settle.new.report c.settle.new.src (g.S.Source.told c.settle.new.src) c.next.new.sink) c.from_residual-in_err-settle-in-Some-true.ensures.1 (c.in_err-settle-in-Some-true.ensures.put groups at found b (puts_true g.S.Source.stands g.K.Sink.holds groups at found b c.args.store.now.offset c.next.new.work c.next.new.report c.next.new.src (g.S.Source.told c.next.new.src) c.next.new.sink _ c.in-Some-true.field-0 c.in-Some-true.is c.in-Some-true.field-0-test (c.in_ok-next.ensures.putting groups at found b (c.in_ok-arm_next.ensures.putting groups at found b c.args.report.now u))))
 
 pub returns-in_ok-settle-in-Some-true-clause-putting : goal.returns-in_ok-settle-in-Some-true-clause-putting
-returns-in_ok-settle-in-Some-true-clause-putting g c groups b u = c.in_ok-settle-in-Some-true.ensures.putting groups b (puts_true g.K.Sink.holds groups b c.args.store.now.offset c.next.new.work c.next.new.report c.next.new.sink _ c.in-Some-true.field-0 c.in-Some-true.is c.in-Some-true.field-0-test (c.in_ok-next.ensures.putting groups b (c.in_ok-arm_next.ensures.putting groups b c.args.report.now u)))
+returns-in_ok-settle-in-Some-true-clause-putting g c groups at found b u = c.in_ok-settle-in-Some-true.ensures.putting groups at found b (puts_true g.S.Source.stands g.K.Sink.holds groups at found b c.args.store.now.offset c.next.new.work c.next.new.report c.next.new.src (g.S.Source.told c.next.new.src) c.next.new.sink _ c.in-Some-true.field-0 c.in-Some-true.is c.in-Some-true.field-0-test (c.in_ok-next.ensures.putting groups at found b (c.in_ok-arm_next.ensures.putting groups at found b c.args.report.now u)))
 
 pub returns-in_err-end-in-None-clause-put : goal.returns-in_err-end-in-None-clause-put
-returns-in_err-end-in-None-clause-put g c groups b u = residual_of c.from_residual-in_err-end-in-None.result _ (HasHaltedPut g.K.Sink.holds g.K.Sink.may_leave groups b.config b.now b.held c.end.new.store.offset c.end.new.report c.next.new.sink) c.from_residual-in_err-end-in-None.ensures.1 (c.in_err-end-in-None.ensures.put groups b (puts_none g.K.Sink.holds groups b c.args.store.now.offset c.next.new.work c.next.new.report c.next.new.sink _ c.in-None.is (c.in_ok-next.ensures.putting groups b (c.in_ok-arm_next.ensures.putting groups b c.args.report.now u))))
+returns-in_err-end-in-None-clause-put g c groups at found b u = residual_of c.from_residual-in_err-end-in-None.result _ (HasHaltedPut g.S.Source.stands g.K.Sink.holds g.K.Sink.may_leave groups at b.config b.now b.held c.end.new.store.offset c.end.new.report c.end.new.src (g.S.Source.told c.end.new.src) c.next.new.sink) c.from_residual-in_err-end-in-None.ensures.1 (c.in_err-end-in-None.ensures.put groups at found b (puts_none g.S.Source.stands g.K.Sink.holds groups at found b c.args.store.now.offset c.next.new.work c.next.new.report c.next.new.src (g.S.Source.told c.next.new.src) c.next.new.sink _ c.in-None.is (c.in_ok-next.ensures.putting groups at found b (c.in_ok-arm_next.ensures.putting groups at found b c.args.report.now u))))
 
 pub returns-in_ok-end-in-None-clause-putting : goal.returns-in_ok-end-in-None-clause-putting
-returns-in_ok-end-in-None-clause-putting g c groups b u = c.in_ok-end-in-None.ensures.putting groups b (puts_none g.K.Sink.holds groups b c.args.store.now.offset c.next.new.work c.next.new.report c.next.new.sink _ c.in-None.is (c.in_ok-next.ensures.putting groups b (c.in_ok-arm_next.ensures.putting groups b c.args.report.now u)))
+returns-in_ok-end-in-None-clause-putting g c groups at found b u = c.in_ok-end-in-None.ensures.putting groups at found b (puts_none g.S.Source.stands g.K.Sink.holds groups at found b c.args.store.now.offset c.next.new.work c.next.new.report c.next.new.src (g.S.Source.told c.next.new.src) c.next.new.sink _ c.in-None.is (c.in_ok-next.ensures.putting groups at found b (c.in_ok-arm_next.ensures.putting groups at found b c.args.report.now u)))
 
 pub returns-in-Some-false-clause-putting : goal.returns-in-Some-false-clause-putting
-returns-in-Some-false-clause-putting g c groups b u = puts_false g.K.Sink.holds groups b c.args.store.now.offset c.next.new.work c.next.new.report c.next.new.sink _ c.in-Some-false.field-0 c.in-Some-false.is c.in-Some-false.field-0-test (c.in_ok-next.ensures.putting groups b (c.in_ok-arm_next.ensures.putting groups b c.args.report.now u))
+returns-in-Some-false-clause-putting g c groups at found b u = puts_false g.S.Source.stands g.K.Sink.holds groups at found b c.args.store.now.offset c.next.new.work c.next.new.report c.next.new.src (g.S.Source.told c.next.new.src) c.next.new.sink _ c.in-Some-false.field-0 c.in-Some-false.is c.in-Some-false.field-0-test (c.in_ok-next.ensures.putting groups at found b (c.in_ok-arm_next.ensures.putting groups at found b c.args.report.now u))
 
 pub returns-in_err-arm_next-clause-reads : goal.returns-in_err-arm_next-clause-reads
 returns-in_err-arm_next-clause-reads g c = residual_of c.from_residual.result _ IsNotGone c.from_residual.ensures.1 c.in_err-arm_next.ensures.reads

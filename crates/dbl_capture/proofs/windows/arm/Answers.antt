@@ -63,13 +63,16 @@ returns-clause-halted g c at found b report u =
     (λ h chunk. record { halted = halts_between g.S.Source.stands at found b c.args.store.now.offset c.args.store.now.offset c.args.work.now report report c.args.src.now c.read_window.new.src (g.S.Source.told c.args.src.now) (g.S.Source.told c.read_window.new.src) h (at_rest g.S.Source.stands at found b c.args.store.now.offset c.args.work.now report c.args.src.now (g.S.Source.told c.args.src.now) u) c.read_window.ensures.taken c.read_window.ensures.still (chunk_left c.args.work.now c.args.table _ h chunk) refl refl (inl refl); stood = λ s first. chunk_stood b.config b.now b.held c.args.store.now.offset report (g.S.Source.stands c.read_window.new.src) c.args.work.now c.args.table (g.S.Source.told c.read_window.new.src) h chunk; cause = chunk_caused b u.messages c.args.store.now.offset c.args.work.now report c.args.table (g.S.Source.told c.read_window.new.src) h u.is c.requires.absent c.requires.table chunk; ask = chunk_asks b u.messages c.args.store.now.offset c.args.work.now report c.args.table found (g.S.Source.told c.args.src.now) (g.S.Source.told c.read_window.new.src) h u.is u.tells c.read_window.ensures.taken c.requires.absent c.requires.table chunk })
 
 pub returns-clause-putting : goal.returns-clause-putting
-returns-clause-putting g c groups b report u =
-    ok_then c.read_window.result _ _ c.read_window.ensures.same (λ armed. windows_put_nothing g.K.Sink.holds g.K.Sink.may_leave groups b c.args.store.now.offset c.args.sink.now c.args.work.now c.read_window.new.work c.args.table report u c.requires.absent c.requires.table armed)
+returns-clause-putting g c groups at found b report u =
+    ok_both c.read_window.result _ _ (g.S.Source.stands c.args.src.now) _ c.read_window.ensures.same c.read_window.ensures.windowed
+    (λ armed windowed. windows_put_nothing g.S.Source.stands g.K.Sink.holds g.K.Sink.may_leave groups at found b c.args.store.now.offset c.args.src.now c.read_window.new.src (g.S.Source.told c.args.src.now) (g.S.Source.told c.read_window.new.src) c.args.sink.now c.args.work.now c.read_window.new.work c.args.table report u c.requires.absent c.requires.table armed c.read_window.ensures.taken
+    (λ s is. let w = windowed s is in record { standing = w.stood.standing; is = w.stood.is; holds = w.stood.holds.looked.reading }))
 
 pub returns-clause-put : goal.returns-clause-put
-returns-clause-put g c groups b report u =
-    err_then c.read_window.result _ (HasHaltedPut g.K.Sink.holds g.K.Sink.may_leave groups b.config b.now b.held c.args.store.now.offset report c.args.sink.now) c.read_window.ensures.halt
-    (λ h chunk. halts_put_nothing g.K.Sink.holds g.K.Sink.may_leave groups b c.args.store.now.offset c.args.store.now.offset c.args.work.now report report c.args.sink.now h (rests_put g.K.Sink.holds g.K.Sink.may_leave groups b c.args.store.now.offset c.args.sink.now c.args.work.now report u) (g.met.K.Sink.only c.args.sink.now) (source_other h (chunk_of c.args.work.now c.args.table _ h chunk)) refl refl refl (inl refl))
+returns-clause-put g c groups at found b report u =
+    err_then c.read_window.result _ (HasHaltedPut g.S.Source.stands g.K.Sink.holds g.K.Sink.may_leave groups at b.config b.now b.held c.args.store.now.offset report c.read_window.new.src (g.S.Source.told c.read_window.new.src) c.args.sink.now) c.read_window.ensures.halt
+    (λ h chunk. halts_put_nothing g.S.Source.stands g.K.Sink.holds g.K.Sink.may_leave groups at found b c.args.store.now.offset c.args.store.now.offset c.args.work.now report report c.args.src.now c.read_window.new.src (g.S.Source.told c.args.src.now) (g.S.Source.told c.read_window.new.src) c.args.sink.now h (rests_put g.S.Source.stands g.K.Sink.holds g.K.Sink.may_leave groups at found b c.args.store.now.offset c.args.work.now report c.args.src.now (g.S.Source.told c.args.src.now) c.args.sink.now u) (g.met.K.Sink.only c.args.sink.now) (source_other h (chunk_of c.args.work.now c.args.table _ h chunk)) refl refl refl (inl refl)
+    (chunk_left c.args.work.now c.args.table _ h chunk) refl refl c.read_window.ensures.taken c.read_window.ensures.still)
 
 pub returns-clause-reads : goal.returns-clause-reads
 returns-clause-reads g c = err_then c.read_window.result _ IsNotGone c.read_window.ensures.halt (λ h is. chunk_reads c.args.work.now c.args.table _ h is)

@@ -1,5 +1,5 @@
 //! The calls of a case: `describe public.users`, `head`, `start 0`, `read`, `select public.users`, `mark 1-1-L` and `confirm 256`.
-//! No call is made behind an error.
+//! No call is made of an empty text, and none behind an error.
 
 ghost use Rattle.std.specs.Prelude.{◌≡◌, is_some, true, IsTrue};
 
@@ -30,6 +30,9 @@ pub fn make(alloc: Global, session: &mut Session, calls: &str, shown: &mut Strin
     requires reading { session.old.reading ≡ true → IsTrue (is_some session.old.source.place) }
 {
     for text in calls.split("; ") {
+        if text.is_empty() {
+            continue;
+        }
         match ask(session, &call(alloc, text)?) {
             Ok(()) => {}
             Err(Fault::Source(error)) => {

@@ -5,6 +5,7 @@
 #![tactic(auto)]
 
 mod calls;
+mod counts;
 mod left;
 mod session;
 mod stops;
@@ -20,6 +21,7 @@ fn answer(alloc: Global, name: &str, arguments: &str) -> Result<String> {
     let (family, _) = words::split(name, " ");
     match family {
         "stop" => stops::answer(alloc, &mut shown, arguments)?,
+        "counted" => counts::answer(alloc, &mut shown, arguments)?,
         "wal" => wal::opened(alloc, &mut shown, arguments)?,
         "cut" => wal::cut(alloc, &mut shown, arguments)?,
         "changed" => wal::changed(alloc, &mut shown, arguments)?,

@@ -24,8 +24,8 @@ fn lines(alloc: Global, text: &str) -> Result<String> {
     Ok(lines)
 }
 
-// A disk with a source that begins with the workload.
-fn made(alloc: Global, workload: &[u8]) -> Result<MemDisk> {
+/// A disk with a source that begins with the workload.
+pub fn made(alloc: Global, workload: &[u8]) -> Result<MemDisk> {
     if workload.len() > 1_000_000 {
         bail!("too long");
     }
@@ -36,8 +36,8 @@ fn made(alloc: Global, workload: &[u8]) -> Result<MemDisk> {
     }
 }
 
-// Opens the source and makes the calls.
-fn run(alloc: Global, shown: &mut String, disk: Device, calls: &str) -> Result<Device> {
+/// Opens the source and makes the calls, and adds what is answered. The disk as it stands then.
+pub fn run(alloc: Global, shown: &mut String, disk: Device, calls: &str) -> Result<Device> {
     match DemoSource::open(alloc, disk) {
         Ok(source) => {
             let mut session = Session {

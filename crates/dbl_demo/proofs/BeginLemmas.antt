@@ -1,23 +1,21 @@
 -- The first entries of a log are appended: which fault that can have, how many they are, how long the disk gets, and what is left
 -- of it.
-use Rattle.std.proofs.Common.{◌≡◌, ◌∙◌, ◌⊎◌, ℕ, ◌+◌, ◌<◌, ◌≤◌, ◌^◌, Option, None, Some, Result, Ok, Err, List, [], ◌∷◌, ◌++◌, length, max, refl, sym, ap, subst, arith, inl, inr}
-use Rattle.std.specs.Prelude.{IfSome}
+use Rattle.std.proofs.Common.{◌≡◌, ◌∙◌, ℕ, ◌+◌, ◌<◌, ◌≤◌, ◌^◌, Option, None, Some, Result, Err, List, [], ◌∷◌, ◌++◌, length, max, refl, sym, ap, subst, arith, inl, inr}
 use Rattle.dbl_pgmsg.specs.declared.messages.Message.{Message}
 use Rattle.dbl_journal.specs.declared.error.JournalError.{JournalError}
 use Rattle.dbl_journal.specs.declared.error.JournalError.TheVariants as broken
 use Rattle.dbl_base.specs.Streams.{Rose}
 use Rattle.dbl_journal.specs.Stored.{IsSteady, Lists, OnDisk, size}
 use Rattle.dbl_wal.specs.declared.entry.Entry.TheVariants.{Commits}
-use Rattle.dbl_wal.specs.Entries.{Spells, entry_form, workload_form}
+use Rattle.dbl_wal.specs.Entries.{Spells, workload_form}
 use Rattle.dbl_sound.proofs.SizeLemmas.{commit_size}
 use Rattle.dbl_serial.specs.Sending.{entry_limit, entry_size}
 use Rattle.dbl_workload.specs.declared.error.DemoError.{DemoError}
-use Rattle.dbl_workload.specs.declared.error.DemoError.TheVariants as fault
 use Rattle.dbl_workload.specs.Errors.{journal_error}
 use Rattle.dbl_workload.specs.Logs.{IsFailed}
 use Rattle.dbl_workload.specs.Steps.{FitAnEntry}
 use Rattle.dbl_running.specs.Made.{first_forms}
-use Rattle.dbl_running.proofs.MakeLemmas.{first_less, first_small, grew_once, grew_twice, none_small}
+use Rattle.dbl_running.proofs.MakeLemmas.{first_less, grew_once, grew_twice, none_small}
 use Rattle.dbl_demo.specs.Begun.{IsBeginFault, IsDiskBegun}
 
 -- ---- the fault of an entry that isn't too long

@@ -1,10 +1,9 @@
 -- A group that is run step by step, of a source that is known by its parts.
-use Rattle.std.proofs.Common.{◌≡◌, ◌∙◌, ℕ, zero, suc, ◌+◌, ◌<◌, ◌≤◌, Bool, true, false, Option, Some, List, [], ◌∷◌, length, sym, ap, subst, refl, arith}
+use Rattle.std.proofs.Common.{◌≡◌, ◌∙◌, ℕ, zero, suc, ◌+◌, ◌<◌, ◌≤◌, Bool, true, false, Option, Some, List, [], ◌∷◌, length, sym, subst, refl, arith}
 use Rattle.std.specs.Prelude.{IsTrue, slice_get}
 use Rattle.dbl_journal.specs.Growth.{ComesOf}
 use Rattle.dbl_journal.proofs.Growth.{comes_on}
 use Rattle.dbl_script.specs.declared.script.Step.{Step}
-use Rattle.dbl_sound.specs.Groups.{group_end}
 use Rattle.dbl_sound.specs.Wals.{Wal}
 use Rattle.dbl_workload.specs.Steps.{is_tick}
 use Rattle.dbl_running.specs.Calls.{next_end}

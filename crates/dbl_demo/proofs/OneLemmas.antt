@@ -1,8 +1,8 @@
 -- One step that was run: what it leaves of a source that is known by its parts.
-use Rattle.std.proofs.Common.{◌≡◌, ◌∙◌, ℕ, ◌+◌, ◌<◌, ◌^◌, Bool, get_or, Option, None, Some, List, [], length, sym, ap, subst, arith}
+use Rattle.std.proofs.Common.{◌≡◌, ◌∙◌, ℕ, ◌+◌, ◌<◌, ◌^◌, Bool, get_or, Option, None, Some, List, [], length, sym, ap, subst}
 use Rattle.std.specs.Prelude.{slice_get}
 use Rattle.dbl_pgmsg.specs.declared.messages.Message.{Message}
-use Rattle.dbl_journal.specs.Stored.{OnDisk, count_of}
+use Rattle.dbl_journal.specs.Stored.{count_of}
 use Rattle.dbl_script.specs.declared.script.Step.{Step}
 use Rattle.dbl_tables.specs.declared.tables.Tables.{Tables}
 use Rattle.dbl_tables.specs.Stands.{Stands}

@@ -1,6 +1,6 @@
 -- How a call ends that writes an entry of its own behind the group that it ran.
-use Rattle.std.proofs.Common.{◌≡◌, ◌∙◌, ◌⊎◌, ℕ, ◌+◌, ◌<◌, ◌≤◌, ◌^◌, Bool, true, false, Option, List, [], ◌∷◌, ◌++◌, length, refl, sym, ap, subst, arith}
-use Rattle.std.specs.Prelude.{IsTrue, Result, Ok, Err, nat_lt, if◌then◌else◌}
+use Rattle.std.proofs.Common.{◌≡◌, ◌∙◌, ◌⊎◌, ℕ, ◌+◌, ◌<◌, ◌≤◌, ◌^◌, Bool, true, false, Option, List, [], ◌∷◌, ◌++◌, refl, sym, ap, subst, arith}
+use Rattle.std.specs.Prelude.{Result, Ok, Err, nat_lt, if◌then◌else◌}
 use Rattle.std.proofs.lemmas.Bool.{ltb-true}
 use Rattle.std.proofs.lemmas.Bool.Decides.{Decides-ltb}
 use Rattle.dbl_base.specs.declared.lsn.Lsn.{Lsn}
@@ -10,7 +10,6 @@ use Rattle.dbl_journal.specs.Growth as journals
 use Rattle.dbl_journal.specs.Stored.{LeavesEntries, Lists, OnDisk, count_of}
 use Rattle.dbl_reading.specs.declared.error.SourceError.{SourceError}
 use Rattle.dbl_reading.specs.declared.error.SourceError.TheVariants.{Failed}
-use Rattle.dbl_script.specs.declared.script.Step.{Step}
 use Rattle.dbl_wal.specs.declared.entry.Entry.{Entry}
 use Rattle.dbl_wal.specs.declared.entry.Entry.TheVariants.{Confirms, Marks}
 use Rattle.dbl_wal.specs.Entries.{Spells}

@@ -1,31 +1,23 @@
-//! What each call of the source does: it runs a group of steps, and writes an entry of its own. The source is live again only once
-//! the call answers.
+//! What a call of the source does: it runs a group of steps, and answers behind it. The source is live again only once the call
+//! answers.
 
-ghost use Rattle.std.specs.Prelude.{◌≡◌, ◌⊎◌, ◌+◌, ◌<◌, ◌≤◌, ◌^◌, ◌++◌, ◌∷◌, [], ℕ, List, length, drop, false, option_copied, option_map, option_and_then, slice_get, Err, IsTrue, IfSome, IfOk, IfErr, OnOk};
+ghost use Rattle.std.specs.Prelude.{◌≡◌, ◌<◌, [], length, None, false, option_map, option_and_then};
+ghost use Rattle.std.specs.Prelude.{slice_get, IsTrue, IfSome, IfOk, IfErr};
 ghost use Rattle.std.specs.List.{position_from};
+ghost use Rattle.std.specs.BTreeSet.{IsEmpty};
 ghost use Rattle.dbl_table.specs.Tables.{same_name};
-ghost use Rattle.dbl_base.specs.Streams.{Rose};
-ghost use Rattle.dbl_journal.specs.Growth.{ComesOf};
-ghost use Rattle.dbl_journal.specs.Stored.{LeavesEntries, Lists, count_of};
 ghost use Rattle.dbl_history.specs.History.{entry_of};
 ghost use Rattle.dbl_feed.specs.Histories.{history_of};
-ghost use Rattle.dbl_serial.specs.declared.demo_table.DemoTable.{DemoTable};
-ghost use Rattle.dbl_serial.specs.Acts.{Accepted};
-ghost use Rattle.dbl_tables.specs.Stands.{Stands};
-ghost use Rattle.dbl_running.specs.Answers.{Adds, AddsRead, AnswersEntry, AnswersHead, AnswersNothing, AnswersRows, AnswersStart};
-ghost use Rattle.dbl_selects.specs.Shown.{AreRowsShown};
-ghost use Rattle.dbl_running.specs.Calls.{LeavesFirst, confirm_of, mark_of, next_end, second_end};
+ghost use Rattle.dbl_running.specs.Answers.{Adds, AddsRead, AnswersEntry, AnswersHead, AnswersStart};
+ghost use Rattle.dbl_running.specs.Calls.{next_end};
 
 use crate::DemoSource;
-use crate::appending::append;
-use dbl_base::{Bytes, Lsn, Text};
+use dbl_base::{Bytes, Lsn};
 use dbl_disk::Disk;
 use dbl_feed::{LogTable, Place, lsn_of};
 use dbl_honest::Started;
-use dbl_serial::StepError;
 use dbl_source::SourceError;
-use dbl_table::{Key, RawRow, RawTable, TableName};
-use dbl_wal::{confirm_entry, mark_entry};
+use dbl_table::{RawTable, TableName};
 
 fn place_named(tables: &[LogTable], name: &TableName) -> Option<usize>
     ensures place { result
@@ -62,26 +54,6 @@ impl<D: Disk> DemoSource<D> {
         Ok(Some(entry))
     }
 
-    // The committed rows of a table; none where there is no such table.
-    fn rows_above(
-        &self,
-        table: &TableName,
-        above: Option<&Key>,
-        limit: u32,
-    ) -> Result<Vec<RawRow>, SourceError>
-        ensures rows { (tables : List DemoTable) (past : List Accepted) →
-            Stands tables past self.now.store →
-            IfOk result (λ rows. AreRowsShown tables past table.now
-            (option_copied above.entry) limit rows.items) }
-        ensures memory { IfErr result (λ e. e ≡ SourceError.Memory) }
-    {
-        match self.store.select(table, above, limit) {
-            Ok(rows) => Ok(rows.into_items()),
-            Err(StepError::UnknownTable) => Ok(Vec::new(self.alloc)),
-            Err(_) => Err(SourceError::Memory),
-        }
-    }
-
     /// The table of this name.
     pub(crate) fn answer_describe(
         &mut self,
@@ -112,6 +84,20 @@ impl<D: Disk> DemoSource<D> {
         Ok(lsn_of(self.commits.len() as u64))
     }
 
+    // Nothing was described to the reader that begins, nor read by it.
+    fn forget_reader(&mut self)
+        ensures undescribed { IsEmpty self.new.described }
+        ensures same { self.new ≡ record self.old {
+          described = self.new.described;
+          held = None;
+          ended = false;
+        } }
+    {
+        self.held = None;
+        self.described.clear();
+        self.ended = false;
+    }
+
     /// The log is gone exactly below the confirmed position.
     pub(crate) fn answer_start(&mut self, after: Lsn) -> Result<Started, SourceError>
         requires { IsTrue self.old.live }
@@ -120,9 +106,7 @@ impl<D: Disk> DemoSource<D> {
     {
         self.live = false;
         self.release()?;
-        self.held = None;
-        self.described.clear();
-        self.ended = false;
+        self.forget_reader();
         self.live = true;
         if after.0 < self.confirmed.0 {
             self.place = None;
@@ -151,130 +135,5 @@ impl<D: Disk> DemoSource<D> {
         self.ended = read.is_none();
         self.live = true;
         Ok(read)
-    }
-
-    /// The rows are those between two groups.
-    pub(crate) fn answer_select(
-        &mut self,
-        table: &TableName,
-        above: Option<&Key>,
-        limit: u32,
-    ) -> Result<Vec<RawRow>, SourceError>
-        requires { IsTrue self.old.live }
-        ensures { Adds D.seen D.may_leave D.faults (second_end self.old) []
-            (λ new rows. AnswersRows D.seen D.may_leave table.now (option_copied above.entry)
-            limit self.old new rows.items) self.old self.new result }
-    {
-        self.live = false;
-        self.release()?;
-        let rows = self.rows_above(table, above, limit)?;
-        self.release()?;
-        self.live = true;
-        Ok(rows)
-    }
-
-    // Appends the entry of a mark. Where it isn't appended no commit has its number.
-    fn log_mark(&mut self, entry: Vec<u8>) -> Result<(), SourceError>
-        requires live { IsTrue self.old.journal.live }
-        requires dead { self.old.live ≡ false }
-        requires room { 4 ≤ length entry.items }
-        ensures added { (forms : List (List ℕ)) → Lists D.seen D.may_leave self.old.journal forms
-            → OnOk result (Lists D.seen D.may_leave self.new.journal
-            (forms ++ drop 4 entry.items ∷ [])) }
-        ensures left { (forms : List (List ℕ)) → Lists D.seen D.may_leave self.old.journal forms
-            → LeavesEntries D.may_leave self.new.journal.disk
-            (λ left. (left ≡ forms) ⊎ (left ≡ forms ++ drop 4 entry.items ∷ [])) }
-        ensures kept { (forms : List (List ℕ)) → Lists D.seen D.may_leave self.old.journal forms
-            → result ≡ Err SourceError.Memory → Lists D.seen D.may_leave self.new.journal forms }
-        ensures small { count_of self.old.journal < 2 ^ 40 }
-        ensures commits { OnOk result
-            (self.new.commits ≡ self.old.commits ++ count_of self.old.journal ∷ []) }
-        ensures same { self.new ≡ record self.old {
-          journal = self.new.journal;
-          commits = self.new.commits;
-        } }
-        ensures live { OnOk result (IsTrue self.new.journal.live) }
-        ensures comes { ComesOf D.seen D.may_leave self.old.journal self.new.journal }
-        ensures failed { result ≡ Err SourceError.Failed
-            → Rose (D.faults self.old.journal.disk) (D.faults self.new.journal.disk) }
-        ensures later { D.faults self.old.journal.disk ≤ D.faults self.new.journal.disk }
-    {
-        let number = self.journal.count();
-        self.commits.push(number)?;
-        if let Err(error) = append(&mut self.journal, entry) {
-            self.commits.pop();
-            return Err(error);
-        }
-        Ok(())
-    }
-
-    /// A commit of its own behind the group.
-    pub(crate) fn answer_mark(&mut self, value: &Text) -> Result<(), SourceError>
-        requires live { IsTrue self.old.live }
-        requires short { length value.now ≤ 64 }
-        ensures added { Adds D.seen D.may_leave D.faults
-            (next_end self.old) (mark_of value.now (next_end self.old))
-            (AnswersNothing self.old) self.old self.new result }
-        ensures starved { result ≡ Err SourceError.Memory
-            → LeavesFirst D.seen D.may_leave (next_end self.old) [] self.old self.new }
-    {
-        self.live = false;
-        self.release()?;
-        let entry = mark_entry(self.alloc, self.done as u64, value)?;
-        self.log_mark(entry)?;
-        self.live = true;
-        Ok(())
-    }
-
-    // Appends the entry of a position that is confirmed.
-    fn log_confirm(&mut self, entry: Vec<u8>, upto: Lsn) -> Result<(), SourceError>
-        requires live { IsTrue self.old.journal.live }
-        requires dead { self.old.live ≡ false }
-        requires room { 4 ≤ length entry.items }
-        ensures added { (forms : List (List ℕ)) → Lists D.seen D.may_leave self.old.journal forms
-            → OnOk result (Lists D.seen D.may_leave self.new.journal
-            (forms ++ drop 4 entry.items ∷ [])) }
-        ensures left { (forms : List (List ℕ)) → Lists D.seen D.may_leave self.old.journal forms
-            → LeavesEntries D.may_leave self.new.journal.disk
-            (λ left. (left ≡ forms) ⊎ (left ≡ forms ++ drop 4 entry.items ∷ [])) }
-        ensures kept { (forms : List (List ℕ)) → Lists D.seen D.may_leave self.old.journal forms
-            → result ≡ Err SourceError.Memory → Lists D.seen D.may_leave self.new.journal forms }
-        ensures small { count_of self.old.journal < 2 ^ 40 }
-        ensures confirmed { OnOk result (self.new.confirmed ≡ upto) }
-        ensures same { self.new ≡ record self.old {
-          journal = self.new.journal;
-          confirmed = self.new.confirmed;
-        } }
-        ensures live { OnOk result (IsTrue self.new.journal.live) }
-        ensures comes { ComesOf D.seen D.may_leave self.old.journal self.new.journal }
-        ensures failed { result ≡ Err SourceError.Failed
-            → Rose (D.faults self.old.journal.disk) (D.faults self.new.journal.disk) }
-        ensures later { D.faults self.old.journal.disk ≤ D.faults self.new.journal.disk }
-    {
-        let _entries = self.journal.count();
-        append(&mut self.journal, entry)?;
-        self.confirmed = upto;
-        Ok(())
-    }
-
-    /// A position that doesn't rise is appended nowhere.
-    pub(crate) fn answer_confirm(&mut self, upto: Lsn) -> Result<(), SourceError>
-        requires { IsTrue self.old.live }
-        ensures added { Adds D.seen D.may_leave D.faults
-            (next_end self.old) (confirm_of self.old.confirmed upto)
-            (AnswersNothing self.old) self.old self.new result }
-        ensures starved { result ≡ Err SourceError.Memory
-            → LeavesFirst D.seen D.may_leave (next_end self.old) [] self.old self.new }
-    {
-        self.live = false;
-        self.release()?;
-        if upto.0 <= self.confirmed.0 {
-            self.live = true;
-            return Ok(());
-        }
-        let entry = confirm_entry(self.alloc, upto)?;
-        self.log_confirm(entry, upto)?;
-        self.live = true;
-        Ok(())
     }
 }

@@ -1,6 +1,7 @@
 //! The calls of the source, by what any source promises of them.
 
-ghost use Rattle.std.specs.Prelude.{◌≡◌, ◌≤◌, ◌∷◌, [], length, None, false, is_none, is_some, option_copied, Err, IsTrue, IfSome, IfOk, OnOk, OnErr, MatchOption};
+ghost use Rattle.std.specs.Prelude.{◌≡◌, ◌≤◌, ◌∷◌, [], length, None, false, is_none, is_some, option_copied, Err};
+ghost use Rattle.std.specs.Prelude.{IsTrue, IfSome, IfOk, OnOk, OnErr, MatchOption};
 ghost use Rattle.dbl_base.specs.Streams.{Rose};
 ghost use Rattle.dbl_pgmsg.specs.declared.messages.Message.{Message};
 ghost use Rattle.dbl_pgmsg.specs.Grammar.{Spells};
@@ -16,7 +17,8 @@ ghost use Rattle.dbl_sound.specs.Workloads.{acts_at};
 ghost use Rattle.dbl_sound.specs.Wals.{Wal};
 ghost use Rattle.dbl_sound.specs.Standings.{MayLeaveWal};
 ghost use Rattle.dbl_selects.specs.Shown.{AreRowsShown};
-ghost use Rattle.dbl_running.specs.Calls.{HasReadWhole, confirm_of, LeavesFirst, LeavesRead, mark_of, next_end, ReadsOnTo, Releases, second_end, started_at};
+ghost use Rattle.dbl_running.specs.Calls.{HasReadWhole, confirm_of, LeavesFirst, LeavesRead, mark_of, next_end};
+ghost use Rattle.dbl_running.specs.Calls.{ReadsOnTo, Releases, second_end, started_at};
 ghost use Rattle.dbl_running.specs.Demo.{ComesOf, IsDemo, StandsFor};
 
 use crate::DemoSource;

@@ -4,10 +4,13 @@
 mod answering;
 mod appending;
 mod calls;
+mod confirming;
 mod making;
+mod marking;
 mod opening;
 mod reading;
 mod releasing;
+mod selecting;
 mod source;
 
 pub use dbl_workload::DemoError;

@@ -1,6 +1,7 @@
 //! A log that begins.
 
-ghost use Rattle.std.specs.Prelude.{◌≡◌, ◌≢◌, ◌⊎◌, ℕ, ◌<◌, ◌≤◌, ◌^◌, List, [], Some, None, Err, IfSome, IfOk, IfErr, OnOk, IsTrue, MatchResult, is_some, length, max};
+ghost use Rattle.std.specs.Prelude.{◌≡◌, ◌≢◌, ℕ, ◌<◌, ◌≤◌, ◌^◌, List, [], Some, None, Err, IfSome, IfOk, IfErr, OnOk};
+ghost use Rattle.std.specs.Prelude.{IsTrue, MatchResult, is_some, length, max};
 ghost use Rattle.dbl_base.specs.Streams.{Rose};
 ghost use Rattle.dbl_journal.specs.Stored.{IsSteady, Lists, count_of, size};
 ghost use Rattle.dbl_sound.specs.Wals.{Wal};

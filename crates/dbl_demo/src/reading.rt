@@ -1,6 +1,7 @@
 //! The next message of the log. Of a commit the entry is read once from the disk.
 
-ghost use Rattle.std.specs.Prelude.{◌≡◌, ◌⊎◌, ◌<◌, ◌≤◌, ◌^◌, ℕ, List, None, Some, Err, IfOk, IsTrue, slice_get, IfErr, IsSome, is_some, false, length};
+ghost use Rattle.std.specs.Prelude.{◌≡◌, ◌⊎◌, ◌<◌, ◌≤◌, ◌^◌, ℕ, List, None, Some, Err, IfOk, IsTrue, slice_get, IfErr};
+ghost use Rattle.std.specs.Prelude.{IsSome, is_some, false, length};
 ghost use Rattle.dbl_base.specs.Streams.{Rose};
 ghost use Rattle.dbl_feed.specs.declared.place.Place.{Place};
 ghost use Rattle.dbl_feed.specs.Sent.{index_of};

@@ -1,4 +1,4 @@
-use Rattle.std.proofs.Common.{◌≡◌, ◌∙◌, ◌<◌, ◌^◌, None, Some, List, [], ◌∷◌, ◌++◌, length, drop, ap, rules, subst, arith}
+use Rattle.std.proofs.Common.{◌≡◌, ◌∙◌, None, Some, List, [], length, drop, ap, rules, subst, arith}
 use Rattle.std.proofs.lemmas.Result.{err_from_is_err_and}
 use Rattle.dbl_pgmsg.specs.declared.messages.Message.{Message}
 use Rattle.dbl_wal.specs.declared.entry.Entry.TheVariants.{Commits}

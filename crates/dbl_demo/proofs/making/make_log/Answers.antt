@@ -1,7 +1,5 @@
-use Rattle.std.proofs.Common.{◌≡◌, ◌∙◌, ◌^◌, Err, List, ap, sym, subst, inr}
-use Rattle.dbl_journal.specs.declared.error.JournalError.TheVariants as broken
+use Rattle.std.proofs.Common.{◌∙◌, Err, ap, sym, subst}
 use Rattle.dbl_workload.specs.declared.error.DemoError.{DemoError}
-use Rattle.dbl_workload.specs.declared.error.DemoError.TheVariants as fault
 use Rattle.dbl_workload.specs.Errors.{journal_error}
 use Rattle.dbl_workload.specs.Logs.{IsFailed}
 use Rattle.dbl_running.specs.Made.{first_forms}

@@ -1,12 +1,10 @@
-use Rattle.std.proofs.Common.{◌≡◌, ◌∙◌, ◌<◌, ℕ, Bool, true, false, Err, List, [], ◌∷◌, drop, ap, sym, subst, arith}
-use Rattle.std.specs.Prelude.{Ok, nat_lt, if◌then◌else◌}
+use Rattle.std.proofs.Common.{◌≡◌, ◌∙◌, Err, drop, ap, sym, subst, arith}
+use Rattle.std.specs.Prelude.{Ok}
 use Rattle.std.proofs.lemmas.Result.{err_from_is_err_and}
 use Rattle.dbl_reading.specs.declared.error.SourceError.{SourceError}
 use Rattle.dbl_reading.specs.declared.error.SourceError.TheVariants.{Failed, Memory}
-use Rattle.dbl_wal.specs.declared.entry.Entry.{Entry}
-use Rattle.dbl_wal.specs.declared.entry.Entry.TheVariants.{Confirms}
 use Rattle.dbl_running.specs.Answers.{Adds, AnswersNothing}
-use Rattle.dbl_running.specs.Calls.{LeavesFirst, confirm_of, next_end}
+use Rattle.dbl_running.specs.Calls.{confirm_of, next_end}
 use Rattle.dbl_running.proofs.ExitLemmas.{answering, fails_from}
 use Rattle.dbl_running.specs.Demo.{Demo}
 use Rattle.dbl_demo.proofs.OwnExits.{confirm_answers, confirm_fails, first_from, rises_not, rises_so, starved_from, unrisen_answers}

@@ -3,7 +3,6 @@ use Rattle.std.proofs.lemmas.Result.{err_from_is_err_and}
 use Rattle.std.specs.Prelude.{Ok}
 use Rattle.dbl_history.specs.History.{entry_of}
 use Rattle.dbl_feed.specs.Histories.{history_of}
-use Rattle.dbl_reading.specs.declared.error.SourceError.{SourceError}
 use Rattle.dbl_reading.specs.declared.error.SourceError.TheVariants.{Failed, Memory}
 use Rattle.dbl_running.specs.Answers.{Adds, AnswersEntry}
 use Rattle.dbl_running.specs.Calls.{next_end}

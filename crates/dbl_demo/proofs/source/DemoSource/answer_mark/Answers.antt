@@ -1,4 +1,4 @@
-use Rattle.std.proofs.Common.{◌≡◌, ◌∙◌, ℕ, Err, List, [], drop, ap, sym, subst, arith}
+use Rattle.std.proofs.Common.{◌≡◌, ◌∙◌, ℕ, Err, List, drop, ap, sym, subst, arith, rules}
 use Rattle.std.specs.Prelude.{Ok}
 use Rattle.std.proofs.lemmas.Result.{err_from_is_err_and}
 use Rattle.dbl_reading.specs.declared.error.SourceError.{SourceError}
@@ -6,14 +6,16 @@ use Rattle.dbl_reading.specs.declared.error.SourceError.TheVariants.{Failed, Mem
 use Rattle.dbl_wal.specs.declared.entry.Entry.TheVariants.{Marks}
 use Rattle.dbl_wal.specs.Entries.{Spells}
 use Rattle.dbl_running.specs.Answers.{Adds, AnswersNothing}
-use Rattle.dbl_running.specs.Calls.{LeavesFirst, mark_of, next_end}
+use Rattle.dbl_running.specs.Calls.{mark_of, next_end}
 use Rattle.dbl_running.proofs.ExitLemmas.{answering, fails_from}
 use Rattle.dbl_running.specs.Demo.{Demo}
 use Rattle.dbl_demo.proofs.OwnExits.{first_from, mark_answers, mark_fails, starved_from}
 use Rattle.dbl_demo.proofs.source.DemoSource.answer_mark.Goals as goal
 
 pub release-requires-clause-live : goal.release-requires-clause-live
-release-requires-clause-live g c = c.self.invariant.usable (ap (λ (s : Demo _). s.live) c.self.view_is ∙ c.requires.live)
+release-requires-clause-live g c =
+    let usable = c.self.invariant.usable (ap (λ (s : Demo _). s.live) c.self.view_is ∙ c.requires.live) in
+    search rules
 
 -- the source can't be used while the call runs
 pub invariant_of-self : goal.invariant_of-self
@@ -44,7 +46,9 @@ pub returns-in_err-entry-clause-starved : goal.returns-in_err-entry-clause-starv
 returns-in_err-entry-clause-starved g c = λ is. first_from g.D.Disk.seen g.D.Disk.may_leave g.D.Disk.faults c.self.view_is c.release.new.self c.release.ensures.images
 
 pub log_mark-requires-clause-live : goal.log_mark-requires-clause-live
-log_mark-requires-clause-live g c = c.in_ok-release.ensures.live
+log_mark-requires-clause-live g c =
+    let usable = c.self.invariant.usable (ap (λ (s : Demo _). s.live) c.self.view_is ∙ c.requires.live) in
+    search rules
 
 -- the mark is that of the steps that are done
 spelled : {D : Type 0} (mid : Demo D) (done steps : ℕ) (bytes value : List ℕ) → done ≡ mid.done → mid.done ≡ steps → Spells bytes (Marks done value) → Spells bytes (Marks steps value)

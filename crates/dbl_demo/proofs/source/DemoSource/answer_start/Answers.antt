@@ -1,4 +1,4 @@
-use Rattle.std.proofs.Common.{◌≡◌, ◌∙◌, ℕ, Bool, true, false, Option, Err, None, Some, [], ap, sym, subst, refl, arith}
+use Rattle.std.proofs.Common.{◌≡◌, ◌∙◌, true, false, Option, Err, None, Some, [], ap, sym, subst, refl, arith}
 use Rattle.std.proofs.lemmas.Result.{err_from_is_err_and}
 use Rattle.std.specs.Prelude.{Ok}
 use Rattle.dbl_honest.specs.declared.started.Started.TheVariants.{Gone, Ready}
@@ -8,13 +8,12 @@ use Rattle.dbl_running.proofs.ExitLemmas.{fails_from}
 use Rattle.dbl_running.proofs.ReaderLemmas.{begun_reader, gone_reader, nothing_in, starts_from}
 use Rattle.dbl_running.specs.Demo.{Demo}
 use Rattle.dbl_feed.specs.declared.place.Place.{Place}
-use Rattle.std.specs.BTreeSet.{BTreeSet}
 use Rattle.dbl_demo.proofs.OwnExits.{gone_so, ready_so}
 use Rattle.dbl_demo.proofs.source.DemoSource.answer_start.Goals as goal
 
--- a source whose reader begins
-abbrev started : {D : Type 0} → Demo D → Option Place → BTreeSet ℕ → Demo D
-started demo place described = record demo { place = place; described = described; held = None; ended = false; live = true }
+-- a source that was told where to read, and answers
+abbrev reading : {D : Type 0} → Demo D → Option Place → Demo D
+reading demo place = record demo { place = place; live = true }
 
 pub release-requires-clause-live : goal.release-requires-clause-live
 release-requires-clause-live g c = c.self.invariant.usable (ap (λ (s : Demo _). s.live) c.self.view_is ∙ c.requires)
@@ -37,18 +36,21 @@ returns-in_err-release g c =
 -- the log is gone below the confirmed position, which no step moves
 pub returns-then-after-self : goal.returns-then-after-self
 returns-then-after-self g c =
-    let confirmed : c.self-2.inside.confirmed ≡ c.self.inside.confirmed = ap (λ (d : Demo _). d.confirmed) (c.self-2.view_is ∙ c.release.ensures.same) in
+    let at = c.self-2.view_is ∙ c.forget_reader.ensures.same in
+    let confirmed : c.self-2.inside.confirmed ≡ c.self.inside.confirmed = ap (λ (d : Demo _). d.confirmed) at ∙ ap (λ (d : Demo _). d.confirmed) c.release.ensures.same in
     let gone = Gone c.self-2.inside.confirmed in
     let says : gone ≡ started_at c.args.after c.self.inside.confirmed = sym (gone_so c.args.after c.self-2.inside.confirmed c.if-after-self.true) ∙ ap (started_at c.args.after) confirmed in
-    subst (λ (d : Demo _). Adds g.D.Disk.seen g.D.Disk.may_leave g.D.Disk.faults (next_end c.args.self.now) [] (AnswersStart c.args.after c.args.self.now) c.args.self.now (started d None c.clear.new.self) (Ok gone)) (sym c.self-2.view_is)
-    (starts_from g.D.Disk.seen g.D.Disk.may_leave g.D.Disk.faults c.self.view_is c.release.new.self c.release.ensures.images c.release.ensures.comes c.release.ensures.later c.in_ok-release.ensures.ran c.in_ok-release.ensures.end c.args.after None c.clear.new.self gone
-    (λ tables log. gone_reader tables log c.clear.new.self None) says refl)
+    subst (λ (d : Demo _). Adds g.D.Disk.seen g.D.Disk.may_leave g.D.Disk.faults (next_end c.args.self.now) [] (AnswersStart c.args.after c.args.self.now) c.args.self.now (reading d None) (Ok gone)) (sym at)
+    (starts_from g.D.Disk.seen g.D.Disk.may_leave g.D.Disk.faults c.self.view_is c.release.new.self c.release.ensures.images c.release.ensures.comes c.release.ensures.later c.in_ok-release.ensures.ran c.in_ok-release.ensures.end c.args.after None c.forget_reader.new.self.described gone
+    (λ tables log. gone_reader tables log c.forget_reader.new.self.described None) says refl)
 
 pub returns : goal.returns
 returns g c =
-    let confirmed : c.self-2.inside.confirmed ≡ c.self.inside.confirmed = ap (λ (d : Demo _). d.confirmed) (c.self-2.view_is ∙ c.release.ensures.same) in
+    let at = c.self-2.view_is ∙ c.forget_reader.ensures.same in
+    let confirmed : c.self-2.inside.confirmed ≡ c.self.inside.confirmed = ap (λ (d : Demo _). d.confirmed) at ∙ ap (λ (d : Demo _). d.confirmed) c.release.ensures.same in
     let says : Ready ≡ started_at c.args.after c.self.inside.confirmed = sym (ready_so c.args.after c.self-2.inside.confirmed c.if-after-self.false) ∙ ap (started_at c.args.after) confirmed in
-    subst (λ (d : Demo _). Adds g.D.Disk.seen g.D.Disk.may_leave g.D.Disk.faults (next_end c.args.self.now) [] (AnswersStart c.args.after c.args.self.now) c.args.self.now (started d (Some (record { after = c.args.after; commits = 0; begun = false; change = 0; table = 0 })) c.clear.new.self) (Ok Ready)) (sym c.self-2.view_is)
+    let first : Place = record { after = c.args.after; commits = 0; begun = false; change = 0; table = 0 } in
+    subst (λ (d : Demo _). Adds g.D.Disk.seen g.D.Disk.may_leave g.D.Disk.faults (next_end c.args.self.now) [] (AnswersStart c.args.after c.args.self.now) c.args.self.now (reading d (Some first)) (Ok Ready)) (sym at)
     (starts_from g.D.Disk.seen g.D.Disk.may_leave g.D.Disk.faults c.self.view_is c.release.new.self c.release.ensures.images c.release.ensures.comes c.release.ensures.later c.in_ok-release.ensures.ran c.in_ok-release.ensures.end c.args.after
-    (Some (record { after = c.args.after; commits = 0; begun = false; change = 0; table = 0 })) c.clear.new.self Ready
-    (λ tables log. begun_reader tables log c.args.after c.clear.new.self (nothing_in c.clear.new.self c.clear.ensures.empty)) says refl)
+    (Some first) c.forget_reader.new.self.described Ready
+    (λ tables log. begun_reader tables log c.args.after c.forget_reader.new.self.described (nothing_in c.forget_reader.new.self.described c.forget_reader.ensures.undescribed)) says refl)

@@ -1,9 +1,9 @@
-use Rattle.std.proofs.Common.{◌≡◌, ◌∙◌, ℕ, Some, List, refl, ap, sym, subst}
+use Rattle.std.proofs.Common.{◌∙◌, ℕ, Some, List, refl, ap, sym, subst}
 use Rattle.dbl_journal.proofs.Growth.{comes_at}
 use Rattle.dbl_journal.specs.Stored.{Lists, OnDisk}
 use Rattle.dbl_wal.specs.declared.entry.Entry.{Entry}
 use Rattle.dbl_wal.specs.Entries.{Spells}
-use Rattle.dbl_sound.specs.Wals.{Wal, forms_of}
+use Rattle.dbl_sound.specs.Wals.{forms_of}
 use Rattle.dbl_running.specs.Demo.{Demo, IsRunning}
 use Rattle.dbl_demo.proofs.HeldLemmas.{holding, read_is, read_some}
 use Rattle.dbl_demo.proofs.source.DemoSource.hold.Goals as goal

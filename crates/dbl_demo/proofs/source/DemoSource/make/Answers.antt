@@ -1,8 +1,5 @@
-use Rattle.std.proofs.Common.{◌≡◌, ◌∙◌, List, Option, ap, inl, refl, sym, subst}
-use Rattle.std.proofs.lemmas.Result.{err_from_is_err_and}
-use Rattle.dbl_journal.specs.Stored.{OnDisk}
-use Rattle.dbl_demo.specs.Begun.{IsDiskBegun, numbers_of}
-use Rattle.dbl_demo.proofs.MakingLemmas.{begin_kinds, begin_refused, begin_takes, empty_small, prepare_kinds, prepare_refused, prepare_spares}
+use Rattle.std.proofs.Common.{inl, refl}
+use Rattle.dbl_demo.proofs.MakingLemmas.{empty_small, prepare_kinds, prepare_refused, prepare_spares}
 use Rattle.dbl_demo.proofs.source.DemoSource.make.Goals as goal
 
 -- ---- the workload is refused, or there is no memory for it

@@ -1,4 +1,4 @@
-use Rattle.std.proofs.Common.{◌≡◌, ◌∙◌, ◌+◌, ◌≤◌, ℕ, Option, None, Some, List, length, ap, sym, subst, arith}
+use Rattle.std.proofs.Common.{◌≡◌, ◌∙◌, ◌+◌, ℕ, Option, None, Some, List, length, ap, sym, subst, arith}
 use Rattle.std.specs.Prelude.{slice_get, is_some, IfOk}
 use Rattle.dbl_base.specs.declared.seq.Seq.{Seq}
 use Rattle.dbl_feed.specs.declared.place.Place.{Place}

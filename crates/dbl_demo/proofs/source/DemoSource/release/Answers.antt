@@ -1,5 +1,4 @@
 use Rattle.std.proofs.Common.{◌≡◌, ◌<◌, ◌≤◌, length, ap, refl, arith}
-use Rattle.dbl_script.specs.declared.script.Step.{Step}
 use Rattle.dbl_running.specs.Demo.{Demo}
 use Rattle.dbl_demo.proofs.GroupLemmas.{group_comes, group_end_is, group_goes, group_left, group_over, group_over_left, group_ran}
 use Rattle.dbl_demo.proofs.source.DemoSource.release.Goals as goal

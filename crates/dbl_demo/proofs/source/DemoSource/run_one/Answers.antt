@@ -1,4 +1,4 @@
-use Rattle.std.proofs.Common.{◌≡◌, ap}
+use Rattle.std.proofs.Common.{ap}
 use Rattle.dbl_journal.proofs.Growth.{comes_at}
 use Rattle.dbl_running.specs.Demo.{Demo}
 use Rattle.dbl_demo.proofs.OneLemmas.{one_alone, one_ends, one_left, one_logged, one_silent}

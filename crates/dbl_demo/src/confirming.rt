@@ -1,0 +1,70 @@
+//! A confirmed position, which is written where it rises.
+
+ghost use Rattle.std.specs.Prelude.{◌≡◌, ◌⊎◌, ◌<◌, ◌≤◌, ◌^◌, ◌++◌, ◌∷◌, [], ℕ, List, length};
+ghost use Rattle.std.specs.Prelude.{drop, false, Err, IsTrue, OnOk};
+ghost use Rattle.dbl_base.specs.Streams.{Rose};
+ghost use Rattle.dbl_journal.specs.Growth.{ComesOf};
+ghost use Rattle.dbl_journal.specs.Stored.{LeavesEntries, Lists, count_of};
+ghost use Rattle.dbl_running.specs.Answers.{Adds, AnswersNothing};
+ghost use Rattle.dbl_running.specs.Calls.{LeavesFirst, confirm_of, next_end};
+
+use crate::DemoSource;
+use crate::appending::append;
+use dbl_base::Lsn;
+use dbl_disk::Disk;
+use dbl_source::SourceError;
+use dbl_wal::confirm_entry;
+
+impl<D: Disk> DemoSource<D> {
+    // Appends the entry of a position that is confirmed.
+    fn log_confirm(&mut self, entry: Vec<u8>, upto: Lsn) -> Result<(), SourceError>
+        requires live { IsTrue self.old.journal.live }
+        requires dead { self.old.live ≡ false }
+        requires room { 4 ≤ length entry.items }
+        ensures added { (forms : List (List ℕ)) → Lists D.seen D.may_leave self.old.journal forms
+            → OnOk result (Lists D.seen D.may_leave self.new.journal
+            (forms ++ drop 4 entry.items ∷ [])) }
+        ensures left { (forms : List (List ℕ)) → Lists D.seen D.may_leave self.old.journal forms
+            → LeavesEntries D.may_leave self.new.journal.disk
+            (λ left. (left ≡ forms) ⊎ (left ≡ forms ++ drop 4 entry.items ∷ [])) }
+        ensures kept { (forms : List (List ℕ)) → Lists D.seen D.may_leave self.old.journal forms
+            → result ≡ Err SourceError.Memory → Lists D.seen D.may_leave self.new.journal forms }
+        ensures small { count_of self.old.journal < 2 ^ 40 }
+        ensures confirmed { OnOk result (self.new.confirmed ≡ upto) }
+        ensures same { self.new ≡ record self.old {
+          journal = self.new.journal;
+          confirmed = self.new.confirmed;
+        } }
+        ensures live { OnOk result (IsTrue self.new.journal.live) }
+        ensures comes { ComesOf D.seen D.may_leave self.old.journal self.new.journal }
+        ensures failed { result ≡ Err SourceError.Failed
+            → Rose (D.faults self.old.journal.disk) (D.faults self.new.journal.disk) }
+        ensures later { D.faults self.old.journal.disk ≤ D.faults self.new.journal.disk }
+    {
+        let _entries = self.journal.count();
+        append(&mut self.journal, entry)?;
+        self.confirmed = upto;
+        Ok(())
+    }
+
+    /// A position that doesn't rise is appended nowhere.
+    pub(crate) fn answer_confirm(&mut self, upto: Lsn) -> Result<(), SourceError>
+        requires { IsTrue self.old.live }
+        ensures added { Adds D.seen D.may_leave D.faults
+            (next_end self.old) (confirm_of self.old.confirmed upto)
+            (AnswersNothing self.old) self.old self.new result }
+        ensures starved { result ≡ Err SourceError.Memory
+            → LeavesFirst D.seen D.may_leave (next_end self.old) [] self.old self.new }
+    {
+        self.live = false;
+        self.release()?;
+        if upto.0 <= self.confirmed.0 {
+            self.live = true;
+            return Ok(());
+        }
+        let entry = confirm_entry(self.alloc, upto)?;
+        self.log_confirm(entry, upto)?;
+        self.live = true;
+        Ok(())
+    }
+}

@@ -1,0 +1,71 @@
+//! A mark: a commit of its own behind a group of steps.
+
+ghost use Rattle.std.specs.Prelude.{◌≡◌, ◌⊎◌, ◌<◌, ◌≤◌, ◌^◌, ◌++◌, ◌∷◌, [], ℕ, List, length};
+ghost use Rattle.std.specs.Prelude.{drop, false, Err, IsTrue, OnOk};
+ghost use Rattle.dbl_base.specs.Streams.{Rose};
+ghost use Rattle.dbl_journal.specs.Growth.{ComesOf};
+ghost use Rattle.dbl_journal.specs.Stored.{LeavesEntries, Lists, count_of};
+ghost use Rattle.dbl_running.specs.Answers.{Adds, AnswersNothing};
+ghost use Rattle.dbl_running.specs.Calls.{LeavesFirst, mark_of, next_end};
+
+use crate::DemoSource;
+use crate::appending::append;
+use dbl_base::Text;
+use dbl_disk::Disk;
+use dbl_source::SourceError;
+use dbl_wal::mark_entry;
+
+impl<D: Disk> DemoSource<D> {
+    // Appends the entry of a mark. Where it isn't appended no commit has its number.
+    fn log_mark(&mut self, entry: Vec<u8>) -> Result<(), SourceError>
+        requires live { IsTrue self.old.journal.live }
+        requires dead { self.old.live ≡ false }
+        requires room { 4 ≤ length entry.items }
+        ensures added { (forms : List (List ℕ)) → Lists D.seen D.may_leave self.old.journal forms
+            → OnOk result (Lists D.seen D.may_leave self.new.journal
+            (forms ++ drop 4 entry.items ∷ [])) }
+        ensures left { (forms : List (List ℕ)) → Lists D.seen D.may_leave self.old.journal forms
+            → LeavesEntries D.may_leave self.new.journal.disk
+            (λ left. (left ≡ forms) ⊎ (left ≡ forms ++ drop 4 entry.items ∷ [])) }
+        ensures kept { (forms : List (List ℕ)) → Lists D.seen D.may_leave self.old.journal forms
+            → result ≡ Err SourceError.Memory → Lists D.seen D.may_leave self.new.journal forms }
+        ensures small { count_of self.old.journal < 2 ^ 40 }
+        ensures commits { OnOk result
+            (self.new.commits ≡ self.old.commits ++ count_of self.old.journal ∷ []) }
+        ensures same { self.new ≡ record self.old {
+          journal = self.new.journal;
+          commits = self.new.commits;
+        } }
+        ensures live { OnOk result (IsTrue self.new.journal.live) }
+        ensures comes { ComesOf D.seen D.may_leave self.old.journal self.new.journal }
+        ensures failed { result ≡ Err SourceError.Failed
+            → Rose (D.faults self.old.journal.disk) (D.faults self.new.journal.disk) }
+        ensures later { D.faults self.old.journal.disk ≤ D.faults self.new.journal.disk }
+    {
+        let number = self.journal.count();
+        self.commits.push(number)?;
+        if let Err(error) = append(&mut self.journal, entry) {
+            self.commits.pop();
+            return Err(error);
+        }
+        Ok(())
+    }
+
+    /// A commit of its own behind the group.
+    pub(crate) fn answer_mark(&mut self, value: &Text) -> Result<(), SourceError>
+        requires live { IsTrue self.old.live }
+        requires short { length value.now ≤ 64 }
+        ensures added { Adds D.seen D.may_leave D.faults
+            (next_end self.old) (mark_of value.now (next_end self.old))
+            (AnswersNothing self.old) self.old self.new result }
+        ensures starved { result ≡ Err SourceError.Memory
+            → LeavesFirst D.seen D.may_leave (next_end self.old) [] self.old self.new }
+    {
+        self.live = false;
+        self.release()?;
+        let entry = mark_entry(self.alloc, self.done as u64, value)?;
+        self.log_mark(entry)?;
+        self.live = true;
+        Ok(())
+    }
+}

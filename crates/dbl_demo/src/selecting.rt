@@ -1,0 +1,63 @@
+//! A select: the rows between two groups of steps.
+
+ghost use Rattle.std.specs.Prelude.{◌≡◌, [], List, option_copied, IsTrue, IfOk, IfErr};
+ghost use Rattle.dbl_serial.specs.declared.demo_table.DemoTable.{DemoTable};
+ghost use Rattle.dbl_serial.specs.Acts.{Accepted};
+ghost use Rattle.dbl_tables.specs.Stands.{Stands};
+ghost use Rattle.dbl_sound.specs.Wals.{Wal};
+ghost use Rattle.dbl_sound.specs.Workloads.{acts_at};
+ghost use Rattle.dbl_selects.specs.Shown.{AreRowsShown};
+ghost use Rattle.dbl_running.specs.Answers.{Adds, IsReaderKept};
+ghost use Rattle.dbl_running.specs.Calls.{next_end, second_end};
+ghost use Rattle.dbl_running.specs.Demo.{IsDemo};
+
+use crate::DemoSource;
+use dbl_disk::Disk;
+use dbl_serial::StepError;
+use dbl_source::SourceError;
+use dbl_table::{Key, RawRow, TableName};
+
+impl<D: Disk> DemoSource<D> {
+    // The committed rows of a table; none where there is no such table.
+    fn rows_above(
+        &self,
+        table: &TableName,
+        above: Option<&Key>,
+        limit: u32,
+    ) -> Result<Vec<RawRow>, SourceError>
+        ensures rows { (tables : List DemoTable) (past : List Accepted) →
+            Stands tables past self.now.store →
+            IfOk result (λ rows. AreRowsShown tables past table.now
+            (option_copied above.entry) limit rows.items) }
+        ensures memory { IfErr result (λ e. e ≡ SourceError.Memory) }
+    {
+        match self.store.select(table, above, limit) {
+            Ok(rows) => Ok(rows.into_items()),
+            Err(StepError::UnknownTable) => Ok(Vec::new(self.alloc)),
+            Err(_) => Err(SourceError::Memory),
+        }
+    }
+
+    /// The rows are those between two groups.
+    pub(crate) fn answer_select(
+        &mut self,
+        table: &TableName,
+        above: Option<&Key>,
+        limit: u32,
+    ) -> Result<Vec<RawRow>, SourceError>
+        requires { IsTrue self.old.live }
+        ensures added { Adds D.seen D.may_leave D.faults (second_end self.old) []
+            (λ new rows. IsReaderKept self.old new) self.old self.new result }
+        ensures shown { (wal : Wal) → IsDemo D.seen D.may_leave wal self.old
+            → IfOk result (λ rows. AreRowsShown wal.workload.tables
+            (acts_at wal.workload (next_end self.old)) table.now
+            (option_copied above.entry) limit rows.items) }
+    {
+        self.live = false;
+        self.release()?;
+        let rows = self.rows_above(table, above, limit)?;
+        self.release()?;
+        self.live = true;
+        Ok(rows)
+    }
+}

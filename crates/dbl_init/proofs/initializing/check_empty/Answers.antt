@@ -1,10 +1,10 @@
-use Rattle.std.proofs.Common.{refl}
+use Rattle.std.proofs.Common.{refl, rules}
 use Rattle.dbl_init.proofs.MadeLemmas.{nil_of, some_of}
 use Rattle.dbl_init.proofs.initializing.check_empty.Goals as goal
 
 pub returns-in-Ok-eq0-clause-asks : goal.returns-in-Ok-eq0-clause-asks
 returns-in-Ok-eq0-clause-asks g c = record {
-  empty = λ bytes told. nil_of bytes _ (c.in-Ok-eq0.ensures.told bytes told) c.in-Ok-eq0.field-0-test;
+  empty = λ bytes told. (let nil = nil_of bytes _ (c.in-Ok-eq0.ensures.told bytes told) c.in-Ok-eq0.field-0-test in search rules);
   holds = λ bytes told is. absurd (let t = is in cc);
   asked = record {
     same = c.len.ensures.seen;

@@ -11,8 +11,8 @@ use dbl_disk::{Disk, MemDisk};
 use std::alloc::Global;
 use std::fmt::Write;
 
-// A disk of a case has at most so many bytes.
-const MOST_BYTES: usize = 1_000_000;
+// A disk of a case has at most so many bytes: the log of the greatest workload has fewer.
+const MOST_BYTES: usize = 200_000_000;
 
 // A disk with these bytes.
 fn disk(alloc: Global, bytes: &[u8]) -> Result<MemDisk> {

@@ -1,0 +1,10 @@
+pub mod Contents
+pub mod Kept
+pub mod Goes
+pub mod Tables
+pub mod Headline
+pub mod Applied
+pub mod Reports
+pub mod Causes
+pub mod Bounds
+pub mod Laws

@@ -6,3 +6,4 @@ pub mod CountLaws
 pub mod CommitCounts
 pub mod ReportLaws
 pub mod AppliedLaws
+pub mod TakenLaws

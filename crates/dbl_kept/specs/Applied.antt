@@ -13,6 +13,7 @@ use Rattle.dbl_offset.specs.declared.offset.Offset.{Offset}
 use Rattle.dbl_runs.specs.Answers.{PrintsConsumer}
 use Rattle.dbl_kept.specs.Contents.{Contents, ReadAs}
 use Rattle.dbl_kept.specs.Headline.{LeavesTablesEqual}
+use Rattle.dbl_kept.specs.Kept.{IsKept}
 use Rattle.dbl_kept.specs.Tables.{whole_rows}
 
 -- At this topic and key's text the rows that are printed have what these tables have there: a row with each of its cells, or none.
@@ -35,3 +36,9 @@ pub record PrintsTables (held : Contents) (lines : List (List ℕ)) : Type 0 whe
 abbrev pub CompleteRunsAreApplied : Type 0
 CompleteRunsAreApplied = (old new : Contents) (w t f : List ℕ) (lines : List (List ℕ))
     → ReadAs w t f new → LeavesTablesEqual old new → PrintsConsumer t f lines → PrintsTables new lines
+
+-- A kept log with an offset is printed: the consumer takes each of its records. So `apply` isn't refused there, whose answer is one thing
+-- at most (`dbl_runs`).
+abbrev pub KeptLogsArePrinted : Type 0
+KeptLogsArePrinted = (held : Contents) (offset : Offset) (w t f : List ℕ) → ReadAs w t f held → IsKept held → held.offset ≡ Some offset
+    → (lines : List (List ℕ)) × PrintsConsumer t f lines

@@ -1,6 +1,6 @@
 //! Laws of what the disks hold. The functions do nothing: their contracts are the laws.
 
-ghost use Rattle.dbl_kept.specs.Applied.{CompleteRunsAreApplied};
+ghost use Rattle.dbl_kept.specs.Applied.{CompleteRunsAreApplied, KeptLogsArePrinted};
 ghost use Rattle.dbl_kept.specs.Laws.{CompleteRunsLeaveTablesEqual, DisksAreReadOnce, FreshStoresAreKept, KeptRunsArePromised, RunsArePromised, SessionsGoOn, SettledReportsAreRight, SmallLogsAreCounted, WhatStaysGoesOn, WorkloadsHaveTables};
 
 use dbl_disk::Disk;
@@ -43,6 +43,11 @@ pub fn complete_runs_leave_tables_equal<D: Disk>()
 /// Behind a complete run `apply` prints the source's tables.
 pub fn complete_runs_are_applied()
     ensures { CompleteRunsAreApplied }
+{}
+
+/// Of kept disks with an offset `apply` prints what a consumer holds.
+pub fn kept_logs_are_printed()
+    ensures { KeptLogsArePrinted }
 {}
 
 /// A report tells what the disks held and hold.

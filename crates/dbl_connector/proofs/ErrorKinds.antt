@@ -1,0 +1,225 @@
+-- Of which kind the connector's errors are, by those of its parts.
+use Rattle.std.proofs.Common.{◌≡◌, ◌∙◌, ◌⊎◌, inl, inr, ℕ, ◌≤◌, Option, List, Result, Ok, Err, refl, sym, ap, subst, arith}
+use Rattle.std.specs.Prelude.{IfErr}
+use Rattle.dbl_base.specs.Streams.{Rose}
+use Rattle.dbl_record.specs.declared.record.Record.{Record}
+use Rattle.dbl_journal.specs.Form.{IsFaultAt}
+use Rattle.dbl_journal.specs.declared.error.JournalError.TheVariants as journal
+use Rattle.dbl_topic.specs.declared.error.TopicError.{TopicError}
+use Rattle.dbl_topic.specs.declared.error.TopicError.TheVariants as topic
+use Rattle.dbl_topic.specs.Logs.{IsLog}
+use Rattle.dbl_topic.specs.Logs as log_bytes
+use Rattle.dbl_offset.specs.declared.error.OffsetError.{OffsetError}
+use Rattle.dbl_offset.specs.declared.error.OffsetError.TheVariants as offset
+use Rattle.dbl_offset.specs.Stores.{HasBadOffset, IsNoStoreAt}
+use Rattle.dbl_workload.specs.declared.error.DemoError.{DemoError}
+use Rattle.dbl_workload.specs.declared.error.DemoError.TheVariants as demo
+use Rattle.dbl_sound.specs.Wals.{IsWal, Wal}
+use Rattle.dbl_sound.specs.Wals as wal_bytes
+use Rattle.dbl_work.proofs.Exits.{rose_behind}
+use Rattle.dbl_init.specs.declared.error.Store.{Store}
+use Rattle.dbl_kept.specs.Bounds.{IsBounded}
+use Rattle.dbl_init.specs.declared.error.Store.TheVariants as store
+use Rattle.dbl_connector.specs.declared.asked.Asked.{Asked}
+use Rattle.dbl_connector.specs.declared.error.ConnectError.{ConnectError}
+use Rattle.dbl_connector.specs.declared.error.ConnectError.TheVariants as error
+use Rattle.dbl_connector.specs.Ends.{Counts, End, IsRefused, OnlyRead}
+use Rattle.dbl_connector.specs.Ends.IsRefused.{no_source, no_log, no_offset}
+use Rattle.dbl_connector.specs.Errors.{IsBefore, IsBehindOpening, IsConnectError, IsOutside, IsRefusal, demo_error, offset_error, topic_error}
+use Rattle.dbl_connector.proofs.Stays.{IsUnhalted}
+
+-- ---- a source that isn't opened
+
+pub demo_fails : (e : DemoError) (s : Store) → demo_error e ≡ error.Failed s → (s ≡ store.Wal) × (e ≡ demo.Journal journal.Failed)
+demo_fails (demo.Journal journal.Failed) s is = ((let i = is in cc), refl)
+demo_fails (demo.Journal (journal.NotAJournal at)) s is = absurd (let i = is in cc)
+demo_fails (demo.Journal (journal.EntryTooLong len)) s is = absurd (let i = is in cc)
+demo_fails (demo.Journal journal.Memory) s is = absurd (let i = is in cc)
+demo_fails (demo.Script e) s is = absurd (let i = is in cc)
+demo_fails (demo.Model e) s is = absurd (let i = is in cc)
+demo_fails (demo.BadEntry index) s is = absurd (let i = is in cc)
+demo_fails demo.Memory s is = absurd (let i = is in cc)
+
+pub demo_kind : (e : DemoError) → IsConnectError (demo_error e) × IsUnhalted (demo_error e)
+demo_kind (demo.Journal journal.Failed) = (tt, tt)
+demo_kind (demo.Journal (journal.NotAJournal at)) = (tt, tt)
+demo_kind (demo.Journal (journal.EntryTooLong len)) = (tt, tt)
+demo_kind (demo.Journal journal.Memory) = (tt, tt)
+demo_kind (demo.Script e) = (tt, tt)
+demo_kind (demo.Model e) = (tt, tt)
+demo_kind (demo.BadEntry index) = (tt, tt)
+demo_kind demo.Memory = (tt, tt)
+
+pub demo_ends : (asked : Asked) (w t f : List ℕ) (e : DemoError) → ((index : ℕ) → e ≡ demo.BadEntry index → wal_bytes.HasBadEntry w index)
+    → ((at : ℕ) → e ≡ demo.Journal (journal.NotAJournal at) → IsFaultAt w at) → IsOutside (demo_error e) ⊎ IsRefused asked w t f (demo_error e)
+demo_ends asked w t f (demo.Journal journal.Failed) bad fault = inl tt
+demo_ends asked w t f (demo.Journal (journal.NotAJournal at)) bad fault = inr (no_source (inl (at, refl, fault at refl)))
+demo_ends asked w t f (demo.Journal (journal.EntryTooLong len)) bad fault = inl tt
+demo_ends asked w t f (demo.Journal journal.Memory) bad fault = inl tt
+demo_ends asked w t f (demo.Script e) bad fault = inl tt
+demo_ends asked w t f (demo.Model e) bad fault = inl tt
+demo_ends asked w t f (demo.BadEntry index) bad fault = inr (no_source (inr (index, refl, bad index refl)))
+demo_ends asked w t f demo.Memory bad fault = inl tt
+
+-- ---- a topic log that isn't
+
+pub topic_fails : (e : TopicError) (s : Store) → topic_error e ≡ error.Failed s → (s ≡ store.Topics) × (e ≡ topic.Journal journal.Failed)
+topic_fails (topic.Journal journal.Failed) s is = ((let i = is in cc), refl)
+topic_fails (topic.Journal (journal.NotAJournal at)) s is = absurd (let i = is in cc)
+topic_fails (topic.Journal (journal.EntryTooLong len)) s is = absurd (let i = is in cc)
+topic_fails (topic.Journal journal.Memory) s is = absurd (let i = is in cc)
+topic_fails (topic.BadEntry index) s is = absurd (let i = is in cc)
+topic_fails topic.Memory s is = absurd (let i = is in cc)
+
+pub topic_kind : (e : TopicError) → IsConnectError (topic_error e) × IsUnhalted (topic_error e) × IsBehindOpening store.Wal (topic_error e)
+topic_kind (topic.Journal journal.Failed) = (tt, tt, tt)
+topic_kind (topic.Journal (journal.NotAJournal at)) = (tt, tt, tt)
+topic_kind (topic.Journal (journal.EntryTooLong len)) = (tt, tt, tt)
+topic_kind (topic.Journal journal.Memory) = (tt, tt, tt)
+topic_kind (topic.BadEntry index) = (tt, tt, tt)
+topic_kind topic.Memory = (tt, tt, tt)
+
+pub topic_ends : (asked : Asked) (w t f : List ℕ) (wal : Wal) → IsWal w wal → (e : TopicError) → ((index : ℕ) → e ≡ topic.BadEntry index → log_bytes.HasBadEntry t index)
+    → ((at : ℕ) → e ≡ topic.Journal (journal.NotAJournal at) → IsFaultAt t at) → IsOutside (topic_error e) ⊎ IsRefused asked w t f (topic_error e)
+topic_ends asked w t f wal is (topic.Journal journal.Failed) bad fault = inl tt
+topic_ends asked w t f wal is (topic.Journal (journal.NotAJournal at)) bad fault = inr (no_log wal is (inl (at, refl, fault at refl)))
+topic_ends asked w t f wal is (topic.Journal (journal.EntryTooLong len)) bad fault = inl tt
+topic_ends asked w t f wal is (topic.Journal journal.Memory) bad fault = inl tt
+topic_ends asked w t f wal is (topic.BadEntry index) bad fault = inr (no_log wal is (inr (index, refl, bad index refl)))
+topic_ends asked w t f wal is topic.Memory bad fault = inl tt
+
+-- ---- an offset store that isn't
+
+pub offset_fails : (e : OffsetError) (s : Store) → offset_error e ≡ error.Failed s → (s ≡ store.Offsets) × (e ≡ offset.Failed)
+offset_fails offset.Failed s is = ((let i = is in cc), refl)
+offset_fails (offset.NotAStore at) s is = absurd (let i = is in cc)
+offset_fails (offset.BadOffset index) s is = absurd (let i = is in cc)
+offset_fails (offset.TooLong len) s is = absurd (let i = is in cc)
+offset_fails offset.Memory s is = absurd (let i = is in cc)
+
+pub offset_kind : (e : OffsetError) → IsConnectError (offset_error e) × IsUnhalted (offset_error e) × IsBehindOpening store.Topics (offset_error e)
+offset_kind offset.Failed = (tt, tt, tt)
+offset_kind (offset.NotAStore at) = (tt, tt, tt)
+offset_kind (offset.BadOffset index) = (tt, tt, tt)
+offset_kind (offset.TooLong len) = (tt, tt, tt)
+offset_kind offset.Memory = (tt, tt, tt)
+
+pub offset_ends : (asked : Asked) (w t f : List ℕ) (wal : Wal) (groups : List (List Record)) → IsWal w wal → IsLog t groups → (e : OffsetError)
+    → ((index : ℕ) → e ≡ offset.BadOffset index → HasBadOffset f index) → ((at : ℕ) → e ≡ offset.NotAStore at → IsNoStoreAt f at)
+    → IsOutside (offset_error e) ⊎ IsRefused asked w t f (offset_error e)
+offset_ends asked w t f wal groups is log offset.Failed bad fault = inl tt
+offset_ends asked w t f wal groups is log (offset.NotAStore at) bad fault = inr (no_offset wal groups is log (inl (at, refl, fault at refl)))
+offset_ends asked w t f wal groups is log (offset.BadOffset index) bad fault = inr (no_offset wal groups is log (inr (index, refl, bad index refl)))
+offset_ends asked w t f wal groups is log (offset.TooLong len) bad fault = inl tt
+offset_ends asked w t f wal groups is log offset.Memory bad fault = inl tt
+
+-- ---- what follows of the order in which they are opened
+
+pub not_before_topics : (e : ConnectError) → IsBehindOpening store.Wal e → IsBefore store.Topics e → ⊥
+not_before_topics (error.Failed s) behind before = before
+not_before_topics (error.NotAStore store.Wal at) behind before = behind
+not_before_topics (error.NotAStore store.Topics at) behind before = before
+not_before_topics (error.NotAStore store.Offsets at) behind before = before
+not_before_topics (error.BadEntry store.Wal index) behind before = behind
+not_before_topics (error.BadEntry store.Topics index) behind before = before
+not_before_topics (error.BadEntry store.Offsets index) behind before = before
+not_before_topics error.AlreadyStarted behind before = before
+not_before_topics error.NotStarted behind before = before
+not_before_topics (error.Halted h) behind before = before
+not_before_topics error.Memory behind before = before
+
+pub not_before_offsets : (e : ConnectError) → IsBehindOpening store.Topics e → IsBefore store.Offsets e → ⊥
+not_before_offsets (error.Failed s) behind before = before
+not_before_offsets (error.NotAStore store.Wal at) behind before = behind
+not_before_offsets (error.NotAStore store.Topics at) behind before = behind
+not_before_offsets (error.NotAStore store.Offsets at) behind before = before
+not_before_offsets (error.BadEntry store.Wal index) behind before = behind
+not_before_offsets (error.BadEntry store.Topics index) behind before = behind
+not_before_offsets (error.BadEntry store.Offsets index) behind before = before
+not_before_offsets error.AlreadyStarted behind before = before
+not_before_offsets error.NotStarted behind before = before
+not_before_offsets (error.Halted h) behind before = before
+not_before_offsets error.Memory behind before = before
+
+pub behind_wal : (e : ConnectError) → IsBehindOpening store.Topics e → IsBehindOpening store.Wal e
+behind_wal (error.Failed s) behind = tt
+behind_wal (error.NotAStore store.Wal at) behind = behind
+behind_wal (error.NotAStore store.Topics at) behind = tt
+behind_wal (error.NotAStore store.Offsets at) behind = tt
+behind_wal (error.BadEntry store.Wal index) behind = behind
+behind_wal (error.BadEntry store.Topics index) behind = tt
+behind_wal (error.BadEntry store.Offsets index) behind = tt
+behind_wal error.AlreadyStarted behind = tt
+behind_wal error.NotStarted behind = tt
+behind_wal (error.Halted h) behind = tt
+behind_wal error.Memory behind = tt
+
+pub behind_topics : (e : ConnectError) → IsBehindOpening store.Offsets e → IsBehindOpening store.Topics e
+behind_topics (error.Failed s) behind = tt
+behind_topics (error.NotAStore store.Wal at) behind = behind
+behind_topics (error.NotAStore store.Topics at) behind = behind
+behind_topics (error.NotAStore store.Offsets at) behind = tt
+behind_topics (error.BadEntry store.Wal index) behind = behind
+behind_topics (error.BadEntry store.Topics index) behind = behind
+behind_topics (error.BadEntry store.Offsets index) behind = tt
+behind_topics error.AlreadyStarted behind = tt
+behind_topics error.NotStarted behind = tt
+behind_topics (error.Halted h) behind = tt
+behind_topics error.Memory behind = tt
+
+-- ---- of an end
+
+pub err_as : {A E : Type 0} (end : Result A E) (P Q : E → Type 0) → ((e : E) → P e → Q e) → IfErr end P → IfErr end Q
+err_as (Ok x) P Q f p = tt
+err_as (Err e) P Q f p = f e p
+
+pub err_both : {A E : Type 0} (end : Result A E) (P Q R : E → Type 0) → ((e : E) → P e → Q e → R e) → IfErr end P → IfErr end Q → IfErr end R
+err_both (Ok x) P Q R f p q = tt
+err_both (Err e) P Q R f p q = f e p q
+
+-- ---- one disk
+
+pub only_on : {D : Type 0} (seen : D → Option (List ℕ)) (may : D → List ℕ → Type 0) (old mid new : D) → seen mid ≡ seen old → ((image : List ℕ) → may mid image → may old image)
+    → OnlyRead seen may mid new → OnlyRead seen may old new
+only_on seen may old mid new same images read = record { same = read.same ∙ same; images = λ image leaves. images image (read.images image leaves) }
+
+pub only_same : {D : Type 0} (seen : D → Option (List ℕ)) (may : D → List ℕ → Type 0) (old new : D) → new ≡ old → OnlyRead seen may old new
+only_same seen may old new same = subst (OnlyRead seen may old) (sym same) (record { same = refl; images = λ image leaves. leaves })
+
+pub counts_on : {D : Type 0} (faults : D → ℕ) (s : Store) (end : End) (old mid new : D) → faults old ≤ faults mid → Counts faults s end mid new → Counts faults s end old new
+counts_on faults s end old mid new later counts = record {
+  later = omega (arith, later, counts.later);
+  cause = λ is. rose_behind (faults old) (faults mid) (faults new) later (counts.cause is);
+}
+
+pub counts_same : {D : Type 0} (faults : D → ℕ) (s : Store) (end : End) (old new : D) → new ≡ old → (end ≡ Err (error.Failed s) → ⊥) → Counts faults s end old new
+counts_same faults s end old new same none =
+    subst (Counts faults s end old) (sym same) (record { later = own_le (faults old); cause = λ is. absurd (none is) })
+  where
+    own_le : (n : ℕ) → n ≤ n
+    own_le n = omega arith
+
+pub counts_by : {D : Type 0} (faults : D → ℕ) (s : Store) (e : ConnectError) (old new : D) → faults old ≤ faults new → (e ≡ error.Failed s → Rose (faults old) (faults new))
+    → Counts faults s (Err e) old new
+counts_by faults s e old new later rose = record { later = later; cause = λ is. rose (let i = is in cc) }
+
+-- what a disk tells and leaves that was taken out of its store
+pub moved_images : {D : Type 0} (may : D → List ℕ → Type 0) (old new : D) → new ≡ old → (image : List ℕ) → may new image → may old image
+moved_images may old new same image leaves = subst (λ (d : _). may d image) same leaves
+
+pub moved_to : {D : Type 0} (P : D → Type 0) (old new : D) → new ≡ old → P old → P new
+moved_to P old new same p = subst P (sym same) p
+
+pub bounded_on : {D : Type 0} (seen : D → Option (List ℕ)) (old mid new : D) → seen mid ≡ seen old → IsBounded (seen mid) (seen new) → IsBounded (seen old) (seen new)
+bounded_on seen old mid new same bounded = subst (λ (told : Option (List ℕ)). IsBounded told (seen new)) same bounded
+
+pub read_on : {D : Type 0} (seen : D → Option (List ℕ)) (may : D → List ℕ → Type 0) (end : End) (old mid new : D) → seen mid ≡ seen old → ((image : List ℕ) → may mid image → may old image)
+    → IfErr end (λ e. IsRefusal e → OnlyRead seen may mid new) → IfErr end (λ e. IsRefusal e → OnlyRead seen may old new)
+read_on seen may end old mid new same images read =
+    err_as end (λ e. IsRefusal e → OnlyRead seen may mid new) (λ e. IsRefusal e → OnlyRead seen may old new) (λ e by refusal. only_on seen may old mid new same images (by refusal)) read
+
+-- where the end is a refusal the store is as it was, so that its disk was only read
+pub read_stayed : {D S : Type 0} (seen : D → Option (List ℕ)) (may : D → List ℕ → Type 0) (disk : S → D) (end : End) (old new : S) (out : D) → out ≡ disk new
+    → IfErr end (λ e. IsRefusal e → new ≡ old) → IfErr end (λ e. IsRefusal e → OnlyRead seen may (disk old) out)
+read_stayed seen may disk end old new out is stays =
+    err_as end (λ e. IsRefusal e → new ≡ old) (λ e. IsRefusal e → OnlyRead seen may (disk old) out) (λ e by refusal. only_same seen may (disk old) out (is ∙ ap disk (by refusal))) stays

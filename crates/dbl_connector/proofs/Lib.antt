@@ -1,0 +1,10 @@
+pub mod Configs
+pub mod Opened
+pub mod Ran
+pub mod Left
+pub mod Causes
+pub mod Answered
+pub mod Session
+pub mod Stays
+pub mod ErrorKinds
+pub mod Exits

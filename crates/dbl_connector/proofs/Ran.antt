@@ -1,0 +1,90 @@
+-- What a session over opened stores has answered: its contract, over the source, the topic log and the offset store of the program.
+use Rattle.std.proofs.Common.{◌≡◌, ◌⊎◌, ℕ, ℤ, ◌<◌, Option, None, List, Result, Ok, Err, subst}
+use Rattle.std.specs.Prelude.{IfErr, IfOk, IsTrue, OnOk}
+use Rattle.dbl_base.specs.declared.lsn.Lsn.{Lsn}
+use Rattle.dbl_record.specs.declared.record.Record.{Record}
+use Rattle.dbl_table.specs.declared.config.Config.{Config}
+use Rattle.dbl_journal.specs.Stored.{OnDisk}
+use Rattle.dbl_honest.specs.Standings.{Left, Standing, Stood}
+use Rattle.dbl_topic.specs.Held.{ComesOf as LogComesOf, HoldsGroups, MayLeaveGroups}
+use Rattle.dbl_offset.specs.Stores.{ComesOf as StoreComesOf, Holds, StoreOn}
+use Rattle.dbl_sound.specs.Standings.{MayLeaveWal}
+use Rattle.dbl_running.specs.Demo.{ComesOf, Demo, StandsFor}
+use Rattle.dbl_session.specs.Entries.{Entry, HadOwnTables, IsKeptBehind, WasFaithful}
+use Rattle.dbl_work.specs.declared.halt.Halt.{Halt}
+use Rattle.dbl_work.specs.declared.halt.Halt.TheVariants as halt
+use Rattle.dbl_work.specs.declared.report.Ending.{Ending}
+use Rattle.dbl_work.specs.declared.report.Ending.TheVariants.{Budget, Complete}
+use Rattle.dbl_work.specs.declared.report.Report.{Report}
+use Rattle.dbl_work.specs.Begins.{IsAbsentHalt}
+use Rattle.dbl_exits.specs.Ends.{LeavesComplete}
+use Rattle.dbl_exits.specs.Found.{Found, HasStored, IsEntryOf, entry_at, position_of}
+use Rattle.dbl_exits.specs.Sessions.{AddsFew, LeavesGoing}
+use Rattle.dbl_causes.specs.Gained.{Gains, IsReported}
+use Rattle.dbl_causes.specs.Halted.{IsHalt}
+use Rattle.dbl_causes.specs.Musts.{CapturesAll, MustExhaust}
+use Rattle.dbl_causes.specs.Nevers.{IsFaithfulHalt, IsHonestHalt}
+use Rattle.dbl_causes.specs.Reported.{HasSettled}
+use Rattle.dbl_causes.specs.Written.{AddsExactly, marks_more}
+use Rattle.dbl_steps.specs.Awaited.{IsWithinLog}
+use Rattle.dbl_steps.specs.Captured.{MustHaltAbsent}
+use Rattle.dbl_steps.specs.Owned.{IsLongBy}
+use Rattle.dbl_steps.specs.Stood.{IsHaltStanding}
+
+-- what a crash may leave of the source, and of the topic log
+abbrev pub SourceLeaves : {W : Type 0} → (W → List ℕ → Type 0) → Demo W → Left → Type 0
+SourceLeaves may source l = MayLeaveWal may source.journal.disk l
+
+abbrev pub LogLeaves : {T : Type 0} → (T → List ℕ → Type 0) → OnDisk T → List (List Record) → Type 0
+LogLeaves may log groups = MayLeaveGroups may log.disk groups
+
+pub record Ran {W T F : Type 0} (seen_w : W → Option (List ℕ)) (may_w : W → List ℕ → Type 0) (seen_t : T → Option (List ℕ)) (may_t : T → List ℕ → Type 0)
+    (seen_f : F → Option (List ℕ)) (may_f : F → List ℕ → Type 0) (config : Config) (now : ℤ) (so sn : Demo W) (lo ln : OnDisk T) (fo fn : StoreOn F)
+    (report : Report) (result : Result Ending Halt) : Type 0 where
+  pub faithful : (entry : Entry) → IsEntryOf config now entry → Found (StandsFor seen_w may_w) (HoldsGroups seen_t may_t) seen_f may_f entry so lo fo
+      → HadOwnTables entry → LeavesGoing (SourceLeaves may_w) (LogLeaves may_t) may_f entry sn ln fn
+  pub complete : (entry : Entry) → IsEntryOf config now entry → Found (StandsFor seen_w may_w) (HoldsGroups seen_t may_t) seen_f may_f entry so lo fo
+      → HadOwnTables entry → result ≡ Ok Complete → LeavesComplete (SourceLeaves may_w) (LogLeaves may_t) may_f entry sn ln fn
+  pub holds : (entry : Entry) → IsEntryOf config now entry → Found (StandsFor seen_w may_w) (HoldsGroups seen_t may_t) seen_f may_f entry so lo fo
+      → HadOwnTables entry → OnOk result (Holds seen_f may_f fn fn.offset)
+  pub marks : (s : Standing) → StandsFor seen_w may_w so s → HadOwnTables (entry_at config now s fo.offset)
+      → (left : Left) → SourceLeaves may_w sn left → AddsFew (entry_at config now s fo.offset) left
+  pub exactly : (s : Standing) → StandsFor seen_w may_w so s → HadOwnTables (entry_at config now s fo.offset)
+      → IfOk result (λ ending. (left : Left) → SourceLeaves may_w sn left → AddsExactly report.chunks (marks_more ending fn.offset) s.history left.history)
+  pub stores : (fn.offset ≡ fo.offset) ⊎ HasStored config fo.offset fn.offset
+  pub few : result ≡ Ok Complete → report.messages < config.messages
+  pub ended : result ≡ Ok Complete → IsTrue sn.ended
+  pub exhausted : MustExhaust fo.offset result
+  pub must_absent : (s : Standing) → StandsFor seen_w may_w so s → MustHaltAbsent config s.history fo.offset result
+  pub captures : (s : Standing) → StandsFor seen_w may_w so s → CapturesAll config fo.offset fn.offset s.history
+  pub spent : result ≡ Ok Budget → report.messages ≡ config.messages
+  pub settled : (s : Standing) → StandsFor seen_w may_w so s
+      → OnOk result (Stood (StandsFor seen_w may_w) sn (HasSettled config now fo.offset fn.offset report))
+  pub position : report.position ≡ position_of fo.offset fn.offset
+  pub halt_is : IfErr result (IsHalt config now fo.offset fn.offset report None)
+  pub halt_stood : (s : Standing) → StandsFor seen_w may_w so s
+      → IfErr result (IsHaltStanding config now fo.offset fn.offset report (StandsFor seen_w may_w sn))
+  pub absent : (s : Standing) → StandsFor seen_w may_w so s → IfErr result (IsAbsentHalt config.tables s.history)
+  pub gone : (s : Standing) → StandsFor seen_w may_w so s → IsKeptBehind s.confirmed fo.offset → (asked first : Lsn) → result ≡ Err (halt.Gone asked first) → ⊥
+  pub missing : (s : Standing) → StandsFor seen_w may_w so s → IsWithinLog s.history fo.offset
+      → (value : List ℕ) (at : Lsn) → result ≡ Err (halt.WatermarkMissing value at) → ⊥
+  pub own : (s : Standing) → StandsFor seen_w may_w so s → HadOwnTables (entry_at config now s fo.offset)
+      → IfErr result (IsHonestHalt (entry_at config now s fo.offset) (StandsFor seen_w may_w sn))
+  pub content : (entry : Entry) → IsEntryOf config now entry → Found (StandsFor seen_w may_w) (HoldsGroups seen_t may_t) seen_f may_f entry so lo fo
+      → WasFaithful entry → IfErr result (IsFaithfulHalt entry fn.offset report (StandsFor seen_w may_w sn) (HoldsGroups seen_t may_t ln))
+  pub long : (s : Standing) → StandsFor seen_w may_w so s → fo.offset ≡ None → fn.offset ≡ None → IfErr result (IsLongBy config s.history)
+  pub grouped : (groups left : List (List Record)) → HoldsGroups seen_t may_t lo groups → LogLeaves may_t ln left
+      → Gains config now fo.offset fn.offset groups left
+  pub counted : (groups : List (List Record)) → HoldsGroups seen_t may_t lo groups → IsReported (HoldsGroups seen_t may_t) (LogLeaves may_t) groups result ln report
+  pub source_live : OnOk result (IsTrue sn.live)
+  pub source_comes : ComesOf seen_w may_w so sn
+  pub sink_comes : LogComesOf seen_t may_t lo ln
+  pub store_comes : StoreComesOf seen_f may_f fo fn
+
+-- at the same moment
+pub renow : {W T F : Type 0} (seen_w : W → Option (List ℕ)) (may_w : W → List ℕ → Type 0) (seen_t : T → Option (List ℕ)) (may_t : T → List ℕ → Type 0)
+    (seen_f : F → Option (List ℕ)) (may_f : F → List ℕ → Type 0) (config : Config) (now later : ℤ) (so sn : Demo W) (lo ln : OnDisk T) (fo fn : StoreOn F)
+    (report : Report) (result : Result Ending Halt) → now ≡ later
+    → Ran seen_w may_w seen_t may_t seen_f may_f config now so sn lo ln fo fn report result → Ran seen_w may_w seen_t may_t seen_f may_f config later so sn lo ln fo fn report result
+renow seen_w may_w seen_t may_t seen_f may_f config now later so sn lo ln fo fn report result same ran =
+    subst (λ (n : ℤ). Ran seen_w may_w seen_t may_t seen_f may_f config n so sn lo ln fo fn report result) same ran

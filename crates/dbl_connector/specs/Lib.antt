@@ -1,0 +1,4 @@
+pub mod Errors
+pub mod Asked
+pub mod Ends
+pub mod Steps

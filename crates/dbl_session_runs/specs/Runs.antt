@@ -1,0 +1,77 @@
+-- A run of `capture` or `resume`: how its session ended, what that says of the disks, and what it wrote of it.
+use Rattle.std.specs.Prelude.{◌≡◌, ℕ, ℤ, IfOk, IfErr, MatchResult, Option, Some, List}
+use Rattle.dbl_base.specs.Streams.{Rose}
+use Rattle.dbl_kept.specs.Bounds.{IsBounded}
+use Rattle.dbl_kept.specs.Headline.{IsPromisedOf}
+use Rattle.dbl_kept.specs.Kept.{AreKept}
+use Rattle.dbl_connector.specs.declared.asked.Asked.{Asked}
+use Rattle.dbl_connector.specs.Asked.{asks_in, budget_of}
+use Rattle.dbl_connector.specs.Ends.{AddsFew, End, EndsBefore, GainsRecords, HasBegun, HasRun, IsKeptError, IsReported, IsSpent}
+use Rattle.dbl_connector.specs.Errors.{IsConnectError, IsRefusal}
+use Rattle.dbl_init.specs.declared.error.Store.TheVariants.{Wal, Topics, Offsets}
+use Rattle.dbl_session_runs.specs.Ends.{SaysSession, store_status}
+
+-- Of disks that told these bytes, and of which a crash might leave these before it, and may leave those now.
+pub record Answers (asked : Asked) (now : ℤ) (wals logs new_wals new_logs : List ℕ → Type 0) (w t f : List ℕ) (end : End) : Type 0 where
+  -- why it ended
+  pub told : MatchResult end (HasRun asked now new_wals new_logs w t f) (EndsBefore asked now new_wals new_logs w t f)
+  -- what the topic log gained, and how few marks the source's log did
+  pub gains : (begun : HasBegun asked w t f) → GainsRecords asked now logs new_logs w t f begun
+  pub marks : AddsFew asked wals new_wals w t f
+
+-- Of those that were kept: its report is right, and it isn't told what never comes.
+pub record AnswersKept (asked : Asked) (now : ℤ) (new_wals new_logs new_stores : List ℕ → Type 0) (w t f : List ℕ) (end : End) : Type 0 where
+  pub report : IfOk end (IsReported asked now new_wals new_logs new_stores w t f)
+  pub never : IfErr end (IsKeptError asked now new_wals new_logs new_stores w t f)
+
+-- Nothing was written: a crash leaves nothing of the disks that it couldn't leave before.
+pub record WroteNothing (wals logs stores new_wals new_logs new_stores : List ℕ → Type 0) : Type 0 where
+  pub wal : (image : List ℕ) → new_wals image → wals image
+  pub topics : (image : List ℕ) → new_logs image → logs image
+  pub offsets : (image : List ℕ) → new_stores image → stores image
+
+-- The session ended so, and that was told. What the disks told and may leave before it, and what they may leave now.
+pub record RunsSession (asked : Asked) (now : ℤ) (told_wal told_topics told_offsets : Option (List ℕ)) (wals logs stores new_wals new_logs new_stores : List ℕ → Type 0)
+    (status : ℕ) (before after : Option (List ℕ)) : Type 0 where
+  pub end : End
+  pub says : SaysSession end status before after
+  pub answers : (w t f : List ℕ) → told_wal ≡ Some w → told_topics ≡ Some t → told_offsets ≡ Some f → Answers asked now wals logs new_wals new_logs w t f end
+  pub kept : AreKept told_wal told_topics told_offsets wals logs stores → (w t f : List ℕ) → told_wal ≡ Some w → told_topics ≡ Some t → told_offsets ≡ Some f
+      → AnswersKept asked now new_wals new_logs new_stores w t f end
+  -- where the disks hold what it can't begin with
+  pub refused : IfErr end (λ e. IsRefusal e → WroteNothing wals logs stores new_wals new_logs new_stores)
+  pub spent : IfOk end (IsSpent (budget_of asked))
+  pub kinds : IfErr end IsConnectError
+
+-- For private clauses: so a run was asked for a session. What it leaves of kept disks is as the connector promises, and kept; a disk's fault is
+-- told only where its count rose; and none that tells its bytes has become long.
+pub record RunsConnected
+    {W T F : Type 0}
+    (seen_wal : W → Option (List ℕ))
+    (wals : W → List ℕ → Type 0)
+    (faults_wal : W → ℕ)
+    (seen_topics : T → Option (List ℕ))
+    (logs : T → List ℕ → Type 0)
+    (faults_topics : T → ℕ)
+    (seen_offsets : F → Option (List ℕ))
+    (stores : F → List ℕ → Type 0)
+    (faults_offsets : F → ℕ)
+    (asked : Asked)
+    (now : ℤ)
+    (wal new_wal : W)
+    (topics new_topics : T)
+    (offsets new_offsets : F)
+    (status : ℕ)
+    (before after : Option (List ℕ)) : Type 0 where
+  pub headline : AreKept (seen_wal wal) (seen_topics topics) (seen_offsets offsets) (wals wal) (logs topics) (stores offsets) → (w t f : List ℕ)
+      → wals new_wal w → logs new_topics t → stores new_offsets f → IsPromisedOf (status ≡ 0) (asks_in asked) (wals wal) (logs topics) (stores offsets) w t f
+  pub kept : AreKept (seen_wal wal) (seen_topics topics) (seen_offsets offsets) (wals wal) (logs topics) (stores offsets)
+      → AreKept (seen_wal new_wal) (seen_topics new_topics) (seen_offsets new_offsets) (wals new_wal) (logs new_topics) (stores new_offsets)
+  pub runs : RunsSession asked now (seen_wal wal) (seen_topics topics) (seen_offsets offsets) (wals wal) (logs topics) (stores offsets)
+      (wals new_wal) (logs new_topics) (stores new_offsets) status before after
+  pub wal_failed : status ≡ store_status Wal → Rose (faults_wal wal) (faults_wal new_wal)
+  pub topics_failed : status ≡ store_status Topics → Rose (faults_topics topics) (faults_topics new_topics)
+  pub offsets_failed : status ≡ store_status Offsets → Rose (faults_offsets offsets) (faults_offsets new_offsets)
+  pub wal_bounded : IsBounded (seen_wal wal) (seen_wal new_wal)
+  pub topics_bounded : IsBounded (seen_topics topics) (seen_topics new_topics)
+  pub offsets_bounded : IsBounded (seen_offsets offsets) (seen_offsets new_offsets)

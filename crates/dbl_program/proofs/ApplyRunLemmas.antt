@@ -13,13 +13,14 @@ use Rattle.dbl_consume.specs.Printing.{row_line, PrintsRows}
 use Rattle.dbl_replay.specs.declared.apply.FaultAt.{FaultAt}
 use Rattle.dbl_replay.specs.declared.apply.LineFault.{LineFault}
 use Rattle.dbl_replay.specs.declared.apply.LineFault.TheVariants as line
-use Rattle.dbl_program.specs.declared.halt.Halt.{Halt}
-use Rattle.dbl_program.specs.declared.halt.Halt.TheVariants.{Usage, BadLine, InputTooLong, InputFailed, Memory}
-use Rattle.dbl_program.specs.Faults.{status_of, fault_line, output_failed_status}
+use Rattle.dbl_saying.specs.declared.halt.Halt.{Halt}
+use Rattle.dbl_saying.specs.declared.halt.Halt.TheVariants.{Usage, BadLine, InputTooLong, InputFailed, Memory}
+use Rattle.dbl_saying.specs.Faults.{status_of, fault_line, output_failed_status}
 use Rattle.dbl_replay.specs.Apply.{first_fault, fault_text, readings_of}
-use Rattle.dbl_program.specs.Run.{Answer, fault, done, line_fault, Applies, refused, applied, whole, out_of_memory, Writes, Ends, IsOutside, Says, IsApplyStatus, HaltsApplying, RunsApplying, FailsReading, EndsAs, PrintedAs}
+use Rattle.dbl_program.specs.Run.{Answer, fault, done, line_fault, Applies, refused, applied, whole, out_of_memory, Ends, IsOutside, IsApplyStatus, HaltsApplying, RunsApplying, FailsReading, EndsAs, PrintedAs}
 use Rattle.dbl_program.proofs.ApplyLaws.{applies_one}
 use Rattle.dbl_program.proofs.RunLemmas.{says_ends, memory_ends, written_or_outside, memory_is_outside, writes_then}
+use Rattle.dbl_saying.specs.Says.{Says, Writes}
 
 -- a run with the answer of its bytes
 pub answered : (placeholder : List ℕ) (bytes : List ℕ) (answer : Answer) (status : ℕ) (before after : Option (List ℕ)) → Applies placeholder bytes answer → EndsAs answer status before after → RunsApplying placeholder bytes status before after

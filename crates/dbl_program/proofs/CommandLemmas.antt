@@ -9,13 +9,13 @@ use Rattle.dbl_cli.specs.declared.commands.Command.{Command}
 use Rattle.dbl_cli.specs.declared.commands.Command.TheVariants as command
 use Rattle.dbl_cli.specs.Commands.{Spells}
 use Rattle.dbl_cli.proofs.SayLemmas.{one_command}
-use Rattle.dbl_program.specs.declared.halt.Halt.TheVariants.{Usage, Memory}
-use Rattle.dbl_program.specs.Faults.{status_of, output_failed_status}
-use Rattle.dbl_program.specs.Run.{Answer, fault, whole, Writes, Ends, Says, EndsAs, RunsReplaying, RunsApplying, FailsReading}
+use Rattle.dbl_saying.specs.declared.halt.Halt.TheVariants.{Usage, Memory}
+use Rattle.dbl_saying.specs.Faults.{status_of, output_failed_status}
+use Rattle.dbl_program.specs.Run.{Answer, fault, whole, Ends, EndsAs, RunsReplaying, RunsApplying, FailsReading}
 use Rattle.dbl_runs.specs.Answers.{Answer as StoreAnswer, AnswersTopics, AnswersOffsets, AnswersApply}
 use Rattle.dbl_runs.proofs.OnceLaws.{topics_once, offsets_once, apply_once}
 use Rattle.dbl_runs.specs.declared.error.Store.{Store}
-use Rattle.dbl_program.specs.Disks.{IsCutShort, EndsOrFails, IsAnswerOf, OfDisk, RunsStores, store_answer}
+use Rattle.dbl_program.specs.Disks.{EndsOrFails, IsAnswerOf, OfDisk, RunsStores, store_answer}
 use Rattle.dbl_init.proofs.AnswerLaws.{one_answer}
 use Rattle.dbl_program.specs.Inits.{FailsSource, IsInitAnswer, init_answer}
 use Rattle.dbl_program.specs.Means.{opens_offsets, opens_topics, uses_offsets, uses_topics, makes, FindsNoLog, options_of, Given, given_init, Answers, Means, usage, spelled, Runs, RunsCommand, RunsInit, InputFails, WalFails, reads, TellsInput, IsStatusOf}
@@ -23,8 +23,10 @@ use Rattle.dbl_program.proofs.ApplyLaws.{applies_one}
 use Rattle.dbl_program.proofs.ApplyRunLemmas.{memory_outside, memory_written, says_is}
 use Rattle.dbl_program.proofs.ReplayRunLemmas.{outside_no_answer}
 use Rattle.dbl_program.proofs.RunLemmas.{replays_one, says_ends, memory_ends, written_or_outside}
-use Rattle.dbl_program.proofs.StatusLemmas.{cut_other, switched}
+use Rattle.dbl_program.proofs.StatusLemmas.{switched}
 use Rattle.dbl_program.proofs.StoreRunLemmas.{both_opened}
+use Rattle.dbl_saying.proofs.SayLemmas.{cut_other}
+use Rattle.dbl_saying.specs.Says.{IsCutShort, Says, Writes}
 
 -- ---- one answer
 
@@ -37,8 +39,8 @@ pub answers_one : (c : Command) (now : ℤ) (given : Given) (a b : Answer) → A
 answers_one command.Init now given a b is is' = is.2 ∙ ap init_answer (one_answer (given_init given) is.0 is'.0 is.1 is'.1) ∙ sym is'.2
 answers_one command.Topics now given a b is is' = stores_one (AnswersTopics given.topics) (topics_once given.topics) a b is is'
 answers_one command.Offsets now given a b is is' = stores_one (AnswersOffsets given.offsets) (offsets_once given.offsets) a b is is'
-answers_one (command.Capture options) now given a b is is' = is ∙ sym is'
-answers_one (command.Resume chunk every messages) now given a b is is' = is ∙ sym is'
+answers_one (command.Capture options) now given a b is is' = absurd is
+answers_one (command.Resume chunk every messages) now given a b is is' = absurd is
 answers_one (command.Apply true placeholder) now given a b is is' = applies_one placeholder given.input a b is is'
 answers_one (command.Apply false placeholder) now given a b is is' = stores_one (AnswersApply given.topics given.offsets) (apply_once given.topics given.offsets) a b is is'
 answers_one (command.Replay prefix db placeholder keys) now given a b is is' = replays_one _ now given.input a b is is'
@@ -107,9 +109,10 @@ pub reads_topics : (c : Command) → opens_topics c ≡ true → uses_topics c �
 reads_topics command.Init opens = refl
 reads_topics command.Topics opens = opens
 reads_topics command.Offsets opens = opens
-reads_topics (command.Capture options) opens = opens
-reads_topics (command.Resume chunk every messages) opens = opens
-reads_topics (command.Apply lines placeholder) opens = opens
+reads_topics (command.Capture options) opens = refl
+reads_topics (command.Resume chunk every messages) opens = refl
+reads_topics (command.Apply true placeholder) opens = opens
+reads_topics (command.Apply false placeholder) opens = refl
 reads_topics (command.Replay prefix db placeholder keys) opens = opens
 reads_topics (command.Gen number rows groups run) opens = opens
 
@@ -117,9 +120,10 @@ pub reads_offsets : (c : Command) → opens_offsets c ≡ true → uses_offsets 
 reads_offsets command.Init opens = refl
 reads_offsets command.Topics opens = opens
 reads_offsets command.Offsets opens = opens
-reads_offsets (command.Capture options) opens = opens
-reads_offsets (command.Resume chunk every messages) opens = opens
-reads_offsets (command.Apply lines placeholder) opens = opens
+reads_offsets (command.Capture options) opens = refl
+reads_offsets (command.Resume chunk every messages) opens = refl
+reads_offsets (command.Apply true placeholder) opens = opens
+reads_offsets (command.Apply false placeholder) opens = refl
 reads_offsets (command.Replay prefix db placeholder keys) opens = opens
 reads_offsets (command.Gen number rows groups run) opens = opens
 
@@ -180,8 +184,8 @@ pub memory_status : (c : Command) (status : ℕ) (before after : Option (List �
 memory_status command.Init status before after says = inr (inr (inr (inr (inr (inr (inr (inr (cut_short status before after says))))))))
 memory_status command.Topics status before after says = inr (inr (inr (cut_short status before after says)))
 memory_status command.Offsets status before after says = inr (inr (inr (inr (cut_short status before after says))))
-memory_status (command.Capture options) status before after says = inr (cut_short status before after says)
-memory_status (command.Resume chunk every messages) status before after says = inr (cut_short status before after says)
+memory_status (command.Capture options) status before after says = inr (inr (inr (inr (inr (inr (inr (inr (inr (cut_short status before after says)))))))))
+memory_status (command.Resume chunk every messages) status before after says = inr (inr (inr (inr (inr (inr (inr (inr (inr (cut_short status before after says)))))))))
 memory_status (command.Apply true placeholder) status before after says = inr (inr (memory_outside status before after says))
 memory_status (command.Apply false placeholder) status before after says = inr (inr (inr (inr (inr (cut_short status before after says)))))
 memory_status (command.Replay prefix db placeholder keys) status before after says = inr (memory_outside status before after says)

@@ -8,12 +8,14 @@ use Rattle.dbl_runs.specs.declared.error.Store.TheVariants as store
 use Rattle.dbl_runs.specs.Ends.{End, HasOpenedOffset, IsErrorOf}
 use Rattle.dbl_runs.specs.Errors.{error_status}
 use Rattle.dbl_runs.proofs.ErrorLaws.{apart}
-use Rattle.dbl_program.specs.declared.halt.Halt.TheVariants.{InputFailed}
-use Rattle.dbl_program.specs.Faults.{status_of, output_failed_status}
-use Rattle.dbl_program.specs.Disks.{IsCutShort, Finishes, SaysError, offsets_status, topics_status}
+use Rattle.dbl_saying.specs.declared.halt.Halt.TheVariants.{InputFailed}
+use Rattle.dbl_saying.specs.Faults.{status_of, output_failed_status}
+use Rattle.dbl_program.specs.Disks.{Finishes, SaysError, offsets_status, topics_status}
 use Rattle.dbl_program.specs.Means.{HasOpenedTopics, IsOffsetsStatus, IsRowsStatus, IsTopicsStatus}
 use Rattle.dbl_program.proofs.DiskLemmas.{rose_before, rose_behind}
-use Rattle.dbl_program.proofs.StatusLemmas.{cut_other, offsets_other, offsets_running, offsets_whole, rows_other, topics_other, topics_running, topics_whole}
+use Rattle.dbl_program.proofs.StatusLemmas.{offsets_other, offsets_running, offsets_whole, rows_other, topics_other, topics_running, topics_whole}
+use Rattle.dbl_saying.proofs.SayLemmas.{cut_other}
+use Rattle.dbl_saying.specs.Says.{IsCutShort}
 
 -- ---- the status of a command that was finished
 

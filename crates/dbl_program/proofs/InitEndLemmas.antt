@@ -8,10 +8,11 @@ use Rattle.dbl_init.specs.declared.error.Store.TheVariants as store
 use Rattle.dbl_init.specs.Answers as inits
 use Rattle.dbl_init.specs.Disks.{IsAsked, Leaves}
 use Rattle.dbl_init.specs.Disks as disks
-use Rattle.dbl_program.specs.Disks.{IsCutShort}
-use Rattle.dbl_program.specs.Inits.{FinishesInit, IsInitAnswer, IsInitLeft, IsUnmade, IsUnwritten, IsUntouched, init_status, store_status}
+use Rattle.dbl_program.specs.Inits.{FinishesInit, IsInitAnswer, IsInitLeft, IsUnmade, IsUnwritten, IsUntouched, init_status}
 use Rattle.dbl_program.proofs.InitLemmas.{end_status, finished_status}
-use Rattle.dbl_program.proofs.StatusLemmas.{cut_other}
+use Rattle.dbl_session_runs.specs.Ends.{store_status}
+use Rattle.dbl_saying.proofs.SayLemmas.{cut_other}
+use Rattle.dbl_saying.specs.Says.{IsCutShort}
 
 -- ---- numbers
 

@@ -10,13 +10,14 @@ use Rattle.dbl_init.specs.declared.error.InitError.TheVariants as init
 use Rattle.dbl_init.specs.declared.error.Store.TheVariants as store
 use Rattle.dbl_init.specs.Answers as inits
 use Rattle.dbl_init.proofs.AnswerLaws.{one_answer}
-use Rattle.dbl_program.specs.declared.halt.Halt.TheVariants.{Memory}
-use Rattle.dbl_program.specs.Disks.{DiskFails, IsCutShort, IsDiskStatus, OfDisk}
-use Rattle.dbl_program.specs.Faults.{fault_line, status_of}
+use Rattle.dbl_saying.specs.declared.halt.Halt.TheVariants.{Memory}
+use Rattle.dbl_program.specs.Disks.{DiskFails, IsDiskStatus, OfDisk}
+use Rattle.dbl_saying.specs.Faults.{fault_line, status_of}
 use Rattle.dbl_program.specs.Inits.{FailsSource, FinishesInit, IsInitStatus, SaysInit, init_answer, init_fault, init_line, init_status}
 use Rattle.dbl_program.specs.Means.{RunsInit}
-use Rattle.dbl_program.specs.Run.{Answer, Ends, FailsReading, IsOutside, Writes, whole}
+use Rattle.dbl_program.specs.Run.{Answer, Ends, FailsReading, IsOutside, whole}
 use Rattle.dbl_program.proofs.RunLemmas.{memory_ends, memory_is_outside, written_or_outside}
+use Rattle.dbl_saying.specs.Says.{IsCutShort, Writes}
 
 abbrev pub end_status : inits.End → ℕ
 end_status (Ok made) = 0

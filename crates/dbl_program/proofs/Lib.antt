@@ -5,9 +5,11 @@ pub mod DiskLemmas
 pub mod FinishLemmas
 pub mod InitEndLemmas
 pub mod InitLemmas
+pub mod KeptLemmas
 pub mod RefusalLaws
 pub mod ReplayRunLemmas
 pub mod RunLemmas
+pub mod SessionLemmas
 pub mod StandLemmas
 pub mod StatusLemmas
 pub mod StoreRunLemmas

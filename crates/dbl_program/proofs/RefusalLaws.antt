@@ -11,7 +11,7 @@ use Rattle.dbl_runs.specs.Errors.{error_status}
 use Rattle.dbl_replay.specs.declared.options.ReplayOptions.{ReplayOptions}
 use Rattle.dbl_replay.specs.Log.{end_status}
 use Rattle.dbl_consume.specs.Printing.{row_line}
-use Rattle.dbl_program.specs.declared.halt.Halt.TheVariants.{BadLine, InputTooLong, Usage}
+use Rattle.dbl_saying.specs.declared.halt.Halt.TheVariants.{BadLine, InputTooLong, Usage}
 use Rattle.dbl_program.specs.Run.{Answer, Applies, Replays, applied, bad_line, done, fault, line_fault, log_answer, long_input, refused, replayed, too_long}
 use Rattle.dbl_program.specs.Disks.{store_answer, store_fault}
 use Rattle.dbl_program.specs.Means.{Answers, Given, Means, given_init, made, not_built, options_of, spelled, usage}
@@ -102,8 +102,8 @@ forth words now given answer command.Topics spells is refuses =
     stores_told (AnswersTopics given.topics) answer (IsRefused words given answer) (λ e told same. inl (e, record { command = command.Topics; spells = spells; tells = told; answer_is = same })) refuses is.0 is.1 is.2
 forth words now given answer command.Offsets spells is refuses =
     stores_told (AnswersOffsets given.offsets) answer (IsRefused words given answer) (λ e told same. inl (e, record { command = command.Offsets; spells = spells; tells = told; answer_is = same })) refuses is.0 is.1 is.2
-forth words now given answer (command.Capture options) spells is refuses = unbuilt_refuses answer (IsRefused words given answer) is refuses
-forth words now given answer (command.Resume chunk every messages) spells is refuses = unbuilt_refuses answer (IsRefused words given answer) is refuses
+forth words now given answer (command.Capture options) spells is refuses = absurd is
+forth words now given answer (command.Resume chunk every messages) spells is refuses = absurd is
 forth words now given answer (command.Apply true placeholder) spells is refuses = absurd (lines_refuse placeholder given.input answer is refuses)
 forth words now given answer (command.Apply false placeholder) spells is refuses =
     stores_told (AnswersApply given.topics given.offsets) answer (IsRefused words given answer) (λ e told same. inl (e, record { command = command.Apply false placeholder; spells = spells; tells = told; answer_is = same })) refuses is.0 is.1 is.2

@@ -4,23 +4,24 @@ use Rattle.dbl_base.specs.Lines.{lines_of, lines_text}
 use Rattle.dbl_base.specs.Streams.{Rose, input_limit}
 use Rattle.dbl_commit.specs.declared.txn_error.TxnError.{TxnError}
 use Rattle.dbl_commit.specs.declared.txn_error.TxnError.TheVariants as txn
-use Rattle.dbl_program.specs.declared.halt.Halt.{Halt}
-use Rattle.dbl_program.specs.declared.halt.Halt.TheVariants.{Usage, BadLine, InputTooLong, InputFailed, Memory}
+use Rattle.dbl_saying.specs.declared.halt.Halt.{Halt}
+use Rattle.dbl_saying.specs.declared.halt.Halt.TheVariants.{Usage, BadLine, InputTooLong, InputFailed, Memory}
 use Rattle.dbl_replay.specs.declared.log_fault.LogFault.{LogFault}
 use Rattle.dbl_replay.specs.declared.log_fault.LogFault.TheVariants as log
 use Rattle.dbl_replay.specs.declared.options.ReplayOptions.{ReplayOptions}
 use Rattle.dbl_lines.specs.declared.error.PrintError.TheVariants as print_error
-use Rattle.dbl_program.specs.Faults.{status_of, fault_line, output_failed_status}
+use Rattle.dbl_saying.specs.Faults.{status_of, fault_line, output_failed_status}
 use Rattle.dbl_replay.specs.Lines.{messages_in, first_bad}
 use Rattle.dbl_replay.specs.Log.{LogWrites, end_status, end_lines}
 use Rattle.dbl_replay.specs.LogFaults.{transaction_status}
 use Rattle.dbl_replay.specs.LogPrinting.{IsLogPrinted, LogFails}
 use Rattle.dbl_program.specs.Run.{RunsLog}
-use Rattle.dbl_program.specs.Run.{Answer, fault, log_answer, Replays, too_long, bad_line, replayed, whole, out_of_memory, Ends, Says, HaltsReplaying, RunsReplaying, FailsReading, IsReplayAnswer, IsReplayStatus}
+use Rattle.dbl_program.specs.Run.{Answer, fault, log_answer, Replays, too_long, bad_line, replayed, whole, out_of_memory, Ends, HaltsReplaying, RunsReplaying, FailsReading, IsReplayAnswer, IsReplayStatus}
 use Rattle.dbl_program.proofs.ApplyRunLemmas.{memory_outside, memory_written, says_is, outside_of}
 use Rattle.dbl_replay.proofs.CommitLaws.{commits_written, replayed_written}
 use Rattle.dbl_replay.proofs.LogLemmas.{log_one}
 use Rattle.dbl_program.proofs.RunLemmas.{replays_one, says_ends, memory_ends, written_or_outside, memory_is_outside, writes_then}
+use Rattle.dbl_saying.specs.Says.{Says}
 
 -- ---- how a run over messages ends
 

@@ -1,17 +1,18 @@
 -- How a run ends, from what it read and what it wrote.
 use Rattle.std.proofs.Common.{◌≡◌, ◌⊎◌, inl, inr, ◌∙◌, ℕ, ℤ, Option, List, [], ◌∷◌, ◌++◌, refl, sym, ap, ap₂, arith}
 use Rattle.dbl_base.specs.Lines.{lines_of, lines_text}
-use Rattle.dbl_program.specs.declared.halt.Halt.{Halt}
-use Rattle.dbl_program.specs.declared.halt.Halt.TheVariants.{BadLine, Memory}
+use Rattle.dbl_saying.specs.declared.halt.Halt.{Halt}
+use Rattle.dbl_saying.specs.declared.halt.Halt.TheVariants.{BadLine, Memory}
 use Rattle.dbl_replay.specs.declared.log_fault.LogFault.{LogFault}
 use Rattle.dbl_replay.specs.declared.options.ReplayOptions.{ReplayOptions}
-use Rattle.dbl_program.specs.Faults.{status_of, fault_line}
+use Rattle.dbl_saying.specs.Faults.{status_of, fault_line}
 use Rattle.dbl_lines.specs.Writing.{Wrote}
 use Rattle.dbl_lines.proofs.WritingLemmas.{wrote_then, front_then}
-use Rattle.dbl_program.specs.Run.{Answer, fault, log_answer, Replays, too_long, bad_line, replayed, whole, out_of_memory, Writes, Ends, IsOutside, Says}
+use Rattle.dbl_program.specs.Run.{Answer, fault, log_answer, Replays, too_long, bad_line, replayed, whole, out_of_memory, Ends, IsOutside}
 use Rattle.dbl_replay.specs.Lines.{messages_in}
 use Rattle.dbl_replay.proofs.CommitLaws.{replayed_written}
 use Rattle.dbl_replay.proofs.LogLemmas.{log_one}
+use Rattle.dbl_saying.specs.Says.{Says, Writes}
 
 -- bytes have one answer
 pub replays_one : (options : ReplayOptions) (now : ℤ) (bytes : List ℕ) (a b : Answer) → Replays options now bytes a → Replays options now bytes b → a ≡ b

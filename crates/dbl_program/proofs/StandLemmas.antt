@@ -28,7 +28,7 @@ use Rattle.dbl_cli.specs.declared.commands.Command.TheVariants as command
 use Rattle.dbl_cli.specs.Commands.{Spells as Spelled}
 use Rattle.dbl_cli.proofs.SpelledLemmas.{spelled_or_not}
 use Rattle.dbl_replay.specs.declared.apply.FaultAt.{FaultAt}
-use Rattle.dbl_program.specs.declared.halt.Halt.TheVariants.{Usage, BadLine, InputTooLong}
+use Rattle.dbl_saying.specs.declared.halt.Halt.TheVariants.{Usage, BadLine, InputTooLong}
 use Rattle.dbl_replay.specs.declared.log_fault.LogFault.{LogFault}
 use Rattle.dbl_replay.specs.declared.log_fault.LogFault.TheVariants as log
 use Rattle.dbl_replay.specs.declared.options.ReplayOptions.{ReplayOptions}
@@ -42,9 +42,10 @@ use Rattle.dbl_runs.proofs.StandLaws.{topics_stand, offsets_stand, apply_stands 
 use Rattle.dbl_program.specs.Disks.{IsAnswerOf, store_answer}
 use Rattle.dbl_init.proofs.StandLaws.{answers_stand}
 use Rattle.dbl_program.specs.Inits.{init_answer}
-use Rattle.dbl_program.specs.Means.{made, not_built, options_of, Given, given_init, Answers, Means, usage, spelled}
+use Rattle.dbl_program.specs.Means.{made, not_built, options_of, connects, Given, given_init, Answers, Means, SpellNone, usage, spelled}
 use Rattle.dbl_replay.proofs.CommitLaws.{commits_written}
 use Rattle.dbl_replay.proofs.CaptureLemmas.{captured_still, captured_more}
+use Rattle.dbl_program.proofs.StatusLemmas.{switched}
 
 -- ---- pairs of digits are bytes
 
@@ -187,22 +188,22 @@ apply_stands placeholder bytes = by_length (within_or_not (length bytes))
 stores_stand : (Told : StoreAnswer → Type 0) → (found : StoreAnswer) → Told found → (answer : Answer) × IsAnswerOf Told answer
 stores_stand Told found told = (store_answer found, (found, told, refl))
 
-command_stands : (c : Command) (now : ℤ) (given : Given) → AreBytes given.topics → AreBytes given.offsets → (answer : Answer) × Answers c now given answer
-command_stands command.Init now given t f = let end = answers_stand (given_init given) in (init_answer end.0, (end.0, end.1, refl))
-command_stands command.Topics now given t f = let found = topics_stand given.topics t in stores_stand (AnswersTopics given.topics) found.0 found.1
-command_stands command.Offsets now given t f = let found = offsets_stand given.offsets f in stores_stand (AnswersOffsets given.offsets) found.0 found.1
-command_stands (command.Capture options) now given t f = (not_built, refl)
-command_stands (command.Resume chunk every messages) now given t f = (not_built, refl)
-command_stands (command.Apply true placeholder) now given t f = apply_stands placeholder given.input
-command_stands (command.Apply false placeholder) now given t f =
+command_stands : (c : Command) (now : ℤ) (given : Given) → connects c ≡ false → AreBytes given.topics → AreBytes given.offsets → (answer : Answer) × Answers c now given answer
+command_stands command.Init now given none t f = let end = answers_stand (given_init given) in (init_answer end.0, (end.0, end.1, refl))
+command_stands command.Topics now given none t f = let found = topics_stand given.topics t in stores_stand (AnswersTopics given.topics) found.0 found.1
+command_stands command.Offsets now given none t f = let found = offsets_stand given.offsets f in stores_stand (AnswersOffsets given.offsets) found.0 found.1
+command_stands (command.Capture options) now given none t f = absurd (switched none)
+command_stands (command.Resume chunk every messages) now given none t f = absurd (switched none)
+command_stands (command.Apply true placeholder) now given none t f = apply_stands placeholder given.input
+command_stands (command.Apply false placeholder) now given none t f =
     let found = consumer_stands given.topics given.offsets t f in stores_stand (AnswersApply given.topics given.offsets) found.0 found.1
-command_stands (command.Replay prefix db placeholder keys) now given t f = replay_stands (options_of prefix db placeholder keys) now given.input
-command_stands (command.Gen number rows groups true) now given t f = (not_built, refl)
-command_stands (command.Gen number rows groups false) now given t f = (made number rows groups, refl)
+command_stands (command.Replay prefix db placeholder keys) now given none t f = replay_stands (options_of prefix db placeholder keys) now given.input
+command_stands (command.Gen number rows groups true) now given none t f = (not_built, refl)
+command_stands (command.Gen number rows groups false) now given none t f = (made number rows groups, refl)
 
-pub means_stand : (words : List (List ℕ)) (now : ℤ) (given : Given) → AreBytes given.topics → AreBytes given.offsets → (answer : Answer) × Means words now given answer
-means_stand words now given t f = go (spelled_or_not words)
+pub means_stand : (words : List (List ℕ)) (now : ℤ) (given : Given) → SpellNone words connects → AreBytes given.topics → AreBytes given.offsets → (answer : Answer) × Means words now given answer
+means_stand words now given none t f = go (spelled_or_not words)
   where
     go : ((c : Command) × Spelled words c) ⊎ ((c : Command) → Spelled words c → ⊥) → (answer : Answer) × Means words now given answer
-    go (inl found) = let answer = command_stands found.0 now given t f in (answer.0, spelled found.0 found.1 answer.1)
-    go (inr none) = (fault Usage, usage none refl)
+    go (inl found) = let answer = command_stands found.0 now given (none found.0 found.1) t f in (answer.0, spelled found.0 found.1 answer.1)
+    go (inr unspelled) = (fault Usage, usage unspelled refl)

@@ -4,20 +4,19 @@ use Rattle.dbl_base.specs.Streams.{Rose}
 use Rattle.dbl_cli.specs.declared.commands.Command.{Command}
 use Rattle.dbl_cli.specs.declared.commands.Command.TheVariants as command
 use Rattle.dbl_cli.specs.Commands.{Spells}
-use Rattle.dbl_program.specs.declared.halt.Halt.{Halt}
-use Rattle.dbl_program.specs.declared.halt.Halt.TheVariants.{Usage, Memory}
-use Rattle.dbl_program.specs.Faults.{status_of}
-use Rattle.dbl_program.specs.Run.{IsApplyStatus, IsOutside, IsReplayStatus, Says}
-use Rattle.dbl_program.specs.Disks.{IsCutShort, offsets_status, topics_status, wal_status}
+use Rattle.dbl_saying.specs.declared.halt.Halt.{Halt}
+use Rattle.dbl_saying.specs.declared.halt.Halt.TheVariants.{Usage, Memory}
+use Rattle.dbl_saying.specs.Faults.{status_of}
+use Rattle.dbl_program.specs.Run.{IsApplyStatus, IsOutside, IsReplayStatus}
+use Rattle.dbl_program.specs.Disks.{offsets_status, topics_status, wal_status}
 use Rattle.dbl_program.specs.Inits.{IsInitStatus}
-use Rattle.dbl_program.specs.Means.{HasOpenedOffsets, HasOpenedTopics, IsOffsetsStatus, IsRowsStatus, IsStatusOf, IsTopicsStatus, SpellUnbuilt, is_built, makes, opens_offsets, opens_topics, reads, uses_offsets, uses_topics}
+use Rattle.dbl_program.specs.Means.{HasOpenedOffsets, HasOpenedTopics, IsOffsetsStatus, IsRowsStatus, IsStatusOf, IsTopicsStatus, SpellUnbuilt, connects, is_built, opens_offsets, opens_topics, reads, uses_offsets, uses_topics, writes}
+use Rattle.dbl_session_runs.proofs.SessionLemmas.{session_other}
 use Rattle.dbl_program.proofs.ApplyRunLemmas.{says_is}
+use Rattle.dbl_saying.proofs.SayLemmas.{cut_other}
+use Rattle.dbl_saying.specs.Says.{IsCutShort, Says}
 
 -- ---- by the kind of the command
-
-pub cut_other : (n status : ℕ) → (n ≢ 11) × (n ≢ 12) → IsCutShort status → status ≡ n → ⊥
-cut_other n status other (inl is) same = other.0 (sym same ∙ is)
-cut_other n status other (inr is) same = other.1 (sym same ∙ is)
 
 outside_other : (n status : ℕ) → (n ≢ 10) × (n ≢ 11) × (n ≢ 12) → IsOutside status → status ≡ n → ⊥
 outside_other n status other (inl is) same = other.0 (sym same ∙ is)
@@ -115,28 +114,29 @@ init_other n status own other short (inr (inr (inr (inr (inr (inr (inr (inr cut)
 
 -- ---- by the command
 
--- the disk of the source's log fails nowhere but where the stores are made
-pub no_wal : (c : Command) (status : ℕ) → makes c ≡ false → IsStatusOf c status → status ≡ wal_status → ⊥
+-- the disk of the source's log fails nowhere but where it is written
+pub no_wal : (c : Command) (status : ℕ) → writes c ≡ false → IsStatusOf c status → status ≡ wal_status → ⊥
 no_wal command.Init status none known same = switched none
 no_wal command.Topics status none known same = topics_other 7 status (λ e. cc, λ e. cc, λ e. cc) (λ e. cc, λ e. cc) known same
 no_wal command.Offsets status none known same = offsets_other 7 status (λ e. cc, λ e. cc, λ e. cc, λ e. cc) (λ e. cc, λ e. cc) known same
-no_wal (command.Capture options) status none known same = one_other 16 7 status (λ e. cc) (λ e. cc, λ e. cc) known same
-no_wal (command.Resume chunk every messages) status none known same = one_other 16 7 status (λ e. cc) (λ e. cc, λ e. cc) known same
+no_wal (command.Capture options) status none known same = switched none
+no_wal (command.Resume chunk every messages) status none known same = switched none
 no_wal (command.Apply true placeholder) status none known same = lines_other 7 status (λ e. cc, λ e. cc) (λ e. cc, λ e. cc, λ e. cc) known same
 no_wal (command.Apply false placeholder) status none known same = rows_other 7 status (λ e. cc) (λ e. cc, λ e. cc, λ e. cc, λ e. cc) (λ e. cc, λ e. cc) known same
 no_wal (command.Replay prefix db placeholder keys) status none known same = replay_other 7 status (λ e. cc, λ e. cc, λ e. cc, λ e. cc) (λ e. cc, λ e. cc, λ e. cc) known same
 no_wal (command.Gen number rows groups true) status none known same = one_other 16 7 status (λ e. cc) (λ e. cc, λ e. cc) known same
 no_wal (command.Gen number rows groups false) status none known same = one_other 0 7 status (λ e. cc) (λ e. cc, λ e. cc) known same
 
-pub wal_fails : (c : Command) (status was now : ℕ) → IsStatusOf c status → (c ≡ command.Init → status ≡ wal_status → Rose was now) → status ≡ wal_status → Rose was now
-wal_fails command.Init status was now known fails is = fails refl is
-wal_fails command.Topics status was now known fails is = absurd (no_wal command.Topics status refl known is)
-wal_fails command.Offsets status was now known fails is = absurd (no_wal command.Offsets status refl known is)
-wal_fails (command.Capture options) status was now known fails is = absurd (no_wal (command.Capture options) status refl known is)
-wal_fails (command.Resume chunk every messages) status was now known fails is = absurd (no_wal (command.Resume chunk every messages) status refl known is)
-wal_fails (command.Apply lines placeholder) status was now known fails is = absurd (no_wal (command.Apply lines placeholder) status refl known is)
-wal_fails (command.Replay prefix db placeholder keys) status was now known fails is = absurd (no_wal (command.Replay prefix db placeholder keys) status refl known is)
-wal_fails (command.Gen number rows groups run) status was now known fails is = absurd (no_wal (command.Gen number rows groups run) status refl known is)
+pub wal_fails : (c : Command) (status was now : ℕ) → IsStatusOf c status → (c ≡ command.Init → status ≡ wal_status → Rose was now) → (connects c ≡ true → status ≡ wal_status → Rose was now)
+    → status ≡ wal_status → Rose was now
+wal_fails command.Init status was now known init fails is = init refl is
+wal_fails command.Topics status was now known init fails is = absurd (no_wal command.Topics status refl known is)
+wal_fails command.Offsets status was now known init fails is = absurd (no_wal command.Offsets status refl known is)
+wal_fails (command.Capture options) status was now known init fails is = fails refl is
+wal_fails (command.Resume chunk every messages) status was now known init fails is = fails refl is
+wal_fails (command.Apply lines placeholder) status was now known init fails is = absurd (no_wal (command.Apply lines placeholder) status refl known is)
+wal_fails (command.Replay prefix db placeholder keys) status was now known init fails is = absurd (no_wal (command.Replay prefix db placeholder keys) status refl known is)
+wal_fails (command.Gen number rows groups run) status was now known init fails is = absurd (no_wal (command.Gen number rows groups run) status refl known is)
 
 -- what holds where nothing is read holds where a store is refused, or a disk that isn't empty
 pub refused_unread : (P : Type 0) (c : Command) (status : ℕ) → IsStatusOf c status → (reads c ≡ false → P) → (c ≡ command.Init → status ≡ 14 → P) → status ≡ 14 → P
@@ -155,8 +155,8 @@ pub no_topics : (c : Command) (status : ℕ) → IsStatusOf c status → uses_to
 no_topics command.Init status known shut same = switched shut
 no_topics command.Topics status known shut same = switched shut
 no_topics command.Offsets status known shut same = offsets_other 8 status (λ e. cc, λ e. cc, λ e. cc, λ e. cc) (λ e. cc, λ e. cc) known same
-no_topics (command.Capture options) status known shut same = one_other 16 8 status (λ e. cc) (λ e. cc, λ e. cc) known same
-no_topics (command.Resume chunk every messages) status known shut same = one_other 16 8 status (λ e. cc) (λ e. cc, λ e. cc) known same
+no_topics (command.Capture options) status known shut same = switched shut
+no_topics (command.Resume chunk every messages) status known shut same = switched shut
 no_topics (command.Apply true placeholder) status known shut same = lines_other 8 status (λ e. cc, λ e. cc) (λ e. cc, λ e. cc, λ e. cc) known same
 no_topics (command.Apply false placeholder) status known shut same = switched shut
 no_topics (command.Replay prefix db placeholder keys) status known shut same = replay_other 8 status (λ e. cc, λ e. cc, λ e. cc, λ e. cc) (λ e. cc, λ e. cc, λ e. cc) known same
@@ -167,32 +167,59 @@ pub no_offsets : (c : Command) (status : ℕ) → IsStatusOf c status → uses_o
 no_offsets command.Init status known shut same = switched shut
 no_offsets command.Topics status known shut same = topics_other 9 status (λ e. cc, λ e. cc, λ e. cc) (λ e. cc, λ e. cc) known same
 no_offsets command.Offsets status known shut same = switched shut
-no_offsets (command.Capture options) status known shut same = one_other 16 9 status (λ e. cc) (λ e. cc, λ e. cc) known same
-no_offsets (command.Resume chunk every messages) status known shut same = one_other 16 9 status (λ e. cc) (λ e. cc, λ e. cc) known same
+no_offsets (command.Capture options) status known shut same = switched shut
+no_offsets (command.Resume chunk every messages) status known shut same = switched shut
 no_offsets (command.Apply true placeholder) status known shut same = lines_other 9 status (λ e. cc, λ e. cc) (λ e. cc, λ e. cc, λ e. cc) known same
 no_offsets (command.Apply false placeholder) status known shut same = switched shut
 no_offsets (command.Replay prefix db placeholder keys) status known shut same = replay_other 9 status (λ e. cc, λ e. cc, λ e. cc, λ e. cc) (λ e. cc, λ e. cc, λ e. cc) known same
 no_offsets (command.Gen number rows groups true) status known shut same = one_other 16 9 status (λ e. cc) (λ e. cc, λ e. cc) known same
 no_offsets (command.Gen number rows groups false) status known shut same = one_other 0 9 status (λ e. cc) (λ e. cc, λ e. cc) known same
 
--- a command that neither reads a disk nor makes the stores doesn't use it
-pub unused_topics : (c : Command) → makes c ≡ false → opens_topics c ≡ false → uses_topics c ≡ false
+-- where the status is that of the disk's fault, the command makes the store there, or reads it, or runs a session over it
+pub topics_fail : (P : Type 0) (c : Command) (status : ℕ) → IsStatusOf c status → (c ≡ command.Init → status ≡ topics_status → P) → (opens_topics c ≡ true → status ≡ topics_status → P)
+    → (connects c ≡ true → status ≡ topics_status → P) → status ≡ topics_status → P
+topics_fail P command.Init status known init reads fails is = init refl is
+topics_fail P command.Topics status known init reads fails is = reads refl is
+topics_fail P command.Offsets status known init reads fails is = absurd (no_topics command.Offsets status known refl is)
+topics_fail P (command.Capture options) status known init reads fails is = fails refl is
+topics_fail P (command.Resume chunk every messages) status known init reads fails is = fails refl is
+topics_fail P (command.Apply true placeholder) status known init reads fails is = absurd (no_topics (command.Apply true placeholder) status known refl is)
+topics_fail P (command.Apply false placeholder) status known init reads fails is = reads refl is
+topics_fail P (command.Replay prefix db placeholder keys) status known init reads fails is = absurd (no_topics (command.Replay prefix db placeholder keys) status known refl is)
+topics_fail P (command.Gen number rows groups run) status known init reads fails is = absurd (no_topics (command.Gen number rows groups run) status known refl is)
+
+pub offsets_fail : (P : Type 0) (c : Command) (status : ℕ) → IsStatusOf c status → (c ≡ command.Init → status ≡ offsets_status → P) → (opens_offsets c ≡ true → status ≡ offsets_status → P)
+    → (connects c ≡ true → status ≡ offsets_status → P) → status ≡ offsets_status → P
+offsets_fail P command.Init status known init reads fails is = init refl is
+offsets_fail P command.Topics status known init reads fails is = absurd (no_offsets command.Topics status known refl is)
+offsets_fail P command.Offsets status known init reads fails is = reads refl is
+offsets_fail P (command.Capture options) status known init reads fails is = fails refl is
+offsets_fail P (command.Resume chunk every messages) status known init reads fails is = fails refl is
+offsets_fail P (command.Apply true placeholder) status known init reads fails is = absurd (no_offsets (command.Apply true placeholder) status known refl is)
+offsets_fail P (command.Apply false placeholder) status known init reads fails is = reads refl is
+offsets_fail P (command.Replay prefix db placeholder keys) status known init reads fails is = absurd (no_offsets (command.Replay prefix db placeholder keys) status known refl is)
+offsets_fail P (command.Gen number rows groups run) status known init reads fails is = absurd (no_offsets (command.Gen number rows groups run) status known refl is)
+
+-- a command that neither reads a disk nor writes it doesn't use it
+pub unused_topics : (c : Command) → writes c ≡ false → opens_topics c ≡ false → uses_topics c ≡ false
 unused_topics command.Init none shut = none
 unused_topics command.Topics none shut = shut
 unused_topics command.Offsets none shut = shut
-unused_topics (command.Capture options) none shut = shut
-unused_topics (command.Resume chunk every messages) none shut = shut
-unused_topics (command.Apply lines placeholder) none shut = shut
+unused_topics (command.Capture options) none shut = none
+unused_topics (command.Resume chunk every messages) none shut = none
+unused_topics (command.Apply true placeholder) none shut = refl
+unused_topics (command.Apply false placeholder) none shut = shut
 unused_topics (command.Replay prefix db placeholder keys) none shut = shut
 unused_topics (command.Gen number rows groups run) none shut = shut
 
-pub unused_offsets : (c : Command) → makes c ≡ false → opens_offsets c ≡ false → uses_offsets c ≡ false
+pub unused_offsets : (c : Command) → writes c ≡ false → opens_offsets c ≡ false → uses_offsets c ≡ false
 unused_offsets command.Init none shut = none
 unused_offsets command.Topics none shut = shut
 unused_offsets command.Offsets none shut = shut
-unused_offsets (command.Capture options) none shut = shut
-unused_offsets (command.Resume chunk every messages) none shut = shut
-unused_offsets (command.Apply lines placeholder) none shut = shut
+unused_offsets (command.Capture options) none shut = none
+unused_offsets (command.Resume chunk every messages) none shut = none
+unused_offsets (command.Apply true placeholder) none shut = refl
+unused_offsets (command.Apply false placeholder) none shut = shut
 unused_offsets (command.Replay prefix db placeholder keys) none shut = shut
 unused_offsets (command.Gen number rows groups run) none shut = shut
 
@@ -230,12 +257,18 @@ no_init = (no_zero, λ e. cc, λ e. cc, no_eight, λ e. cc)
 no_refusal : NotBuilt 10 × NotBuilt 13 × NotBuilt 14
 no_refusal = (λ e. cc, no_bad, no_fourteen)
 
+no_session : NotBuilt 0 × NotBuilt 3 × NotBuilt 4 × NotBuilt 5 × NotBuilt 6
+no_session = (no_zero, λ e. cc, λ e. cc, λ e. cc, λ e. cc)
+
+no_stop : NotBuilt 14 × NotBuilt 15 × NotBuilt 7 × NotBuilt 8 × NotBuilt 9
+no_stop = (no_fourteen, λ e. cc, λ e. cc, no_eight, λ e. cc)
+
 built_other : (c : Command) (status : ℕ) → IsStatusOf c status → is_built c ≡ true → status ≡ 16 → ⊥
 built_other command.Init status known built same = init_other 16 status no_init no_refusal no_outside known same
 built_other command.Topics status known built same = topics_other 16 status (no_zero, no_eight, no_fourteen) no_outside known same
 built_other command.Offsets status known built same = offsets_other 16 status no_offset no_outside known same
-built_other (command.Capture options) status known built same = switched (sym built)
-built_other (command.Resume chunk every messages) status known built same = switched (sym built)
+built_other (command.Capture options) status known built same = session_other 16 status no_session no_stop no_outside known same
+built_other (command.Resume chunk every messages) status known built same = session_other 16 status no_session no_stop no_outside known same
 built_other (command.Apply true placeholder) status known built same = lines_other 16 status (no_zero, no_bad) no_stream known same
 built_other (command.Apply false placeholder) status known built same = rows_other 16 status no_eight no_offset no_outside known same
 built_other (command.Replay prefix db placeholder keys) status known built same = replay_other 16 status no_log no_stream known same

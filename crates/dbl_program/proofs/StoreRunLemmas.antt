@@ -11,12 +11,13 @@ use Rattle.dbl_runs.specs.Ends.{CutsLines, End, Ends as StoreEnds, IsCut, IsErro
 use Rattle.dbl_runs.specs.Errors.{error_line, error_status}
 use Rattle.dbl_runs.proofs.ErrorLaws.{apart}
 use Rattle.dbl_runs.proofs.OnceLaws.{apply_once, offsets_once, topics_once}
-use Rattle.dbl_program.specs.declared.halt.Halt.TheVariants.{Memory}
-use Rattle.dbl_program.specs.Faults.{status_of, fault_line, output_failed_status}
-use Rattle.dbl_program.specs.Run.{Answer, done, out_of_memory, whole, IsOutside, Writes}
+use Rattle.dbl_saying.specs.declared.halt.Halt.TheVariants.{Memory}
+use Rattle.dbl_saying.specs.Faults.{status_of, fault_line, output_failed_status}
+use Rattle.dbl_program.specs.Run.{Answer, done, out_of_memory, whole, IsOutside}
 use Rattle.dbl_program.specs.Disks.{EndsOrFails, Finishes, IsDiskStatus, OfDisk, RunsStores, SaysError, store_answer, store_fault}
 use Rattle.dbl_program.proofs.FinishLemmas.{offsets_kind, other_kind}
 use Rattle.dbl_program.proofs.RunLemmas.{memory_ends, memory_is_outside, written_or_outside, writes_then}
+use Rattle.dbl_saying.specs.Says.{Writes}
 
 -- a run of this answer, in which only such disks failed, ended so: with its status, that of a failed disk, or one of the outside
 record EndsWith (failed : Store → Type 0) (answer : Answer) (status : ℕ) (before after : Option (List ℕ)) : Type 0 where

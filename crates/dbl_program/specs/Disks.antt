@@ -10,9 +10,10 @@ use Rattle.dbl_runs.specs.declared.error.Store.TheVariants.{Topics, Offsets}
 use Rattle.dbl_runs.specs.Answers.{Answer as StoreAnswer}
 use Rattle.dbl_runs.specs.Ends.{End}
 use Rattle.dbl_runs.specs.Errors.{error_line, error_status}
-use Rattle.dbl_program.specs.declared.halt.Halt.TheVariants.{Memory}
-use Rattle.dbl_program.specs.Faults.{status_of, fault_line, output_failed_status}
-use Rattle.dbl_program.specs.Run.{Answer, done, Ends, IsOutside, Writes}
+use Rattle.dbl_saying.specs.declared.halt.Halt.TheVariants.{Memory}
+use Rattle.dbl_saying.specs.Faults.{status_of, fault_line, output_failed_status}
+use Rattle.dbl_program.specs.Run.{Answer, done, Ends, IsOutside}
+use Rattle.dbl_saying.specs.Says.{IsCutShort, Writes}
 
 -- the status of a run in which the disk of the source's log failed, and those where the topic log's or the offset's did
 abbrev pub wal_status : ℕ
@@ -56,10 +57,6 @@ pub record DiskFails (failed : Store → Type 0) (answer : Answer) (status : ℕ
 
 abbrev pub EndsOrFails : (Store → Type 0) → Answer → ℕ → Option (List ℕ) → Option (List ℕ) → Type 0
 EndsOrFails failed answer status before after = Ends answer status before after ⊎ DiskFails failed answer status before after
-
--- the output failed, or memory ran out
-abbrev pub IsCutShort : ℕ → Type 0
-IsCutShort status = (status ≡ output_failed_status) ⊎ (status ≡ status_of Memory)
 
 -- What a run that ends with this status leaves of a disk that it only reads: what a read gives is the same, and a crash leaves
 -- nothing that it couldn't leave before, so it is no longer than it was. The status of its fault comes only where its count of

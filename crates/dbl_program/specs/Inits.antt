@@ -12,16 +12,12 @@ use Rattle.dbl_init.specs.declared.error.Store.{Store}
 use Rattle.dbl_init.specs.declared.error.Store.TheVariants as store
 use Rattle.dbl_init.specs.Answers as inits
 use Rattle.dbl_init.specs.Errors.{store_name}
-use Rattle.dbl_program.specs.declared.halt.Halt.TheVariants as halt
-use Rattle.dbl_program.specs.Faults.{fault_line, status_of}
-use Rattle.dbl_program.specs.Disks.{IsCutShort, offsets_status, topics_status, wal_status}
-use Rattle.dbl_program.specs.Run.{Answer, Writes, done}
-
--- the exit status of a failed disk
-abbrev pub store_status : Store → ℕ
-store_status store.Wal = wal_status
-store_status store.Topics = topics_status
-store_status store.Offsets = offsets_status
+use Rattle.dbl_saying.specs.declared.halt.Halt.TheVariants as halt
+use Rattle.dbl_saying.specs.Faults.{fault_line, status_of}
+use Rattle.dbl_session_runs.specs.Ends.{store_status}
+use Rattle.dbl_program.specs.Disks.{offsets_status, topics_status, wal_status}
+use Rattle.dbl_program.specs.Run.{Answer, done}
+use Rattle.dbl_saying.specs.Says.{IsCutShort, Writes}
 
 -- the exit status of an error of `init`, and its line without its newline
 abbrev pub init_status : InitError → ℕ

@@ -13,15 +13,16 @@ use Rattle.dbl_init.specs.declared.error.Store.TheVariants.{Wal}
 use Rattle.dbl_program.specs.Run.{Answer}
 use Rattle.dbl_program.specs.Inits.{init_fault}
 use Rattle.dbl_program.specs.Disks.{store_fault}
-use Rattle.dbl_program.specs.Means.{Given, Means}
+use Rattle.dbl_program.specs.Means.{Given, Means, SpellNone, connects}
 
 -- words and what is given have at most one answer at a moment
 abbrev pub AnswersAreOne : Type 0
 AnswersAreOne = (words : List (List ℕ)) (now : ℤ) (given : Given) (a b : Answer) → Means words now given a → Means words now given b → a ≡ b
 
--- any words and any input have an answer at each moment, whatever bytes the disks hold
+-- any words but those of a session, and any input, have an answer at each moment, whatever bytes the disks hold
 abbrev pub AnswersStand : Type 0
-AnswersStand = (words : List (List ℕ)) (now : ℤ) (given : Given) → AreBytes given.topics → AreBytes given.offsets → (answer : Answer) × Means words now given answer
+AnswersStand = (words : List (List ℕ)) (now : ℤ) (given : Given) → SpellNone words connects → AreBytes given.topics → AreBytes given.offsets
+    → (answer : Answer) × Means words now given answer
 
 -- what the stores that a command reads tell in place of its lines
 abbrev pub StoresTell : Command → Given → RunError → Type 0

@@ -1,5 +1,5 @@
 -- What the words of a command line mean, with the bytes of the input and of the disks.
-use Rattle.std.specs.Prelude.{◌≡◌, ◌⊎◌, ℕ, ℤ, Bool, true, false, Option, Some, List, [], ◌∷◌, codes}
+use Rattle.std.specs.Prelude.{◌≡◌, ◌⊎◌, ℕ, ℤ, ◌||◌, Bool, true, false, Option, Some, List, [], ◌∷◌, codes}
 use Rattle.dbl_record.specs.declared.record.Record.{Record}
 use Rattle.dbl_table.specs.declared.table.TableKey.{TableKey}
 use Rattle.dbl_topic.specs.Logs.{IsLog}
@@ -8,13 +8,15 @@ use Rattle.dbl_cli.specs.declared.commands.Command.{Command}
 use Rattle.dbl_cli.specs.declared.commands.Command.TheVariants.{Init, Topics, Offsets, Capture, Resume, Replay, Apply, Gen}
 use Rattle.dbl_cli.specs.Commands.{Spells}
 use Rattle.dbl_init.specs.Answers as inits
-use Rattle.dbl_program.specs.declared.halt.Halt.TheVariants.{Usage}
+use Rattle.dbl_saying.specs.declared.halt.Halt.TheVariants.{Usage}
 use Rattle.dbl_replay.specs.declared.options.ReplayOptions.{ReplayOptions}
 use Rattle.dbl_runs.specs.Answers.{AnswersTopics, AnswersOffsets, AnswersApply}
 use Rattle.dbl_runs.specs.declared.error.Store.{Store}
-use Rattle.dbl_program.specs.Disks.{EndsOrFails, IsAnswerOf, IsCutShort, IsDiskStatus, topics_status, offsets_status}
+use Rattle.dbl_session_runs.specs.Ends.{IsSessionStatus}
+use Rattle.dbl_program.specs.Disks.{EndsOrFails, IsAnswerOf, IsDiskStatus, topics_status, offsets_status}
 use Rattle.dbl_program.specs.Inits.{AnswersInit, FailsSource, IsInitAnswer, IsInitStatus}
 use Rattle.dbl_program.specs.Run.{Answer, fault, Replays, Applies, FailsReading, IsOutside, IsReplayAnswer, IsReplayStatus, IsApplyStatus}
+use Rattle.dbl_saying.specs.Says.{IsCutShort}
 
 -- the answer of `gen`: the lines of the workload, which are written at once
 abbrev pub made : ℕ → ℕ → ℕ → Answer
@@ -39,7 +41,8 @@ pub record Given : Type 0 where
 abbrev pub given_init : Given → inits.Given
 given_init given = record { wal = given.wal; topics = given.topics; offsets = given.offsets; input = given.input }
 
--- what a command answers at a moment for what it is given
+-- What a command answers at a moment for what it is given. Of a session nothing is said here: how it ends isn't determined by what the disks
+-- hold, as its source and its stores may fail at any call (specs/RunsSession).
 abbrev pub Answers : Command → ℤ → Given → Answer → Type 0
 Answers (Replay prefix db placeholder keys) now given answer = Replays (options_of prefix db placeholder keys) now given.input answer
 Answers (Apply true placeholder) now given answer = Applies placeholder given.input answer
@@ -48,6 +51,8 @@ Answers Topics now given answer = IsAnswerOf (AnswersTopics given.topics) answer
 Answers Offsets now given answer = IsAnswerOf (AnswersOffsets given.offsets) answer
 Answers Init now given answer = AnswersInit (given_init given) answer
 Answers (Gen number rows groups false) now given answer = answer ≡ made number rows groups
+Answers (Capture options) now given answer = ⊥
+Answers (Resume chunk every messages) now given answer = ⊥
 Answers command now given answer = answer ≡ not_built
 
 -- what the program answers at a moment for these words and what it is given
@@ -85,14 +90,22 @@ abbrev pub makes : Command → Bool
 makes Init = true
 makes command = false
 
--- the command reads the disk of the topic log, or makes the store there; and that of the offset
+-- the command runs a session of the connector, over all of them
+abbrev pub connects : Command → Bool
+connects (Capture options) = true
+connects (Resume chunk every messages) = true
+connects command = false
+
+-- the command writes the disks
+abbrev pub writes : Command → Bool
+writes command = makes command || connects command
+
+-- the command reads the disk of the topic log, or writes it; and that of the offset
 abbrev pub uses_topics : Command → Bool
-uses_topics Init = true
-uses_topics command = opens_topics command
+uses_topics command = opens_topics command || writes command
 
 abbrev pub uses_offsets : Command → Bool
-uses_offsets Init = true
-uses_offsets command = opens_offsets command
+uses_offsets command = opens_offsets command || writes command
 
 -- with this status a command that opens the disk of the topic log has opened it
 abbrev pub HasOpenedTopics : ℕ → Type 0
@@ -127,8 +140,6 @@ SpellNone words holds = (command : Command) → Spells words command → holds c
 
 -- the command is built
 abbrev pub is_built : Command → Bool
-is_built (Capture options) = false
-is_built (Resume chunk every messages) = false
 is_built (Gen number rows groups true) = false
 is_built command = true
 
@@ -159,6 +170,8 @@ StandsAlone (Apply lines placeholder) answer = ⊥
 StandsAlone Init answer = ⊥
 StandsAlone Topics answer = ⊥
 StandsAlone Offsets answer = ⊥
+StandsAlone (Capture options) answer = ⊥
+StandsAlone (Resume chunk every messages) answer = ⊥
 StandsAlone (Gen number rows groups false) answer = answer ≡ made number rows groups
 StandsAlone command answer = answer ≡ not_built
 
@@ -187,6 +200,8 @@ IsStatusOf (Apply false placeholder) status = IsRowsStatus status
 IsStatusOf Init status = IsInitStatus status
 IsStatusOf Topics status = IsTopicsStatus status
 IsStatusOf Offsets status = IsOffsetsStatus status
+IsStatusOf (Capture options) status = IsSessionStatus status
+IsStatusOf (Resume chunk every messages) status = IsSessionStatus status
 IsStatusOf (Gen number rows groups false) status = (status ≡ 0) ⊎ IsCutShort status
 IsStatusOf command status = (status ≡ 16) ⊎ IsCutShort status
 

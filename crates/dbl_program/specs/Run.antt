@@ -2,11 +2,11 @@
 use Rattle.std.specs.Prelude.{◌≡◌, ◌⊎◌, ℕ, ℤ, ◌<◌, ◌≤◌, Option, Some, None, Ok, Err, List, [], ◌∷◌, ◌++◌, take, length, map}
 use Rattle.dbl_base.specs.Lines.{lines_of, lines_text}
 use Rattle.dbl_base.specs.Streams.{Rose, input_limit}
-use Rattle.dbl_program.specs.declared.halt.Halt.{Halt}
-use Rattle.dbl_program.specs.declared.halt.Halt.TheVariants.{Usage, BadLine, InputTooLong, InputFailed, Memory}
-use Rattle.dbl_program.specs.Faults.{status_of, fault_line, output_failed_status}
+use Rattle.dbl_saying.specs.declared.halt.Halt.{Halt}
+use Rattle.dbl_saying.specs.declared.halt.Halt.TheVariants.{Usage, BadLine, InputTooLong, InputFailed, Memory}
+use Rattle.dbl_saying.specs.Faults.{status_of, fault_line, output_failed_status}
+use Rattle.dbl_saying.specs.Says.{Says, Writes}
 use Rattle.dbl_record.specs.Consumers.{HeldCells}
-use Rattle.dbl_lines.specs.Writing.{Wrote, WroteFront}
 use Rattle.dbl_consume.specs.Printing.{HeldRow, AreRowsOf, row_line}
 use Rattle.dbl_replay.specs.declared.apply.FaultAt.{FaultAt}
 use Rattle.dbl_replay.specs.Apply.{fault_text}
@@ -56,10 +56,6 @@ pub data MayEnd (answer : Answer) (status : ℕ) (text : List ℕ) : Type 0 wher
   whole : status ≡ answer.status → text ≡ lines_text answer.lines → MayEnd answer status text
   out_of_memory : (n : ℕ) → status ≡ status_of Memory → text ≡ lines_text (take n answer.one_by_one) ++ lines_text (fault_line Memory ∷ []) → MayEnd answer status text
 
--- a run that was about to write the text and answer this status did so, or the output failed in the text
-abbrev pub Writes : ℕ → List ℕ → ℕ → Option (List ℕ) → Option (List ℕ) → Type 0
-Writes wanted text status before after = ((status ≡ wanted) × Wrote before after text) ⊎ ((status ≡ output_failed_status) × WroteFront before after text)
-
 -- a run of this answer ended so
 pub record Ends (answer : Answer) (status : ℕ) (before after : Option (List ℕ)) : Type 0 where
   pub wanted : ℕ
@@ -81,12 +77,6 @@ IsReplayStatus status = IsReplayAnswer status ⊎ IsOutside status
 
 abbrev pub IsApplyStatus : ℕ → Type 0
 IsApplyStatus status = (status ≡ 0) ⊎ ((status ≡ 13) ⊎ IsOutside status)
-
--- the fault's line was to be written and its status answered, or those of a run out of memory
-abbrev pub Says : Halt → ℕ → Option (List ℕ) → Option (List ℕ) → Type 0
-Says halt status before after =
-    Writes (status_of halt) (lines_text (fault_line halt ∷ [])) status before after
-    ⊎ Writes (status_of Memory) (lines_text (fault_line Memory ∷ [])) status before after
 
 -- a run whose input failed, as its count of faults rose, ended so: the line of that fault was to be written
 pub record FailsReading (was now : ℕ) (status : ℕ) (before after : Option (List ℕ)) : Type 0 where

@@ -9,18 +9,16 @@ ghost use Rattle.dbl_init.specs.Answers.{AnswersInput, Given};
 ghost use Rattle.dbl_init.specs.Disks.{HasStored, HoldsBytes};
 ghost use Rattle.dbl_init.specs.Fresh.{IsEmptyLog, IsEmptyStore};
 ghost use Rattle.dbl_program.specs.Disks.{OfDisk};
-ghost use Rattle.dbl_program.specs.Faults.{status_of, output_failed_status};
+ghost use Rattle.dbl_saying.specs.Faults.{status_of, output_failed_status};
 ghost use Rattle.dbl_program.specs.Inits.{FailsSource, FinishesInit, IsInitAnswer, IsInitLeft, IsInitStatus, IsUntouched, SaysInit, init_line, init_status};
 ghost use Rattle.dbl_program.specs.Means.{RunsInit};
 ghost use Rattle.dbl_program.specs.Run.{FailsReading};
 
-use crate::finished::Finished;
-use crate::halt::Halt;
-use crate::saying::{OUT_OF_MEMORY, write_text};
 use dbl_base::{Input, Output};
 use dbl_disk::Disk;
 use dbl_init::{Begun, InitError, Store, init};
 use dbl_replay::LogFault;
+use dbl_saying::{Finished, Halt, OUT_OF_MEMORY, write_text};
 use dbl_script::ScriptError;
 use std::alloc::{AllocError, Global};
 

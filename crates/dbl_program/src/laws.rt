@@ -5,7 +5,7 @@ pub fn answers_are_one()
     ensures { AnswersAreOne }
 {}
 
-/// Words and what is given to read have an answer at each moment.
+/// Words that ask for no session, and what is given to read, have an answer at each moment.
 pub fn answers_stand()
     ensures { AnswersStand }
 {}

@@ -2,15 +2,11 @@
 //! and the stores that they go to.
 #![tactic(auto)]
 
-mod finished;
-mod halt;
 mod initializing;
 pub mod laws;
 mod program;
-mod saying;
 mod stores;
+mod streams;
 
-pub use finished::Finished;
-pub use halt::Halt;
+pub use dbl_saying::{Finished, Halt, say};
 pub use program::run;
-pub use saying::say;

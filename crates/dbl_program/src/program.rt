@@ -1,44 +1,42 @@
-ghost use Rattle.std.specs.Prelude.{◌≡◌, ◌≢◌, ◌⊎◌, true, false, ◌↔◌, ℕ, ◌≤◌, List, [], length, Some, Err, None, IfOk, IfErr, OnOk, MatchResult, IsTrue, ℤ};
-ghost use Rattle.dbl_base.specs.Lines.{lines_of};
+ghost use Rattle.std.specs.Prelude.{◌≡◌, ◌≢◌, ◌⊎◌, true, false, ℕ, ◌≤◌, List, [], length, Some, Err};
 ghost use Rattle.dbl_base.specs.Streams.{Rose, input_limit};
-ghost use Rattle.dbl_record.specs.Acts.{Reading};
-ghost use Rattle.dbl_record.specs.Consumers.{consumer_of};
-ghost use Rattle.dbl_consume.specs.Holdings.{Took, placeholder_of};
-ghost use Rattle.dbl_program.specs.Faults.{status_of, output_failed_status};
-ghost use Rattle.dbl_replay.specs.Lines.{messages_in, first_bad};
+ghost use Rattle.dbl_saying.specs.Faults.{status_of, output_failed_status};
 ghost use Rattle.dbl_replay.specs.declared.options.ReplayOptions.{ReplayOptions};
 ghost use Rattle.dbl_cli.specs.declared.commands.Command.{Command};
 ghost use Rattle.dbl_cli.specs.Commands.{Spells};
 ghost use Rattle.dbl_cli.specs.Limits.{IsWithin};
-ghost use Rattle.dbl_program.specs.Run.{RunsLog};
 ghost use Rattle.dbl_runs.specs.Ends.{IsSynced};
-ghost use Rattle.dbl_program.specs.Means.{made, not_built, options_of, AreTold, Given, HasOpenedOffsets, HasOpenedTopics, InputFails, Runs, RunsCommand, SpellNone, SpellSome, SpellUnbuilt, Tell, WalFails, makes, reads, opens_offsets, opens_topics, uses_offsets, uses_topics, StandsAlone, TellsInput, IsStatusOf};
+ghost use Rattle.dbl_program.specs.Means.{made, not_built, options_of, AreTold, Given, HasOpenedOffsets, HasOpenedTopics, InputFails, Runs, RunsCommand, SpellNone, SpellSome, SpellUnbuilt, Tell, WalFails, connects, makes, reads, writes, opens_offsets, opens_topics, uses_offsets, uses_topics, StandsAlone, TellsInput, IsStatusOf};
 ghost use Rattle.dbl_running.specs.Made.{IsFreshWal};
 ghost use Rattle.dbl_init.specs.declared.error.Store.TheVariants.{Wal, Topics, Offsets};
 ghost use Rattle.dbl_init.specs.Disks.{HasStored, HoldsBytes};
 ghost use Rattle.dbl_init.specs.Fresh.{IsEmptyLog, IsEmptyStore};
+ghost use Rattle.dbl_connector.specs.declared.asked.Asked.{Asked as SpecAsked};
+ghost use Rattle.dbl_kept.specs.Bounds.{IsBounded};
+ghost use Rattle.dbl_kept.specs.Headline.{IsPromisedOf};
+ghost use Rattle.dbl_kept.specs.Kept.{AreKept};
 ghost use Rattle.dbl_program.specs.Inits.{FailsSource, IsInitLeft, IsUntouched};
+ghost use Rattle.dbl_session_runs.specs.Runs.{RunsConnected, RunsSession};
+ghost use Rattle.dbl_program.specs.Sessions.{IsCompleteRun, asked_by, asks_by};
 ghost use Rattle.dbl_program.specs.Disks.{IsOnlyRead, OfDisk, offsets_status, topics_status, wal_status};
 ghost use Rattle.dbl_record.specs.declared.record.Record.{Record};
 ghost use Rattle.dbl_topic.specs.Logs.{IsLog};
-ghost use Rattle.dbl_program.specs.Run.{Answer, Says, FailsReading, HaltsReplaying, RunsReplaying, HaltsApplying, RunsApplying, EndsAs, PrintedAs, IsReplayAnswer, IsReplayStatus, IsApplyStatus, line_fault};
+ghost use Rattle.dbl_program.specs.Run.{Answer, FailsReading, EndsAs};
+ghost use Rattle.dbl_saying.specs.Says.{Says};
 
-use crate::finished::Finished;
-use crate::halt::Halt;
 use crate::initializing::run_init;
-use crate::saying::{OUTPUT_FAILED, say, write_text};
 use crate::stores::{run_apply, run_offsets, run_topics};
-use dbl_base::{Bytes, Input, InputError, Output, Seq, Text, read_all};
+use crate::streams::{apply_lines, replay_lines};
+use dbl_base::{Input, Output, Seq, Text};
 use dbl_cli::{CliError, Command};
-use dbl_consume::Consumer;
+use dbl_connector::Asked;
 use dbl_disk::Disk;
 use dbl_gen::script;
-use dbl_replay::{FaultAt, LineError, LineFault, PrintError, ReplayOptions, consume, print_log};
+use dbl_replay::ReplayOptions;
+use dbl_saying::{Finished, Halt, say, write_text};
+use dbl_session_runs::run_session;
 use dbl_table::{Identity, TableKey};
 use std::alloc::Global;
-
-/// The exit status of a line that isn't applied.
-const BAD_INPUT: u8 = 13;
 
 /// The exit status of a command that isn't built yet.
 const NOT_BUILT: u8 = 16;
@@ -57,7 +55,7 @@ pub fn run<I: Input, O: Output, W: Disk, T: Disk, F: Disk>(
 ) -> Finished<W, T, F>
     // What is written and answered is what the words mean with what they read: the input, and the bytes of the disks that the
     // command opens. Only a failed input is told besides, or a failed disk that it opens, whose count of faults rose.
-    ensures told { (given : Given) →
+    ensures told { (given : Given) → SpellNone words.now.items connects →
         Tell words.now.items
         (I.left input.old) (W.seen wal) (T.seen topics) (F.seen offsets) given →
         Runs words.now.items now_ms given
@@ -103,9 +101,9 @@ pub fn run<I: Input, O: Output, W: Disk, T: Disk, F: Disk>(
     ensures wal_failed { result.status ≡ wal_status →
         Rose (W.faults wal) (W.faults result.wal) }
 
-    // A disk that the command neither reads nor makes comes back as it was passed. `apply` doesn't read the offset where the disk
+    // A disk that the command neither reads nor writes comes back as it was passed. `apply` doesn't read the offset where the disk
     // of the topic log holds none.
-    ensures wal_stays { SpellNone words.now.items makes → result.wal ≡ wal }
+    ensures wal_stays { SpellNone words.now.items writes → result.wal ≡ wal }
     ensures topics_stay { SpellNone words.now.items uses_topics → result.topics ≡ topics }
     ensures offsets_stay { SpellNone words.now.items uses_offsets → result.offsets ≡ offsets }
     ensures unopened { (command : Command) (bytes : List ℕ) → Spells words.now.items command →
@@ -120,11 +118,12 @@ pub fn run<I: Input, O: Output, W: Disk, T: Disk, F: Disk>(
         opens_offsets command ≡ true → HasOpenedOffsets command result.status →
         IsSynced F.seen F.may_leave offsets result.offsets }
 
-    // Whatever the disks tell, they are only read by every command but `init`, and each has failed where the status says so.
-    ensures topics_read { SpellNone words.now.items makes →
+    // Whatever the disks tell, they are only read by a command that doesn't write them, and each has failed where the status says
+    // so.
+    ensures topics_read { SpellNone words.now.items writes →
         IsOnlyRead T.seen T.may_leave T.faults
         topics_status result.status topics result.topics }
-    ensures offsets_read { SpellNone words.now.items makes →
+    ensures offsets_read { SpellNone words.now.items writes →
         IsOnlyRead F.seen F.may_leave F.faults
         offsets_status result.status offsets result.offsets }
 
@@ -140,6 +139,13 @@ pub fn run<I: Input, O: Output, W: Disk, T: Disk, F: Disk>(
         F.seen offsets ≡ Some before → result.status ≡ 0 →
         HasStored F.seen F.may_leave IsEmptyStore result.offsets }
 
+    // So the disks are kept from then on, by `kept` below, whatever runs over them and wherever it stops.
+    ensures made { (bytes w t f : List ℕ) → Spells words.now.items Command.Init →
+        I.left input.old ≡ Some bytes → W.seen wal ≡ Some w → T.seen topics ≡ Some t →
+        F.seen offsets ≡ Some f → result.status ≡ 0 →
+        AreKept (W.seen result.wal) (T.seen result.topics) (F.seen result.offsets)
+        (W.may_leave result.wal) (T.may_leave result.topics) (F.may_leave result.offsets) }
+
     // Where one of the disks holds a byte, `init` writes none of them, whatever it answers.
     ensures full_stay { Spells words.now.items Command.Init →
         HoldsBytes W.seen wal ⊎ (HoldsBytes T.seen topics ⊎ HoldsBytes F.seen offsets) →
@@ -154,6 +160,41 @@ pub fn run<I: Input, O: Output, W: Disk, T: Disk, F: Disk>(
         IsInitLeft T.seen T.may_leave T.faults Topics result.status topics result.topics }
     ensures offsets_left { Spells words.now.items Command.Init →
         IsInitLeft F.seen F.may_leave F.faults Offsets result.status offsets result.offsets }
+
+    // THE HEADLINE. Over kept disks, whatever a crash leaves of them, wherever it stopped the run: it is as the connector promises, and
+    // came from what was there by what the words ask for; a command without a session changes nothing of what they hold. They stay
+    // kept.
+    ensures headline { (command : Command) → Spells words.now.items command →
+        AreKept (W.seen wal) (T.seen topics) (F.seen offsets)
+        (W.may_leave wal) (T.may_leave topics) (F.may_leave offsets) → (w t f : List ℕ) →
+        W.may_leave result.wal w → T.may_leave result.topics t → F.may_leave result.offsets f →
+        IsPromisedOf (IsCompleteRun command result.status) (asks_by command)
+        (W.may_leave wal) (T.may_leave topics) (F.may_leave offsets) w t f }
+    ensures kept { AreKept (W.seen wal) (T.seen topics) (F.seen offsets)
+        (W.may_leave wal) (T.may_leave topics) (F.may_leave offsets) →
+        AreKept (W.seen result.wal) (T.seen result.topics) (F.seen result.offsets)
+        (W.may_leave result.wal) (T.may_leave result.topics) (F.may_leave result.offsets) }
+
+    // What a session came to is told: its report, or the line of its error; and why it came so.
+    ensures session { (command : Command) (asked : SpecAsked) → Spells words.now.items command →
+        asked_by command ≡ Some asked →
+        RunsSession asked now_ms (W.seen wal) (T.seen topics) (F.seen offsets)
+        (W.may_leave wal) (T.may_leave topics) (F.may_leave offsets)
+        (W.may_leave result.wal) (T.may_leave result.topics) (F.may_leave result.offsets)
+        result.status (O.written output.old) (O.written output.new) }
+
+    // A fault of a disk is told only where its count rose; and no disk that tells its bytes gets longer than it was, or than 2^30 past
+    // the closed gate of its journal. What `init` leaves is said above.
+    ensures topics_failed { result.status ≡ topics_status →
+        Rose (T.faults topics) (T.faults result.topics) }
+    ensures offsets_failed { result.status ≡ offsets_status →
+        Rose (F.faults offsets) (F.faults result.offsets) }
+    ensures wal_bounded { SpellNone words.now.items makes →
+        IsBounded (W.seen wal) (W.seen result.wal) }
+    ensures topics_bounded { SpellNone words.now.items makes →
+        IsBounded (T.seen topics) (T.seen result.topics) }
+    ensures offsets_bounded { SpellNone words.now.items makes →
+        IsBounded (F.seen offsets) (F.seen result.offsets) }
 {
     match dbl_cli::command(alloc, words) {
         Ok(command) => run_command(alloc, command, &now_ms, input, output, wal, topics, offsets),
@@ -183,7 +224,7 @@ fn run_command<I: Input, O: Output, W: Disk, T: Disk, F: Disk>(
     offsets: F,
 ) -> Finished<W, T, F>
     requires { IsWithin command }
-    ensures told { (given : Given) →
+    ensures told { (given : Given) → connects command ≡ false →
         AreTold command (I.left input.old) (W.seen wal) (T.seen topics) (F.seen offsets) given →
         RunsCommand command now_ms.now given
         (OfDisk ((uses_topics command ≡ true) × Rose (T.faults topics) (T.faults result.topics))
@@ -206,7 +247,7 @@ fn run_command<I: Input, O: Output, W: Disk, T: Disk, F: Disk>(
         Rose (I.faults input.old) (I.faults input.new) }
     ensures output_failed { result.status ≡ output_failed_status →
         Rose (O.faults output.old) (O.faults output.new) }
-    ensures wal_stays { makes command ≡ false → result.wal ≡ wal }
+    ensures wal_stays { writes command ≡ false → result.wal ≡ wal }
     ensures topics_stay { uses_topics command ≡ false → result.topics ≡ topics }
     ensures offsets_stay { uses_offsets command ≡ false → result.offsets ≡ offsets }
     ensures wal_made { (bytes before : List ℕ) → command ≡ Command.Init →
@@ -241,6 +282,10 @@ fn run_command<I: Input, O: Output, W: Disk, T: Disk, F: Disk>(
         topics_status result.status topics result.topics }
     ensures offsets_read { opens_offsets command ≡ true → IsOnlyRead F.seen F.may_leave F.faults
         offsets_status result.status offsets result.offsets }
+    ensures connected { (asked : SpecAsked) → asked_by command ≡ Some asked → RunsConnected
+        W.seen W.may_leave W.faults T.seen T.may_leave T.faults F.seen F.may_leave F.faults
+        asked now_ms.now wal result.wal topics result.topics offsets result.offsets
+        result.status (O.written output.old) (O.written output.new) }
 {
     match command {
         Command::Replay {
@@ -289,8 +334,22 @@ fn run_command<I: Input, O: Output, W: Disk, T: Disk, F: Disk>(
         Command::Init => run_init(alloc, input, output, wal, topics, offsets),
         Command::Topics => run_topics(alloc, output, wal, topics, offsets),
         Command::Offsets => run_offsets(alloc, output, wal, topics, offsets),
-        Command::Capture { .. } => say_not_built(output, wal, topics, offsets),
-        Command::Resume { .. } => say_not_built(output, wal, topics, offsets),
+        Command::Capture { options } => {
+            let asked = Asked::First { options };
+            run_session(alloc, asked, now_ms, output, wal, topics, offsets)
+        }
+        Command::Resume {
+            chunk,
+            every,
+            messages,
+        } => {
+            let asked = Asked::Again {
+                chunk,
+                every,
+                messages,
+            };
+            run_session(alloc, asked, now_ms, output, wal, topics, offsets)
+        }
         Command::Apply { .. } => run_apply(alloc, output, wal, topics, offsets),
     }
 }
@@ -350,194 +409,5 @@ fn say_not_built<O: Output, W, T, F>(
         wal,
         topics,
         offsets,
-    }
-}
-
-fn read_input<I: Input>(alloc: Global, input: &mut I) -> Result<Bytes, Halt>
-    ensures all { (bytes : List ℕ) → I.left input.old ≡ Some bytes →
-        IfOk result (λ read. read ≡ bytes) }
-    ensures end { (bytes : List ℕ) → I.left input.old ≡ Some bytes →
-        OnOk result (I.left input.new ≡ Some []) }
-    ensures within { IfOk result (λ read. length read ≤ input_limit) }
-    ensures halts { (bytes : List ℕ) (options : ReplayOptions) (now : ℤ) →
-        I.left input.old ≡ Some bytes → IfErr result (HaltsReplaying options now bytes) }
-    ensures long { (bytes : List ℕ) → I.left input.old ≡ Some bytes → length bytes ≤ input_limit →
-        IfErr result (λ halt. (halt ≡ Halt.InputFailed) ⊎ (halt ≡ Halt.Memory)) }
-    ensures applying { (bytes placeholder : List ℕ) → I.left input.old ≡ Some bytes →
-        IfErr result (HaltsApplying placeholder bytes) }
-    ensures failed { result ≡ Err Halt.InputFailed →
-        Rose (I.faults input.old) (I.faults input.new) }
-    ensures kinds { IfErr result
-        (λ halt. (halt ≡ Halt.InputFailed) ⊎ ((halt ≡ Halt.InputTooLong) ⊎ (halt ≡ Halt.Memory))) }
-    ensures command { IfErr result (λ halt. halt ≢ Halt.Usage) }
-{
-    match read_all(alloc, input) {
-        Ok(bytes) => Ok(bytes),
-        Err(InputError::Failed) => Err(Halt::InputFailed),
-        Err(InputError::TooLong) => Err(Halt::InputTooLong),
-        Err(InputError::Memory) => Err(Halt::Memory),
-    }
-}
-
-// The bytes of the messages of an input within the limit, which is let go.
-fn messages_of(alloc: Global, text: Bytes) -> Result<Vec<Bytes>, Halt>
-    requires { length text ≤ input_limit }
-    ensures ok { IfOk result (λ found. found.items ≡ messages_in (lines_of text)) }
-    ensures good { OnOk result (first_bad (lines_of text) ≡ None) }
-    ensures halts { (options : ReplayOptions) (now : ℤ) →
-        IfErr result (HaltsReplaying options now text) }
-    ensures kinds { IfErr result (λ halt. halt ≢ Halt.InputFailed) }
-    ensures command { IfErr result (λ halt. halt ≢ Halt.Usage) }
-{
-    match dbl_replay::messages(alloc, text.items().as_slice()) {
-        Ok(found) => Ok(found),
-        Err(LineError::BadLine { number }) => Err(Halt::BadLine { number }),
-        Err(LineError::Memory) => Err(Halt::Memory),
-    }
-}
-
-// Replays messages, and answers the status.
-fn replay_messages<O: Output>(
-    alloc: Global,
-    options: ReplayOptions,
-    messages: Vec<Bytes>,
-    now_ms: &i64,
-    output: &mut O,
-) -> u8
-    ensures told { RunsLog options now_ms.now messages.items result
-        (O.written output.old) (O.written output.new) }
-    ensures output_failed { result ≡ output_failed_status →
-        Rose (O.faults output.old) (O.faults output.new) }
-    ensures not_input { result ≢ status_of Halt.InputFailed }
-    ensures known { IsReplayStatus result }
-{
-    match print_log(alloc, options, messages, now_ms, output) {
-        Ok(status) => status,
-        Err(PrintError::OutputFailed) => OUTPUT_FAILED,
-        Err(PrintError::Memory) => say(alloc, Halt::Memory, output),
-    }
-}
-
-// Replays the messages of a text within the limit, and answers the status.
-fn replay_text<O: Output>(
-    alloc: Global,
-    options: ReplayOptions,
-    text: Bytes,
-    now_ms: &i64,
-    output: &mut O,
-) -> u8
-    requires { length text ≤ input_limit }
-    ensures told { RunsReplaying options now_ms.now text result
-        (O.written output.old) (O.written output.new) }
-    ensures output_failed { result ≡ output_failed_status →
-        Rose (O.faults output.old) (O.faults output.new) }
-    ensures not_input { result ≢ status_of Halt.InputFailed }
-    ensures known { IsReplayStatus result }
-{
-    match messages_of(alloc, text) {
-        Ok(messages) => replay_messages(alloc, options, messages, now_ms, output),
-        Err(halt) => say(alloc, halt, output),
-    }
-}
-
-fn replay_lines<I: Input, O: Output>(
-    alloc: Global,
-    options: ReplayOptions,
-    now_ms: &i64,
-    input: &mut I,
-    output: &mut O,
-) -> u8
-    ensures told { (bytes : List ℕ) → I.left input.old ≡ Some bytes →
-        RunsReplaying options now_ms.now bytes result (O.written output.old) (O.written output.new)
-        ⊎ FailsReading (I.faults input.old) (I.faults input.new) result
-        (O.written output.old) (O.written output.new) }
-    ensures whole { (bytes : List ℕ) → I.left input.old ≡ Some bytes → length bytes ≤ input_limit →
-        IsReplayAnswer result → I.left input.new ≡ Some [] }
-    ensures known { IsReplayStatus result }
-    ensures input_failed { result ≡ status_of Halt.InputFailed →
-        Rose (I.faults input.old) (I.faults input.new) }
-    ensures output_failed { result ≡ output_failed_status →
-        Rose (O.faults output.old) (O.faults output.new) }
-{
-    match read_input(alloc, input) {
-        Ok(bytes) => replay_text(alloc, options, bytes, now_ms, output),
-        Err(halt) => say(alloc, halt, output),
-    }
-}
-
-// Writes the line of a line that isn't applied, and answers its status.
-fn say_fault<O: Output>(alloc: Global, at: &FaultAt, output: &mut O) -> u8
-    ensures told { at.now.fault ≢ LineFault.Memory →
-        EndsAs (line_fault at.now) result (O.written output.old) (O.written output.new) }
-    ensures memory { at.now.fault ≡ LineFault.Memory →
-        Says Halt.Memory result (O.written output.old) (O.written output.new) }
-    ensures output_failed { result ≡ output_failed_status →
-        Rose (O.faults output.old) (O.faults output.new) }
-    ensures known { (result ≡ 13) ⊎
-        ((result ≡ output_failed_status) ⊎ (result ≡ status_of Halt.Memory)) }
-{
-    if let LineFault::Memory = &at.fault {
-        return say(alloc, Halt::Memory, output);
-    }
-    match at.text(alloc) {
-        Ok(text) => write_text(text.as_str(), BAD_INPUT, output),
-        Err(_) => say(alloc, Halt::Memory, output),
-    }
-}
-
-// Prints the rows that are held, and answers the status.
-fn print_rows<O: Output>(alloc: Global, held: &Consumer, output: &mut O) -> u8
-    ensures told { (taken : List Reading) → Took taken held.now →
-        PrintedAs (consumer_of (placeholder_of held.now) taken) result
-        (O.written output.old) (O.written output.new) }
-    ensures output_failed { result ≡ output_failed_status →
-        Rose (O.faults output.old) (O.faults output.new) }
-    ensures known { (result ≡ 0) ⊎
-        ((result ≡ output_failed_status) ⊎ (result ≡ status_of Halt.Memory)) }
-{
-    match held.print(output) {
-        Ok(_) => 0,
-        Err(PrintError::OutputFailed) => OUTPUT_FAILED,
-        Err(PrintError::Memory) => say(alloc, Halt::Memory, output),
-    }
-}
-
-// Applies the lines of a text within the limit, and answers the status.
-fn apply_text<O: Output>(alloc: Global, placeholder: Text, text: &[u8], output: &mut O) -> u8
-    requires { length text.now ≤ input_limit }
-    ensures told { RunsApplying placeholder text.now result
-        (O.written output.old) (O.written output.new) }
-    ensures output_failed { result ≡ output_failed_status →
-        Rose (O.faults output.old) (O.faults output.new) }
-    ensures not_input { result ≢ status_of Halt.InputFailed }
-    ensures known { IsApplyStatus result }
-{
-    match consume(alloc, placeholder, text) {
-        Ok(held) => print_rows(alloc, &held, output),
-        Err(at) => say_fault(alloc, &at, output),
-    }
-}
-
-fn apply_lines<I: Input, O: Output>(
-    alloc: Global,
-    placeholder: Text,
-    input: &mut I,
-    output: &mut O,
-) -> u8
-    ensures told { (bytes : List ℕ) → I.left input.old ≡ Some bytes →
-        RunsApplying placeholder bytes result (O.written output.old) (O.written output.new)
-        ⊎ FailsReading (I.faults input.old) (I.faults input.new) result
-        (O.written output.old) (O.written output.new) }
-    ensures whole { (bytes : List ℕ) → I.left input.old ≡ Some bytes → length bytes ≤ input_limit →
-        (result ≡ 0) ⊎ (result ≡ 13) → I.left input.new ≡ Some [] }
-    ensures known { IsApplyStatus result }
-    ensures input_failed { result ≡ status_of Halt.InputFailed →
-        Rose (I.faults input.old) (I.faults input.new) }
-    ensures output_failed { result ≡ output_failed_status →
-        Rose (O.faults output.old) (O.faults output.new) }
-{
-    match read_input(alloc, input) {
-        Ok(bytes) => apply_text(alloc, placeholder, bytes.items().as_slice(), output),
-        Err(halt) => say(alloc, halt, output),
     }
 }

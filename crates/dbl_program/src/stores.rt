@@ -6,15 +6,13 @@ ghost use Rattle.dbl_topic.specs.Logs.{IsLog};
 ghost use Rattle.dbl_runs.specs.Answers.{AnswersApply, AnswersOffsets, AnswersTopics};
 ghost use Rattle.dbl_runs.specs.Ends.{IsSynced};
 ghost use Rattle.dbl_program.specs.Disks.{Finishes, IsOnlyRead, OfDisk, RunsStores, SaysError, offsets_status, topics_status};
-ghost use Rattle.dbl_program.specs.Faults.{status_of, output_failed_status};
+ghost use Rattle.dbl_saying.specs.Faults.{status_of, output_failed_status};
 ghost use Rattle.dbl_program.specs.Means.{HasOpenedTopics, IsOffsetsStatus, IsRowsStatus, IsTopicsStatus};
 
-use crate::finished::Finished;
-use crate::halt::Halt;
-use crate::saying::{OUT_OF_MEMORY, OUTPUT_FAILED, write_text};
 use dbl_base::Output;
 use dbl_disk::Disk;
 use dbl_runs::{Applied, Ended, RunError, apply, print_offset, print_topics};
+use dbl_saying::{Finished, Halt, OUT_OF_MEMORY, OUTPUT_FAILED, write_text};
 use std::alloc::Global;
 
 /// Writes the lines of the topic log's records.

@@ -1,9 +1,12 @@
-use Rattle.std.proofs.Common.{◌≡◌, ◌⊎◌, Err, ℤ, true, inl, ap, refl, subst}
+use Rattle.std.proofs.Common.{◌≡◌, ◌⊎◌, Some, Err, ℤ, true, inl, ap, refl, subst}
 use Rattle.std.proofs.Math.Facts.{to_z-of_z}
 use Rattle.dbl_cli.specs.declared.commands.Command.{Command}
 use Rattle.dbl_cli.specs.declared.commands.Command.TheVariants as command
 use Rattle.dbl_cli.proofs.SayLemmas.{one_command}
+use Rattle.dbl_kept.specs.Headline.{IsPromisedOf}
 use Rattle.dbl_program.specs.Inits.{FailsSource}
+use Rattle.dbl_session_runs.specs.Runs.{RunsSession}
+use Rattle.dbl_program.specs.Sessions.{IsCompleteRun, asked_by, asks_by}
 use Rattle.dbl_program.specs.Means.{HasOpenedOffsets, RunsCommand, SpellSome, StandsAlone, makes, opens_offsets, opens_topics, reads, uses_offsets, uses_topics, IsStatusOf, TellsInput}
 use Rattle.dbl_base.specs.Streams.{Rose}
 use Rattle.dbl_runs.specs.declared.error.Store.{Store}
@@ -11,14 +14,17 @@ use Rattle.dbl_program.specs.Disks.{OfDisk}
 use Rattle.dbl_program.specs.Run.{FailsReading}
 use Rattle.dbl_program.proofs.CommandLemmas.{cut_short, wider_or_fails, spelled_or_fails, usage_runs, memory_runs, as_spelled, memory_alone, memory_status, memory_tells}
 use Rattle.dbl_program.proofs.DiskLemmas.{not_read, read_or_not}
+use Rattle.dbl_program.proofs.KeptLemmas.{before_promised, made_kept, offsets_bounded, run_kept, run_promised, run_stays, topics_bounded, wal_bounded}
+use Rattle.dbl_program.proofs.SessionLemmas.{connects_asked, memory_session}
 use Rattle.dbl_program.proofs.StoreRunLemmas.{opened_by}
-use Rattle.dbl_program.proofs.StatusLemmas.{memory_built, memory_no_offsets, memory_no_topics, memory_no_wal, no_offsets, no_topics, offsets_whole, refused_unread, spell_unbuilt, told_offsets, topics_whole, unused_offsets, unused_topics, usage_built, usage_no_offsets, usage_no_topics, usage_no_wal, wal_fails}
+use Rattle.dbl_program.proofs.StatusLemmas.{memory_built, memory_no_offsets, memory_no_topics, memory_no_wal, no_offsets, no_topics, offsets_whole, refused_unread, spell_unbuilt, told_offsets, topics_whole, unused_offsets, topics_fail, offsets_fail, unused_topics, usage_built, usage_no_offsets, usage_no_topics, usage_no_wal, wal_fails}
 use Rattle.dbl_program.proofs.program.run.Goals as goal
+use Rattle.dbl_saying.proofs.SayLemmas.{cut_other}
 
 -- ---- a command was spelled
 
 pub returns-in-Ok-clause-told : goal.returns-in-Ok-clause-told
-returns-in-Ok-clause-told g c = λ given tell.
+returns-in-Ok-clause-told g c = λ given none tell.
     let before = g.O.Output.written c.args.output.now in
     let after = g.O.Output.written c.run_command.new.output in
     let was = g.I.Input.faults c.args.input.now in
@@ -35,7 +41,7 @@ returns-in-Ok-clause-told g c = λ given tell.
     let fails : Type 0 = ((reads k ≡ true) × FailsReading was later left.status before after) ⊎ ((makes k ≡ true) × FailsSource wal now_wal left.status before after) in
     spelled_or_fails _ c.args.now_ms given failed was later wal now_wal left.status before after k spells
     (wider_or_fails k c.args.now_ms given few failed left.status before after fails (opened_by _ _ _ _ topics offsets (λ opens. (k, spells, opens)) (λ opens. (k, spells, opens)))
-    (subst (λ (m : ℤ). RunsCommand k m given few left.status before after ⊎ fails) (to_z-of_z c.ranges.now_ms) (c.run_command.ensures.told given (tell k spells))))
+    (subst (λ (m : ℤ). RunsCommand k m given few left.status before after ⊎ fails) (to_z-of_z c.ranges.now_ms) (c.run_command.ensures.told given (none k spells) (tell k spells))))
 
 pub returns-in-Ok-clause-alone : goal.returns-in-Ok-clause-alone
 returns-in-Ok-clause-alone g c = λ command answer spells alone.
@@ -54,7 +60,8 @@ returns-in-Ok-clause-unbuilt g c = spell_unbuilt _ c.in-Ok.command c.run_command
 
 pub returns-in-Ok-clause-wal_failed : goal.returns-in-Ok-clause-wal_failed
 returns-in-Ok-clause-wal_failed g c = λ is.
-    wal_fails c.in-Ok.command c.run_command.result.status _ _ c.run_command.ensures.known (λ init. (c.run_command.ensures.wal_left init).cause) is
+    wal_fails c.in-Ok.command c.run_command.result.status _ _ c.run_command.ensures.known (λ init. (c.run_command.ensures.wal_left init).cause)
+    (λ connects. let asked = connects_asked c.in-Ok.command connects in (c.run_command.ensures.connected asked.0 asked.1).wal_failed) is
 
 pub returns-in-Ok-clause-refused_unread : goal.returns-in-Ok-clause-refused_unread
 returns-in-Ok-clause-refused_unread g c = λ is.
@@ -81,7 +88,7 @@ returns-in-Ok-clause-offsets_read g c = λ none.
 -- ---- none was
 
 pub returns-in-Err-Usage-clause-told : goal.returns-in-Err-Usage-clause-told
-returns-in-Err-Usage-clause-told g c = λ given tell. inl (usage_runs _ c.args.now_ms given _ _ _ _ (c.in-Err-Usage.ensures.usage (ap Err c.in-Err-Usage.field-0-is)) c.say.ensures.says)
+returns-in-Err-Usage-clause-told g c = λ given none tell. inl (usage_runs _ c.args.now_ms given _ _ _ _ (c.in-Err-Usage.ensures.usage (ap Err c.in-Err-Usage.field-0-is)) c.say.ensures.says)
 
 pub returns-in-Err-Usage-clause-alone : goal.returns-in-Err-Usage-clause-alone
 returns-in-Err-Usage-clause-alone g c = λ command answer spells alone. absurd (c.in-Err-Usage.ensures.usage (ap Err c.in-Err-Usage.field-0-is) command spells)
@@ -104,7 +111,7 @@ returns-in-Err-Usage-clause-offsets_read g c = λ none. not_read g.F.Disk.seen g
 -- ---- memory ran out
 
 pub returns-in-Err-Memory-clause-told : goal.returns-in-Err-Memory-clause-told
-returns-in-Err-Memory-clause-told g c = λ given tell. inl (memory_runs _ c.args.now_ms given _ _ _ _ c.say-in-Err-Memory.ensures.says)
+returns-in-Err-Memory-clause-told g c = λ given none tell. inl (memory_runs _ c.args.now_ms given _ _ _ _ c.say-in-Err-Memory.ensures.says)
 
 pub returns-in-Err-Memory-clause-alone : goal.returns-in-Err-Memory-clause-alone
 returns-in-Err-Memory-clause-alone g c = λ command answer spells alone. memory_alone answer _ _ _ c.say-in-Err-Memory.ensures.says
@@ -174,3 +181,118 @@ returns-in-Ok-clause-offsets_left g c = λ spells. c.run_command.ensures.offsets
 
 pub returns-in-Ok-clause-full_stay : goal.returns-in-Ok-clause-full_stay
 returns-in-Ok-clause-full_stay g c = λ spells. c.run_command.ensures.full_stay (one_command _ c.in-Ok.command command.Init c.in-Ok.ensures.spelled spells)
+
+-- ---- failed disks
+
+pub returns-in-Ok-clause-topics_failed : goal.returns-in-Ok-clause-topics_failed
+returns-in-Ok-clause-topics_failed g c = λ is.
+    topics_fail _ c.in-Ok.command c.run_command.result.status c.run_command.ensures.known (λ init. (c.run_command.ensures.topics_left init).cause) (λ opens. (c.run_command.ensures.topics_read opens).cause)
+    (λ connects. let asked = connects_asked c.in-Ok.command connects in (c.run_command.ensures.connected asked.0 asked.1).topics_failed) is
+
+pub returns-in-Ok-clause-offsets_failed : goal.returns-in-Ok-clause-offsets_failed
+returns-in-Ok-clause-offsets_failed g c = λ is.
+    offsets_fail _ c.in-Ok.command c.run_command.result.status c.run_command.ensures.known (λ init. (c.run_command.ensures.offsets_left init).cause) (λ opens. (c.run_command.ensures.offsets_read opens).cause)
+    (λ connects. let asked = connects_asked c.in-Ok.command connects in (c.run_command.ensures.connected asked.0 asked.1).offsets_failed) is
+
+pub returns-in-Err-Usage-clause-topics_failed : goal.returns-in-Err-Usage-clause-topics_failed
+returns-in-Err-Usage-clause-topics_failed g c = λ is. absurd (usage_no_topics c.say.result _ _ c.say.ensures.says is)
+
+pub returns-in-Err-Usage-clause-offsets_failed : goal.returns-in-Err-Usage-clause-offsets_failed
+returns-in-Err-Usage-clause-offsets_failed g c = λ is. absurd (usage_no_offsets c.say.result _ _ c.say.ensures.says is)
+
+pub returns-in-Err-Memory-clause-topics_failed : goal.returns-in-Err-Memory-clause-topics_failed
+returns-in-Err-Memory-clause-topics_failed g c = λ is. absurd (memory_no_topics c.say-in-Err-Memory.result _ _ c.say-in-Err-Memory.ensures.says is)
+
+pub returns-in-Err-Memory-clause-offsets_failed : goal.returns-in-Err-Memory-clause-offsets_failed
+returns-in-Err-Memory-clause-offsets_failed g c = λ is. absurd (memory_no_offsets c.say-in-Err-Memory.result _ _ c.say-in-Err-Memory.ensures.says is)
+
+-- ---- what is kept
+
+pub returns-in-Ok-clause-made : goal.returns-in-Ok-clause-made
+returns-in-Ok-clause-made g c = λ bytes w t f spells left wal topics offsets done.
+    let init = one_command _ c.in-Ok.command command.Init c.in-Ok.ensures.spelled spells in
+    made_kept g.W.Disk.seen g.W.Disk.may_leave g.T.Disk.seen g.T.Disk.may_leave g.F.Disk.seen g.F.Disk.may_leave bytes c.run_command.result.wal c.run_command.result.topics c.run_command.result.offsets
+    (c.run_command.ensures.wal_made bytes w init left wal done) (c.run_command.ensures.topics_made t init topics done) (c.run_command.ensures.offsets_made f init offsets done)
+
+-- kept disks stay so
+
+pub returns-in-Ok-clause-kept : goal.returns-in-Ok-clause-kept
+returns-in-Ok-clause-kept g c =
+    let left = c.run_command.result in
+    let told = c.run_command.ensures in
+    let k = c.in-Ok.command in
+    run_kept g.W.Disk.seen g.W.Disk.may_leave g.T.Disk.seen g.T.Disk.may_leave g.F.Disk.seen g.F.Disk.may_leave g.T.Disk.faults g.F.Disk.faults c.args.wal left.wal c.args.topics left.topics c.args.offsets left.offsets k left.status (λ asked is. (told.connected asked is).kept)
+    (run_stays g.W.Disk.seen g.W.Disk.may_leave g.T.Disk.seen g.T.Disk.may_leave g.F.Disk.seen g.F.Disk.may_leave g.T.Disk.faults g.F.Disk.faults c.args.wal left.wal c.args.topics left.topics c.args.offsets left.offsets k left.status
+    (g.met.W.Disk.seen_is_image c.args.wal) (g.met.T.Disk.seen_is_image c.args.topics) (g.met.F.Disk.seen_is_image c.args.offsets) told.full_stay told.wal_stays told.topics_stay told.offsets_stay told.topics_read told.offsets_read)
+
+pub returns-in-Ok-clause-headline : goal.returns-in-Ok-clause-headline
+returns-in-Ok-clause-headline g c = λ command spells kept w t f may_w may_t may_f.
+    let left = c.run_command.result in
+    let told = c.run_command.ensures in
+    let k = c.in-Ok.command in
+    as_spelled _ (λ (d : Command). IsPromisedOf (IsCompleteRun d left.status) (asks_by d) (g.W.Disk.may_leave c.args.wal) (g.T.Disk.may_leave c.args.topics) (g.F.Disk.may_leave c.args.offsets) w t f) k command c.in-Ok.ensures.spelled spells
+    (run_promised g.W.Disk.seen g.W.Disk.may_leave g.T.Disk.seen g.T.Disk.may_leave g.F.Disk.seen g.F.Disk.may_leave g.T.Disk.faults g.F.Disk.faults c.args.wal left.wal c.args.topics left.topics c.args.offsets left.offsets k left.status (λ asked is. (told.connected asked is).headline)
+    (run_stays g.W.Disk.seen g.W.Disk.may_leave g.T.Disk.seen g.T.Disk.may_leave g.F.Disk.seen g.F.Disk.may_leave g.T.Disk.faults g.F.Disk.faults c.args.wal left.wal c.args.topics left.topics c.args.offsets left.offsets k left.status
+    (g.met.W.Disk.seen_is_image c.args.wal) (g.met.T.Disk.seen_is_image c.args.topics) (g.met.F.Disk.seen_is_image c.args.offsets) told.full_stay told.wal_stays told.topics_stay told.offsets_stay told.topics_read told.offsets_read)
+    kept w t f may_w may_t may_f)
+
+pub returns-in-Ok-clause-session : goal.returns-in-Ok-clause-session
+returns-in-Ok-clause-session g c = λ command asked spells is.
+    let left = c.run_command.result in
+    let mine = as_spelled _ (λ (d : Command). asked_by d ≡ Some asked) command c.in-Ok.command spells c.in-Ok.ensures.spelled is in
+    subst (λ (m : ℤ). RunsSession asked m (g.W.Disk.seen c.args.wal) (g.T.Disk.seen c.args.topics) (g.F.Disk.seen c.args.offsets) (g.W.Disk.may_leave c.args.wal) (g.T.Disk.may_leave c.args.topics) (g.F.Disk.may_leave c.args.offsets)
+    (g.W.Disk.may_leave left.wal) (g.T.Disk.may_leave left.topics) (g.F.Disk.may_leave left.offsets) left.status (g.O.Output.written c.args.output.now) (g.O.Output.written c.run_command.new.output))
+    (to_z-of_z c.ranges.now_ms) (c.run_command.ensures.connected asked mine).runs
+
+pub returns-in-Ok-clause-wal_bounded : goal.returns-in-Ok-clause-wal_bounded
+returns-in-Ok-clause-wal_bounded g c = λ none.
+    wal_bounded g.W.Disk.seen g.W.Disk.may_leave g.W.Disk.faults c.in-Ok.command c.run_command.result.status _ _ (none c.in-Ok.command c.in-Ok.ensures.spelled) (λ asked is. (c.run_command.ensures.connected asked is).wal_bounded) c.run_command.ensures.wal_stays
+
+pub returns-in-Ok-clause-topics_bounded : goal.returns-in-Ok-clause-topics_bounded
+returns-in-Ok-clause-topics_bounded g c = λ none.
+    topics_bounded g.T.Disk.seen g.T.Disk.may_leave g.T.Disk.faults c.in-Ok.command c.run_command.result.status _ _ (none c.in-Ok.command c.in-Ok.ensures.spelled) (λ asked is. (c.run_command.ensures.connected asked is).topics_bounded)
+    c.run_command.ensures.topics_read c.run_command.ensures.topics_stay
+
+pub returns-in-Ok-clause-offsets_bounded : goal.returns-in-Ok-clause-offsets_bounded
+returns-in-Ok-clause-offsets_bounded g c = λ none.
+    offsets_bounded g.F.Disk.seen g.F.Disk.may_leave g.F.Disk.faults c.in-Ok.command c.run_command.result.status _ _ (none c.in-Ok.command c.in-Ok.ensures.spelled) (λ asked is. (c.run_command.ensures.connected asked is).offsets_bounded)
+    c.run_command.ensures.offsets_read c.run_command.ensures.offsets_stay
+
+pub returns-in-Err-Usage-clause-wal_bounded : goal.returns-in-Err-Usage-clause-wal_bounded
+returns-in-Err-Usage-clause-wal_bounded g c = λ none. record { each = λ before told. inl told }
+
+pub returns-in-Err-Usage-clause-topics_bounded : goal.returns-in-Err-Usage-clause-topics_bounded
+returns-in-Err-Usage-clause-topics_bounded g c = λ none. record { each = λ before told. inl told }
+
+pub returns-in-Err-Usage-clause-offsets_bounded : goal.returns-in-Err-Usage-clause-offsets_bounded
+returns-in-Err-Usage-clause-offsets_bounded g c = λ none. record { each = λ before told. inl told }
+
+pub returns-in-Err-Memory-clause-wal_bounded : goal.returns-in-Err-Memory-clause-wal_bounded
+returns-in-Err-Memory-clause-wal_bounded g c = λ none. record { each = λ before told. inl told }
+
+pub returns-in-Err-Memory-clause-topics_bounded : goal.returns-in-Err-Memory-clause-topics_bounded
+returns-in-Err-Memory-clause-topics_bounded g c = λ none. record { each = λ before told. inl told }
+
+pub returns-in-Err-Memory-clause-offsets_bounded : goal.returns-in-Err-Memory-clause-offsets_bounded
+returns-in-Err-Memory-clause-offsets_bounded g c = λ none. record { each = λ before told. inl told }
+
+pub returns-in-Err-Usage-clause-headline : goal.returns-in-Err-Usage-clause-headline
+returns-in-Err-Usage-clause-headline g c = λ command spells. absurd (c.in-Err-Usage.ensures.usage (ap Err c.in-Err-Usage.field-0-is) command spells)
+
+pub returns-in-Err-Usage-clause-session : goal.returns-in-Err-Usage-clause-session
+returns-in-Err-Usage-clause-session g c = λ command asked spells. absurd (c.in-Err-Usage.ensures.usage (ap Err c.in-Err-Usage.field-0-is) command spells)
+
+pub returns-in-Err-Usage-clause-made : goal.returns-in-Err-Usage-clause-made
+returns-in-Err-Usage-clause-made g c = λ bytes w t f spells. absurd (c.in-Err-Usage.ensures.usage (ap Err c.in-Err-Usage.field-0-is) command.Init spells)
+
+pub returns-in-Err-Memory-clause-headline : goal.returns-in-Err-Memory-clause-headline
+returns-in-Err-Memory-clause-headline g c = λ command spells.
+    before_promised g.W.Disk.seen g.W.Disk.may_leave g.T.Disk.seen g.T.Disk.may_leave g.F.Disk.seen g.F.Disk.may_leave c.args.wal c.args.topics c.args.offsets (IsCompleteRun command c.say-in-Err-Memory.result) (asks_by command)
+    (λ complete. cut_other 0 c.say-in-Err-Memory.result (λ e. cc, λ e. cc) (cut_short c.say-in-Err-Memory.result _ _ c.say-in-Err-Memory.ensures.says) complete.1)
+
+pub returns-in-Err-Memory-clause-session : goal.returns-in-Err-Memory-clause-session
+returns-in-Err-Memory-clause-session g c = λ command asked spells is. memory_session asked c.args.now_ms _ _ _ _ _ _ c.say-in-Err-Memory.result _ _ c.say-in-Err-Memory.ensures.says
+
+pub returns-in-Err-Memory-clause-made : goal.returns-in-Err-Memory-clause-made
+returns-in-Err-Memory-clause-made g c = λ bytes w t f spells left wal topics offsets done.
+    absurd (cut_other 0 c.say-in-Err-Memory.result (λ e. cc, λ e. cc) (cut_short c.say-in-Err-Memory.result _ _ c.say-in-Err-Memory.ensures.says) done)

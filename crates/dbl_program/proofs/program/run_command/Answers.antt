@@ -1,28 +1,33 @@
-use Rattle.std.proofs.Common.{◌≡◌, ◌∙◌, true, false, inl, ap, refl}
+use Rattle.std.proofs.Common.{◌≡◌, ◌∙◌, true, false, inl, ap, refl, sym, subst}
 use Rattle.dbl_cli.specs.declared.commands.Command.TheVariants as command
 use Rattle.dbl_base.specs.Streams.{Rose}
 use Rattle.dbl_runs.specs.Answers.{AnswersApply, AnswersOffsets, AnswersTopics}
+use Rattle.dbl_connector.specs.declared.asked.Asked.{Asked}
+use Rattle.dbl_connector.specs.declared.asked.Asked.TheVariants.{First, Again}
 use Rattle.dbl_program.specs.Disks.{OfDisk}
-use Rattle.dbl_program.specs.Means.{given_init, made, not_built, makes, opens_topics, reads, uses_offsets, uses_topics}
+use Rattle.dbl_program.specs.Means.{given_init, made, not_built, connects, makes, opens_topics, reads, uses_offsets, uses_topics}
+use Rattle.dbl_session_runs.specs.Runs.{RunsConnected}
+use Rattle.dbl_program.specs.Sessions.{asked_by}
 use Rattle.dbl_program.proofs.CommandLemmas.{replay_command, apply_command, alone_command, init_or_fails, offset_alone, or_source, rows_offsets, stores_command}
-use Rattle.dbl_program.proofs.StatusLemmas.{told_offsets, told_rows}
+use Rattle.dbl_program.proofs.SessionLemmas.{one_asked, unasked}
+use Rattle.dbl_program.proofs.StatusLemmas.{switched, told_offsets, told_rows}
 use Rattle.dbl_program.proofs.StoreRunLemmas.{both_opened, only_offsets, only_topics}
 use Rattle.dbl_program.proofs.program.run_command.Goals as goal
 
 pub returns-in-Replay-clause-told : goal.returns-in-Replay-clause-told
-returns-in-Replay-clause-told g c = λ given told.
+returns-in-Replay-clause-told g c = λ given none told.
     let here = c.in-Replay in
     or_source (replay_command c.args.command here.prefix here.db here.placeholder here.keys c.options_of.result c.args.now_ms.now given _ _ _ _ _ _ here.is c.options_of.ensures
     (c.replay_lines.ensures.told given.input (told.input_is (ap reads here.is))))
 
 pub returns-in-Apply-true-default-clause-told : goal.returns-in-Apply-true-default-clause-told
-returns-in-Apply-true-default-clause-told g c = λ given told.
+returns-in-Apply-true-default-clause-told g c = λ given none told.
     let here = c.in-Apply-true-default in
     let is = here.is ∙ ap (λ l. command.Apply l here.placeholder) here.lines-test in
     or_source (apply_command c.args.command here.placeholder c.args.now_ms.now given _ _ _ _ _ _ is (c.apply_lines.ensures.told given.input (told.input_is (ap reads is))))
 
 pub returns-in-Apply-clause-told : goal.returns-in-Apply-clause-told
-returns-in-Apply-clause-told g c = λ given told.
+returns-in-Apply-clause-told g c = λ given none told.
     let here = c.in-Apply in
     let is = here.is ∙ ap (λ l. command.Apply l here.placeholder) here.lines-test in
     let left = c.run_apply.result in
@@ -32,19 +37,19 @@ returns-in-Apply-clause-told g c = λ given told.
     (c.run_apply.ensures.told given.topics given.offsets (told.topics_are (ap uses_topics is)) (rows_offsets c.args.command given.topics _ (told.offsets_are (ap uses_offsets is)))))
 
 pub returns-else-is_run-clause-told : goal.returns-else-is_run-clause-told
-returns-else-is_run-clause-told g c = λ given told.
+returns-else-is_run-clause-told g c = λ given none told.
     let here = c.in-Gen in
     inl (alone_command c.args.command (command.Gen here.number here.rows here.groups false) c.args.now_ms.now given _ (made here.number here.rows here.groups) _ _ _
     (here.is ∙ ap (λ l. command.Gen here.number here.rows here.groups l) c.if-is_run.false) refl c.print_workload.ensures.ends)
 
 pub returns-then-is_run-clause-told : goal.returns-then-is_run-clause-told
-returns-then-is_run-clause-told g c = λ given told.
+returns-then-is_run-clause-told g c = λ given none told.
     let here = c.in-Gen in
     inl (alone_command c.args.command (command.Gen here.number here.rows here.groups true) c.args.now_ms.now given _ not_built _ _ _
     (here.is ∙ ap (λ l. command.Gen here.number here.rows here.groups l) c.if-is_run.true) refl c.say_not_built.ensures.ends)
 
 pub returns-in-Init-clause-told : goal.returns-in-Init-clause-told
-returns-in-Init-clause-told g c = λ given told.
+returns-in-Init-clause-told g c = λ given none told.
     let here = c.in-Init in
     let left = c.run_init.result in
     let topics : Type 0 = Rose (g.T.Disk.faults c.args.topics) (g.T.Disk.faults left.topics) in
@@ -54,7 +59,7 @@ returns-in-Init-clause-told g c = λ given told.
     (offset_alone c.args.command given.topics _ (ap opens_topics here.is) (told.offsets_are (ap uses_offsets here.is))))
 
 pub returns-in-Topics-clause-told : goal.returns-in-Topics-clause-told
-returns-in-Topics-clause-told g c = λ given told.
+returns-in-Topics-clause-told g c = λ given none told.
     let here = c.in-Topics in
     let left = c.run_topics.result in
     let topics : Type 0 = Rose (g.T.Disk.faults c.args.topics) (g.T.Disk.faults left.topics) in
@@ -63,7 +68,7 @@ returns-in-Topics-clause-told g c = λ given told.
     (c.run_topics.ensures.told given.topics (told.topics_are (ap uses_topics here.is))))
 
 pub returns-in-Offsets-clause-told : goal.returns-in-Offsets-clause-told
-returns-in-Offsets-clause-told g c = λ given told.
+returns-in-Offsets-clause-told g c = λ given none told.
     let here = c.in-Offsets in
     let left = c.run_offsets.result in
     let topics : Type 0 = Rose (g.T.Disk.faults c.args.topics) (g.T.Disk.faults left.topics) in
@@ -71,18 +76,58 @@ returns-in-Offsets-clause-told g c = λ given told.
     inl (stores_command c.args.command command.Offsets c.args.now_ms.now given (AnswersOffsets given.offsets) (OfDisk ⊥ offsets) (OfDisk ((uses_topics c.args.command ≡ true) × topics) ((uses_offsets c.args.command ≡ true) × offsets)) left.status _ _ here.is (only_offsets _ _ topics offsets (ap uses_offsets here.is)) (λ answer means. means) (λ answer means. means)
     (c.run_offsets.ensures.told given.offsets (offset_alone c.args.command given.topics _ (ap opens_topics here.is) (told.offsets_are (ap uses_offsets here.is)))))
 
+-- of a session nothing is told here
 pub returns-in-Capture-clause-told : goal.returns-in-Capture-clause-told
-returns-in-Capture-clause-told g c = λ given told.
-    let here = c.in-Capture in
-    inl (alone_command c.args.command (command.Capture here.options) c.args.now_ms.now given _ not_built _ _ _ here.is refl c.say_not_built-in-Capture.ensures.ends)
+returns-in-Capture-clause-told g c = λ given none told. absurd (switched (sym (ap connects c.in-Capture.is) ∙ none))
 
 pub returns-in-Resume-clause-told : goal.returns-in-Resume-clause-told
-returns-in-Resume-clause-told g c = λ given told.
-    let here = c.in-Resume in
-    inl (alone_command c.args.command (command.Resume here.chunk here.every here.messages) c.args.now_ms.now given _ not_built _ _ _ here.is refl c.say_not_built-in-Resume.ensures.ends)
+returns-in-Resume-clause-told g c = λ given none told. absurd (switched (sym (ap connects c.in-Resume.is) ∙ none))
 
 pub returns-in-Init-clause-wal_made : goal.returns-in-Init-clause-wal_made
 returns-in-Init-clause-wal_made g c = λ bytes before is left told done. c.run_init.ensures.wal_made bytes before left told done
+
+-- ---- sessions
+
+pub returns-in-Capture-clause-connected : goal.returns-in-Capture-clause-connected
+returns-in-Capture-clause-connected g c = λ asked is.
+    let left = c.run_session.result in
+    let here = c.in-Capture in
+    subst (λ (a : Asked). RunsConnected g.W.Disk.seen g.W.Disk.may_leave g.W.Disk.faults g.T.Disk.seen g.T.Disk.may_leave g.T.Disk.faults g.F.Disk.seen g.F.Disk.may_leave g.F.Disk.faults a c.args.now_ms.now
+    c.args.wal left.wal c.args.topics left.topics c.args.offsets left.offsets left.status (g.O.Output.written c.args.output.now) (g.O.Output.written c.run_session.new.output))
+    (one_asked c.args.command (First here.options) asked (ap asked_by here.is) is) c.run_session.ensures.connected
+
+pub returns-in-Resume-clause-connected : goal.returns-in-Resume-clause-connected
+returns-in-Resume-clause-connected g c = λ asked is.
+    let left = c.run_session-in-Resume.result in
+    let here = c.in-Resume in
+    subst (λ (a : Asked). RunsConnected g.W.Disk.seen g.W.Disk.may_leave g.W.Disk.faults g.T.Disk.seen g.T.Disk.may_leave g.T.Disk.faults g.F.Disk.seen g.F.Disk.may_leave g.F.Disk.faults a c.args.now_ms.now
+    c.args.wal left.wal c.args.topics left.topics c.args.offsets left.offsets left.status (g.O.Output.written c.args.output.now) (g.O.Output.written c.run_session-in-Resume.new.output))
+    (one_asked c.args.command (Again here.chunk here.every here.messages) asked (ap asked_by here.is) is) c.run_session-in-Resume.ensures.connected
+
+-- the others ask for none
+pub returns-in-Replay-clause-connected : goal.returns-in-Replay-clause-connected
+returns-in-Replay-clause-connected g c = λ asked is. absurd (unasked c.args.command asked (ap asked_by c.in-Replay.is) is)
+
+pub returns-in-Apply-true-default-clause-connected : goal.returns-in-Apply-true-default-clause-connected
+returns-in-Apply-true-default-clause-connected g c = λ asked is. absurd (unasked c.args.command asked (ap asked_by c.in-Apply-true-default.is) is)
+
+pub returns-in-Apply-clause-connected : goal.returns-in-Apply-clause-connected
+returns-in-Apply-clause-connected g c = λ asked is. absurd (unasked c.args.command asked (ap asked_by c.in-Apply.is) is)
+
+pub returns-then-is_run-clause-connected : goal.returns-then-is_run-clause-connected
+returns-then-is_run-clause-connected g c = λ asked is. absurd (unasked c.args.command asked (ap asked_by c.in-Gen.is) is)
+
+pub returns-else-is_run-clause-connected : goal.returns-else-is_run-clause-connected
+returns-else-is_run-clause-connected g c = λ asked is. absurd (unasked c.args.command asked (ap asked_by c.in-Gen.is) is)
+
+pub returns-in-Init-clause-connected : goal.returns-in-Init-clause-connected
+returns-in-Init-clause-connected g c = λ asked is. absurd (unasked c.args.command asked (ap asked_by c.in-Init.is) is)
+
+pub returns-in-Topics-clause-connected : goal.returns-in-Topics-clause-connected
+returns-in-Topics-clause-connected g c = λ asked is. absurd (unasked c.args.command asked (ap asked_by c.in-Topics.is) is)
+
+pub returns-in-Offsets-clause-connected : goal.returns-in-Offsets-clause-connected
+returns-in-Offsets-clause-connected g c = λ asked is. absurd (unasked c.args.command asked (ap asked_by c.in-Offsets.is) is)
 
 -- ---- disks that were opened
 

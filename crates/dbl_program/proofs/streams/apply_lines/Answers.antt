@@ -1,6 +1,6 @@
 use Rattle.std.proofs.Common.{Err, ap}
 use Rattle.dbl_program.proofs.ApplyRunLemmas.{halt_applies, apply_said}
-use Rattle.dbl_program.proofs.program.apply_lines.Goals as goal
+use Rattle.dbl_program.proofs.streams.apply_lines.Goals as goal
 
 pub returns-in-Err-clause-told : goal.returns-in-Err-clause-told
 returns-in-Err-clause-told g c = λ bytes told.

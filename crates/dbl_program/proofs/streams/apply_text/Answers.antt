@@ -1,5 +1,5 @@
 use Rattle.dbl_program.proofs.ApplyRunLemmas.{rows_apply_at, fault_applies, rows_known, fault_known}
-use Rattle.dbl_program.proofs.program.apply_text.Goals as goal
+use Rattle.dbl_program.proofs.streams.apply_text.Goals as goal
 
 pub returns-in-Ok-clause-told : goal.returns-in-Ok-clause-told
 returns-in-Ok-clause-told g c =

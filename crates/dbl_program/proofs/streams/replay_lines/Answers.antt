@@ -1,7 +1,7 @@
 use Rattle.std.proofs.Common.{Err, List, ℕ, inl, ap, subst}
 use Rattle.dbl_program.specs.Run.{RunsReplaying}
 use Rattle.dbl_program.proofs.ReplayRunLemmas.{read_replays, replay_said, outside_no_answer}
-use Rattle.dbl_program.proofs.program.replay_lines.Goals as goal
+use Rattle.dbl_program.proofs.streams.replay_lines.Goals as goal
 
 pub returns-in-Ok-clause-told : goal.returns-in-Ok-clause-told
 returns-in-Ok-clause-told g c = λ bytes told.

@@ -1,6 +1,6 @@
 use Rattle.std.proofs.Common.{refl}
 use Rattle.dbl_program.proofs.ApplyRunLemmas.{rows_printed, rows_cut, rows_starved}
-use Rattle.dbl_program.proofs.program.print_rows.Goals as goal
+use Rattle.dbl_program.proofs.streams.print_rows.Goals as goal
 
 pub returns-in-Ok-clause-told : goal.returns-in-Ok-clause-told
 returns-in-Ok-clause-told g c = λ taken took. rows_printed _ _ _ (c.in-Ok.ensures.prints taken took)

@@ -1,6 +1,6 @@
 use Rattle.std.proofs.Common.{refl}
 use Rattle.dbl_program.proofs.ReplayRunLemmas.{printed_runs, cut_runs, starved_runs, printed_known, printed_no_output, printed_no_input}
-use Rattle.dbl_program.proofs.program.replay_messages.Goals as goal
+use Rattle.dbl_program.proofs.streams.replay_messages.Goals as goal
 
 pub returns-in-Ok-clause-told : goal.returns-in-Ok-clause-told
 returns-in-Ok-clause-told g c = printed_runs c.args.options c.args.now_ms.now c.args.messages.items c.in-Ok.status _ _ c.in-Ok.ensures.prints

@@ -2,7 +2,7 @@ use Rattle.std.proofs.Common.{◌∙◌, refl, sym, ap, Err}
 use Rattle.dbl_base.specs.Lines.{lines_of}
 use Rattle.dbl_replay.specs.Lines.{first_bad}
 use Rattle.dbl_program.specs.Run.{bad_line}
-use Rattle.dbl_program.proofs.program.messages_of.Goals as goal
+use Rattle.dbl_program.proofs.streams.messages_of.Goals as goal
 
 pub returns-in-Err-BadLine-clause-halts : goal.returns-in-Err-BadLine-clause-halts
 returns-in-Err-BadLine-clause-halts c = λ options now.

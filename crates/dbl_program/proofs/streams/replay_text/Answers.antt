@@ -1,5 +1,5 @@
 use Rattle.dbl_program.proofs.ReplayRunLemmas.{messages_replay, halt_replays, replay_said}
-use Rattle.dbl_program.proofs.program.replay_text.Goals as goal
+use Rattle.dbl_program.proofs.streams.replay_text.Goals as goal
 
 pub returns-in-Ok-clause-told : goal.returns-in-Ok-clause-told
 returns-in-Ok-clause-told g c = messages_replay c.args.options c.args.now_ms.now c.args.text c.in-Ok.messages.items _ _ _ c.requires c.in-Ok.ensures.ok c.in-Ok.ensures.good c.replay_messages.ensures.told

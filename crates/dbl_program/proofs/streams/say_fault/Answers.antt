@@ -1,5 +1,5 @@
 use Rattle.dbl_program.proofs.ApplyRunLemmas.{starved, says_memory}
-use Rattle.dbl_program.proofs.program.say_fault.Goals as goal
+use Rattle.dbl_program.proofs.streams.say_fault.Goals as goal
 
 pub returns-in-Err : goal.returns-in-Err
 returns-in-Err g c = record {

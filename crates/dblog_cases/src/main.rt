@@ -7,6 +7,7 @@ mod disks;
 mod fuses;
 mod run;
 mod step;
+mod stops;
 mod sweep;
 mod transcript;
 mod trials;

@@ -62,6 +62,20 @@ impl Run {
         Ok(())
     }
 
+    pub fn add_numbered(
+        &mut self,
+        alloc: Global,
+        from: u32,
+        to: u32,
+        text: &str,
+    ) -> Result<(), AllocError> {
+        for number in from..=to {
+            let line = numbered(alloc, text, number)?;
+            self.input.extend_from_slice(line.as_slice())?;
+        }
+        Ok(())
+    }
+
     pub fn add_bytes(&mut self, bytes: &[u8]) -> Result<(), AllocError> {
         self.input.extend_from_slice(bytes)
     }
@@ -125,6 +139,20 @@ impl Run {
         let text = output.bytes().as_slice().to_vec(alloc)?;
         Ok((Answer::make(status, text, tail), left))
     }
+}
+
+// The line with the number for each `#`, and its newline.
+fn numbered(alloc: Global, text: &str, number: u32) -> Result<Vec<u8>, AllocError> {
+    let digits = format!(in alloc; "{number}")?;
+    let mut line = Vec::new(alloc);
+    for (index, part) in text.split('#').enumerate() {
+        if index > 0 {
+            line.extend_from_slice(digits.as_bytes())?;
+        }
+        line.extend_from_slice(part.as_bytes())?;
+    }
+    line.push(b'\n')?;
+    Ok(line)
 }
 
 // The status with which the program ends, and the disks as it leaves them.

@@ -32,6 +32,8 @@ pub enum Part<'a> {
     Moment { now_ms: i64 },
     /// So many equal lines of input.
     Lines { count: u32, text: &'a str },
+    /// A line of input for each of these numbers, with the number for each `#` of the text.
+    Numbered { from: u32, to: u32, text: &'a str },
     /// Bytes of input, in hexadecimal.
     Bytes { digits: &'a str },
     /// This read of the input fails.
@@ -78,6 +80,7 @@ fn read_part<'a>(mark: &str, rest: &'a str) -> Option<Part<'a>> {
             text: rest,
         }),
         "*" => repeated_part(rest),
+        "n" => numbered_part(rest),
         "x" => Some(Part::Bytes { digits: rest }),
         "!" => failure(rest),
         "tail" => tail(rest),
@@ -131,6 +134,9 @@ fn each(rest: &str) -> Option<Part<'_>> {
         "bit" => Sweep::Bit {
             place: disk_named(rest)?,
         },
+        "stop" => Sweep::Stop {
+            place: disk_named(rest)?,
+        },
         "fuse" => {
             let (name, most) = rest.split_once(' ')?;
             Sweep::Fuse {
@@ -153,6 +159,15 @@ fn repeated_part(rest: &str) -> Option<Part<'_>> {
     let (count, text) = rest.split_once(' ')?;
     let count = count.parse::<u32>().ok()?;
     Some(Part::Lines { count, text })
+}
+
+// The first number, the last one, and the line.
+fn numbered_part(rest: &str) -> Option<Part<'_>> {
+    let (from, rest) = rest.split_once(' ')?;
+    let (to, text) = rest.split_once(' ')?;
+    let from = from.parse::<u32>().ok()?;
+    let to = to.parse::<u32>().ok()?;
+    Some(Part::Numbered { from, to, text })
 }
 
 // What fails, and the number of the call.

@@ -12,4 +12,6 @@ pub enum Sweep {
     /// The disk passes so many calls, from none on up to this number, and then fails. Behind each run the same one is made
     /// without a fuse, on the disks as the first one left them.
     Fuse { place: Place, most: u64 },
+    /// The same of a session, up to the fuse that stops nothing, and the work is ended behind each.
+    Stop { place: Place },
 }

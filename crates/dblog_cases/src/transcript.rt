@@ -142,6 +142,7 @@ impl Transcript {
             }
             Part::Moment { now_ms } => run.set_moment(now_ms),
             Part::Lines { count, text } => run.add_lines(count, text)?,
+            Part::Numbered { from, to, text } => run.add_numbered(self.alloc, from, to, text)?,
             Part::Bytes { digits } => match hex::decode(self.alloc, digits) {
                 Ok(bytes) => run.add_bytes(bytes.as_slice())?,
                 Err(_) => return tell_refusal(line, writer),

@@ -3,6 +3,7 @@
 use crate::answer::Answer;
 use crate::disks::Disks;
 use crate::run::Run;
+use crate::stops::tell_stops;
 use crate::sweep::Sweep;
 use dbl_disk::Choice;
 use std::alloc::{AllocError, Global};
@@ -31,6 +32,7 @@ fn count(sweep: Sweep, disks: &Disks) -> u64 {
             disks.bytes(place).len() as u64
         }
         Sweep::Fuse { place: _, most } => most.saturating_add(1),
+        Sweep::Stop { .. } => 0,
     }
 }
 
@@ -51,7 +53,7 @@ fn change(
             let bytes = turn_bit(disks.bytes(place), number)?;
             found.put(alloc, place, bytes.as_slice())
         }
-        Sweep::Fuse { .. } => Ok(()),
+        Sweep::Fuse { .. } | Sweep::Stop { .. } => Ok(()),
     }
 }
 
@@ -88,8 +90,8 @@ fn status_of(
     Ok(answer.status())
 }
 
-/// Makes the runs, each on the disks as they are, and writes what they answer: of turned bits the statuses, each once, and else
-/// each answer that isn't that of the run before.
+/// Makes the runs, each on the disks as they are, and writes what they answer: of turned bits the statuses, each once; of stopped
+/// sessions what they come to in the end; and else each answer that isn't that of the run before.
 pub fn tell_each<W: Write>(
     alloc: Global,
     run: &Run,
@@ -99,6 +101,7 @@ pub fn tell_each<W: Write>(
 ) -> io::Result<()> {
     match sweep {
         Sweep::Bit { .. } => tell_statuses(alloc, run, disks, sweep, writer),
+        Sweep::Stop { place } => tell_stops(alloc, run, disks, place, writer),
         _ => tell_answers(alloc, run, disks, sweep, writer),
     }
 }

@@ -175,3 +175,13 @@ pub workload_end : (P : Type 0) (first end : End) → is_err first ≡ false →
 workload_end P (Err e) end well p = absurd (let t = well in cc)
 workload_end P (Ok done) (Ok last) well p = p
 workload_end P (Ok done) (Err e) well p = tt
+
+-- ---- the last store
+
+pub spared : (end : End) (e : InitError) → IfErr end (λ x. x ≢ e) → end ≡ Err e → ⊥
+spared (Ok done) e spares is = let t = is in cc
+spared (Err f) e spares is = spares (let t = is in cc)
+
+pub err_with : (end : End) (e : InitError) (P : Type 0) → IfErr end (λ x. P) → end ≡ Err e → P
+err_with (Ok done) e P p is = absurd (let t = is in cc)
+err_with (Err f) e P p is = p

@@ -1,12 +1,15 @@
 -- What `init` leaves of a disk. Source: own.
 use Rattle.std.specs.Prelude.{◌≡◌, ◌≢◌, ℕ, ◌^◌, ◌≤◌, max, Option, Some, Ok, Err, List, [], length}
 use Rattle.dbl_base.specs.Streams.{Rose}
-use Rattle.dbl_disk.specs.Disks.{IsOnly}
+use Rattle.dbl_disk.specs.Disks.{Follows, IsOnly}
 use Rattle.dbl_journal.specs.Stored.{IsSteady}
+use Rattle.dbl_offset.specs.Stores.{BeginsTorn}
+use Rattle.dbl_running.specs.Made.{IsFreshWal}
 use Rattle.dbl_init.specs.declared.error.InitError.TheVariants.{Failed, Memory}
 use Rattle.dbl_init.specs.declared.error.Store.{Store}
 use Rattle.dbl_init.specs.declared.error.Store.TheVariants.{Wal, Topics, Offsets}
 use Rattle.dbl_init.specs.Answers.{End}
+use Rattle.dbl_init.specs.Fresh.{IsEmptyLog}
 
 -- a disk that was asked for its length at the most
 pub record IsAsked {D : Type 0} (seen : D → Option (List ℕ)) (may_leave : D → List ℕ → Type 0) (faults : D → ℕ) (store : Store) (end : End) (old new : D) : Type 0 where
@@ -45,3 +48,11 @@ pub record HasStored {D : Type 0} (seen : D → Option (List ℕ)) (may_leave : 
   pub told : seen disk ≡ Some bytes
   pub only : IsOnly bytes (may_leave disk)
   pub is : Is bytes
+
+-- The offset's disk failed behind the others: their stores were made, and a crash leaves of it what it might have left before, or what a
+-- write of a store without an offset makes of that, whether it was done or cut short.
+pub record EndsTorn {W T F : Type 0} (seen_wal : W → Option (List ℕ)) (wals : W → List ℕ → Type 0) (seen_topics : T → Option (List ℕ)) (logs : T → List ℕ → Type 0)
+    (stores : F → List ℕ → Type 0) (workload : List ℕ) (wal : W) (topics : T) (old new : F) : Type 0 where
+  pub wal_made : HasStored seen_wal wals (IsFreshWal workload) wal
+  pub topics_made : HasStored seen_topics logs IsEmptyLog topics
+  pub offsets_torn : Follows BeginsTorn (stores old) (stores new)

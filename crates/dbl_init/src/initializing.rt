@@ -7,7 +7,9 @@ ghost use Rattle.dbl_sound.specs.Workloads.{IsWorkload, Workload};
 ghost use Rattle.dbl_running.specs.Made.{IsFreshWal};
 ghost use Rattle.dbl_workload.specs.Refusals.{IsRefused};
 ghost use Rattle.dbl_init.specs.Answers.{Answers, AnswersInput, Given, IsBeforeInput, IsInitFault, IsOutside, TellsInput};
-ghost use Rattle.dbl_init.specs.Disks.{HasStored, HoldsBytes, IsAsked, IsUnwritten, Leaves};
+ghost use Rattle.dbl_disk.specs.Disks.{Follows};
+ghost use Rattle.dbl_offset.specs.Stores.{BeginsTorn};
+ghost use Rattle.dbl_init.specs.Disks.{EndsTorn, HasStored, HoldsBytes, IsAsked, IsUnwritten, Leaves};
 ghost use Rattle.dbl_init.specs.Errors.{demo_error};
 ghost use Rattle.dbl_init.specs.Fresh.{IsEmptyLog, IsEmptyStore};
 ghost use Rattle.dbl_init.specs.Turns.{AsksOne, IsTurnFault, IsTurnOf, MakesOne, TellsFirst};
@@ -68,6 +70,8 @@ fn make_offsets<D: Disk>(alloc: Global, disk: D) -> (D, Result<(), InitError>)
     ensures makes { MakesOne D.seen D.may_leave D.faults Store.Offsets IsEmptyStore
         result.1 disk result.0 }
     ensures kinds { IfErr result.1 (λ e. e ≡ InitError.Failed Store.Offsets) }
+    ensures torn { IfErr result.1
+        (λ e. Follows BeginsTorn (D.may_leave disk) (D.may_leave result.0)) }
 {
     match OffsetStore::make(alloc, disk) {
         Ok(store) => (store.into_disk(), Ok(())),
@@ -120,6 +124,10 @@ fn make_all<W: Disk, T: Disk, F: Disk>(
         ⊎ (((store : Store) × (e ≡ InitError.Failed store))
         ⊎ ((d : DemoError) × IsRefused workload.now d × (e ≡ demo_error d)))) }
     ensures workload { OnOk result.end ((w : Workload) × IsWorkload workload.now w) }
+    ensures torn { W.seen wal ≡ Some [] → T.seen topics ≡ Some [] →
+        result.end ≡ Err (InitError.Failed Store.Offsets) →
+        EndsTorn W.seen W.may_leave T.seen T.may_leave F.may_leave workload.now
+        result.wal result.topics offsets result.offsets }
 {
     let (wal, end) = make_wal(alloc, wal, workload);
     if end.is_err() {
@@ -192,6 +200,14 @@ pub fn init<I: Input, W: Disk, T: Disk, F: Disk>(
         → OnOk result.end (HasStored T.seen T.may_leave IsEmptyLog result.topics) }
     ensures offsets_made { (before : List ℕ) → F.seen offsets ≡ Some before
         → OnOk result.end (HasStored F.seen F.may_leave IsEmptyStore result.offsets) }
+
+    // The offset's store is made last. Where its disk failed nothing of it was written, or the others were made before, and a crash
+    // leaves a part of a store without an offset.
+    ensures torn { (bytes : List ℕ) → I.left input.old ≡ Some bytes → W.seen wal ≡ Some []
+        → T.seen topics ≡ Some [] → result.end ≡ Err (InitError.Failed Store.Offsets)
+        → IsAsked F.seen F.may_leave F.faults Store.Offsets result.end offsets result.offsets
+        ⊎ EndsTorn W.seen W.may_leave T.seen T.may_leave F.may_leave bytes
+        result.wal result.topics offsets result.offsets }
 
     // Where it tells what the input means, the input was read to its end; where a disk isn't empty, it wasn't read.
     ensures whole { (bytes : List ℕ) → I.left input.old ≡ Some bytes → TellsInput result.end

@@ -1,4 +1,4 @@
-use Rattle.std.proofs.Common.{◌≡◌, ◌∙◌, ◌⊎◌, Err, List, ap, subst}
+use Rattle.std.proofs.Common.{◌≡◌, ◌∙◌, ◌⊎◌, inl, inr, Err, List, ap, subst}
 use Rattle.dbl_running.specs.Made.{IsFreshWal}
 use Rattle.dbl_init.specs.declared.error.Store.TheVariants.{Wal, Topics, Offsets}
 use Rattle.dbl_init.specs.Answers.{AnswersInput, AreEmpty, IsOutside}
@@ -196,3 +196,21 @@ returns-in-Ok-read_all-clause-offsets_asked g c = λ unwritten. asked_end g.F.Di
 
 pub returns-in-Ok-read_all-clause-offsets_leaves : goal.returns-in-Ok-read_all-clause-offsets_leaves
 returns-in-Ok-read_all-clause-offsets_leaves g c = leaves_end g.F.Disk.seen g.F.Disk.may_leave g.F.Disk.faults Offsets c.args.offsets _ IsEmptyStore c.make_all.result.end _ c.in-Ok.ensures.offsets c.make_all.ensures.offsets
+
+-- ---- the offset's disk failed
+
+pub returns-in-Err-clause-torn : goal.returns-in-Err-clause-torn
+returns-in-Err-clause-torn g c = λ bytes told w t is. inl c.in-Err.ensures.offsets.asked
+
+pub returns-in-Err-read_all-clause-torn : goal.returns-in-Err-read_all-clause-torn
+returns-in-Err-read_all-clause-torn g c = λ bytes told w t is. absurd (input_disk c.in-Err-read_all.error c.from.result c.from.ensures Offsets (let e = is in cc))
+
+pub returns-in-Ok-read_all-clause-torn : goal.returns-in-Ok-read_all-clause-torn
+returns-in-Ok-read_all-clause-torn g c = λ bytes told w t is.
+    let same : c.as_slice.result.now ≡ bytes = c.as_slice.ensures.value ∙ c.items.ensures ∙ c.in-Ok-read_all.ensures.all bytes told in
+    let torn = c.make_all.ensures.torn (c.in-Ok.ensures.wal.asked.same ∙ w) (c.in-Ok.ensures.topics.asked.same ∙ t) is in
+    inr (record {
+      wal_made = subst (λ (l : List _). HasStored g.W.Disk.seen g.W.Disk.may_leave (IsFreshWal l) c.make_all.result.wal) same torn.wal_made;
+      topics_made = torn.topics_made;
+      offsets_torn = λ image may. (let before = torn.offsets_torn image may in (before.0, c.in-Ok.ensures.offsets.asked.images before.0 before.1, before.2));
+    })

@@ -1,8 +1,9 @@
-use Rattle.std.proofs.Common.{◌∙◌, sym}
+use Rattle.std.proofs.Common.{◌∙◌, Ok, sym}
 use Rattle.dbl_running.specs.Made.{IsFreshWal}
 use Rattle.dbl_init.specs.declared.error.Store.TheVariants.{Wal, Topics, Offsets}
 use Rattle.dbl_init.specs.Fresh.{IsEmptyLog, IsEmptyStore}
-use Rattle.dbl_init.proofs.TurnLemmas.{makes_skipped, makes_through, other_end, other_spares, wal_end, wal_spares, workload_end}
+use Rattle.dbl_init.specs.declared.error.InitError.TheVariants.{Failed}
+use Rattle.dbl_init.proofs.TurnLemmas.{err_with, makes_skipped, makes_through, other_end, other_spares, spared, wal_end, wal_spares, workload_end}
 use Rattle.dbl_init.proofs.initializing.make_all.Goals as goal
 
 pub returns-then-is_err-clause-topics : goal.returns-then-is_err-clause-topics
@@ -37,3 +38,18 @@ returns-clause-refused g c = other_end c.args.workload.now Offsets c.make_offset
 
 pub returns-clause-workload : goal.returns-clause-workload
 returns-clause-workload g c = workload_end _ c.make_wal-wal.result.1 c.make_offsets-offsets.result.1 (sym c.is_err.ensures.value ∙ c.if-is_err.false) c.make_wal-wal.ensures.workload
+
+-- ---- the offset's disk failed
+
+pub returns-then-is_err-clause-torn : goal.returns-then-is_err-clause-torn
+returns-then-is_err-clause-torn g c = λ w t is. absurd (spared c.make_wal-wal.result.1 (Failed Offsets) (wal_spares c.args.workload.now Offsets (λ is. cc) c.make_wal-wal.result.1 c.make_wal-wal.ensures.refused) is)
+
+pub returns-then-is_err-2-clause-torn : goal.returns-then-is_err-2-clause-torn
+returns-then-is_err-2-clause-torn g c = λ w t is. absurd (spared c.make_topics-topics.result.1 (Failed Offsets) (other_spares Topics Offsets (λ is. cc) c.make_topics-topics.result.1 c.make_topics-topics.ensures.kinds) is)
+
+pub returns-clause-torn : goal.returns-clause-torn
+returns-clause-torn g c = λ w t is. record {
+  wal_made = workload_end _ c.make_wal-wal.result.1 (Ok tt) (sym c.is_err.ensures.value ∙ c.if-is_err.false) (c.make_wal-wal.ensures.makes.made w);
+  topics_made = workload_end _ c.make_topics-topics.result.1 (Ok tt) (sym c.is_err-2.ensures.value ∙ c.if-is_err-2.false) (c.make_topics-topics.ensures.makes.made t);
+  offsets_torn = err_with c.make_offsets-offsets.result.1 (Failed Offsets) _ c.make_offsets-offsets.ensures.torn is;
+}

@@ -28,3 +28,6 @@ returns-in-Err-clause-makes g c =
           leaves_none g.D.Disk.seen g.D.Disk.faults Offsets _ c.args.disk _ c.requires c.in-Err.ensures.later (λ failed. c.in-Err.ensures.failed)
           (λ no. absurd (no (ap (λ (e : InitError). Err e) is))) c.in-Err.ensures.small;
     }
+
+pub returns-in-Err-clause-torn : goal.returns-in-Err-clause-torn
+returns-in-Err-clause-torn g c = c.in-Err.ensures.left

@@ -25,6 +25,7 @@ use Rattle.dbl_program.proofs.ReplayRunLemmas.{outside_no_answer}
 use Rattle.dbl_program.proofs.RunLemmas.{replays_one, says_ends, memory_ends, written_or_outside}
 use Rattle.dbl_program.proofs.StatusLemmas.{switched}
 use Rattle.dbl_program.proofs.StoreRunLemmas.{both_opened}
+use Rattle.dbl_session_runs.proofs.Statuses.{starved_known}
 use Rattle.dbl_saying.proofs.SayLemmas.{cut_other}
 use Rattle.dbl_saying.specs.Says.{IsCutShort, Says, Writes}
 
@@ -44,7 +45,7 @@ answers_one (command.Resume chunk every messages) now given a b is is' = absurd 
 answers_one (command.Apply true placeholder) now given a b is is' = applies_one placeholder given.input a b is is'
 answers_one (command.Apply false placeholder) now given a b is is' = stores_one (AnswersApply given.topics given.offsets) (apply_once given.topics given.offsets) a b is is'
 answers_one (command.Replay prefix db placeholder keys) now given a b is is' = replays_one _ now given.input a b is is'
-answers_one (command.Gen number rows groups true) now given a b is is' = is ∙ sym is'
+answers_one (command.Gen number rows groups true) now given a b is is' = absurd is
 answers_one (command.Gen number rows groups false) now given a b is is' = is ∙ sym is'
 
 -- words and what is given have one answer
@@ -114,7 +115,8 @@ reads_topics (command.Resume chunk every messages) opens = refl
 reads_topics (command.Apply true placeholder) opens = opens
 reads_topics (command.Apply false placeholder) opens = refl
 reads_topics (command.Replay prefix db placeholder keys) opens = opens
-reads_topics (command.Gen number rows groups run) opens = opens
+reads_topics (command.Gen number rows groups true) opens = refl
+reads_topics (command.Gen number rows groups false) opens = opens
 
 pub reads_offsets : (c : Command) → opens_offsets c ≡ true → uses_offsets c ≡ true
 reads_offsets command.Init opens = refl
@@ -125,7 +127,8 @@ reads_offsets (command.Resume chunk every messages) opens = refl
 reads_offsets (command.Apply true placeholder) opens = opens
 reads_offsets (command.Apply false placeholder) opens = refl
 reads_offsets (command.Replay prefix db placeholder keys) opens = opens
-reads_offsets (command.Gen number rows groups run) opens = opens
+reads_offsets (command.Gen number rows groups true) opens = refl
+reads_offsets (command.Gen number rows groups false) opens = opens
 
 -- a run in which fewer disks can have failed
 wider_ends : (few failed : Store → Type 0) → ((s : Store) → few s → failed s) → (answer : Answer) (status : ℕ) (before after : Option (List ℕ)) → EndsOrFails few answer status before after → EndsOrFails failed answer status before after
@@ -189,7 +192,7 @@ memory_status (command.Resume chunk every messages) status before after says = i
 memory_status (command.Apply true placeholder) status before after says = inr (inr (memory_outside status before after says))
 memory_status (command.Apply false placeholder) status before after says = inr (inr (inr (inr (inr (cut_short status before after says)))))
 memory_status (command.Replay prefix db placeholder keys) status before after says = inr (memory_outside status before after says)
-memory_status (command.Gen number rows groups true) status before after says = inr (cut_short status before after says)
+memory_status (command.Gen number rows groups true) status before after says = starved_known status before after says
 memory_status (command.Gen number rows groups false) status before after says = inr (cut_short status before after says)
 
 apply_apart : (status : ℕ) → (status ≡ output_failed_status) ⊎ (status ≡ status_of Memory) → (status ≡ 0) ⊎ (status ≡ 13) → ⊥
@@ -219,7 +222,7 @@ memory_tells (command.Gen number rows groups false) status before after says tol
 pub memory_alone : (answer : Answer) (status : ℕ) (before after : Option (List ℕ)) → Says Memory status before after → EndsAs answer status before after
 memory_alone answer status before after says = record { ended = memory_ends answer status before after (memory_written status before after says); told = inl (memory_outside status before after says) }
 
--- ---- the commands that are built
+-- ---- the commands
 
 pub replay_command : (c : Command) (prefix db placeholder : List ℕ) (keys : List TableKey) (options : ReplayOptions) (now : ℤ) (given : Given) (failed : Store → Type 0) (was later : ℕ) (status : ℕ) (before after : Option (List ℕ))
     → c ≡ command.Replay prefix db placeholder keys → options ≡ options_of prefix db placeholder keys → RunsReplaying options now given.input status before after ⊎ FailsReading was later status before after

@@ -8,7 +8,8 @@ use Rattle.dbl_init.specs.declared.error.Store.TheVariants as store
 use Rattle.dbl_init.specs.Answers as inits
 use Rattle.dbl_init.specs.Disks.{IsAsked, Leaves}
 use Rattle.dbl_init.specs.Disks as disks
-use Rattle.dbl_program.specs.Inits.{FinishesInit, IsInitAnswer, IsInitLeft, IsUnmade, IsUnwritten, IsUntouched, init_status}
+use Rattle.dbl_program.specs.Inits.{FinishesInit, IsInitAnswer, IsInitLeft, IsUnmade, IsUnwritten, IsUntouched}
+use Rattle.dbl_session_runs.proofs.InitStatuses.{failed_error, no_zero, not_store, store_whole}
 use Rattle.dbl_program.proofs.InitLemmas.{end_status, finished_status}
 use Rattle.dbl_session_runs.specs.Ends.{store_status}
 use Rattle.dbl_saying.proofs.SayLemmas.{cut_other}
@@ -26,27 +27,6 @@ answer_whole status (inl is) cut = cut_other 0 status (λ e. cc, λ e. cc) cut i
 answer_whole status (inr (inl is)) cut = cut_other 6 status (λ e. cc, λ e. cc) cut is
 answer_whole status (inr (inr is)) cut = cut_other 13 status (λ e. cc, λ e. cc) cut is
 
-not_store : (made : Store) (n : ℕ) → (n ≢ 7) × (n ≢ 8) × (n ≢ 9) → n ≡ store_status made → ⊥
-not_store store.Wal n apart is = apart.0 is
-not_store store.Topics n apart is = apart.1 is
-not_store store.Offsets n apart is = apart.2 is
-
-store_whole : (made : Store) (status : ℕ) → status ≡ store_status made → IsCutShort status → ⊥
-store_whole store.Wal status is cut = cut_other 7 status (λ e. cc, λ e. cc) cut is
-store_whole store.Topics status is cut = cut_other 8 status (λ e. cc, λ e. cc) cut is
-store_whole store.Offsets status is cut = cut_other 9 status (λ e. cc, λ e. cc) cut is
-
-one_store : (a b : Store) → store_status a ≡ store_status b → a ≡ b
-one_store store.Wal store.Wal is = refl
-one_store store.Topics store.Topics is = refl
-one_store store.Offsets store.Offsets is = refl
-one_store store.Wal store.Topics is = absurd (let wrong : 7 ≡ 8 = is in cc)
-one_store store.Wal store.Offsets is = absurd (let wrong : 7 ≡ 9 = is in cc)
-one_store store.Topics store.Wal is = absurd (let wrong : 8 ≡ 7 = is in cc)
-one_store store.Topics store.Offsets is = absurd (let wrong : 8 ≡ 9 = is in cc)
-one_store store.Offsets store.Wal is = absurd (let wrong : 9 ≡ 7 = is in cc)
-one_store store.Offsets store.Topics is = absurd (let wrong : 9 ≡ 8 = is in cc)
-
 wal_written : (n : ℕ) → (n ≢ 6) × (n ≢ 10) × (n ≢ 13) × (n ≢ 14) → IsUnwritten store.Wal n → ⊥
 wal_written n apart (inl is) = apart.0 is
 wal_written n apart (inr (inl is)) = apart.1 is
@@ -63,15 +43,6 @@ offsets_written n topics wal apart (inr before) = topics_written n wal apart bef
 
 -- ---- ends
 
-failed_error : (made : Store) (e : InitError) → init_status e ≡ store_status made → e ≡ init.Failed made
-failed_error made (init.Failed failed) is = ap (λ (s : Store). init.Failed s) (one_store failed made is)
-failed_error made (init.NotEmpty held) is = absurd (not_store made 14 (λ e. cc, λ e. cc, λ e. cc) is)
-failed_error made init.InputFailed is = absurd (not_store made 10 (λ e. cc, λ e. cc, λ e. cc) is)
-failed_error made init.InputTooLong is = absurd (not_store made 13 (λ e. cc, λ e. cc, λ e. cc) is)
-failed_error made (init.Script e) is = absurd (not_store made 13 (λ e. cc, λ e. cc, λ e. cc) is)
-failed_error made (init.Model e) is = absurd (not_store made 6 (λ e. cc, λ e. cc, λ e. cc) is)
-failed_error made init.Memory is = absurd (not_store made 12 (λ e. cc, λ e. cc, λ e. cc) is)
-
 failed_of : (made : Store) (end : inits.End) → end_status end ≡ store_status made → end ≡ Err (init.Failed made)
 failed_of made (Ok done) is = absurd (not_store made 0 (λ e. cc, λ e. cc, λ e. cc) is)
 failed_of made (Err e) is = ap (λ (x : InitError). let end : inits.End = Err x in end) (failed_error made e is)
@@ -87,17 +58,6 @@ full_of (Err init.InputTooLong) is = absurd (let wrong : 13 ≡ 14 = is in cc)
 full_of (Err (init.Script e)) is = absurd (let wrong : 13 ≡ 14 = is in cc)
 full_of (Err (init.Model e)) is = absurd (let wrong : 6 ≡ 14 = is in cc)
 full_of (Err init.Memory) is = absurd (let wrong : 12 ≡ 14 = is in cc)
-
-no_zero : (e : InitError) → init_status e ≡ 0 → ⊥
-no_zero (init.NotEmpty held) is = let wrong : 14 ≡ 0 = is in cc
-no_zero (init.Failed store.Wal) is = let wrong : 7 ≡ 0 = is in cc
-no_zero (init.Failed store.Topics) is = let wrong : 8 ≡ 0 = is in cc
-no_zero (init.Failed store.Offsets) is = let wrong : 9 ≡ 0 = is in cc
-no_zero init.InputFailed is = let wrong : 10 ≡ 0 = is in cc
-no_zero init.InputTooLong is = let wrong : 13 ≡ 0 = is in cc
-no_zero (init.Script e) is = let wrong : 13 ≡ 0 = is in cc
-no_zero (init.Model e) is = let wrong : 6 ≡ 0 = is in cc
-no_zero init.Memory is = let wrong : 12 ≡ 0 = is in cc
 
 -- what the input means was told
 abbrev IsToldInput : List ℕ → inits.End → Type 0

@@ -13,7 +13,9 @@ use Rattle.dbl_init.proofs.AnswerLaws.{one_answer}
 use Rattle.dbl_saying.specs.declared.halt.Halt.TheVariants.{Memory}
 use Rattle.dbl_program.specs.Disks.{DiskFails, IsDiskStatus, OfDisk}
 use Rattle.dbl_saying.specs.Faults.{fault_line, status_of}
-use Rattle.dbl_program.specs.Inits.{FailsSource, FinishesInit, IsInitStatus, SaysInit, init_answer, init_fault, init_line, init_status}
+use Rattle.dbl_session_runs.specs.InitErrors.{SaysInit, init_line, init_status}
+use Rattle.dbl_session_runs.proofs.InitStatuses.{said_status}
+use Rattle.dbl_program.specs.Inits.{FailsSource, FinishesInit, IsInitStatus, init_answer, init_fault}
 use Rattle.dbl_program.specs.Means.{RunsInit}
 use Rattle.dbl_program.specs.Run.{Answer, Ends, FailsReading, IsOutside, whole}
 use Rattle.dbl_program.proofs.RunLemmas.{memory_ends, memory_is_outside, written_or_outside}
@@ -24,12 +26,6 @@ end_status (Ok made) = 0
 end_status (Err e) = init_status e
 
 -- ---- the status
-
-said_status : (e : InitError) (status : ℕ) (before after : Option (List ℕ)) → SaysInit e status before after → (status ≡ init_status e) ⊎ IsCutShort status
-said_status e status before after (inl (inl said)) = inl said.0
-said_status e status before after (inl (inr cut)) = inr (inl cut.0)
-said_status e status before after (inr (inl said)) = inr (inr said.0)
-said_status e status before after (inr (inr cut)) = inr (inl cut.0)
 
 pub finished_status : (end : inits.End) (status : ℕ) (before after : Option (List ℕ)) → FinishesInit end status before after → (status ≡ end_status end) ⊎ IsCutShort status
 finished_status (Ok made) status before after finishes = inl finishes.0

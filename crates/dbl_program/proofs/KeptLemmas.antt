@@ -1,25 +1,24 @@
 -- Disks that a run leaves as they are stay kept, and fresh stores are kept.
 use Rattle.std.proofs.Common.{◌≡◌, ◌≢◌, ◌⊎◌, inl, inr, ◌∙◌, ℕ, true, false, Option, Some, None, IsSome, List, [], ◌∷◌, ◌++◌, length, refl, sym, ap, subst, arith, length-append}
+use Rattle.std.specs.Prelude.{is_some}
 use Rattle.dbl_journal.specs.Form.{IsClosed, IsJournal, front}
 use Rattle.dbl_table.specs.declared.config.Config.{Config}
 use Rattle.dbl_cli.specs.declared.commands.Command.{Command}
 use Rattle.dbl_cli.specs.declared.commands.Command.TheVariants as command
-use Rattle.dbl_running.specs.Made.{IsFreshWal}
-use Rattle.dbl_init.specs.Disks.{HasStored, HoldsBytes}
-use Rattle.dbl_init.specs.Fresh.{IsEmptyLog, IsEmptyStore}
+use Rattle.dbl_init.specs.Disks.{HoldsBytes}
 use Rattle.dbl_kept.specs.Bounds.{IsBounded}
 use Rattle.dbl_kept.specs.Contents.{Contents}
 use Rattle.dbl_kept.specs.Goes.{Goes}
 use Rattle.dbl_kept.specs.Headline.{IsPromised, IsPromisedOf}
 use Rattle.dbl_kept.specs.Kept.{AreKept, IsKept}
-use Rattle.dbl_kept.proofs.FreshLaws.{fresh_stores_are_kept}
 use Rattle.dbl_kept.proofs.KeptLaws.{kept_runs_are_promised, what_stays_goes_on}
 use Rattle.dbl_connector.specs.declared.asked.Asked.{Asked}
+use Rattle.dbl_connector.specs.declared.asked.Asked.TheVariants.{First, Again}
 use Rattle.dbl_connector.specs.Asked.{asks_in}
 use Rattle.dbl_program.specs.Disks.{IsOnlyRead, offsets_status, topics_status}
 use Rattle.dbl_program.specs.Inits.{IsUntouched}
 use Rattle.dbl_program.specs.Sessions.{IsCompleteRun, asked_by, asks_by}
-use Rattle.dbl_program.specs.Means.{connects, makes, opens_offsets, opens_topics, uses_offsets, uses_topics, writes}
+use Rattle.dbl_program.specs.Means.{makes, opens_offsets, opens_topics, uses_offsets, uses_topics, writes}
 use Rattle.dbl_session_runs.proofs.SessionLemmas.{promised_less}
 use Rattle.dbl_program.proofs.SessionLemmas.{asked_or_not, asks_same}
 use Rattle.dbl_program.proofs.StatusLemmas.{switched}
@@ -103,34 +102,26 @@ module _ {W T F : Type 0} (seen_wal : W → Option (List ℕ)) (wals : W → Lis
       has_bytes : (bytes : List ℕ) (entries : List (List ℕ)) → IsJournal bytes entries → bytes ≢ []
       has_bytes bytes entries journal = closed_bytes bytes (front entries) journal.rest journal.spelled journal.closed
 
-  -- ---- what `init` made
-
-  pub made_kept : (script : List ℕ) (w : W) (t : T) (f : F) → HasStored seen_wal wals (IsFreshWal script) w → HasStored seen_topics logs IsEmptyLog t → HasStored seen_offsets stores IsEmptyStore f → Kept w t f
-  made_kept script w t f wal topics offsets = record {
-    wal = subst IsSome (sym wal.told) refl;
-    topics = subst IsSome (sym topics.told) refl;
-    offsets = subst IsSome (sym offsets.told) refl;
-    each = λ a b c may_a may_b may_c.
-        let fresh = fresh_stores_are_kept script a b c (subst (IsFreshWal script) (sym (wal.only a may_a)) wal.is) (subst IsEmptyLog (sym (topics.only b may_b)) topics.is) (subst IsEmptyStore (sym (offsets.only c may_c)) offsets.is) in
-        (fresh.0, fresh.1.read, fresh.1.kept);
-  }
-
 -- ---- one disk
+
+none_asked : (asked : Asked) → Some asked ≡ None → ⊥
+none_asked asked is = cc
 
 module _ {D : Type 0} (seen : D → Option (List ℕ)) (may_leave : D → List ℕ → Type 0) where
   pub same_untouched : (old new : D) → new ≡ old → IsUntouched seen may_leave old new
   same_untouched old new is = subst (λ (d : D). IsUntouched seen may_leave old d) (sym is) (record { same = refl; images = λ image may. may })
 
   -- of a disk that a command neither makes nor runs a session over
-  pub wal_untouched : (c : Command) (old new : D) → connects c ≡ false → (c ≡ command.Init → IsUntouched seen may_leave old new) → (writes c ≡ false → new ≡ old) → IsUntouched seen may_leave old new
+  pub wal_untouched : (c : Command) (old new : D) → asked_by c ≡ None → (makes c ≡ true → IsUntouched seen may_leave old new) → (writes c ≡ false → new ≡ old) → IsUntouched seen may_leave old new
   wal_untouched command.Init old new none full stays = full refl
   wal_untouched command.Topics old new none full stays = same_untouched old new (stays refl)
   wal_untouched command.Offsets old new none full stays = same_untouched old new (stays refl)
-  wal_untouched (command.Capture options) old new none full stays = absurd (switched none)
-  wal_untouched (command.Resume chunk every messages) old new none full stays = absurd (switched none)
+  wal_untouched (command.Capture options) old new none full stays = absurd (none_asked (First options) none)
+  wal_untouched (command.Resume chunk every messages) old new none full stays = absurd (none_asked (Again chunk every messages) none)
   wal_untouched (command.Apply lines placeholder) old new none full stays = same_untouched old new (stays refl)
   wal_untouched (command.Replay prefix db placeholder keys) old new none full stays = same_untouched old new (stays refl)
-  wal_untouched (command.Gen number rows groups run) old new none full stays = same_untouched old new (stays refl)
+  wal_untouched (command.Gen number rows groups true) old new none full stays = full refl
+  wal_untouched (command.Gen number rows groups false) old new none full stays = same_untouched old new (stays refl)
 
   -- it goes on telling what it told
   pub untouched_bounded : (old new : D) → IsUntouched seen may_leave old new → IsBounded (seen old) (seen new)
@@ -140,29 +131,31 @@ module _ {D : Type 0} (seen : D → Option (List ℕ)) (may_leave : D → List �
   read_untouched : (fault status : ℕ) (old new : D) → IsOnlyRead seen may_leave faults fault status old new → IsUntouched seen may_leave old new
   read_untouched fault status old new reads = record { same = reads.same; images = reads.images }
 
-  pub topics_untouched : (c : Command) (fault status : ℕ) (old new : D) → connects c ≡ false → (c ≡ command.Init → IsUntouched seen may_leave old new) → (opens_topics c ≡ true → IsOnlyRead seen may_leave faults fault status old new)
+  pub topics_untouched : (c : Command) (fault status : ℕ) (old new : D) → asked_by c ≡ None → (makes c ≡ true → IsUntouched seen may_leave old new) → (opens_topics c ≡ true → IsOnlyRead seen may_leave faults fault status old new)
       → (uses_topics c ≡ false → new ≡ old) → IsUntouched seen may_leave old new
   topics_untouched command.Init fault status old new none full reads stays = full refl
   topics_untouched command.Topics fault status old new none full reads stays = read_untouched fault status old new (reads refl)
   topics_untouched command.Offsets fault status old new none full reads stays = same_untouched seen may_leave old new (stays refl)
-  topics_untouched (command.Capture options) fault status old new none full reads stays = absurd (switched none)
-  topics_untouched (command.Resume chunk every messages) fault status old new none full reads stays = absurd (switched none)
+  topics_untouched (command.Capture options) fault status old new none full reads stays = absurd (none_asked (First options) none)
+  topics_untouched (command.Resume chunk every messages) fault status old new none full reads stays = absurd (none_asked (Again chunk every messages) none)
   topics_untouched (command.Apply true placeholder) fault status old new none full reads stays = same_untouched seen may_leave old new (stays refl)
   topics_untouched (command.Apply false placeholder) fault status old new none full reads stays = read_untouched fault status old new (reads refl)
   topics_untouched (command.Replay prefix db placeholder keys) fault status old new none full reads stays = same_untouched seen may_leave old new (stays refl)
-  topics_untouched (command.Gen number rows groups run) fault status old new none full reads stays = same_untouched seen may_leave old new (stays refl)
+  topics_untouched (command.Gen number rows groups true) fault status old new none full reads stays = full refl
+  topics_untouched (command.Gen number rows groups false) fault status old new none full reads stays = same_untouched seen may_leave old new (stays refl)
 
-  pub offsets_untouched : (c : Command) (fault status : ℕ) (old new : D) → connects c ≡ false → (c ≡ command.Init → IsUntouched seen may_leave old new) → (opens_offsets c ≡ true → IsOnlyRead seen may_leave faults fault status old new)
+  pub offsets_untouched : (c : Command) (fault status : ℕ) (old new : D) → asked_by c ≡ None → (makes c ≡ true → IsUntouched seen may_leave old new) → (opens_offsets c ≡ true → IsOnlyRead seen may_leave faults fault status old new)
       → (uses_offsets c ≡ false → new ≡ old) → IsUntouched seen may_leave old new
   offsets_untouched command.Init fault status old new none full reads stays = full refl
   offsets_untouched command.Topics fault status old new none full reads stays = same_untouched seen may_leave old new (stays refl)
   offsets_untouched command.Offsets fault status old new none full reads stays = read_untouched fault status old new (reads refl)
-  offsets_untouched (command.Capture options) fault status old new none full reads stays = absurd (switched none)
-  offsets_untouched (command.Resume chunk every messages) fault status old new none full reads stays = absurd (switched none)
+  offsets_untouched (command.Capture options) fault status old new none full reads stays = absurd (none_asked (First options) none)
+  offsets_untouched (command.Resume chunk every messages) fault status old new none full reads stays = absurd (none_asked (Again chunk every messages) none)
   offsets_untouched (command.Apply true placeholder) fault status old new none full reads stays = same_untouched seen may_leave old new (stays refl)
   offsets_untouched (command.Apply false placeholder) fault status old new none full reads stays = read_untouched fault status old new (reads refl)
   offsets_untouched (command.Replay prefix db placeholder keys) fault status old new none full reads stays = same_untouched seen may_leave old new (stays refl)
-  offsets_untouched (command.Gen number rows groups run) fault status old new none full reads stays = same_untouched seen may_leave old new (stays refl)
+  offsets_untouched (command.Gen number rows groups true) fault status old new none full reads stays = full refl
+  offsets_untouched (command.Gen number rows groups false) fault status old new none full reads stays = same_untouched seen may_leave old new (stays refl)
 
 -- ---- a run of a command, over its disks
 
@@ -182,30 +175,30 @@ module _ {W T F : Type 0} (seen_wal : W → Option (List ℕ)) (wals : W → Lis
 
   -- a command without a session leaves kept disks as they are: `init` finds that they aren't empty
   pub run_stays : ((bytes : List ℕ) → seen_wal w ≡ Some bytes → wals w bytes) → ((bytes : List ℕ) → seen_topics t ≡ Some bytes → logs t bytes) → ((bytes : List ℕ) → seen_offsets f ≡ Some bytes → stores f bytes)
-      → (c ≡ command.Init → HoldsBytes seen_wal w ⊎ (HoldsBytes seen_topics t ⊎ HoldsBytes seen_offsets f) → Stays) → (writes c ≡ false → w1 ≡ w) → (uses_topics c ≡ false → t1 ≡ t) → (uses_offsets c ≡ false → f1 ≡ f)
+      → (makes c ≡ true → HoldsBytes seen_wal w ⊎ (HoldsBytes seen_topics t ⊎ HoldsBytes seen_offsets f) → Stays) → (writes c ≡ false → w1 ≡ w) → (uses_topics c ≡ false → t1 ≡ t) → (uses_offsets c ≡ false → f1 ≡ f)
       → (opens_topics c ≡ true → IsOnlyRead seen_topics logs faults_topics topics_status status t t1) → (opens_offsets c ≡ true → IsOnlyRead seen_offsets stores faults_offsets offsets_status status f f1)
-      → KeptBefore → connects c ≡ false → Stays
+      → KeptBefore → asked_by c ≡ None → Stays
   run_stays wal topics offsets full same_wal same_topics same_offsets reads_topics reads_offsets kept none =
       let holds = kept_holds seen_wal wals seen_topics logs seen_offsets stores w t f wal topics offsets kept in
-      let left : c ≡ command.Init → Stays = λ init. full init (inl holds) in (
-        wal_untouched seen_wal wals c w w1 none (λ init. (left init).0) same_wal,
+      let left : makes c ≡ true → Stays = λ make. full make (inl holds) in (
+        wal_untouched seen_wal wals c w w1 none (λ make. (left make).0) same_wal,
         (
-          topics_untouched seen_topics logs faults_topics c topics_status status t t1 none (λ init. (left init).1.0) reads_topics same_topics,
-          offsets_untouched seen_offsets stores faults_offsets c offsets_status status f f1 none (λ init. (left init).1.1) reads_offsets same_offsets,
+          topics_untouched seen_topics logs faults_topics c topics_status status t t1 none (λ make. (left make).1.0) reads_topics same_topics,
+          offsets_untouched seen_offsets stores faults_offsets c offsets_status status f f1 none (λ make. (left make).1.1) reads_offsets same_offsets,
         ),
       )
 
-  pub run_kept : ((asked : Asked) → asked_by c ≡ Some asked → KeptBefore → KeptNow) → (KeptBefore → connects c ≡ false → Stays) → KeptBefore → KeptNow
+  pub run_kept : ((asked : Asked) → asked_by c ≡ Some asked → KeptBefore → KeptNow) → (KeptBefore → asked_by c ≡ None → Stays) → KeptBefore → KeptNow
   run_kept sessions stays kept =
       elim (asked_or_not c) [
         | inl none ↦ stays_kept seen_wal wals seen_topics logs seen_offsets stores w w1 t t1 f f1 (stays kept none) kept
         | inr asked ↦ sessions asked.0 asked.1 kept
       ]
 
-  pub run_promised : ((asked : Asked) → asked_by c ≡ Some asked → KeptBefore → Promise (status ≡ 0) (asks_in asked)) → (KeptBefore → connects c ≡ false → Stays) → KeptBefore → Promise (IsCompleteRun c status) (asks_by c)
+  pub run_promised : ((asked : Asked) → asked_by c ≡ Some asked → KeptBefore → Promise (status ≡ 0) (asks_in asked)) → (KeptBefore → asked_by c ≡ None → Stays) → KeptBefore → Promise (IsCompleteRun c status) (asks_by c)
   run_promised sessions stays kept wal log store may_wal may_log may_store =
       elim (asked_or_not c) [
-        | inl none ↦ stays_promised seen_wal wals seen_topics logs seen_offsets stores (IsCompleteRun c status) (asks_by c) w w1 t t1 f f1 (λ complete. switched (sym complete.0 ∙ none)) (stays kept none) kept wal log store may_wal may_log may_store
+        | inl none ↦ stays_promised seen_wal wals seen_topics logs seen_offsets stores (IsCompleteRun c status) (asks_by c) w w1 t t1 f f1 (λ complete. switched (sym complete.0 ∙ ap is_some none)) (stays kept none) kept wal log store may_wal may_log may_store
         | inr asked ↦ promised_less (status ≡ 0) (IsCompleteRun c status) (asks_in asked.0) (asks_by c) (wals w) (logs t) (stores f) wal log store (λ complete. complete.1) (asks_same c asked.0 asked.1)
             (sessions asked.0 asked.1 kept wal log store may_wal may_log may_store)
       ]
@@ -224,7 +217,7 @@ module _ {D : Type 0} (seen : D → Option (List ℕ)) (may_leave : D → List �
   pub wal_bounded : makes c ≡ false → ((asked : Asked) → asked_by c ≡ Some asked → IsBounded (seen old) (seen new)) → (writes c ≡ false → new ≡ old) → IsBounded (seen old) (seen new)
   wal_bounded none sessions stays =
       elim (asked_or_not c) [
-        | inl shut ↦ untouched_bounded seen may_leave old new (wal_untouched seen may_leave c old new shut (λ init. absurd (switched (sym (ap makes init) ∙ none))) stays)
+        | inl shut ↦ untouched_bounded seen may_leave old new (wal_untouched seen may_leave c old new shut (λ make. absurd (switched (sym make ∙ none))) stays)
         | inr asked ↦ sessions asked.0 asked.1
       ]
 
@@ -232,7 +225,7 @@ module _ {D : Type 0} (seen : D → Option (List ℕ)) (may_leave : D → List �
       → IsBounded (seen old) (seen new)
   topics_bounded none sessions reads stays =
       elim (asked_or_not c) [
-        | inl shut ↦ untouched_bounded seen may_leave old new (topics_untouched seen may_leave faults c topics_status status old new shut (λ init. absurd (switched (sym (ap makes init) ∙ none))) reads stays)
+        | inl shut ↦ untouched_bounded seen may_leave old new (topics_untouched seen may_leave faults c topics_status status old new shut (λ make. absurd (switched (sym make ∙ none))) reads stays)
         | inr asked ↦ sessions asked.0 asked.1
       ]
 
@@ -240,6 +233,6 @@ module _ {D : Type 0} (seen : D → Option (List ℕ)) (may_leave : D → List �
       → IsBounded (seen old) (seen new)
   offsets_bounded none sessions reads stays =
       elim (asked_or_not c) [
-        | inl shut ↦ untouched_bounded seen may_leave old new (offsets_untouched seen may_leave faults c offsets_status status old new shut (λ init. absurd (switched (sym (ap makes init) ∙ none))) reads stays)
+        | inl shut ↦ untouched_bounded seen may_leave old new (offsets_untouched seen may_leave faults c offsets_status status old new shut (λ make. absurd (switched (sym make ∙ none))) reads stays)
         | inr asked ↦ sessions asked.0 asked.1
       ]

@@ -3,6 +3,7 @@ pub mod ApplyRunLemmas
 pub mod CommandLemmas
 pub mod DiskLemmas
 pub mod FinishLemmas
+pub mod GeneratedLemmas
 pub mod InitEndLemmas
 pub mod InitLemmas
 pub mod KeptLemmas

@@ -14,7 +14,7 @@ use Rattle.dbl_consume.specs.Printing.{row_line}
 use Rattle.dbl_saying.specs.declared.halt.Halt.TheVariants.{BadLine, InputTooLong, Usage}
 use Rattle.dbl_program.specs.Run.{Answer, Applies, Replays, applied, bad_line, done, fault, line_fault, log_answer, long_input, refused, replayed, too_long}
 use Rattle.dbl_program.specs.Disks.{store_answer, store_fault}
-use Rattle.dbl_program.specs.Means.{Answers, Given, Means, given_init, made, not_built, options_of, spelled, usage}
+use Rattle.dbl_program.specs.Means.{Answers, Given, Means, given_init, made, options_of, spelled, usage}
 use Rattle.dbl_journal.specs.declared.error.JournalError.TheVariants as journal
 use Rattle.dbl_workload.specs.declared.error.DemoError.{DemoError}
 use Rattle.dbl_workload.specs.declared.error.DemoError.TheVariants as demo
@@ -93,9 +93,6 @@ init_refuses words given answer spells end (all_empty none input) same refuses =
 full_refuses : (words : List (List ℕ)) (given : Given) (answer : Answer) (s : Store) → AreFull words given s answer → Refuses answer.status
 full_refuses words given answer s full = inr (status_is answer (init_fault (init.NotEmpty s)) full.answer_is)
 
-unbuilt_refuses : (answer : Answer) (P : Type 0) → answer ≡ not_built → Refuses answer.status → P
-unbuilt_refuses answer P is refuses = absurd (other_status 16 (λ e. cc) (λ e. cc) answer.status (status_is answer not_built is) refuses)
-
 forth : (words : List (List ℕ)) (now : ℤ) (given : Given) (answer : Answer) (c : Command) → Spells words c → Answers c now given answer → Refuses answer.status → IsRefused words given answer
 forth words now given answer command.Init spells is refuses = init_refuses words given answer spells is.0 is.1 is.2 refuses
 forth words now given answer command.Topics spells is refuses =
@@ -108,7 +105,7 @@ forth words now given answer (command.Apply true placeholder) spells is refuses 
 forth words now given answer (command.Apply false placeholder) spells is refuses =
     stores_told (AnswersApply given.topics given.offsets) answer (IsRefused words given answer) (λ e told same. inl (e, record { command = command.Apply false placeholder; spells = spells; tells = told; answer_is = same })) refuses is.0 is.1 is.2
 forth words now given answer (command.Replay prefix db placeholder keys) spells is refuses = absurd (replay_refuses (options_of prefix db placeholder keys) now given.input answer is refuses)
-forth words now given answer (command.Gen number rows groups true) spells is refuses = unbuilt_refuses answer (IsRefused words given answer) is refuses
+forth words now given answer (command.Gen number rows groups true) spells is refuses = absurd is
 forth words now given answer (command.Gen number rows groups false) spells is refuses = absurd (other_status 0 (λ e. cc) (λ e. cc) answer.status (status_is answer (made number rows groups) is) refuses)
 
 -- ---- back

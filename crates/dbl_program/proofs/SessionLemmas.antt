@@ -1,5 +1,5 @@
 -- Which command asks for a session, and how one ends for which memory ran out.
-use Rattle.std.proofs.Common.{◌≡◌, ◌⊎◌, inl, inr, ◌∙◌, ℕ, ℤ, true, false, Option, Some, None, Err, List, option_and_then, refl, sym, ap}
+use Rattle.std.proofs.Common.{◌≡◌, ◌⊎◌, inl, inr, ℕ, ℤ, Option, Some, None, Err, List, option_and_then, refl, sym, ap}
 use Rattle.dbl_cli.specs.declared.commands.Command.{Command}
 use Rattle.dbl_cli.specs.declared.commands.Command.TheVariants as command
 use Rattle.dbl_kept.specs.Contents.{Contents}
@@ -10,11 +10,9 @@ use Rattle.dbl_connector.specs.Asked.{asks_in}
 use Rattle.dbl_saying.specs.declared.halt.Halt.TheVariants.{Memory}
 use Rattle.dbl_saying.specs.Says.{Says}
 use Rattle.dbl_session_runs.specs.Runs.{RunsSession}
-use Rattle.dbl_program.specs.Means.{connects}
 use Rattle.dbl_program.specs.Sessions.{asked_by, asks_by}
-use Rattle.dbl_program.proofs.StatusLemmas.{switched}
 
-pub asked_or_not : (c : Command) → (connects c ≡ false) ⊎ ((asked : Asked) × (asked_by c ≡ Some asked))
+pub asked_or_not : (c : Command) → (asked_by c ≡ None) ⊎ ((asked : Asked) × (asked_by c ≡ Some asked))
 asked_or_not command.Init = inl refl
 asked_or_not command.Topics = inl refl
 asked_or_not command.Offsets = inl refl
@@ -23,9 +21,6 @@ asked_or_not (command.Resume chunk every messages) = inr (Again chunk every mess
 asked_or_not (command.Apply lines placeholder) = inl refl
 asked_or_not (command.Replay prefix db placeholder keys) = inl refl
 asked_or_not (command.Gen number rows groups run) = inl refl
-
-pub connects_asked : (c : Command) → connects c ≡ true → (asked : Asked) × (asked_by c ≡ Some asked)
-connects_asked c is = elim (asked_or_not c) [ inl none ↦ absurd (switched (sym is ∙ none)) | inr asked ↦ asked ]
 
 pub unasked : (c : Command) (asked : Asked) → asked_by c ≡ None → asked_by c ≡ Some asked → ⊥
 unasked c asked none is = cc

@@ -42,7 +42,7 @@ use Rattle.dbl_runs.proofs.StandLaws.{topics_stand, offsets_stand, apply_stands 
 use Rattle.dbl_program.specs.Disks.{IsAnswerOf, store_answer}
 use Rattle.dbl_init.proofs.StandLaws.{answers_stand}
 use Rattle.dbl_program.specs.Inits.{init_answer}
-use Rattle.dbl_program.specs.Means.{made, not_built, options_of, connects, Given, given_init, Answers, Means, SpellNone, usage, spelled}
+use Rattle.dbl_program.specs.Means.{made, options_of, connects, Given, given_init, Answers, Means, SpellNone, usage, spelled}
 use Rattle.dbl_replay.proofs.CommitLaws.{commits_written}
 use Rattle.dbl_replay.proofs.CaptureLemmas.{captured_still, captured_more}
 use Rattle.dbl_program.proofs.StatusLemmas.{switched}
@@ -198,7 +198,7 @@ command_stands (command.Apply true placeholder) now given none t f = apply_stand
 command_stands (command.Apply false placeholder) now given none t f =
     let found = consumer_stands given.topics given.offsets t f in stores_stand (AnswersApply given.topics given.offsets) found.0 found.1
 command_stands (command.Replay prefix db placeholder keys) now given none t f = replay_stands (options_of prefix db placeholder keys) now given.input
-command_stands (command.Gen number rows groups true) now given none t f = (not_built, refl)
+command_stands (command.Gen number rows groups true) now given none t f = absurd (switched none)
 command_stands (command.Gen number rows groups false) now given none t f = (made number rows groups, refl)
 
 pub means_stand : (words : List (List ℕ)) (now : ℤ) (given : Given) → SpellNone words connects → AreBytes given.topics → AreBytes given.offsets → (answer : Answer) × Means words now given answer

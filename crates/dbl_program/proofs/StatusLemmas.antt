@@ -1,17 +1,18 @@
 -- Statuses that a command doesn't have.
-use Rattle.std.proofs.Common.{◌≡◌, ◌≢◌, ◌⊎◌, inl, inr, ◌∙◌, ℕ, Bool, true, false, Option, List, refl, sym}
+use Rattle.std.proofs.Common.{◌≡◌, ◌≢◌, ◌⊎◌, inl, inr, ◌∙◌, ℕ, true, false, Option, Some, List, refl, sym}
 use Rattle.dbl_base.specs.Streams.{Rose}
 use Rattle.dbl_cli.specs.declared.commands.Command.{Command}
 use Rattle.dbl_cli.specs.declared.commands.Command.TheVariants as command
-use Rattle.dbl_cli.specs.Commands.{Spells}
 use Rattle.dbl_saying.specs.declared.halt.Halt.{Halt}
 use Rattle.dbl_saying.specs.declared.halt.Halt.TheVariants.{Usage, Memory}
 use Rattle.dbl_saying.specs.Faults.{status_of}
 use Rattle.dbl_program.specs.Run.{IsApplyStatus, IsOutside, IsReplayStatus}
 use Rattle.dbl_program.specs.Disks.{offsets_status, topics_status, wal_status}
 use Rattle.dbl_program.specs.Inits.{IsInitStatus}
-use Rattle.dbl_program.specs.Means.{HasOpenedOffsets, HasOpenedTopics, IsOffsetsStatus, IsRowsStatus, IsStatusOf, IsTopicsStatus, SpellUnbuilt, connects, is_built, opens_offsets, opens_topics, reads, uses_offsets, uses_topics, writes}
-use Rattle.dbl_session_runs.proofs.SessionLemmas.{session_other}
+use Rattle.dbl_program.specs.Means.{HasOpenedOffsets, HasOpenedTopics, IsOffsetsStatus, IsRowsStatus, IsStatusOf, IsTopicsStatus, opens_offsets, opens_topics, reads, uses_offsets, uses_topics, writes}
+use Rattle.dbl_connector.specs.declared.asked.Asked.{Asked}
+use Rattle.dbl_connector.specs.declared.asked.Asked.TheVariants.{First, Again}
+use Rattle.dbl_program.specs.Sessions.{asked_by}
 use Rattle.dbl_program.proofs.ApplyRunLemmas.{says_is}
 use Rattle.dbl_saying.proofs.SayLemmas.{cut_other}
 use Rattle.dbl_saying.specs.Says.{IsCutShort, Says}
@@ -124,19 +125,20 @@ no_wal (command.Resume chunk every messages) status none known same = switched n
 no_wal (command.Apply true placeholder) status none known same = lines_other 7 status (λ e. cc, λ e. cc) (λ e. cc, λ e. cc, λ e. cc) known same
 no_wal (command.Apply false placeholder) status none known same = rows_other 7 status (λ e. cc) (λ e. cc, λ e. cc, λ e. cc, λ e. cc) (λ e. cc, λ e. cc) known same
 no_wal (command.Replay prefix db placeholder keys) status none known same = replay_other 7 status (λ e. cc, λ e. cc, λ e. cc, λ e. cc) (λ e. cc, λ e. cc, λ e. cc) known same
-no_wal (command.Gen number rows groups true) status none known same = one_other 16 7 status (λ e. cc) (λ e. cc, λ e. cc) known same
+no_wal (command.Gen number rows groups true) status none known same = switched none
 no_wal (command.Gen number rows groups false) status none known same = one_other 0 7 status (λ e. cc) (λ e. cc, λ e. cc) known same
 
-pub wal_fails : (c : Command) (status was now : ℕ) → IsStatusOf c status → (c ≡ command.Init → status ≡ wal_status → Rose was now) → (connects c ≡ true → status ≡ wal_status → Rose was now)
-    → status ≡ wal_status → Rose was now
-wal_fails command.Init status was now known init fails is = init refl is
-wal_fails command.Topics status was now known init fails is = absurd (no_wal command.Topics status refl known is)
-wal_fails command.Offsets status was now known init fails is = absurd (no_wal command.Offsets status refl known is)
-wal_fails (command.Capture options) status was now known init fails is = fails refl is
-wal_fails (command.Resume chunk every messages) status was now known init fails is = fails refl is
-wal_fails (command.Apply lines placeholder) status was now known init fails is = absurd (no_wal (command.Apply lines placeholder) status refl known is)
-wal_fails (command.Replay prefix db placeholder keys) status was now known init fails is = absurd (no_wal (command.Replay prefix db placeholder keys) status refl known is)
-wal_fails (command.Gen number rows groups run) status was now known init fails is = absurd (no_wal (command.Gen number rows groups run) status refl known is)
+pub wal_fails : (c : Command) (status was now : ℕ) → IsStatusOf c status → (c ≡ command.Init → status ≡ wal_status → Rose was now) → ((asked : Asked) → asked_by c ≡ Some asked → status ≡ wal_status → Rose was now)
+    → ((number rows groups : ℕ) → c ≡ command.Gen number rows groups true → status ≡ wal_status → Rose was now) → status ≡ wal_status → Rose was now
+wal_fails command.Init status was now known init fails makes is = init refl is
+wal_fails command.Topics status was now known init fails makes is = absurd (no_wal command.Topics status refl known is)
+wal_fails command.Offsets status was now known init fails makes is = absurd (no_wal command.Offsets status refl known is)
+wal_fails (command.Capture options) status was now known init fails makes is = fails (First options) refl is
+wal_fails (command.Resume chunk every messages) status was now known init fails makes is = fails (Again chunk every messages) refl is
+wal_fails (command.Apply lines placeholder) status was now known init fails makes is = absurd (no_wal (command.Apply lines placeholder) status refl known is)
+wal_fails (command.Replay prefix db placeholder keys) status was now known init fails makes is = absurd (no_wal (command.Replay prefix db placeholder keys) status refl known is)
+wal_fails (command.Gen number rows groups true) status was now known init fails makes is = makes number rows groups refl is
+wal_fails (command.Gen number rows groups false) status was now known init fails makes is = absurd (no_wal (command.Gen number rows groups false) status refl known is)
 
 -- what holds where nothing is read holds where a store is refused, or a disk that isn't empty
 pub refused_unread : (P : Type 0) (c : Command) (status : ℕ) → IsStatusOf c status → (reads c ≡ false → P) → (c ≡ command.Init → status ≡ 14 → P) → status ≡ 14 → P
@@ -160,7 +162,7 @@ no_topics (command.Resume chunk every messages) status known shut same = switche
 no_topics (command.Apply true placeholder) status known shut same = lines_other 8 status (λ e. cc, λ e. cc) (λ e. cc, λ e. cc, λ e. cc) known same
 no_topics (command.Apply false placeholder) status known shut same = switched shut
 no_topics (command.Replay prefix db placeholder keys) status known shut same = replay_other 8 status (λ e. cc, λ e. cc, λ e. cc, λ e. cc) (λ e. cc, λ e. cc, λ e. cc) known same
-no_topics (command.Gen number rows groups true) status known shut same = one_other 16 8 status (λ e. cc) (λ e. cc, λ e. cc) known same
+no_topics (command.Gen number rows groups true) status known shut same = switched shut
 no_topics (command.Gen number rows groups false) status known shut same = one_other 0 8 status (λ e. cc) (λ e. cc, λ e. cc) known same
 
 pub no_offsets : (c : Command) (status : ℕ) → IsStatusOf c status → uses_offsets c ≡ false → status ≡ offsets_status → ⊥
@@ -172,33 +174,35 @@ no_offsets (command.Resume chunk every messages) status known shut same = switch
 no_offsets (command.Apply true placeholder) status known shut same = lines_other 9 status (λ e. cc, λ e. cc) (λ e. cc, λ e. cc, λ e. cc) known same
 no_offsets (command.Apply false placeholder) status known shut same = switched shut
 no_offsets (command.Replay prefix db placeholder keys) status known shut same = replay_other 9 status (λ e. cc, λ e. cc, λ e. cc, λ e. cc) (λ e. cc, λ e. cc, λ e. cc) known same
-no_offsets (command.Gen number rows groups true) status known shut same = one_other 16 9 status (λ e. cc) (λ e. cc, λ e. cc) known same
+no_offsets (command.Gen number rows groups true) status known shut same = switched shut
 no_offsets (command.Gen number rows groups false) status known shut same = one_other 0 9 status (λ e. cc) (λ e. cc, λ e. cc) known same
 
 -- where the status is that of the disk's fault, the command makes the store there, or reads it, or runs a session over it
 pub topics_fail : (P : Type 0) (c : Command) (status : ℕ) → IsStatusOf c status → (c ≡ command.Init → status ≡ topics_status → P) → (opens_topics c ≡ true → status ≡ topics_status → P)
-    → (connects c ≡ true → status ≡ topics_status → P) → status ≡ topics_status → P
-topics_fail P command.Init status known init reads fails is = init refl is
-topics_fail P command.Topics status known init reads fails is = reads refl is
-topics_fail P command.Offsets status known init reads fails is = absurd (no_topics command.Offsets status known refl is)
-topics_fail P (command.Capture options) status known init reads fails is = fails refl is
-topics_fail P (command.Resume chunk every messages) status known init reads fails is = fails refl is
-topics_fail P (command.Apply true placeholder) status known init reads fails is = absurd (no_topics (command.Apply true placeholder) status known refl is)
-topics_fail P (command.Apply false placeholder) status known init reads fails is = reads refl is
-topics_fail P (command.Replay prefix db placeholder keys) status known init reads fails is = absurd (no_topics (command.Replay prefix db placeholder keys) status known refl is)
-topics_fail P (command.Gen number rows groups run) status known init reads fails is = absurd (no_topics (command.Gen number rows groups run) status known refl is)
+    → ((asked : Asked) → asked_by c ≡ Some asked → status ≡ topics_status → P) → ((number rows groups : ℕ) → c ≡ command.Gen number rows groups true → status ≡ topics_status → P) → status ≡ topics_status → P
+topics_fail P command.Init status known init reads fails makes is = init refl is
+topics_fail P command.Topics status known init reads fails makes is = reads refl is
+topics_fail P command.Offsets status known init reads fails makes is = absurd (no_topics command.Offsets status known refl is)
+topics_fail P (command.Capture options) status known init reads fails makes is = fails (First options) refl is
+topics_fail P (command.Resume chunk every messages) status known init reads fails makes is = fails (Again chunk every messages) refl is
+topics_fail P (command.Apply true placeholder) status known init reads fails makes is = absurd (no_topics (command.Apply true placeholder) status known refl is)
+topics_fail P (command.Apply false placeholder) status known init reads fails makes is = reads refl is
+topics_fail P (command.Replay prefix db placeholder keys) status known init reads fails makes is = absurd (no_topics (command.Replay prefix db placeholder keys) status known refl is)
+topics_fail P (command.Gen number rows groups true) status known init reads fails makes is = makes number rows groups refl is
+topics_fail P (command.Gen number rows groups false) status known init reads fails makes is = absurd (no_topics (command.Gen number rows groups false) status known refl is)
 
 pub offsets_fail : (P : Type 0) (c : Command) (status : ℕ) → IsStatusOf c status → (c ≡ command.Init → status ≡ offsets_status → P) → (opens_offsets c ≡ true → status ≡ offsets_status → P)
-    → (connects c ≡ true → status ≡ offsets_status → P) → status ≡ offsets_status → P
-offsets_fail P command.Init status known init reads fails is = init refl is
-offsets_fail P command.Topics status known init reads fails is = absurd (no_offsets command.Topics status known refl is)
-offsets_fail P command.Offsets status known init reads fails is = reads refl is
-offsets_fail P (command.Capture options) status known init reads fails is = fails refl is
-offsets_fail P (command.Resume chunk every messages) status known init reads fails is = fails refl is
-offsets_fail P (command.Apply true placeholder) status known init reads fails is = absurd (no_offsets (command.Apply true placeholder) status known refl is)
-offsets_fail P (command.Apply false placeholder) status known init reads fails is = reads refl is
-offsets_fail P (command.Replay prefix db placeholder keys) status known init reads fails is = absurd (no_offsets (command.Replay prefix db placeholder keys) status known refl is)
-offsets_fail P (command.Gen number rows groups run) status known init reads fails is = absurd (no_offsets (command.Gen number rows groups run) status known refl is)
+    → ((asked : Asked) → asked_by c ≡ Some asked → status ≡ offsets_status → P) → ((number rows groups : ℕ) → c ≡ command.Gen number rows groups true → status ≡ offsets_status → P) → status ≡ offsets_status → P
+offsets_fail P command.Init status known init reads fails makes is = init refl is
+offsets_fail P command.Topics status known init reads fails makes is = absurd (no_offsets command.Topics status known refl is)
+offsets_fail P command.Offsets status known init reads fails makes is = reads refl is
+offsets_fail P (command.Capture options) status known init reads fails makes is = fails (First options) refl is
+offsets_fail P (command.Resume chunk every messages) status known init reads fails makes is = fails (Again chunk every messages) refl is
+offsets_fail P (command.Apply true placeholder) status known init reads fails makes is = absurd (no_offsets (command.Apply true placeholder) status known refl is)
+offsets_fail P (command.Apply false placeholder) status known init reads fails makes is = reads refl is
+offsets_fail P (command.Replay prefix db placeholder keys) status known init reads fails makes is = absurd (no_offsets (command.Replay prefix db placeholder keys) status known refl is)
+offsets_fail P (command.Gen number rows groups true) status known init reads fails makes is = makes number rows groups refl is
+offsets_fail P (command.Gen number rows groups false) status known init reads fails makes is = absurd (no_offsets (command.Gen number rows groups false) status known refl is)
 
 -- a command that neither reads a disk nor writes it doesn't use it
 pub unused_topics : (c : Command) → writes c ≡ false → opens_topics c ≡ false → uses_topics c ≡ false
@@ -210,7 +214,7 @@ unused_topics (command.Resume chunk every messages) none shut = none
 unused_topics (command.Apply true placeholder) none shut = refl
 unused_topics (command.Apply false placeholder) none shut = shut
 unused_topics (command.Replay prefix db placeholder keys) none shut = shut
-unused_topics (command.Gen number rows groups run) none shut = shut
+unused_topics (command.Gen number rows groups run) none shut = none
 
 pub unused_offsets : (c : Command) → writes c ≡ false → opens_offsets c ≡ false → uses_offsets c ≡ false
 unused_offsets command.Init none shut = none
@@ -221,69 +225,7 @@ unused_offsets (command.Resume chunk every messages) none shut = none
 unused_offsets (command.Apply true placeholder) none shut = refl
 unused_offsets (command.Apply false placeholder) none shut = shut
 unused_offsets (command.Replay prefix db placeholder keys) none shut = shut
-unused_offsets (command.Gen number rows groups run) none shut = shut
-
--- status 16 is that of the commands that aren't built
-abbrev NotBuilt : ℕ → Type 0
-NotBuilt n = 16 ≢ n
-
-no_zero : NotBuilt 0
-no_zero e = cc
-
-no_outside : NotBuilt 11 × NotBuilt 12
-no_outside = (λ e. cc, λ e. cc)
-
-no_stream : NotBuilt 10 × NotBuilt 11 × NotBuilt 12
-no_stream = (λ e. cc, λ e. cc, λ e. cc)
-
-no_bad : NotBuilt 13
-no_bad e = cc
-
-no_fourteen : NotBuilt 14
-no_fourteen e = cc
-
-no_eight : NotBuilt 8
-no_eight e = cc
-
-no_offset : NotBuilt 0 × NotBuilt 4 × NotBuilt 9 × NotBuilt 14
-no_offset = (no_zero, λ e. cc, λ e. cc, no_fourteen)
-
-no_log : NotBuilt 0 × NotBuilt 5 × NotBuilt 6 × NotBuilt 13
-no_log = (no_zero, λ e. cc, λ e. cc, no_bad)
-
-no_init : NotBuilt 0 × NotBuilt 6 × NotBuilt 7 × NotBuilt 8 × NotBuilt 9
-no_init = (no_zero, λ e. cc, λ e. cc, no_eight, λ e. cc)
-
-no_refusal : NotBuilt 10 × NotBuilt 13 × NotBuilt 14
-no_refusal = (λ e. cc, no_bad, no_fourteen)
-
-no_session : NotBuilt 0 × NotBuilt 3 × NotBuilt 4 × NotBuilt 5 × NotBuilt 6
-no_session = (no_zero, λ e. cc, λ e. cc, λ e. cc, λ e. cc)
-
-no_stop : NotBuilt 14 × NotBuilt 15 × NotBuilt 7 × NotBuilt 8 × NotBuilt 9
-no_stop = (no_fourteen, λ e. cc, λ e. cc, no_eight, λ e. cc)
-
-built_other : (c : Command) (status : ℕ) → IsStatusOf c status → is_built c ≡ true → status ≡ 16 → ⊥
-built_other command.Init status known built same = init_other 16 status no_init no_refusal no_outside known same
-built_other command.Topics status known built same = topics_other 16 status (no_zero, no_eight, no_fourteen) no_outside known same
-built_other command.Offsets status known built same = offsets_other 16 status no_offset no_outside known same
-built_other (command.Capture options) status known built same = session_other 16 status no_session no_stop no_outside known same
-built_other (command.Resume chunk every messages) status known built same = session_other 16 status no_session no_stop no_outside known same
-built_other (command.Apply true placeholder) status known built same = lines_other 16 status (no_zero, no_bad) no_stream known same
-built_other (command.Apply false placeholder) status known built same = rows_other 16 status no_eight no_offset no_outside known same
-built_other (command.Replay prefix db placeholder keys) status known built same = replay_other 16 status no_log no_stream known same
-built_other (command.Gen number rows groups true) status known built same = switched (sym built)
-built_other (command.Gen number rows groups false) status known built same = one_other 0 16 status (λ e. no_zero (sym e)) no_outside known same
-
-unbuilt : (c : Command) (status : ℕ) → IsStatusOf c status → status ≡ 16 → is_built c ≡ false
-unbuilt c status known same = by_built (is_built c) refl
-  where
-    by_built : (b : Bool) → is_built c ≡ b → is_built c ≡ false
-    by_built false is = is
-    by_built true is = absurd (built_other c status known is same)
-
-pub spell_unbuilt : (words : List (List ℕ)) (c : Command) (status : ℕ) → Spells words c → IsStatusOf c status → status ≡ 16 → SpellUnbuilt words
-spell_unbuilt words c status spells known same = (c, spells, unbuilt c status known same)
+unused_offsets (command.Gen number rows groups run) none shut = none
 
 -- ---- words that spell no command, and runs out of memory
 
@@ -296,9 +238,6 @@ usage_no_topics status before after says = said_other Usage 8 status before afte
 pub usage_no_offsets : (status : ℕ) (before after : Option (List ℕ)) → Says Usage status before after → status ≡ offsets_status → ⊥
 usage_no_offsets status before after says = said_other Usage 9 status before after (λ e. cc) (λ e. cc, λ e. cc) says
 
-pub usage_built : (status : ℕ) (before after : Option (List ℕ)) → Says Usage status before after → status ≡ 16 → ⊥
-usage_built status before after says = said_other Usage 16 status before after (λ e. cc) (λ e. cc, λ e. cc) says
-
 pub memory_no_wal : (status : ℕ) (before after : Option (List ℕ)) → Says Memory status before after → status ≡ wal_status → ⊥
 memory_no_wal status before after says = said_other Memory 7 status before after (λ e. cc) (λ e. cc, λ e. cc) says
 
@@ -307,6 +246,3 @@ memory_no_topics status before after says = said_other Memory 8 status before af
 
 pub memory_no_offsets : (status : ℕ) (before after : Option (List ℕ)) → Says Memory status before after → status ≡ offsets_status → ⊥
 memory_no_offsets status before after says = said_other Memory 9 status before after (λ e. cc) (λ e. cc, λ e. cc) says
-
-pub memory_built : (status : ℕ) (before after : Option (List ℕ)) → Says Memory status before after → status ≡ 16 → ⊥
-memory_built status before after says = said_other Memory 16 status before after (λ e. cc) (λ e. cc, λ e. cc) says

@@ -1,45 +1,19 @@
 -- What the command `init` answers, writes, and leaves of the disks. Source: own.
-use Rattle.std.specs.Prelude.{◌≡◌, ◌≢◌, ◌⊎◌, ℕ, ◌^◌, ◌≤◌, max, Option, Some, Ok, Err, List, [], ◌∷◌, ◌++◌, codes, length}
-use Rattle.dbl_base.specs.Lines.{lines_text}
+use Rattle.std.specs.Prelude.{◌≡◌, ◌≢◌, ◌⊎◌, ℕ, ◌^◌, ◌≤◌, max, Option, Some, Ok, Err, List, [], ◌∷◌, length}
 use Rattle.dbl_base.specs.Streams.{Rose}
 use Rattle.dbl_journal.specs.Stored.{IsSteady}
-use Rattle.dbl_script.specs.declared.error.ScriptError.TheVariants as script
-use Rattle.dbl_replay.specs.declared.log_fault.LogFault.TheVariants as log
-use Rattle.dbl_replay.specs.LogFaults.{log_line}
 use Rattle.dbl_init.specs.declared.error.InitError.{InitError}
 use Rattle.dbl_init.specs.declared.error.InitError.TheVariants as init
 use Rattle.dbl_init.specs.declared.error.Store.{Store}
 use Rattle.dbl_init.specs.declared.error.Store.TheVariants as store
 use Rattle.dbl_init.specs.Answers as inits
-use Rattle.dbl_init.specs.Errors.{store_name}
+use Rattle.dbl_session_runs.specs.InitErrors.{SaysInit, init_line, init_status}
 use Rattle.dbl_saying.specs.declared.halt.Halt.TheVariants as halt
-use Rattle.dbl_saying.specs.Faults.{fault_line, status_of}
+use Rattle.dbl_saying.specs.Faults.{status_of}
 use Rattle.dbl_session_runs.specs.Ends.{store_status}
 use Rattle.dbl_program.specs.Disks.{offsets_status, topics_status, wal_status}
 use Rattle.dbl_program.specs.Run.{Answer, done}
-use Rattle.dbl_saying.specs.Says.{IsCutShort, Writes}
-
--- the exit status of an error of `init`, and its line without its newline
-abbrev pub init_status : InitError → ℕ
-init_status (init.Failed failed) = store_status failed
-init_status (init.NotEmpty held) = 14
-init_status init.InputFailed = status_of halt.InputFailed
-init_status init.InputTooLong = status_of halt.InputTooLong
-init_status (init.Script e) = 13
-init_status (init.Model e) = 6
-init_status init.Memory = status_of halt.Memory
-
-abbrev pub init_line : InitError → List ℕ
-init_line (init.Failed store.Wal) = codes "dblog: source failed"
-init_line (init.Failed failed) = codes "dblog: " ++ store_name failed ++ codes " failed"
-init_line (init.NotEmpty held) = codes "dblog: not empty: " ++ store_name held
-init_line init.InputFailed = fault_line halt.InputFailed
-init_line init.InputTooLong = fault_line halt.InputTooLong
-init_line (init.Script (script.BadLine number)) = fault_line (halt.BadLine number)
-init_line (init.Script script.TooManyLines) = codes "dblog: too many lines"
-init_line (init.Script script.Memory) = fault_line halt.Memory
-init_line (init.Model e) = log_line (log.Table e)
-init_line init.Memory = fault_line halt.Memory
+use Rattle.dbl_saying.specs.Says.{IsCutShort}
 
 -- the answer of an `init` that ended so: it prints nothing, or the line of its error
 abbrev pub init_fault : InitError → Answer
@@ -95,12 +69,6 @@ pub record IsInitLeft
 pub record IsUntouched {D : Type 0} (seen : D → Option (List ℕ)) (may_leave : D → List ℕ → Type 0) (old new : D) : Type 0 where
   pub same : seen new ≡ seen old
   pub images : (image : List ℕ) → may_leave new image → may_leave old image
-
--- for private clauses: the error's line was to be written and its status answered, or those of a run out of memory
-abbrev pub SaysInit : InitError → ℕ → Option (List ℕ) → Option (List ℕ) → Type 0
-SaysInit e status before after =
-    Writes (init_status e) (lines_text (init_line e ∷ [])) status before after
-    ⊎ Writes (status_of halt.Memory) (lines_text (fault_line halt.Memory ∷ [])) status before after
 
 -- for private clauses: an `init` that ended so was finished with this status
 abbrev pub FinishesInit : inits.End → ℕ → Option (List ℕ) → Option (List ℕ) → Type 0

@@ -1,5 +1,5 @@
 -- What the words of a command line mean, with the bytes of the input and of the disks.
-use Rattle.std.specs.Prelude.{◌≡◌, ◌⊎◌, ℕ, ℤ, ◌||◌, Bool, true, false, Option, Some, List, [], ◌∷◌, codes}
+use Rattle.std.specs.Prelude.{◌≡◌, ◌⊎◌, ℕ, ℤ, ◌||◌, Bool, true, false, Option, Some, List, []}
 use Rattle.dbl_record.specs.declared.record.Record.{Record}
 use Rattle.dbl_table.specs.declared.table.TableKey.{TableKey}
 use Rattle.dbl_topic.specs.Logs.{IsLog}
@@ -13,6 +13,7 @@ use Rattle.dbl_replay.specs.declared.options.ReplayOptions.{ReplayOptions}
 use Rattle.dbl_runs.specs.Answers.{AnswersTopics, AnswersOffsets, AnswersApply}
 use Rattle.dbl_runs.specs.declared.error.Store.{Store}
 use Rattle.dbl_session_runs.specs.Ends.{IsSessionStatus}
+use Rattle.dbl_session_runs.specs.Generated.{IsGeneratedStatus}
 use Rattle.dbl_program.specs.Disks.{EndsOrFails, IsAnswerOf, IsDiskStatus, topics_status, offsets_status}
 use Rattle.dbl_program.specs.Inits.{AnswersInit, FailsSource, IsInitAnswer, IsInitStatus}
 use Rattle.dbl_program.specs.Run.{Answer, fault, Replays, Applies, FailsReading, IsOutside, IsReplayAnswer, IsReplayStatus, IsApplyStatus}
@@ -21,10 +22,6 @@ use Rattle.dbl_saying.specs.Says.{IsCutShort}
 -- the answer of `gen`: the lines of the workload, which are written at once
 abbrev pub made : ℕ → ℕ → ℕ → Answer
 made number rows groups = record { status = 0; lines = workload_lines number rows groups; one_by_one = [] }
-
--- the answer of a command that isn't built yet
-abbrev pub not_built : Answer
-not_built = record { status = 16; lines = codes "dblog: not built" ∷ []; one_by_one = [] }
 
 abbrev pub options_of : List ℕ → List ℕ → List ℕ → List TableKey → ReplayOptions
 options_of prefix db placeholder keys = record { identity = record { prefix = prefix; db = db; placeholder = placeholder }; keys = keys }
@@ -42,7 +39,7 @@ abbrev pub given_init : Given → inits.Given
 given_init given = record { wal = given.wal; topics = given.topics; offsets = given.offsets; input = given.input }
 
 -- What a command answers at a moment for what it is given. Of a session nothing is said here: how it ends isn't determined by what the disks
--- hold, as its source and its stores may fail at any call (specs/RunsSession).
+-- hold, as its source and its stores may fail at any call (`RunsSession`, and of a generated workload `EndsGenerated`).
 abbrev pub Answers : Command → ℤ → Given → Answer → Type 0
 Answers (Replay prefix db placeholder keys) now given answer = Replays (options_of prefix db placeholder keys) now given.input answer
 Answers (Apply true placeholder) now given answer = Applies placeholder given.input answer
@@ -53,7 +50,7 @@ Answers Init now given answer = AnswersInit (given_init given) answer
 Answers (Gen number rows groups false) now given answer = answer ≡ made number rows groups
 Answers (Capture options) now given answer = ⊥
 Answers (Resume chunk every messages) now given answer = ⊥
-Answers command now given answer = answer ≡ not_built
+Answers (Gen number rows groups true) now given answer = ⊥
 
 -- what the program answers at a moment for these words and what it is given
 pub data Means (words : List (List ℕ)) (now : ℤ) (given : Given) (answer : Answer) : Type 0 where
@@ -88,12 +85,14 @@ opens_offsets command = false
 -- the command makes the stores, on all of the disks
 abbrev pub makes : Command → Bool
 makes Init = true
+makes (Gen number rows groups run) = run
 makes command = false
 
 -- the command runs a session of the connector, over all of them
 abbrev pub connects : Command → Bool
 connects (Capture options) = true
 connects (Resume chunk every messages) = true
+connects (Gen number rows groups run) = run
 connects command = false
 
 -- the command writes the disks
@@ -138,15 +137,6 @@ SpellSome words holds = (command : Command) × Spells words command × (holds co
 abbrev pub SpellNone : List (List ℕ) → (Command → Bool) → Type 0
 SpellNone words holds = (command : Command) → Spells words command → holds command ≡ false
 
--- the command is built
-abbrev pub is_built : Command → Bool
-is_built (Gen number rows groups true) = false
-is_built command = true
-
--- the words spell a command that isn't built
-abbrev pub SpellUnbuilt : List (List ℕ) → Type 0
-SpellUnbuilt words = (command : Command) × Spells words command × (is_built command ≡ false)
-
 -- a run over these words, whose input failed, ended so: they spell a command that reads it, and the line of that fault was to
 -- be written
 pub record InputFails (words : List (List ℕ)) (was now : ℕ) (status : ℕ) (before after : Option (List ℕ)) : Type 0 where
@@ -173,7 +163,7 @@ StandsAlone Offsets answer = ⊥
 StandsAlone (Capture options) answer = ⊥
 StandsAlone (Resume chunk every messages) answer = ⊥
 StandsAlone (Gen number rows groups false) answer = answer ≡ made number rows groups
-StandsAlone command answer = answer ≡ not_built
+StandsAlone (Gen number rows groups true) answer = ⊥
 
 -- the statuses with which a command tells what its input means, for which it was read to its end
 abbrev pub TellsInput : Command → ℕ → Type 0
@@ -203,7 +193,7 @@ IsStatusOf Offsets status = IsOffsetsStatus status
 IsStatusOf (Capture options) status = IsSessionStatus status
 IsStatusOf (Resume chunk every messages) status = IsSessionStatus status
 IsStatusOf (Gen number rows groups false) status = (status ≡ 0) ⊎ IsCutShort status
-IsStatusOf command status = (status ≡ 16) ⊎ IsCutShort status
+IsStatusOf (Gen number rows groups true) status = IsGeneratedStatus status
 
 -- for private clauses: a run of `init` ended so
 pub record RunsInit (given : inits.Given) (failed : Store → Type 0) (status : ℕ) (before after : Option (List ℕ)) : Type 0 where

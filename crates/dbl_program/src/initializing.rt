@@ -1,7 +1,5 @@
 //! The command `init`: the stores of a workload, made on empty disks.
-ghost use Rattle.std.specs.Prelude.{◌≡◌, ◌≢◌, ◌⊎◌, ℕ, List, [], ◌∷◌, Some, Ok, Err, IfOk};
-ghost use Rattle.std.specs.String.{string_bytes};
-ghost use Rattle.dbl_base.specs.Lines.{lines_text};
+ghost use Rattle.std.specs.Prelude.{◌≡◌, ◌≢◌, ◌⊎◌, ℕ, List, [], Some, Ok, Err};
 ghost use Rattle.dbl_base.specs.Streams.{Rose};
 ghost use Rattle.dbl_running.specs.Made.{IsFreshWal};
 ghost use Rattle.dbl_init.specs.declared.error.Store.TheVariants.{Wal, Topics, Offsets};
@@ -10,17 +8,16 @@ ghost use Rattle.dbl_init.specs.Disks.{HasStored, HoldsBytes};
 ghost use Rattle.dbl_init.specs.Fresh.{IsEmptyLog, IsEmptyStore};
 ghost use Rattle.dbl_program.specs.Disks.{OfDisk};
 ghost use Rattle.dbl_saying.specs.Faults.{status_of, output_failed_status};
-ghost use Rattle.dbl_program.specs.Inits.{FailsSource, FinishesInit, IsInitAnswer, IsInitLeft, IsInitStatus, IsUntouched, SaysInit, init_line, init_status};
+ghost use Rattle.dbl_program.specs.Inits.{FailsSource, FinishesInit, IsInitAnswer, IsInitLeft, IsInitStatus, IsUntouched};
 ghost use Rattle.dbl_program.specs.Means.{RunsInit};
 ghost use Rattle.dbl_program.specs.Run.{FailsReading};
 
 use dbl_base::{Input, Output};
 use dbl_disk::Disk;
-use dbl_init::{Begun, InitError, Store, init};
-use dbl_replay::LogFault;
-use dbl_saying::{Finished, Halt, OUT_OF_MEMORY, write_text};
-use dbl_script::ScriptError;
-use std::alloc::{AllocError, Global};
+use dbl_init::{Begun, InitError, init};
+use dbl_saying::{Finished, Halt};
+use dbl_session_runs::say_init;
+use std::alloc::Global;
 
 /// Makes the stores of the workload that the input holds, and writes nothing; or the line of the error.
 pub(crate) fn run_init<I: Input, O: Output, W: Disk, T: Disk, F: Disk>(
@@ -94,66 +91,4 @@ fn finish_init<O: Output>(alloc: Global, end: Result<(), InitError>, output: &mu
         Ok(()) => 0,
         Err(error) => say_init(alloc, error, output),
     }
-}
-
-// Writes the error's line, and answers its status.
-fn say_init<O: Output>(alloc: Global, error: InitError, output: &mut O) -> u8
-    ensures says { SaysInit error result (O.written output.old) (O.written output.new) }
-    ensures output_failed { result ≡ output_failed_status
-        → Rose (O.faults output.old) (O.faults output.new) }
-{
-    let status = error_status(&error);
-    match error_text(alloc, error) {
-        Ok(text) => write_text(text.as_str(), status, output),
-        Err(_) => write_text(OUT_OF_MEMORY, Halt::Memory.status(), output),
-    }
-}
-
-// The exit status of an error.
-fn error_status(error: &InitError) -> u8
-    ensures { result ≡ init_status error.now }
-{
-    match error {
-        InitError::Failed { store: Store::Wal } => 7,
-        InitError::Failed {
-            store: Store::Topics,
-        } => 8,
-        InitError::Failed {
-            store: Store::Offsets,
-        } => 9,
-        InitError::NotEmpty { .. } => 14,
-        InitError::InputFailed => 10,
-        InitError::InputTooLong => 13,
-        InitError::Script(_) => 13,
-        InitError::Model(_) => 6,
-        InitError::Memory => 12,
-    }
-}
-
-// The error's line with its newline.
-fn error_text(alloc: Global, error: InitError) -> Result<String, AllocError>
-    ensures { IfOk result (λ text. string_bytes text ≡ lines_text (init_line error ∷ [])) }
-{
-    let mut line = error_line(alloc, error)?;
-    line.push('\n')?;
-    Ok(line)
-}
-
-fn error_line(alloc: Global, error: InitError) -> Result<String, AllocError>
-    ensures { IfOk result (λ line. string_bytes line ≡ init_line error) }
-{
-    let line = match error {
-        InitError::Failed { store: Store::Wal } => "dblog: source failed",
-        InitError::Failed { store } => return format!(in alloc; "dblog: {store} failed"),
-        InitError::NotEmpty { store } => return format!(in alloc; "dblog: not empty: {store}"),
-        InitError::InputFailed => "dblog: input failed",
-        InitError::InputTooLong => "dblog: input too long",
-        InitError::Script(ScriptError::BadLine { number }) => {
-            return format!(in alloc; "dblog: line {number}: bad line");
-        }
-        InitError::Script(ScriptError::TooManyLines) => "dblog: too many lines",
-        InitError::Model(error) => return LogFault::Table { error }.line(alloc),
-        InitError::Script(ScriptError::Memory) | InitError::Memory => "dblog: out of memory",
-    };
-    String::from_str(alloc, line)
 }

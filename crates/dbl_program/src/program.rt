@@ -1,4 +1,4 @@
-ghost use Rattle.std.specs.Prelude.{◌≡◌, ◌≢◌, ◌⊎◌, true, false, ℕ, ◌≤◌, List, [], length, Some, Err};
+ghost use Rattle.std.specs.Prelude.{◌≡◌, ◌≢◌, ◌⊎◌, true, false, ℕ, ◌≤◌, List, [], length, Some, IsSome, Err};
 ghost use Rattle.dbl_base.specs.Streams.{Rose, input_limit};
 ghost use Rattle.dbl_saying.specs.Faults.{status_of, output_failed_status};
 ghost use Rattle.dbl_replay.specs.declared.options.ReplayOptions.{ReplayOptions};
@@ -6,7 +6,7 @@ ghost use Rattle.dbl_cli.specs.declared.commands.Command.{Command};
 ghost use Rattle.dbl_cli.specs.Commands.{Spells};
 ghost use Rattle.dbl_cli.specs.Limits.{IsWithin};
 ghost use Rattle.dbl_runs.specs.Ends.{IsSynced};
-ghost use Rattle.dbl_program.specs.Means.{made, not_built, options_of, AreTold, Given, HasOpenedOffsets, HasOpenedTopics, InputFails, Runs, RunsCommand, SpellNone, SpellSome, SpellUnbuilt, Tell, WalFails, connects, makes, reads, writes, opens_offsets, opens_topics, uses_offsets, uses_topics, StandsAlone, TellsInput, IsStatusOf};
+ghost use Rattle.dbl_program.specs.Means.{made, options_of, AreTold, Given, HasOpenedOffsets, HasOpenedTopics, InputFails, Runs, RunsCommand, SpellNone, SpellSome, Tell, WalFails, connects, makes, reads, writes, opens_offsets, opens_topics, uses_offsets, uses_topics, StandsAlone, TellsInput, IsStatusOf};
 ghost use Rattle.dbl_running.specs.Made.{IsFreshWal};
 ghost use Rattle.dbl_init.specs.declared.error.Store.TheVariants.{Wal, Topics, Offsets};
 ghost use Rattle.dbl_init.specs.Disks.{HasStored, HoldsBytes};
@@ -17,6 +17,9 @@ ghost use Rattle.dbl_kept.specs.Headline.{IsPromisedOf};
 ghost use Rattle.dbl_kept.specs.Kept.{AreKept};
 ghost use Rattle.dbl_program.specs.Inits.{FailsSource, IsInitLeft, IsUntouched};
 ghost use Rattle.dbl_session_runs.specs.Runs.{RunsConnected, RunsSession};
+ghost use Rattle.dbl_connector.specs.Asked.{asks_in};
+ghost use Rattle.dbl_gen.specs.Workload.{workload};
+ghost use Rattle.dbl_session_runs.specs.Generated.{EndsGenerated, HasMade, IsMadeShort, RunsGenerated, plainly};
 ghost use Rattle.dbl_program.specs.Sessions.{IsCompleteRun, asked_by, asks_by};
 ghost use Rattle.dbl_program.specs.Disks.{IsOnlyRead, OfDisk, offsets_status, topics_status, wal_status};
 ghost use Rattle.dbl_record.specs.declared.record.Record.{Record};
@@ -34,12 +37,9 @@ use dbl_disk::Disk;
 use dbl_gen::script;
 use dbl_replay::ReplayOptions;
 use dbl_saying::{Finished, Halt, say, write_text};
-use dbl_session_runs::run_session;
+use dbl_session_runs::{run_generated, run_session};
 use dbl_table::{Identity, TableKey};
 use std::alloc::Global;
-
-/// The exit status of a command that isn't built yet.
-const NOT_BUILT: u8 = 16;
 
 /// Runs the program on the words behind its name, at a moment in milliseconds since 1970, over the disks of the source's log, of
 /// the topic log and of the offset. It answers the exit status and gives the disks back, whatever comes.
@@ -93,7 +93,6 @@ pub fn run<I: Input, O: Output, W: Disk, T: Disk, F: Disk>(
     // Whatever the streams and the disks tell, the status is one of the command's.
     ensures status { (command : Command) → Spells words.now.items command →
         IsStatusOf command result.status }
-    ensures unbuilt { result.status ≡ 16 → SpellUnbuilt words.now.items }
     ensures input_failed { result.status ≡ status_of Halt.InputFailed →
         Rose (I.faults input.old) (I.faults input.new) }
     ensures output_failed { result.status ≡ output_failed_status →
@@ -146,8 +145,8 @@ pub fn run<I: Input, O: Output, W: Disk, T: Disk, F: Disk>(
         AreKept (W.seen result.wal) (T.seen result.topics) (F.seen result.offsets)
         (W.may_leave result.wal) (T.may_leave result.topics) (F.may_leave result.offsets) }
 
-    // Where one of the disks holds a byte, `init` writes none of them, whatever it answers.
-    ensures full_stay { Spells words.now.items Command.Init →
+    // Where one of the disks holds a byte, a command that makes the stores writes none of them, whatever it answers.
+    ensures full_stay { SpellSome words.now.items makes →
         HoldsBytes W.seen wal ⊎ (HoldsBytes T.seen topics ⊎ HoldsBytes F.seen offsets) →
         IsUntouched W.seen W.may_leave wal result.wal ×
         (IsUntouched T.seen T.may_leave topics result.topics ×
@@ -183,8 +182,34 @@ pub fn run<I: Input, O: Output, W: Disk, T: Disk, F: Disk>(
         (W.may_leave result.wal) (T.may_leave result.topics) (F.may_leave result.offsets)
         result.status (O.written output.old) (O.written output.new) }
 
+    // `gen --run` on empty disks. Once its `init` part was done, which the disk of the offset tells, whatever a crash leaves is as the
+    // connector promises of a capture without a word behind it, and came from the stores of the number's workload, of which nothing
+    // was done. Where the disks tell their bytes they are kept.
+    ensures generated { (number rows groups : ℕ) →
+        Spells words.now.items (Command.Gen number rows groups true) →
+        HasMade W.seen W.may_leave T.seen T.may_leave F.seen F.may_leave
+        wal topics offsets result.offsets → (w t f : List ℕ) →
+        W.may_leave result.wal w → T.may_leave result.topics t → F.may_leave result.offsets f →
+        IsPromisedOf (result.status ≡ 0) (asks_in plainly)
+        (IsFreshWal (workload number rows groups)) IsEmptyLog IsEmptyStore w t f }
+    ensures generated_kept { (number rows groups : ℕ) →
+        Spells words.now.items (Command.Gen number rows groups true) →
+        HasMade W.seen W.may_leave T.seen T.may_leave F.seen F.may_leave
+        wal topics offsets result.offsets →
+        IsSome (W.seen result.wal) → IsSome (T.seen result.topics) → IsSome (F.seen result.offsets) →
+        AreKept (W.seen result.wal) (T.seen result.topics) (F.seen result.offsets)
+        (W.may_leave result.wal) (T.may_leave result.topics) (F.may_leave result.offsets) }
+
+    // How it ended, on any disks, and what was told of it: as `init` of that workload; or, where that was done, as a session over the stores
+    // that it made.
+    ensures generating { (number rows groups : ℕ) →
+        Spells words.now.items (Command.Gen number rows groups true) →
+        EndsGenerated W.seen W.may_leave T.seen T.may_leave F.seen F.may_leave
+        (workload number rows groups) now_ms wal result.wal topics result.topics
+        offsets result.offsets result.status (O.written output.old) (O.written output.new) }
+
     // A fault of a disk is told only where its count rose; and no disk that tells its bytes gets longer than it was, or than 2^30 past
-    // the closed gate of its journal. What `init` leaves is said above.
+    // the closed gate of its journal, or past 0 where a command that makes the stores left none.
     ensures topics_failed { result.status ≡ topics_status →
         Rose (T.faults topics) (T.faults result.topics) }
     ensures offsets_failed { result.status ≡ offsets_status →
@@ -195,6 +220,12 @@ pub fn run<I: Input, O: Output, W: Disk, T: Disk, F: Disk>(
         IsBounded (T.seen topics) (T.seen result.topics) }
     ensures offsets_bounded { SpellNone words.now.items makes →
         IsBounded (F.seen offsets) (F.seen result.offsets) }
+    ensures wal_short { SpellSome words.now.items makes →
+        IsMadeShort (W.seen wal) (W.seen result.wal) }
+    ensures topics_short { SpellSome words.now.items makes →
+        IsMadeShort (T.seen topics) (T.seen result.topics) }
+    ensures offsets_short { SpellSome words.now.items makes →
+        IsMadeShort (F.seen offsets) (F.seen result.offsets) }
 {
     match dbl_cli::command(alloc, words) {
         Ok(command) => run_command(alloc, command, &now_ms, input, output, wal, topics, offsets),
@@ -282,6 +313,11 @@ fn run_command<I: Input, O: Output, W: Disk, T: Disk, F: Disk>(
         topics_status result.status topics result.topics }
     ensures offsets_read { opens_offsets command ≡ true → IsOnlyRead F.seen F.may_leave F.faults
         offsets_status result.status offsets result.offsets }
+    ensures generated { (number rows groups : ℕ) →
+        command ≡ Command.Gen number rows groups true → RunsGenerated
+        W.seen W.may_leave W.faults T.seen T.may_leave T.faults F.seen F.may_leave F.faults
+        (workload number rows groups) now_ms.now wal result.wal topics result.topics
+        offsets result.offsets result.status (O.written output.old) (O.written output.new) }
     ensures connected { (asked : SpecAsked) → asked_by command ≡ Some asked → RunsConnected
         W.seen W.may_leave W.faults T.seen T.may_leave T.faults F.seen F.may_leave F.faults
         asked now_ms.now wal result.wal topics result.topics offsets result.offsets
@@ -321,7 +357,9 @@ fn run_command<I: Input, O: Output, W: Disk, T: Disk, F: Disk>(
             run: is_run,
         } => {
             if is_run {
-                say_not_built(output, wal, topics, offsets)
+                run_generated(
+                    alloc, number, rows, groups, now_ms, output, wal, topics, offsets,
+                )
             } else {
                 Finished {
                     status: print_workload(alloc, number, rows, groups, output),
@@ -386,28 +424,5 @@ fn print_workload<O: Output>(
     match script(alloc, number, rows, groups) {
         Ok(text) => write_text(text.as_str(), 0, output),
         Err(_) => say(alloc, Halt::Memory, output),
-    }
-}
-
-// Writes the line of a command that isn't built yet.
-fn say_not_built<O: Output, W, T, F>(
-    output: &mut O,
-    wal: W,
-    topics: T,
-    offsets: F,
-) -> Finished<W, T, F>
-    ensures ends { EndsAs not_built result.status (O.written output.old) (O.written output.new) }
-    ensures not_input { result.status ≢ status_of Halt.InputFailed }
-    ensures output_failed { result.status ≡ output_failed_status →
-        Rose (O.faults output.old) (O.faults output.new) }
-    ensures wal_stays { result.wal ≡ wal }
-    ensures topics_stay { result.topics ≡ topics }
-    ensures offsets_stay { result.offsets ≡ offsets }
-{
-    Finished {
-        status: write_text("dblog: not built\n", NOT_BUILT, output),
-        wal,
-        topics,
-        offsets,
     }
 }

@@ -1,11 +1,15 @@
-use Rattle.std.proofs.Common.{◌≡◌, ◌⊎◌, Some, Err, ℤ, true, inl, ap, refl, subst}
+use Rattle.std.proofs.Common.{◌≡◌, ◌⊎◌, Some, Err, ℤ, true, inl, inr, ap, refl, subst}
 use Rattle.std.proofs.Math.Facts.{to_z-of_z}
 use Rattle.dbl_cli.specs.declared.commands.Command.{Command}
 use Rattle.dbl_cli.specs.declared.commands.Command.TheVariants as command
 use Rattle.dbl_cli.proofs.SayLemmas.{one_command}
 use Rattle.dbl_kept.specs.Headline.{IsPromisedOf}
 use Rattle.dbl_program.specs.Inits.{FailsSource}
+use Rattle.dbl_init.specs.declared.error.InitError.TheVariants as init
+use Rattle.dbl_gen.specs.Workload.{workload}
 use Rattle.dbl_session_runs.specs.Runs.{RunsSession}
+use Rattle.dbl_session_runs.specs.Generated.{EndsGenerated}
+use Rattle.dbl_session_runs.proofs.Fresh.{made_kept}
 use Rattle.dbl_program.specs.Sessions.{IsCompleteRun, asked_by, asks_by}
 use Rattle.dbl_program.specs.Means.{HasOpenedOffsets, RunsCommand, SpellSome, StandsAlone, makes, opens_offsets, opens_topics, reads, uses_offsets, uses_topics, IsStatusOf, TellsInput}
 use Rattle.dbl_base.specs.Streams.{Rose}
@@ -14,10 +18,11 @@ use Rattle.dbl_program.specs.Disks.{OfDisk}
 use Rattle.dbl_program.specs.Run.{FailsReading}
 use Rattle.dbl_program.proofs.CommandLemmas.{cut_short, wider_or_fails, spelled_or_fails, usage_runs, memory_runs, as_spelled, memory_alone, memory_status, memory_tells}
 use Rattle.dbl_program.proofs.DiskLemmas.{not_read, read_or_not}
-use Rattle.dbl_program.proofs.KeptLemmas.{before_promised, made_kept, offsets_bounded, run_kept, run_promised, run_stays, topics_bounded, wal_bounded}
-use Rattle.dbl_program.proofs.SessionLemmas.{connects_asked, memory_session}
+use Rattle.dbl_program.proofs.GeneratedLemmas.{full_by, made_by, same_short, unmade}
+use Rattle.dbl_program.proofs.KeptLemmas.{before_promised, offsets_bounded, run_kept, run_promised, run_stays, topics_bounded, wal_bounded}
+use Rattle.dbl_program.proofs.SessionLemmas.{memory_session}
 use Rattle.dbl_program.proofs.StoreRunLemmas.{opened_by}
-use Rattle.dbl_program.proofs.StatusLemmas.{memory_built, memory_no_offsets, memory_no_topics, memory_no_wal, no_offsets, no_topics, offsets_whole, refused_unread, spell_unbuilt, told_offsets, topics_whole, unused_offsets, topics_fail, offsets_fail, unused_topics, usage_built, usage_no_offsets, usage_no_topics, usage_no_wal, wal_fails}
+use Rattle.dbl_program.proofs.StatusLemmas.{memory_no_offsets, memory_no_topics, memory_no_wal, no_offsets, no_topics, offsets_whole, refused_unread, told_offsets, topics_whole, unused_offsets, topics_fail, offsets_fail, unused_topics, usage_no_offsets, usage_no_topics, usage_no_wal, wal_fails}
 use Rattle.dbl_program.proofs.program.run.Goals as goal
 use Rattle.dbl_saying.proofs.SayLemmas.{cut_other}
 
@@ -55,13 +60,10 @@ pub returns-in-Ok-clause-status : goal.returns-in-Ok-clause-status
 returns-in-Ok-clause-status g c = λ command spells.
     as_spelled _ (λ (k : Command). IsStatusOf k c.run_command.result.status) c.in-Ok.command command c.in-Ok.ensures.spelled spells c.run_command.ensures.known
 
-pub returns-in-Ok-clause-unbuilt : goal.returns-in-Ok-clause-unbuilt
-returns-in-Ok-clause-unbuilt g c = spell_unbuilt _ c.in-Ok.command c.run_command.result.status c.in-Ok.ensures.spelled c.run_command.ensures.known
-
 pub returns-in-Ok-clause-wal_failed : goal.returns-in-Ok-clause-wal_failed
 returns-in-Ok-clause-wal_failed g c = λ is.
     wal_fails c.in-Ok.command c.run_command.result.status _ _ c.run_command.ensures.known (λ init. (c.run_command.ensures.wal_left init).cause)
-    (λ connects. let asked = connects_asked c.in-Ok.command connects in (c.run_command.ensures.connected asked.0 asked.1).wal_failed) is
+    (λ asked asks. (c.run_command.ensures.connected asked asks).wal_failed) (λ number rows groups same. (c.run_command.ensures.generated number rows groups same).wal_failed) is
 
 pub returns-in-Ok-clause-refused_unread : goal.returns-in-Ok-clause-refused_unread
 returns-in-Ok-clause-refused_unread g c = λ is.
@@ -96,9 +98,6 @@ returns-in-Err-Usage-clause-alone g c = λ command answer spells alone. absurd (
 pub returns-in-Err-Usage-clause-status : goal.returns-in-Err-Usage-clause-status
 returns-in-Err-Usage-clause-status g c = λ command spells. absurd (c.in-Err-Usage.ensures.usage (ap Err c.in-Err-Usage.field-0-is) command spells)
 
-pub returns-in-Err-Usage-clause-unbuilt : goal.returns-in-Err-Usage-clause-unbuilt
-returns-in-Err-Usage-clause-unbuilt g c = λ is. absurd (usage_built c.say.result _ _ c.say.ensures.says is)
-
 pub returns-in-Err-Usage-clause-wal_failed : goal.returns-in-Err-Usage-clause-wal_failed
 returns-in-Err-Usage-clause-wal_failed g c = λ is. absurd (usage_no_wal c.say.result _ _ c.say.ensures.says is)
 
@@ -121,9 +120,6 @@ returns-in-Err-Memory-clause-whole g c = λ bytes command told spells within tel
 
 pub returns-in-Err-Memory-clause-status : goal.returns-in-Err-Memory-clause-status
 returns-in-Err-Memory-clause-status g c = λ command spells. memory_status command c.say-in-Err-Memory.result _ _ c.say-in-Err-Memory.ensures.says
-
-pub returns-in-Err-Memory-clause-unbuilt : goal.returns-in-Err-Memory-clause-unbuilt
-returns-in-Err-Memory-clause-unbuilt g c = λ is. absurd (memory_built c.say-in-Err-Memory.result _ _ c.say-in-Err-Memory.ensures.says is)
 
 pub returns-in-Err-Memory-clause-wal_failed : goal.returns-in-Err-Memory-clause-wal_failed
 returns-in-Err-Memory-clause-wal_failed g c = λ is. absurd (memory_no_wal c.say-in-Err-Memory.result _ _ c.say-in-Err-Memory.ensures.says is)
@@ -179,20 +175,104 @@ returns-in-Ok-clause-topics_left g c = λ spells. c.run_command.ensures.topics_l
 pub returns-in-Ok-clause-offsets_left : goal.returns-in-Ok-clause-offsets_left
 returns-in-Ok-clause-offsets_left g c = λ spells. c.run_command.ensures.offsets_left (one_command _ c.in-Ok.command command.Init c.in-Ok.ensures.spelled spells)
 
+-- ---- `gen --run` besides
+
 pub returns-in-Ok-clause-full_stay : goal.returns-in-Ok-clause-full_stay
-returns-in-Ok-clause-full_stay g c = λ spells. c.run_command.ensures.full_stay (one_command _ c.in-Ok.command command.Init c.in-Ok.ensures.spelled spells)
+returns-in-Ok-clause-full_stay g c = λ some.
+    let left = c.run_command.result in
+    full_by g.W.Disk.seen g.W.Disk.may_leave g.W.Disk.faults g.T.Disk.seen g.T.Disk.may_leave g.T.Disk.faults g.F.Disk.seen g.F.Disk.may_leave g.F.Disk.faults c.args.wal left.wal c.args.topics left.topics c.args.offsets left.offsets c.in-Ok.command
+    c.run_command.ensures.full_stay (λ number rows groups same. (_, (c.run_command.ensures.generated number rows groups same).full))
+    (as_spelled _ (λ (k : Command). makes k ≡ true) some.0 c.in-Ok.command some.1 c.in-Ok.ensures.spelled some.2)
+
+pub returns-in-Ok-clause-generated : goal.returns-in-Ok-clause-generated
+returns-in-Ok-clause-generated g c = λ number rows groups spells. (c.run_command.ensures.generated number rows groups (one_command _ c.in-Ok.command (command.Gen number rows groups true) c.in-Ok.ensures.spelled spells)).headline
+
+pub returns-in-Ok-clause-generated_kept : goal.returns-in-Ok-clause-generated_kept
+returns-in-Ok-clause-generated_kept g c = λ number rows groups spells made wal topics offsets. record {
+  wal = wal;
+  topics = topics;
+  offsets = offsets;
+  each = λ w t f may_w may_t may_f.
+      let left = ((c.run_command.ensures.generated number rows groups (one_command _ c.in-Ok.command (command.Gen number rows groups true) c.in-Ok.ensures.spelled spells)).headline made w t f may_w may_t may_f).left in
+      (left.held, left.read, left.kept);
+}
+
+pub returns-in-Ok-clause-generating : goal.returns-in-Ok-clause-generating
+returns-in-Ok-clause-generating g c = λ number rows groups spells.
+    let left = c.run_command.result in
+    subst (λ (m : ℤ). EndsGenerated g.W.Disk.seen g.W.Disk.may_leave g.T.Disk.seen g.T.Disk.may_leave g.F.Disk.seen g.F.Disk.may_leave (workload number rows groups) m c.args.wal left.wal c.args.topics left.topics
+    c.args.offsets left.offsets left.status (g.O.Output.written c.args.output.now) (g.O.Output.written c.run_command.new.output)) (to_z-of_z c.ranges.now_ms)
+    (c.run_command.ensures.generated number rows groups (one_command _ c.in-Ok.command (command.Gen number rows groups true) c.in-Ok.ensures.spelled spells)).ends
+
+pub returns-in-Ok-clause-wal_short : goal.returns-in-Ok-clause-wal_short
+returns-in-Ok-clause-wal_short g c = λ some.
+    made_by _ c.in-Ok.command (λ init before now was is. inl ((c.run_command.ensures.wal_left init).short before now was is)) (λ number rows groups same. (c.run_command.ensures.generated number rows groups same).wal_short)
+    (as_spelled _ (λ (k : Command). makes k ≡ true) some.0 c.in-Ok.command some.1 c.in-Ok.ensures.spelled some.2)
+
+pub returns-in-Ok-clause-topics_short : goal.returns-in-Ok-clause-topics_short
+returns-in-Ok-clause-topics_short g c = λ some.
+    made_by _ c.in-Ok.command (λ init before now was is. inl ((c.run_command.ensures.topics_left init).short before now was is)) (λ number rows groups same. (c.run_command.ensures.generated number rows groups same).topics_short)
+    (as_spelled _ (λ (k : Command). makes k ≡ true) some.0 c.in-Ok.command some.1 c.in-Ok.ensures.spelled some.2)
+
+pub returns-in-Ok-clause-offsets_short : goal.returns-in-Ok-clause-offsets_short
+returns-in-Ok-clause-offsets_short g c = λ some.
+    made_by _ c.in-Ok.command (λ init before now was is. inl ((c.run_command.ensures.offsets_left init).short before now was is)) (λ number rows groups same. (c.run_command.ensures.generated number rows groups same).offsets_short)
+    (as_spelled _ (λ (k : Command). makes k ≡ true) some.0 c.in-Ok.command some.1 c.in-Ok.ensures.spelled some.2)
+
+pub returns-in-Err-Usage-clause-full_stay : goal.returns-in-Err-Usage-clause-full_stay
+returns-in-Err-Usage-clause-full_stay g c = λ some. absurd (c.in-Err-Usage.ensures.usage (ap Err c.in-Err-Usage.field-0-is) some.0 some.1)
+
+pub returns-in-Err-Usage-clause-generated : goal.returns-in-Err-Usage-clause-generated
+returns-in-Err-Usage-clause-generated g c = λ number rows groups spells. absurd (c.in-Err-Usage.ensures.usage (ap Err c.in-Err-Usage.field-0-is) (command.Gen number rows groups true) spells)
+
+pub returns-in-Err-Usage-clause-generated_kept : goal.returns-in-Err-Usage-clause-generated_kept
+returns-in-Err-Usage-clause-generated_kept g c = λ number rows groups spells. absurd (c.in-Err-Usage.ensures.usage (ap Err c.in-Err-Usage.field-0-is) (command.Gen number rows groups true) spells)
+
+pub returns-in-Err-Usage-clause-generating : goal.returns-in-Err-Usage-clause-generating
+returns-in-Err-Usage-clause-generating g c = λ number rows groups spells. absurd (c.in-Err-Usage.ensures.usage (ap Err c.in-Err-Usage.field-0-is) (command.Gen number rows groups true) spells)
+
+pub returns-in-Err-Usage-clause-wal_short : goal.returns-in-Err-Usage-clause-wal_short
+returns-in-Err-Usage-clause-wal_short g c = λ some. absurd (c.in-Err-Usage.ensures.usage (ap Err c.in-Err-Usage.field-0-is) some.0 some.1)
+
+pub returns-in-Err-Usage-clause-topics_short : goal.returns-in-Err-Usage-clause-topics_short
+returns-in-Err-Usage-clause-topics_short g c = λ some. absurd (c.in-Err-Usage.ensures.usage (ap Err c.in-Err-Usage.field-0-is) some.0 some.1)
+
+pub returns-in-Err-Usage-clause-offsets_short : goal.returns-in-Err-Usage-clause-offsets_short
+returns-in-Err-Usage-clause-offsets_short g c = λ some. absurd (c.in-Err-Usage.ensures.usage (ap Err c.in-Err-Usage.field-0-is) some.0 some.1)
+
+-- memory ran out before a disk was touched
+pub returns-in-Err-Memory-clause-generated : goal.returns-in-Err-Memory-clause-generated
+returns-in-Err-Memory-clause-generated g c = λ number rows groups spells made.
+    absurd (unmade g.W.Disk.seen g.W.Disk.may_leave g.T.Disk.seen g.T.Disk.may_leave g.F.Disk.seen g.F.Disk.may_leave c.args.wal c.args.topics c.args.offsets (g.met.F.Disk.seen_is_image c.args.offsets) made)
+
+pub returns-in-Err-Memory-clause-generated_kept : goal.returns-in-Err-Memory-clause-generated_kept
+returns-in-Err-Memory-clause-generated_kept g c = λ number rows groups spells made.
+    absurd (unmade g.W.Disk.seen g.W.Disk.may_leave g.T.Disk.seen g.T.Disk.may_leave g.F.Disk.seen g.F.Disk.may_leave c.args.wal c.args.topics c.args.offsets (g.met.F.Disk.seen_is_image c.args.offsets) made)
+
+pub returns-in-Err-Memory-clause-generating : goal.returns-in-Err-Memory-clause-generating
+returns-in-Err-Memory-clause-generating g c = λ number rows groups spells.
+    inl (record { error = init.Memory; not_input = λ is. (let t = is in cc); answers = λ given same w t f. inr tt; says = c.say-in-Err-Memory.ensures.says })
+
+pub returns-in-Err-Memory-clause-wal_short : goal.returns-in-Err-Memory-clause-wal_short
+returns-in-Err-Memory-clause-wal_short g c = λ some. same_short (g.W.Disk.seen c.args.wal)
+
+pub returns-in-Err-Memory-clause-topics_short : goal.returns-in-Err-Memory-clause-topics_short
+returns-in-Err-Memory-clause-topics_short g c = λ some. same_short (g.T.Disk.seen c.args.topics)
+
+pub returns-in-Err-Memory-clause-offsets_short : goal.returns-in-Err-Memory-clause-offsets_short
+returns-in-Err-Memory-clause-offsets_short g c = λ some. same_short (g.F.Disk.seen c.args.offsets)
 
 -- ---- failed disks
 
 pub returns-in-Ok-clause-topics_failed : goal.returns-in-Ok-clause-topics_failed
 returns-in-Ok-clause-topics_failed g c = λ is.
     topics_fail _ c.in-Ok.command c.run_command.result.status c.run_command.ensures.known (λ init. (c.run_command.ensures.topics_left init).cause) (λ opens. (c.run_command.ensures.topics_read opens).cause)
-    (λ connects. let asked = connects_asked c.in-Ok.command connects in (c.run_command.ensures.connected asked.0 asked.1).topics_failed) is
+    (λ asked asks. (c.run_command.ensures.connected asked asks).topics_failed) (λ number rows groups same. (c.run_command.ensures.generated number rows groups same).topics_failed) is
 
 pub returns-in-Ok-clause-offsets_failed : goal.returns-in-Ok-clause-offsets_failed
 returns-in-Ok-clause-offsets_failed g c = λ is.
     offsets_fail _ c.in-Ok.command c.run_command.result.status c.run_command.ensures.known (λ init. (c.run_command.ensures.offsets_left init).cause) (λ opens. (c.run_command.ensures.offsets_read opens).cause)
-    (λ connects. let asked = connects_asked c.in-Ok.command connects in (c.run_command.ensures.connected asked.0 asked.1).offsets_failed) is
+    (λ asked asks. (c.run_command.ensures.connected asked asks).offsets_failed) (λ number rows groups same. (c.run_command.ensures.generated number rows groups same).offsets_failed) is
 
 pub returns-in-Err-Usage-clause-topics_failed : goal.returns-in-Err-Usage-clause-topics_failed
 returns-in-Err-Usage-clause-topics_failed g c = λ is. absurd (usage_no_topics c.say.result _ _ c.say.ensures.says is)
@@ -223,7 +303,8 @@ returns-in-Ok-clause-kept g c =
     let k = c.in-Ok.command in
     run_kept g.W.Disk.seen g.W.Disk.may_leave g.T.Disk.seen g.T.Disk.may_leave g.F.Disk.seen g.F.Disk.may_leave g.T.Disk.faults g.F.Disk.faults c.args.wal left.wal c.args.topics left.topics c.args.offsets left.offsets k left.status (λ asked is. (told.connected asked is).kept)
     (run_stays g.W.Disk.seen g.W.Disk.may_leave g.T.Disk.seen g.T.Disk.may_leave g.F.Disk.seen g.F.Disk.may_leave g.T.Disk.faults g.F.Disk.faults c.args.wal left.wal c.args.topics left.topics c.args.offsets left.offsets k left.status
-    (g.met.W.Disk.seen_is_image c.args.wal) (g.met.T.Disk.seen_is_image c.args.topics) (g.met.F.Disk.seen_is_image c.args.offsets) told.full_stay told.wal_stays told.topics_stay told.offsets_stay told.topics_read told.offsets_read)
+    (g.met.W.Disk.seen_is_image c.args.wal) (g.met.T.Disk.seen_is_image c.args.topics) (g.met.F.Disk.seen_is_image c.args.offsets) (full_by g.W.Disk.seen g.W.Disk.may_leave g.W.Disk.faults g.T.Disk.seen g.T.Disk.may_leave g.T.Disk.faults g.F.Disk.seen g.F.Disk.may_leave g.F.Disk.faults c.args.wal left.wal c.args.topics left.topics c.args.offsets left.offsets k
+    told.full_stay (λ number rows groups same. (_, (told.generated number rows groups same).full))) told.wal_stays told.topics_stay told.offsets_stay told.topics_read told.offsets_read)
 
 pub returns-in-Ok-clause-headline : goal.returns-in-Ok-clause-headline
 returns-in-Ok-clause-headline g c = λ command spells kept w t f may_w may_t may_f.
@@ -233,7 +314,8 @@ returns-in-Ok-clause-headline g c = λ command spells kept w t f may_w may_t may
     as_spelled _ (λ (d : Command). IsPromisedOf (IsCompleteRun d left.status) (asks_by d) (g.W.Disk.may_leave c.args.wal) (g.T.Disk.may_leave c.args.topics) (g.F.Disk.may_leave c.args.offsets) w t f) k command c.in-Ok.ensures.spelled spells
     (run_promised g.W.Disk.seen g.W.Disk.may_leave g.T.Disk.seen g.T.Disk.may_leave g.F.Disk.seen g.F.Disk.may_leave g.T.Disk.faults g.F.Disk.faults c.args.wal left.wal c.args.topics left.topics c.args.offsets left.offsets k left.status (λ asked is. (told.connected asked is).headline)
     (run_stays g.W.Disk.seen g.W.Disk.may_leave g.T.Disk.seen g.T.Disk.may_leave g.F.Disk.seen g.F.Disk.may_leave g.T.Disk.faults g.F.Disk.faults c.args.wal left.wal c.args.topics left.topics c.args.offsets left.offsets k left.status
-    (g.met.W.Disk.seen_is_image c.args.wal) (g.met.T.Disk.seen_is_image c.args.topics) (g.met.F.Disk.seen_is_image c.args.offsets) told.full_stay told.wal_stays told.topics_stay told.offsets_stay told.topics_read told.offsets_read)
+    (g.met.W.Disk.seen_is_image c.args.wal) (g.met.T.Disk.seen_is_image c.args.topics) (g.met.F.Disk.seen_is_image c.args.offsets) (full_by g.W.Disk.seen g.W.Disk.may_leave g.W.Disk.faults g.T.Disk.seen g.T.Disk.may_leave g.T.Disk.faults g.F.Disk.seen g.F.Disk.may_leave g.F.Disk.faults c.args.wal left.wal c.args.topics left.topics c.args.offsets left.offsets k
+    told.full_stay (λ number rows groups same. (_, (told.generated number rows groups same).full))) told.wal_stays told.topics_stay told.offsets_stay told.topics_read told.offsets_read)
     kept w t f may_w may_t may_f)
 
 pub returns-in-Ok-clause-session : goal.returns-in-Ok-clause-session

@@ -1,14 +1,17 @@
-use Rattle.std.proofs.Common.{◌≡◌, ◌∙◌, true, false, inl, ap, refl, sym, subst}
+use Rattle.std.proofs.Common.{◌≡◌, ◌∙◌, ℕ, List, true, false, inl, ap, refl, sym, subst}
+use Rattle.dbl_cli.specs.declared.commands.Command.{Command}
 use Rattle.dbl_cli.specs.declared.commands.Command.TheVariants as command
 use Rattle.dbl_base.specs.Streams.{Rose}
 use Rattle.dbl_runs.specs.Answers.{AnswersApply, AnswersOffsets, AnswersTopics}
 use Rattle.dbl_connector.specs.declared.asked.Asked.{Asked}
 use Rattle.dbl_connector.specs.declared.asked.Asked.TheVariants.{First, Again}
 use Rattle.dbl_program.specs.Disks.{OfDisk}
-use Rattle.dbl_program.specs.Means.{given_init, made, not_built, connects, makes, opens_topics, reads, uses_offsets, uses_topics}
+use Rattle.dbl_program.specs.Means.{IsStatusOf, given_init, made, connects, makes, opens_topics, reads, uses_offsets, uses_topics, writes}
 use Rattle.dbl_session_runs.specs.Runs.{RunsConnected}
+use Rattle.dbl_session_runs.specs.Generated.{RunsGenerated}
 use Rattle.dbl_program.specs.Sessions.{asked_by}
 use Rattle.dbl_program.proofs.CommandLemmas.{replay_command, apply_command, alone_command, init_or_fails, offset_alone, or_source, rows_offsets, stores_command}
+use Rattle.dbl_program.proofs.GeneratedLemmas.{generates, generating, one_generated, ungenerated}
 use Rattle.dbl_program.proofs.SessionLemmas.{one_asked, unasked}
 use Rattle.dbl_program.proofs.StatusLemmas.{switched, told_offsets, told_rows}
 use Rattle.dbl_program.proofs.StoreRunLemmas.{both_opened, only_offsets, only_topics}
@@ -41,12 +44,6 @@ returns-else-is_run-clause-told g c = λ given none told.
     let here = c.in-Gen in
     inl (alone_command c.args.command (command.Gen here.number here.rows here.groups false) c.args.now_ms.now given _ (made here.number here.rows here.groups) _ _ _
     (here.is ∙ ap (λ l. command.Gen here.number here.rows here.groups l) c.if-is_run.false) refl c.print_workload.ensures.ends)
-
-pub returns-then-is_run-clause-told : goal.returns-then-is_run-clause-told
-returns-then-is_run-clause-told g c = λ given none told.
-    let here = c.in-Gen in
-    inl (alone_command c.args.command (command.Gen here.number here.rows here.groups true) c.args.now_ms.now given _ not_built _ _ _
-    (here.is ∙ ap (λ l. command.Gen here.number here.rows here.groups l) c.if-is_run.true) refl c.say_not_built.ensures.ends)
 
 pub returns-in-Init-clause-told : goal.returns-in-Init-clause-told
 returns-in-Init-clause-told g c = λ given none told.
@@ -82,6 +79,59 @@ returns-in-Capture-clause-told g c = λ given none told. absurd (switched (sym (
 
 pub returns-in-Resume-clause-told : goal.returns-in-Resume-clause-told
 returns-in-Resume-clause-told g c = λ given none told. absurd (switched (sym (ap connects c.in-Resume.is) ∙ none))
+
+-- ---- a generated workload
+
+pub returns-then-is_run-clause-told : goal.returns-then-is_run-clause-told
+returns-then-is_run-clause-told g c = λ given none told. absurd (switched (sym (ap connects (generating c.in-Gen.is c.if-is_run.true)) ∙ none))
+
+pub returns-then-is_run-clause-known : goal.returns-then-is_run-clause-known
+returns-then-is_run-clause-known g c =
+    subst (λ (k : Command). IsStatusOf k c.run_generated.result.status) (sym (generating c.in-Gen.is c.if-is_run.true)) c.run_generated.ensures.known
+
+pub returns-then-is_run-clause-wal_stays : goal.returns-then-is_run-clause-wal_stays
+returns-then-is_run-clause-wal_stays g c = λ none. absurd (switched (sym (ap writes (generating c.in-Gen.is c.if-is_run.true)) ∙ none))
+
+pub returns-then-is_run-clause-topics_stay : goal.returns-then-is_run-clause-topics_stay
+returns-then-is_run-clause-topics_stay g c = λ none. absurd (switched (sym (ap uses_topics (generating c.in-Gen.is c.if-is_run.true)) ∙ none))
+
+pub returns-then-is_run-clause-offsets_stay : goal.returns-then-is_run-clause-offsets_stay
+returns-then-is_run-clause-offsets_stay g c = λ none. absurd (switched (sym (ap uses_offsets (generating c.in-Gen.is c.if-is_run.true)) ∙ none))
+
+pub returns-then-is_run-clause-generated : goal.returns-then-is_run-clause-generated
+returns-then-is_run-clause-generated g c = λ number rows groups is.
+    let left = c.run_generated.result in
+    let same = one_generated (sym (generating c.in-Gen.is c.if-is_run.true) ∙ is) in
+    subst (λ (script : List ℕ). RunsGenerated g.W.Disk.seen g.W.Disk.may_leave g.W.Disk.faults g.T.Disk.seen g.T.Disk.may_leave g.T.Disk.faults g.F.Disk.seen g.F.Disk.may_leave g.F.Disk.faults script c.args.now_ms.now
+    c.args.wal left.wal c.args.topics left.topics c.args.offsets left.offsets left.status (g.O.Output.written c.args.output.now) (g.O.Output.written c.run_generated.new.output)) same c.run_generated.ensures.generated
+
+-- the others make none
+pub returns-in-Replay-clause-generated : goal.returns-in-Replay-clause-generated
+returns-in-Replay-clause-generated g c = λ number rows groups is. absurd (ungenerated c.args.command number rows groups (ap generates c.in-Replay.is) is)
+
+pub returns-in-Apply-true-default-clause-generated : goal.returns-in-Apply-true-default-clause-generated
+returns-in-Apply-true-default-clause-generated g c = λ number rows groups is. absurd (ungenerated c.args.command number rows groups (ap generates c.in-Apply-true-default.is) is)
+
+pub returns-in-Apply-clause-generated : goal.returns-in-Apply-clause-generated
+returns-in-Apply-clause-generated g c = λ number rows groups is. absurd (ungenerated c.args.command number rows groups (ap generates c.in-Apply.is) is)
+
+pub returns-else-is_run-clause-generated : goal.returns-else-is_run-clause-generated
+returns-else-is_run-clause-generated g c = λ number rows groups is. absurd (ungenerated c.args.command number rows groups (ap generates c.in-Gen.is ∙ c.if-is_run.false) is)
+
+pub returns-in-Init-clause-generated : goal.returns-in-Init-clause-generated
+returns-in-Init-clause-generated g c = λ number rows groups is. absurd (ungenerated c.args.command number rows groups (ap generates c.in-Init.is) is)
+
+pub returns-in-Topics-clause-generated : goal.returns-in-Topics-clause-generated
+returns-in-Topics-clause-generated g c = λ number rows groups is. absurd (ungenerated c.args.command number rows groups (ap generates c.in-Topics.is) is)
+
+pub returns-in-Offsets-clause-generated : goal.returns-in-Offsets-clause-generated
+returns-in-Offsets-clause-generated g c = λ number rows groups is. absurd (ungenerated c.args.command number rows groups (ap generates c.in-Offsets.is) is)
+
+pub returns-in-Capture-clause-generated : goal.returns-in-Capture-clause-generated
+returns-in-Capture-clause-generated g c = λ number rows groups is. absurd (ungenerated c.args.command number rows groups (ap generates c.in-Capture.is) is)
+
+pub returns-in-Resume-clause-generated : goal.returns-in-Resume-clause-generated
+returns-in-Resume-clause-generated g c = λ number rows groups is. absurd (ungenerated c.args.command number rows groups (ap generates c.in-Resume.is) is)
 
 pub returns-in-Init-clause-wal_made : goal.returns-in-Init-clause-wal_made
 returns-in-Init-clause-wal_made g c = λ bytes before is left told done. c.run_init.ensures.wal_made bytes before left told done

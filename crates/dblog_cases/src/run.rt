@@ -103,6 +103,14 @@ impl Run {
         self.sweep
     }
 
+    /// The run makes the stores that it runs over, so that a second one of it would refuse them.
+    pub fn makes_stores(&self) -> bool {
+        match self.words.first() {
+            Some(word) => word.as_str() == "gen",
+            None => false,
+        }
+    }
+
     /// The same run once more.
     pub fn again(&self, alloc: Global) -> Result<Run, AllocError> {
         let mut words = Vec::new(alloc);

@@ -87,7 +87,7 @@ fn rows_in_the_end(alloc: Global, run: &Run, disks: Disks) -> io::Result<Vec<u8>
     Ok(rows)
 }
 
-// Resumes until a session was complete; where none has begun yet, the run is made again.
+// Resumes until a session was complete; where none has begun yet, the run is made again, or a capture of the stores that it made.
 fn end_work(alloc: Global, run: &Run, disks: Disks) -> Result<Disks, AllocError> {
     let mut disks = disks;
     for _ in 0..RUNS {
@@ -103,9 +103,16 @@ fn end_work(alloc: Global, run: &Run, disks: Disks) -> Result<Disks, AllocError>
 fn go_on(alloc: Global, run: &Run, disks: Disks) -> Result<(Answer, Disks), AllocError> {
     let (answer, left) = perform(alloc, "resume --every 1", disks)?;
     if answer.status() == 4 {
-        return run.again(alloc)?.perform(alloc, left);
+        return begin_again(alloc, run, left);
     }
     Ok((answer, left))
+}
+
+fn begin_again(alloc: Global, run: &Run, disks: Disks) -> Result<(Answer, Disks), AllocError> {
+    if run.makes_stores() {
+        return perform(alloc, "capture", disks);
+    }
+    run.again(alloc)?.perform(alloc, disks)
 }
 
 fn perform(alloc: Global, words: &str, disks: Disks) -> Result<(Answer, Disks), AllocError> {

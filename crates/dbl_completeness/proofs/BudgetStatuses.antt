@@ -1,0 +1,106 @@
+-- What the statuses 0 and 3 tell of how a session ended.
+use Rattle.std.proofs.Common.{◌≡◌, inl, inr, ℕ, ◌<◌, Option, Ok, Err, List, refl}
+use Rattle.std.specs.Prelude.{IfOk}
+use Rattle.dbl_commit.specs.declared.txn_error.TxnError.{TxnError}
+use Rattle.dbl_commit.specs.declared.txn_error.TxnError.TheVariants as txn
+use Rattle.dbl_replay.specs.LogFaults.{transaction_status}
+use Rattle.dbl_work.specs.declared.halt.Halt.{Halt}
+use Rattle.dbl_work.specs.declared.halt.Halt.TheVariants as halt
+use Rattle.dbl_work.specs.declared.report.Ending.{Ending}
+use Rattle.dbl_work.specs.declared.report.Ending.TheVariants.{Complete, Budget}
+use Rattle.dbl_init.specs.declared.error.Store.TheVariants.{Wal, Topics, Offsets}
+use Rattle.dbl_connector.specs.declared.connected.Summary.{Summary}
+use Rattle.dbl_connector.specs.declared.error.ConnectError.{ConnectError}
+use Rattle.dbl_connector.specs.declared.error.ConnectError.TheVariants as connect
+use Rattle.dbl_connector.specs.Asked.{budget_of}
+use Rattle.dbl_connector.specs.Ends.{End, IsComplete, IsSpent}
+use Rattle.dbl_session_text.specs.Halts.{halt_status}
+use Rattle.dbl_session_text.specs.Reports.{ending_status}
+use Rattle.dbl_session_runs.specs.Ends.{SaysSession, connect_status, session_status}
+use Rattle.dbl_session_runs.proofs.SessionLemmas.{complete_end, says_status}
+use Rattle.dbl_saying.proofs.SayLemmas.{cut_other}
+use Rattle.dbl_completeness.specs.Laws.{StatusesTellBudgets}
+
+-- ---- no error has the status 3
+
+txn_not_3 : (e : TxnError) (status : ℕ) → status ≡ transaction_status e → status ≡ 3 → ⊥
+txn_not_3 txn.OutsideTransaction status is three = cc
+txn_not_3 txn.NestedBegin status is three = cc
+txn_not_3 (txn.CommitMismatch begin commit) status is three = cc
+txn_not_3 (txn.LsnOrder last got) status is three = cc
+txn_not_3 (txn.UnknownRelation oid) status is three = cc
+txn_not_3 (txn.ColumnCount want got) status is three = cc
+txn_not_3 (txn.SchemaChanged table) status is three = cc
+txn_not_3 (txn.KeyNotInIdentity table) status is three = cc
+txn_not_3 (txn.MissingOld table) status is three = cc
+txn_not_3 (txn.UnchangedCell table column) status is three = cc
+txn_not_3 (txn.MovedUnchanged table column) status is three = cc
+txn_not_3 (txn.NullKey table) status is three = cc
+txn_not_3 (txn.Value table column error) status is three = cc
+txn_not_3 txn.BadMark status is three = cc
+txn_not_3 txn.Memory status is three = cc
+
+halt_not_3 : (h : Halt) (status : ℕ) → status ≡ halt_status h → status ≡ 3 → ⊥
+halt_not_3 (halt.Message number error) status is three = cc
+halt_not_3 (halt.Txn number error) status is three = txn_not_3 error status is three
+halt_not_3 (halt.Chunk table row) status is three = cc
+halt_not_3 (halt.Cell table column error) status is three = cc
+halt_not_3 (halt.Clash table column) status is three = cc
+halt_not_3 (halt.RecordTooLong len) status is three = cc
+halt_not_3 (halt.OffsetTooLong len) status is three = cc
+halt_not_3 (halt.Model error) status is three = cc
+halt_not_3 (halt.UnknownTable table) status is three = cc
+halt_not_3 (halt.Gone asked first) status is three = cc
+halt_not_3 (halt.WatermarkMissing value at) status is three = cc
+halt_not_3 (halt.Exhausted incarnation) status is three = cc
+halt_not_3 halt.Source status is three = cc
+halt_not_3 halt.Sink status is three = cc
+halt_not_3 halt.Offsets status is three = cc
+halt_not_3 halt.Memory status is three = cc
+
+error_not_3 : (e : ConnectError) (status : ℕ) → status ≡ connect_status e → status ≡ 3 → ⊥
+error_not_3 (connect.Failed Wal) status is three = cc
+error_not_3 (connect.Failed Topics) status is three = cc
+error_not_3 (connect.Failed Offsets) status is three = cc
+error_not_3 (connect.NotAStore store at) status is three = cc
+error_not_3 (connect.BadEntry store index) status is three = cc
+error_not_3 connect.AlreadyStarted status is three = cc
+error_not_3 connect.NotStarted status is three = cc
+error_not_3 (connect.Halted h) status is three = halt_not_3 h status is three
+error_not_3 connect.Memory status is three = cc
+
+-- ---- it ended with its budget
+
+abbrev pub HasSpent : End → Type 0
+HasSpent (Ok summary) = summary.ending ≡ Budget
+HasSpent (Err e) = ⊥
+
+ending_3 : (ending : Ending) (status : ℕ) → status ≡ ending_status ending → status ≡ 3 → ending ≡ Budget
+ending_3 Complete status is three = cc
+ending_3 Budget status is three = refl
+
+own_3 : (end : End) (status : ℕ) → status ≡ session_status end → status ≡ 3 → HasSpent end
+own_3 (Ok summary) status is three = ending_3 summary.ending status is three
+own_3 (Err e) status is three = absurd (error_not_3 e status is three)
+
+pub spent_end : (end : End) (status : ℕ) (before after : Option (List ℕ)) → SaysSession end status before after → status ≡ 3 → HasSpent end
+spent_end end status before after says three =
+    elim (says_status end status before after says) [ inl is ↦ own_3 end status is three | inr cut ↦ absurd (cut_other 3 status (λ e. cc, λ e. cc) cut three) ]
+
+-- ---- what that tells of the budget
+
+with_budget : (budget : ℕ) (end : End) → HasSpent end → IfOk end (IsSpent budget)
+    → (summary : Summary) × (end ≡ Ok summary) × (summary.ending ≡ Budget) × (summary.report.messages ≡ budget)
+with_budget budget (Ok summary) spent counts = (summary, refl, spent, counts.spent spent)
+with_budget budget (Err e) spent counts = absurd spent
+
+below_budget : (budget : ℕ) (end : End) → IsComplete end → IfOk end (IsSpent budget)
+    → (summary : Summary) × (end ≡ Ok summary) × (summary.ending ≡ Complete) × (summary.report.messages < budget)
+below_budget budget (Ok summary) complete counts = (summary, refl, complete, counts.complete complete)
+below_budget budget (Err e) complete counts = absurd complete
+
+pub statuses_tell_budgets : (wals logs stores new_wals new_logs new_stores : List ℕ → Type 0) → StatusesTellBudgets wals logs stores new_wals new_logs new_stores
+statuses_tell_budgets wals logs stores new_wals new_logs new_stores asked now told_wal told_topics told_offsets status before after runs = record {
+  spent = λ three. with_budget (budget_of asked) runs.end (spent_end runs.end status before after runs.says three) runs.spent;
+  complete = λ zero. below_budget (budget_of asked) runs.end (complete_end runs.end runs.kinds status before after runs.says zero) runs.spent;
+}

@@ -1,0 +1,10 @@
+pub mod SessionLaws
+pub mod BudgetStatuses
+pub mod CommandLaws
+pub mod GeneratedLaws
+pub mod SentSizes
+pub mod WalSizes
+pub mod WholeRows
+pub mod BudgetLaws
+pub mod Growing
+pub mod AgainLaws

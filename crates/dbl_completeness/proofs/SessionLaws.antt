@@ -1,0 +1,195 @@
+-- A supported session over kept disks: each error but those of the outside is refused by what it met.
+use Rattle.std.proofs.Common.{◌≡◌, ◌⊎◌, inl, inr, ◌∙◌, ℕ, ℤ, Option, Some, None, Ok, Err, List, [], ◌∷◌, refl, sym, ap, subst}
+use Rattle.std.specs.Prelude.{IfErr}
+use Rattle.dbl_base.specs.Lines.{lines_text}
+use Rattle.dbl_pgmsg.specs.declared.messages.Message.{Message}
+use Rattle.dbl_table.specs.declared.config.Config.{Config}
+use Rattle.dbl_table.specs.declared.table.TableInfo.{TableInfo}
+use Rattle.dbl_table.specs.declared.table.TableName.{TableName}
+use Rattle.dbl_history.specs.History.{History}
+use Rattle.dbl_commit.specs.declared.txn_error.TxnError.{TxnError}
+use Rattle.dbl_commit.specs.Blocks.{IsAccepted}
+use Rattle.dbl_honest.specs.Standings.{Reading}
+use Rattle.dbl_offset.specs.declared.offset.Offset.{Offset}
+use Rattle.dbl_session.specs.Entries.{Entry}
+use Rattle.dbl_work.specs.declared.halt.Halt.{Halt}
+use Rattle.dbl_work.specs.declared.halt.Halt.TheVariants as halt
+use Rattle.dbl_work.specs.declared.report.Ending.{Ending}
+use Rattle.dbl_work.specs.declared.report.Ending.TheVariants.{Complete, Budget}
+use Rattle.dbl_work.specs.declared.report.Report.{Report}
+use Rattle.dbl_causes.specs.Halted.{IsTxnFault}
+use Rattle.dbl_supported.specs.Supported.{CanBegin}
+use Rattle.dbl_supported.proofs.Ending.{first_captures, long_window, not_absent, not_clash, not_exhausted, not_model, not_offset, not_unreadable}
+use Rattle.dbl_restarts.specs.Restarts.{entry_at}
+use Rattle.dbl_init.specs.declared.error.Store.TheVariants.{Wal, Topics, Offsets}
+use Rattle.dbl_causes.specs.Reported.{IsBehindOf}
+use Rattle.dbl_exits.specs.Sessions.{Captures}
+use Rattle.dbl_kept.specs.Causes.{IsCauseOf, IsHaltAt, IsKeptHalt, IsOwnTxn, standing_left}
+use Rattle.dbl_kept.specs.Contents.{Contents, found_in, history_at, records_at}
+use Rattle.dbl_kept.proofs.KeptLaws.{disks_are_read_once}
+use Rattle.dbl_connector.specs.declared.asked.Asked.{Asked}
+use Rattle.dbl_connector.specs.declared.asked.Asked.TheVariants.{First, Again}
+use Rattle.dbl_connector.specs.declared.error.ConnectError.{ConnectError}
+use Rattle.dbl_connector.specs.declared.error.ConnectError.TheVariants as connect
+use Rattle.dbl_connector.specs.Asked.{Refuses, asks_in, asks_of, tables_in}
+use Rattle.dbl_connector.specs.Ends.{End, EndsBefore, HasHalted, IsKeptError, IsRefused, no_source, no_log, no_offset, not_asked}
+use Rattle.dbl_connector.specs.Errors.{IsConnectError, IsOutside, IsOwnHalt}
+use Rattle.dbl_session_text.specs.Reports.{ending_status}
+use Rattle.dbl_saying.specs.Says.{Writes}
+use Rattle.dbl_session_text.specs.Halts.{halt_line, halt_status}
+use Rattle.dbl_session_runs.specs.Ends.{SaysSession, connect_line, connect_status}
+use Rattle.dbl_completeness.specs.Laws.{SupportedRunsSucceed, SupportedSessionsSucceed}
+use Rattle.dbl_completeness.specs.Sessions.{IsReadFrom, IsSessionDone, IsSupportedOver, IsSupportedRun, MayStillEnd, NoneFailed, TellsTooLong, entry_in}
+
+-- ---- what it met
+
+not_faulty : (infos : List TableInfo) (reading : Reading) (number : ℕ) (error : TxnError) → IsAccepted infos reading.after reading.messages → IsTxnFault infos reading number error → ⊥
+not_faulty infos reading number error clean fault =
+    let all = subst (λ (ms : List Message). IsAccepted infos reading.after ms) fault.newest clean in
+    let wrong : None ≡ Some error = sym all.0 ∙ fault.fault in
+    cc
+
+module _ (config : Config) (now : ℤ) (old left : Contents) (begins : CanBegin config (history_at old) old.offset) (supported : IsSupportedOver config now old left)
+    (kept_stored stored : Option Offset) (kept_report report : Report) where
+  -- a later session reads behind the LSN that it found
+  not_txn : (number : ℕ) (error : TxnError) → IsOwnTxn config old left.wal number error → IsHaltAt config now old.offset stored report left.wal (halt.Txn number error) → (found : Option Offset) → old.offset ≡ found → ⊥
+  not_txn number error own halted None none =
+      let reads : IsReadFrom old.offset own.reading.after = subst (λ (o : Option Offset). IsReadFrom o own.reading.after) (sym none) tt in
+      not_faulty own.infos own.reading number error (supported.messages own.infos own.captured own.reading.after own.reading.messages own.rest reads own.front) own.fault
+  not_txn number error own halted (Some offset) is =
+      let was = halted.was in
+      let infos = was.by.offset.infos in
+      let behind = subst (λ (o : Option Offset). IsBehindOf o stored infos halted.reading.after) is was.behind in
+      let captures : Captures config (history_at old) old.offset infos = subst (λ (o : Option Offset). Captures config (history_at old) o infos) (sym is) behind.0 in
+      let reads : IsReadFrom old.offset halted.reading.after = subst (λ (o : Option Offset). IsReadFrom o halted.reading.after) (sym is) behind.1 in
+      not_faulty infos halted.reading number error (supported.messages infos captures halted.reading.after halted.reading.messages was.rest reads was.front) halted.is
+
+  never : (h : Halt) → IsOwnHalt h → IsKeptHalt config now old kept_stored kept_report left h → IsCauseOf config now old stored report left.wal h → MayStillEnd (entry_in config now old) (history_at left) (connect.Halted h)
+  never halt.Source own kept cause = absurd own
+  never halt.Sink own kept cause = absurd own
+  never halt.Offsets own kept cause = absurd own
+  never halt.Memory own kept cause = absurd own
+  never (halt.Message number error) own kept cause = absurd kept
+  never (halt.Txn number error) own kept cause = absurd (not_txn number error kept cause.0 old.offset refl)
+  never (halt.Chunk table row) own kept cause = absurd kept
+  never (halt.Cell table column error) own kept cause =
+      absurd (not_unreadable (entry_at config now (found_in old)) kept.0 (history_at left) table column error (supported.content kept.0 kept.1) kept.2)
+  never (halt.Clash table column) own kept cause =
+      let clash = kept.2 in
+      absurd (not_clash (entry_at config now (found_in old)) kept.0 kept_report (history_at left) (halt.Clash table column) clash (supported.content clash.infos clash.captured))
+  never (halt.RecordTooLong len) own kept cause =
+      let long = kept.2 in
+      long_window (entry_at config now (found_in old)) kept.0 kept_report (history_at left) (halt.RecordTooLong len) long (supported.content long.infos long.captured)
+  never (halt.OffsetTooLong len) own kept cause =
+      absurd (not_offset (entry_at config now (found_in old)) (standing_left left) (records_at left) (halt.OffsetTooLong len) supported.offsets kept)
+  never (halt.Model error) own kept cause = absurd (not_model config.tables (history_at old) (first_captures config (history_at old) old.offset cause.0 begins) error cause.1)
+  never (halt.UnknownTable table) own kept cause = absurd (not_absent config.tables (history_at old) (first_captures config (history_at old) old.offset cause.0 begins) table cause.1)
+  never (halt.Gone asked first) own kept cause = absurd kept
+  never (halt.WatermarkMissing value at) own kept cause = absurd kept
+  never (halt.Exhausted incarnation) own kept cause = absurd (not_exhausted config (history_at old) old.offset (halt.Exhausted incarnation) begins cause)
+
+outside_so : (entry : Entry) (left : History) (e : ConnectError) → IsOutside e → MayStillEnd entry left e
+outside_so entry left (connect.Failed store) outside = tt
+outside_so entry left connect.Memory outside = tt
+outside_so entry left (connect.NotAStore store at) outside = absurd outside
+outside_so entry left (connect.BadEntry store index) outside = absurd outside
+outside_so entry left connect.AlreadyStarted outside = absurd outside
+outside_so entry left connect.NotStarted outside = absurd outside
+outside_so entry left (connect.Halted h) outside = absurd outside
+
+-- ---- it could begin
+
+not_both : (asked : Asked) (all : List TableName) (offset : Option Offset) (config : Config) (e : ConnectError) → Refuses asked offset e → asks_of asked all offset ≡ Some config → ⊥
+not_both (First options) all None config e refuses asks = refuses
+not_both (First options) all (Some offset) config e refuses asks = let wrong : None ≡ Some config = asks in cc
+not_both (Again chunk every messages) all None config e refuses asks = let wrong : None ≡ Some config = asks in cc
+not_both (Again chunk every messages) all (Some offset) config e refuses asks = refuses
+
+module _ (asked : Asked) (now : ℤ) (wals logs stores : List ℕ → Type 0) (w t f : List ℕ) (run : IsSupportedRun asked now wals logs stores w t f) where
+  not_refused : (e : ConnectError) → IsKeptError asked now wals logs stores w t f e → IsRefused asked w t f e → ⊥
+  not_refused e kept (no_source (inl fault)) = subst (IsKeptError asked now wals logs stores w t f) fault.1 kept
+  not_refused e kept (no_source (inr bad)) = subst (IsKeptError asked now wals logs stores w t f) bad.1 kept
+  not_refused e kept (no_log wal is (inl fault)) = subst (IsKeptError asked now wals logs stores w t f) fault.1 kept
+  not_refused e kept (no_log wal is (inr bad)) = subst (IsKeptError asked now wals logs stores w t f) bad.1 kept
+  not_refused e kept (no_offset wal groups is log (inl fault)) = subst (IsKeptError asked now wals logs stores w t f) fault.1 kept
+  not_refused e kept (no_offset wal groups is log (inr bad)) = subst (IsKeptError asked now wals logs stores w t f) bad.1 kept
+  not_refused e kept (not_asked held read refuses) =
+      let same : run.begun.held ≡ held = disks_are_read_once w t f run.begun.held held run.begun.read read in
+      let asks : asks_in asked held ≡ Some run.begun.config = subst (λ (c : Contents). asks_in asked c ≡ Some run.begun.config) same run.begun.asks in
+      not_both asked (tables_in held.wal) held.offset run.begun.config e refuses asks
+
+  halted_so : (e : ConnectError) → IsConnectError e → IsKeptError asked now wals logs stores w t f e → HasHalted asked now wals logs w t f e → MayStillEnd (entry_in run.begun.config now run.begun.held) (history_at run.left) e
+  halted_so e kind kept halted =
+      let begun = run.begun in
+      let may = run.may in
+      let same : halted.begun.held ≡ begun.held = disks_are_read_once w t f halted.begun.held begun.held halted.begun.read begun.read in
+      let asked_so : Some halted.begun.config ≡ Some begun.config = sym halted.begun.asks ∙ ap (λ (c : Contents). asks_in asked c) same ∙ begun.asks in
+      let one : halted.begun.config ≡ begun.config = cc in
+      let told = halted.cause may.w run.left.wal may.wal may.read.source in
+      let here = subst (λ (c : Contents). IsCauseOf halted.begun.config now c halted.stored halted.report run.left.wal halted.halt) same told in
+      let cause = subst (λ (c : Config). IsCauseOf c now begun.held halted.stored halted.report run.left.wal halted.halt) one here in
+      let own = subst IsConnectError halted.is kind in
+      let halts = subst (IsKeptError asked now wals logs stores w t f) halted.is kept in
+      let kept_halt = halts begun in
+      let found = kept_halt.each may.w may.t may.f run.left may.wal may.topics may.offsets may.read in
+      subst (MayStillEnd (entry_in begun.config now begun.held) (history_at run.left)) (sym halted.is) (never begun.config now begun.held run.left run.can run.supported kept_halt.stored halted.stored kept_halt.report halted.report halted.halt own found cause)
+
+  ended : (e : ConnectError) → IsConnectError e → IsKeptError asked now wals logs stores w t f e → EndsBefore asked now wals logs w t f e → MayStillEnd (entry_in run.begun.config now run.begun.held) (history_at run.left) e
+  ended e kind kept (inl outside) = outside_so (entry_in run.begun.config now run.begun.held) (history_at run.left) e outside
+  ended e kind kept (inr (inl refused)) = absurd (not_refused e kept refused)
+  ended e kind kept (inr (inr halted)) = halted_so e kind kept halted
+
+pub supported_sessions_succeed : (wals logs new_wals new_logs new_stores : List ℕ → Type 0) → SupportedSessionsSucceed wals logs new_wals new_logs new_stores
+supported_sessions_succeed wals logs new_wals new_logs new_stores asked now w t f (Ok summary) answers kept kind run = tt
+supported_sessions_succeed wals logs new_wals new_logs new_stores asked now w t f (Err e) answers kept kind run =
+    ended asked now new_wals new_logs new_stores w t f run e kind kept.never answers.told
+
+-- ---- its status
+
+by_ending : (ending : Ending) (status : ℕ) → status ≡ ending_status ending → IsSessionDone status
+by_ending Complete status is = inl is
+by_ending Budget status is = inr (inl is)
+
+-- of a halt: it is one for what is too long
+other_halt : (entry : Entry) (left : History) (h : Halt) (status : ℕ) (before after : Option (List ℕ)) → MayStillEnd entry left (connect.Halted h) → Writes (halt_status h) (lines_text (halt_line h ∷ [])) status before after → TellsTooLong entry left status before after
+other_halt entry left (halt.OffsetTooLong len) status before after may writes = absurd may
+other_halt entry left (halt.Message number error) status before after may writes = absurd may
+other_halt entry left (halt.Txn number error) status before after may writes = absurd may
+other_halt entry left (halt.Chunk table row) status before after may writes = absurd may
+other_halt entry left (halt.Cell table column error) status before after may writes = absurd may
+other_halt entry left (halt.Clash table column) status before after may writes = absurd may
+other_halt entry left (halt.RecordTooLong len) status before after may writes = (len, may, writes)
+other_halt entry left (halt.Model error) status before after may writes = absurd may
+other_halt entry left (halt.UnknownTable table) status before after may writes = absurd may
+other_halt entry left (halt.Gone asked first) status before after may writes = absurd may
+other_halt entry left (halt.WatermarkMissing value at) status before after may writes = absurd may
+other_halt entry left (halt.Exhausted incarnation) status before after may writes = absurd may
+other_halt entry left halt.Source status before after may writes = absurd may
+other_halt entry left halt.Sink status before after may writes = absurd may
+other_halt entry left halt.Offsets status before after may writes = absurd may
+other_halt entry left halt.Memory status before after may writes = absurd may
+
+module _ (entry : Entry) (left : History) (status : ℕ) (before after : Option (List ℕ)) (none : NoneFailed status) where
+  by_error : (e : ConnectError) → MayStillEnd entry left e → Writes (connect_status e) (lines_text (connect_line e ∷ [])) status before after → IsSessionDone status ⊎ TellsTooLong entry left status before after
+  by_error e may (inr cut) = absurd (none.output cut.0)
+  by_error (connect.Failed Wal) may (inl said) = absurd (none.wal said.0)
+  by_error (connect.Failed Topics) may (inl said) = absurd (none.topics said.0)
+  by_error (connect.Failed Offsets) may (inl said) = absurd (none.offsets said.0)
+  by_error (connect.NotAStore store at) may (inl said) = absurd may
+  by_error (connect.BadEntry store index) may (inl said) = absurd may
+  by_error connect.AlreadyStarted may (inl said) = absurd may
+  by_error connect.NotStarted may (inl said) = absurd may
+  by_error (connect.Halted h) may (inl said) = inr (other_halt entry left h status before after may (inl said))
+  by_error connect.Memory may (inl said) = inl (inr (inr said.0))
+
+  by_end : (end : End) → IfErr end (MayStillEnd entry left) → SaysSession end status before after → IsSessionDone status ⊎ TellsTooLong entry left status before after
+  by_end end may (inr (inl said)) = inl (inr (inr said.0))
+  by_end end may (inr (inr cut)) = absurd (none.output cut.0)
+  by_end (Ok summary) may (inl (inl said)) = inl (by_ending summary.ending status said.0)
+  by_end (Ok summary) may (inl (inr cut)) = absurd (none.output cut.0)
+  by_end (Err e) may (inl writes) = by_error e may writes
+
+pub supported_runs_succeed : (wals logs stores new_wals new_logs new_stores : List ℕ → Type 0) → SupportedRunsSucceed wals logs stores new_wals new_logs new_stores
+supported_runs_succeed wals logs stores new_wals new_logs new_stores asked now told_wal told_topics told_offsets status before after runs kept w t f wal_is topics_is offsets_is run none =
+    let may = supported_sessions_succeed wals logs new_wals new_logs new_stores asked now w t f runs.end (runs.answers w t f wal_is topics_is offsets_is) (runs.kept kept w t f wal_is topics_is offsets_is) runs.kinds run in
+    by_end (entry_in run.begun.config now run.begun.held) (history_at run.left) status before after none runs.end may runs.says

@@ -1,0 +1,4 @@
+pub mod Sessions
+pub mod Commands
+pub mod Budgets
+pub mod Laws

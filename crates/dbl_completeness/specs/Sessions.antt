@@ -1,0 +1,102 @@
+-- When a session over kept disks must have its way: what it was asked for, what it may meet, and that no device failed. Source: own.
+use Rattle.std.specs.Prelude.{◌≡◌, ◌≢◌, ◌⊎◌, ℕ, ℤ, ◌++◌, Option, Some, None, List, [], ◌∷◌, reverse}
+use Rattle.dbl_base.specs.Lines.{lines_text}
+use Rattle.dbl_base.specs.declared.lsn.Lsn.{Lsn}
+use Rattle.dbl_pgmsg.specs.declared.messages.Message.{Message}
+use Rattle.dbl_table.specs.declared.config.Config.{Config}
+use Rattle.dbl_table.specs.declared.table.TableInfo.{TableInfo}
+use Rattle.dbl_history.specs.History.{History}
+use Rattle.dbl_commit.specs.Blocks.{IsAccepted}
+use Rattle.dbl_sound.specs.Standings.{sent}
+use Rattle.dbl_sound.specs.Wals.{Wal}
+use Rattle.dbl_saying.specs.declared.halt.Halt.TheVariants.{InputFailed, Memory as NoMemory}
+use Rattle.dbl_saying.specs.Faults.{output_failed_status, status_of}
+use Rattle.dbl_supported.specs.Supported.{CanBegin, IsLongWindow, IsSupported, OffsetsAreShort}
+use Rattle.dbl_session.specs.Entries.{Entry}
+use Rattle.dbl_offset.specs.declared.offset.Offset.{Offset}
+use Rattle.dbl_exits.specs.Sessions.{Captures}
+use Rattle.dbl_restarts.specs.Restarts.{entry_at}
+use Rattle.dbl_init.specs.declared.error.Store.TheVariants.{Wal as WalStore, Topics, Offsets}
+use Rattle.dbl_kept.specs.Causes.{standing_left}
+use Rattle.dbl_kept.specs.Contents.{Contents, ReadAs, found_in, history_at, records_at}
+use Rattle.dbl_work.specs.declared.halt.Halt.TheVariants.{RecordTooLong}
+use Rattle.dbl_session_text.specs.Halts.{halt_line}
+use Rattle.dbl_saying.specs.Says.{Writes}
+use Rattle.dbl_connector.specs.declared.asked.Asked.{Asked}
+use Rattle.dbl_connector.specs.declared.error.ConnectError.{ConnectError}
+use Rattle.dbl_connector.specs.declared.error.ConnectError.TheVariants.{Failed, Halted, Memory}
+use Rattle.dbl_connector.specs.Ends.{HasBegun}
+use Rattle.dbl_session_runs.specs.Ends.{store_status}
+
+-- ---- what it may meet
+
+-- a session that found this offset reads behind its LSN; and where none is stored, behind whichever place
+abbrev pub IsReadFrom : Option Offset → Lsn → Type 0
+IsReadFrom None after = Unit {0}
+IsReadFrom (Some offset) after = after ≡ offset.lsn
+
+-- No transaction of these tables has a fault, of those that a source's log is sent as where such a session reads.
+abbrev pub AreClean : Option Offset → List TableInfo → Wal → Type 0
+AreClean found infos wal = (after : Lsn) (newest rest : List Message) → IsReadFrom found after → sent wal after ≡ reverse newest ++ rest → IsAccepted infos after newest
+
+-- Of the tables that are captured the source's log, as a session leaves it, holds nothing that isn't supported: no transaction, no cell, no
+-- record of a commit; and no offset to what is left is too long.
+pub record IsSupportedOver (config : Config) (now : ℤ) (old left : Contents) : Type 0 where
+  pub messages : (infos : List TableInfo) → Captures config (history_at old) old.offset infos → AreClean old.offset infos left.wal
+  pub content : (infos : List TableInfo) → Captures config (history_at old) old.offset infos → IsSupported (entry_at config now (found_in old)) (history_at left) infos
+  pub offsets : OffsetsAreShort (entry_at config now (found_in old)) (standing_left left) (records_at left)
+
+-- a crash may leave bytes of the three disks that are read as this
+pub record MayBeLeft (wals logs stores : List ℕ → Type 0) (left : Contents) : Type 0 where
+  pub w : List ℕ
+  pub t : List ℕ
+  pub f : List ℕ
+  pub wal : wals w
+  pub topics : logs t
+  pub offsets : stores f
+  pub read : ReadAs w t f left
+
+-- It was asked for where no offset is stored, as `capture`, or where one is, as `resume`. Each table can be captured, or an incarnation is
+-- left. And what it leaves, by one choice of what a crash leaves of it, holds nothing that isn't supported.
+pub record IsSupportedRun (asked : Asked) (now : ℤ) (wals logs stores : List ℕ → Type 0) (w t f : List ℕ) : Type 0 where
+  pub begun : HasBegun asked w t f
+  pub can : CanBegin begun.config (history_at begun.held) begun.held.offset
+  pub left : Contents
+  pub may : MayBeLeft wals logs stores left
+  pub supported : IsSupportedOver begun.config now begun.held left
+
+-- what such a session found
+abbrev pub entry_in : Config → ℤ → Contents → Entry
+entry_in config now held = entry_at config now (found_in held)
+
+-- ---- that no device failed
+
+-- No failed device is told. By clauses `wal_failed`, `topics_failed`, `offsets_failed`, `output_failed` and `input_failed` of the program's
+-- `run` it is so where no count rose.
+pub record NoneFailed (status : ℕ) : Type 0 where
+  pub wal : status ≢ store_status WalStore
+  pub topics : status ≢ store_status Topics
+  pub offsets : status ≢ store_status Offsets
+  pub output : status ≢ output_failed_status
+  pub input : status ≢ status_of InputFailed
+
+-- ---- what it answers then
+
+-- a disk failed, or memory ran out; or a record of a window was too long
+abbrev pub MayStillEnd : Entry → History → ConnectError → Type 0
+MayStillEnd entry left (Failed store) = Unit {0}
+MayStillEnd entry left Memory = Unit {0}
+MayStillEnd entry left (Halted (RecordTooLong len)) = IsLongWindow entry left (RecordTooLong len)
+MayStillEnd entry left e = ⊥
+
+-- That is told: that a record is of so many bytes. Why no premise excludes it stands at `IsLongWindow`.
+abbrev pub TellsTooLong : Entry → History → ℕ → Option (List ℕ) → Option (List ℕ) → Type 0
+TellsTooLong entry left status before after =
+    (len : ℕ) × IsLongWindow entry left (RecordTooLong len) × Writes 6 (lines_text (halt_line (RecordTooLong len) ∷ [])) status before after
+
+abbrev pub IsDone : ℕ → Type 0
+IsDone status = (status ≡ 0) ⊎ (status ≡ status_of NoMemory)
+
+-- of a session, whose budget may be spent
+abbrev pub IsSessionDone : ℕ → Type 0
+IsSessionDone status = (status ≡ 0) ⊎ ((status ≡ 3) ⊎ (status ≡ status_of NoMemory))

@@ -1,0 +1,2 @@
+pub mod Supported
+pub mod Laws

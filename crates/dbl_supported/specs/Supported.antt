@@ -1,0 +1,107 @@
+-- What a session supports of a source's history, of what is read of it, and of the stores. Source: own; the placeholder is that of the
+-- Debezium connector manual, `unavailable.value.placeholder`.
+use Rattle.std.specs.Prelude.{◌≡◌, ℕ, ℤ, ◌<◌, ◌^◌, Contains, Option, Some, None, List, slice_get, ◌≤◌, length}
+use Rattle.std.specs.List.{AllByRecursion}
+use Rattle.dbl_value.specs.declared.value.Val.{Val}
+use Rattle.dbl_value.specs.declared.value.Val.TheVariants as val
+use Rattle.dbl_value.specs.Faults.{value_fault}
+use Rattle.dbl_record.specs.declared.record.Record.{Record}
+use Rattle.dbl_record.specs.Cuts.{joined}
+use Rattle.dbl_table.specs.declared.change.Commit.{Commit}
+use Rattle.dbl_table.specs.declared.config.Config.{Config}
+use Rattle.dbl_table.specs.declared.identity.Identity.{Identity}
+use Rattle.dbl_table.specs.declared.row.Key.{Key}
+use Rattle.dbl_table.specs.declared.table.Column.{Column}
+use Rattle.dbl_table.specs.declared.table.TableInfo.{TableInfo}
+use Rattle.dbl_history.specs.History.{History}
+use Rattle.dbl_history.specs.Typed.{typed}
+use Rattle.dbl_commit.specs.Blocks.{IsAccepted}
+use Rattle.dbl_event.specs.declared.closed.Closed.{Closed}
+use Rattle.dbl_event.specs.Clashes.{clash_of, snapshot_clash}
+use Rattle.dbl_event.specs.EventJson.{envelopes}
+use Rattle.dbl_event.specs.Snapshots.{snapshot}
+use Rattle.dbl_honest.specs.Selected.{rows_behind}
+use Rattle.dbl_honest.specs.Standings.{Reading, Standing}
+use Rattle.dbl_offset.specs.declared.offset.Offset.{Offset}
+use Rattle.dbl_offset.specs.Entries.{spelling}
+use Rattle.dbl_stores.specs.Behind.{IsOffsetOf}
+use Rattle.dbl_session.specs.Entries.{Entry}
+use Rattle.dbl_work.specs.declared.halt.Halt.{Halt}
+use Rattle.dbl_work.specs.declared.halt.Halt.TheVariants as halt
+use Rattle.dbl_work.specs.declared.report.Report.{Report}
+use Rattle.dbl_work.specs.Begins.{CanBeCaptured}
+use Rattle.dbl_work.specs.Causes.{IsLongRecord}
+use Rattle.dbl_work.specs.Works.{AreShort}
+use Rattle.dbl_exits.specs.Sessions.{IsCapturing}
+use Rattle.dbl_causes.specs.Nevers.{IsOwnClosed}
+use Rattle.dbl_causes.specs.Stored.{identity_of}
+
+-- ---- it can begin
+
+-- each table of a first session can be captured as the catalogue has it, and for a later one an incarnation is left
+abbrev pub CanBegin : Config → History → Option Offset → Type 0
+CanBegin config history None = AllByRecursion (CanBeCaptured history) config.tables
+CanBegin config history (Some offset) = offset.incarnation < 2 ^ 63
+
+-- ---- cells
+
+-- In a history a cell that spells no value of its column's type stands as its text; a text here is a value of its column.
+abbrev pub AreReadable : TableInfo → List Val → Type 0
+AreReadable info cells = (number : ℕ) (column : Column) (text : List ℕ)
+    → slice_get info.columns number ≡ Some column → slice_get cells number ≡ Some (val.Text text) → value_fault column.ty text ≡ None
+
+-- so are those of each row that a captured table has at some place of the history
+abbrev pub RowsAreReadable : List TableInfo → History → Type 0
+RowsAreReadable infos history = (place table : ℕ) (info : TableInfo) (key : Key) (cells : List Val)
+    → slice_get infos table ≡ Some info → rows_behind infos history place table key ≡ Some cells → AreReadable info cells
+
+-- ---- records
+
+-- No cell of a commit's records is the placeholder, and none of these is longer than 2^28 bytes.
+pub record CanBeSent (identity : Identity) (infos : List TableInfo) (now : ℤ) (commit : Commit) : Type 0 where
+  pub clear : clash_of identity infos commit ≡ None
+  pub short : AreShort (envelopes identity infos commit now)
+
+-- ---- what a session meets
+
+-- Of what it captures the history has no commit, and no chunk, with content that isn't supported: each cell can be read; the records of each
+-- commit can be sent; and in no window that is right there a cell is the placeholder.
+pub record IsSupported (entry : Entry) (history : History) (infos : List TableInfo) : Type 0 where
+  pub cells : RowsAreReadable infos history
+  pub commits : (commit : Commit) → Contains (typed infos history) commit → CanBeSent (identity_of entry) infos entry.now commit
+  pub windows : (offset : Offset) (report : Report) (place : ℕ) (closed : Closed) → IsOwnClosed infos offset report history place closed
+      → snapshot_clash (identity_of entry) infos closed ≡ None
+
+-- none of the messages that were read has a fault, whatever is said of their content
+abbrev pub IsClean : List TableInfo → Option Reading → Type 0
+IsClean infos read = (reading : Reading) → read ≡ Some reading → IsAccepted infos reading.after reading.messages
+
+-- none of the offsets that may be stored behind these records is longer than 2^28 bytes
+abbrev pub OffsetsAreShort : Entry → Standing → List Record → Type 0
+OffsetsAreShort entry t records = (offset : Offset) → offset.identity ≡ identity_of entry → IsCapturing entry offset.infos
+    → IsOffsetOf t.history t.confirmed records offset → length (spelling offset) ≤ 2 ^ 28
+
+-- What a session has met where it ends: what its source stands for then, and what its sink has.
+pub record HasMetSupported (entry : Entry) (stands : Standing → Type 0) (holds : List (List Record) → Type 0) : Type 0 where
+  pub messages : (t : Standing) (infos : List TableInfo) → stands t → IsCapturing entry infos → IsClean infos t.reading
+  pub content : (t : Standing) (infos : List TableInfo) → stands t → IsCapturing entry infos → IsSupported entry t.history infos
+  pub offsets : (t : Standing) (groups : List (List Record)) → stands t → holds groups → OffsetsAreShort entry t (joined groups)
+
+-- ---- halts
+
+-- A window of the history is closed so, one of whose records is too long. Its clause (`IsOwnClosed`) ties the rows to the history, and not the
+-- key up to which it was read, which stands in the last record: so that each history with a high mark has such a window.
+abbrev pub IsLongWindow : Entry → History → Halt → Type 0
+IsLongWindow entry history h = (infos : List TableInfo) × (offset : Offset) × (report : Report) × (place : ℕ) × (closed : Closed) × (commit : Commit)
+    × IsOwnClosed infos offset report history place closed × (slice_get (typed infos history) place ≡ Some commit)
+    × IsLongRecord (snapshot (identity_of entry) infos closed commit entry.now) h
+
+-- A call of the source, the sink or the store failed, or memory ran out. And a record of a window was too long: by its clause that can't be
+-- excluded yet.
+abbrev pub MayStillHalt : Entry → (Standing → Type 0) → Halt → Type 0
+MayStillHalt entry stands halt.Source = Unit {0}
+MayStillHalt entry stands halt.Sink = Unit {0}
+MayStillHalt entry stands halt.Offsets = Unit {0}
+MayStillHalt entry stands halt.Memory = Unit {0}
+MayStillHalt entry stands (halt.RecordTooLong len) = (t : Standing) × stands t × IsLongWindow entry t.history (halt.RecordTooLong len)
+MayStillHalt entry stands h = ⊥

@@ -1,0 +1,17 @@
+//! Laws of what a session supports. The functions do nothing: their contracts are the laws.
+
+ghost use Rattle.dbl_supported.specs.Laws.{FaithfulSessionsEnd, SupportedSessionsEnd};
+
+use dbl_source::Source;
+use dbl_topic::Sink;
+
+/// Where a session could begin, and what it met is supported, it ends as it should, unless a device failed, memory ran out,
+/// or a record of a window was too long.
+pub fn supported_sessions_end<S: Source, K: Sink>()
+    ensures { SupportedSessionsEnd S.stands K.holds }
+{}
+
+/// So does one over an honest source and faithful stores, by the clauses of its contract.
+pub fn faithful_sessions_end<S: Source, K: Sink>()
+    ensures { FaithfulSessionsEnd S.stands K.holds }
+{}

@@ -46,8 +46,8 @@ use Rattle.dbl_kept.specs.Tables.{whole_history}
 use Rattle.dbl_kept.proofs.KeptLaws.{disks_are_read_once}
 use Rattle.dbl_connector.specs.declared.asked.Asked.TheVariants.{First}
 use Rattle.dbl_cli.specs.declared.commands.Command.TheVariants.{Capture}
-use Rattle.dbl_connector.specs.Asked.{asks_of, config_of, tables_in}
-use Rattle.dbl_program.specs.Sessions.{IsCompleteRun, asks_by}
+use Rattle.dbl_connector.specs.Asked.{asks_in, asks_of, config_of, tables_in}
+use Rattle.dbl_program.specs.Sessions.{IsCompleteRun}
 use Rattle.dbl_connector.specs.declared.connected.Summary.{Summary}
 use Rattle.dbl_connector.specs.Ends.{AddsFew, End, HasBegun, HasRun, IsReported, IsSpent}
 use Rattle.dbl_session_runs.specs.Runs.{Answers, AnswersKept}
@@ -123,9 +123,9 @@ few_windows options held left pairs none clean cover (inr (infos, captures, few)
 
 -- ---- the session's end
 
-module _ (options : CaptureOptions) (now : ℤ) (told_wal told_topics told_offsets : Option (List ℕ)) (wals logs stores new_wals new_logs new_stores : List ℕ → Type 0) (status : ℕ)
+module _ (options : CaptureOptions) (now : ℤ) (told_wal told_topics told_offsets : Option (List ℕ)) (wals logs stores new_wals new_logs new_stores : List ℕ → Type 0) (complete : Type 0)
     (kept : AreKept told_wal told_topics told_offsets wals logs stores)
-    (headline : (w t f : List ℕ) → new_wals w → new_logs t → new_stores f → IsPromisedOf (IsCompleteRun (Capture options) status) (asks_by (Capture options)) wals logs stores w t f)
+    (headline : (w t f : List ℕ) → new_wals w → new_logs t → new_stores f → IsPromisedOf complete (asks_in (First options)) wals logs stores w t f)
     (w t f : List ℕ) (first : AreUnstarted wals logs stores w t f) (left : Contents) (may : MayBeLeft new_wals new_logs new_stores left)
     (held : Contents) (read : ReadAs w t f held) (pairs : List (ℕ × Key)) (cover : CoverWhole options held pairs) where
   none : held.offset ≡ None
@@ -187,7 +187,7 @@ module _ (options : CaptureOptions) (now : ℤ) (told_wal told_topics told_offse
       let one : came.old.wal.workload ≡ left.wal.workload = one_workload came.old.wal.script came.old.wal.workload left.wal.workload came.read.source.are.workload script in
       subst (λ (x : Workload). length (log_at x 0) ≤ commits_upto offset.start) one (behind_rows came.wal config came.old left offset came.read.source empty stored goes)
 
-  few_read : (summary : Summary) → HasRun (First options) now new_wals new_logs w t f summary → IsReported (First options) now new_wals new_logs new_stores w t f summary
+  pub few_read : (summary : Summary) → HasRun (First options) now new_wals new_logs w t f summary → IsReported (First options) now new_wals new_logs new_stores w t f summary
       → AddsFew (First options) wals new_wals w t f → summary.report.messages ≤ most_messages 1 held.wal.workload (most_windows options held (length pairs))
   few_read summary run reported adds =
       let same = workload_is summary run in
@@ -212,7 +212,7 @@ module _ (options : CaptureOptions) (now : ℤ) (told_wal told_topics told_offse
   reads_few (Ok summary) answers answers_kept = few_read summary answers.told answers_kept.report answers.marks
   reads_few (Err e) answers answers_kept = tt
 
-not_spent : (budget most : ℕ) (end : End) → HasSpent end → IfOk end (λ summary. summary.report.messages ≤ most) → IfOk end (IsSpent budget) → most < budget → ⊥
+pub not_spent : (budget most : ℕ) (end : End) → HasSpent end → IfOk end (λ summary. summary.report.messages ≤ most) → IfOk end (IsSpent budget) → most < budget → ⊥
 not_spent budget most (Ok summary) spent few counts less =
     let many = counts.spent spent in
     omega (arith, few, many, less)
@@ -222,7 +222,7 @@ pub generous_budgets_suffice : (wals logs stores new_wals new_logs new_stores : 
 generous_budgets_suffice wals logs stores new_wals new_logs new_stores options now told_wal told_topics told_offsets status before after runs kept headline w t f wal_is topics_is offsets_is first left may held read pairs cover =
     let answers = runs.answers w t f wal_is topics_is offsets_is in
     let answers_kept = runs.kept kept w t f wal_is topics_is offsets_is in
-    let few = reads_few options now told_wal told_topics told_offsets wals logs stores new_wals new_logs new_stores status kept headline w t f first left may held read pairs cover runs.end answers answers_kept in
+    let few = reads_few options now told_wal told_topics told_offsets wals logs stores new_wals new_logs new_stores (IsCompleteRun (Capture options) status) kept headline w t f first left may held read pairs cover runs.end answers answers_kept in
     record {
       few = few;
       unspent = λ less three. not_spent options.messages (most_messages 1 held.wal.workload (most_windows options held (length pairs))) runs.end (spent_end runs.end status before after runs.says three) few runs.spent less;

@@ -8,3 +8,4 @@ pub mod WholeRows
 pub mod BudgetLaws
 pub mod Growing
 pub mod AgainLaws
+pub mod MadeLaws

@@ -1,6 +1,6 @@
 //! Laws of when a run must succeed. The functions do nothing: their contracts are the laws.
 
-ghost use Rattle.dbl_completeness.specs.Budgets.{FewMessagesAreSent, GenerousBudgetsSuffice, GenerousBudgetsSufficeAgain, SentMessagesAreFew};
+ghost use Rattle.dbl_completeness.specs.Budgets.{FewMessagesAreSent, GeneratedBudgetsSuffice, GenerousBudgetsSuffice, GenerousBudgetsSufficeAgain, SentMessagesAreFew};
 ghost use Rattle.dbl_completeness.specs.Laws.{GeneratedInitsSucceed, GeneratedStatusesTellBudgets, OtherRunsSucceed, PrintedWorkloadsSucceed, StatusesTellBudgets, SupportedGeneratedRunsSucceed, SupportedRunsSucceed, SupportedSessionsSucceed};
 
 use dbl_disk::Disk;
@@ -76,4 +76,10 @@ pub fn generous_budgets_suffice_again<W: Disk, T: Disk, F: Disk>()
     ensures { (wal new_wal : W) (topics new_topics : T) (offsets new_offsets : F) →
         GenerousBudgetsSufficeAgain 1 (W.may_leave wal) (T.may_leave topics) (F.may_leave offsets)
         (W.may_leave new_wal) (T.may_leave new_topics) (F.may_leave new_offsets) }
+{}
+
+/// So does the capture of `gen --run`.
+pub fn generated_budgets_suffice<W: Disk, T: Disk, F: Disk>()
+    ensures { GeneratedBudgetsSuffice 1
+        W.seen W.may_leave T.seen T.may_leave F.seen F.may_leave }
 {}

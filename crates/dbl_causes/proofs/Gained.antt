@@ -35,7 +35,8 @@ use Rattle.dbl_work.specs.declared.work.Work.{Work}
 use Rattle.dbl_work.specs.Groups.{counted, report_with}
 use Rattle.dbl_work.specs.Takes.{IsListed}
 use Rattle.dbl_work.specs.Works.{IsOwnChunk, IsOwnWaiting}
-use Rattle.dbl_work.proofs.KindLemmas.{IsOfKind, chunks_so, closing_none, kinds_by, kinds_taken, rows_so}
+use Rattle.dbl_follow.proofs.SnapshotSteps.{closing-None}
+use Rattle.dbl_exits.proofs.KindLemmas.{IsOfKind, chunks_so, kinds_by, kinds_taken, rows_so}
 use Rattle.dbl_causes.specs.Gained.{AreCounted, AreRising, AreSent, CommitsAreSent, IsSentFor, Making, PutsAreCounted, making_of}
 
 -- ---- numbers
@@ -116,7 +117,7 @@ module _ (old : Work) (commit : Commit) where
         opens false text = none_closes (here ∙ ap (λ (b : Bool). if b then Some chunk else None) text)
 
     pub is_sent : (body : Body) → commit.body ≡ body → IsSentFor by commit (records_by old.follower commit old.now_ms)
-    is_sent (Changes changes) is = none_closes (ap (λ (b : Body). closing old.follower.window (mark_in b)) is ∙ closing_none old.follower.window)
+    is_sent (Changes changes) is = none_closes (ap (λ (b : Body). closing old.follower.window (mark_in b)) is ∙ closing-None old.follower.window)
     is_sent (Mark value) is = by_mark value is old.follower.window refl
 
   -- it stands at the commit

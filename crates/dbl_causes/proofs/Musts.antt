@@ -30,7 +30,7 @@ use Rattle.dbl_work.specs.declared.work.Work.{Work}
 use Rattle.dbl_work.specs.Causes.{IsLongRecord}
 use Rattle.dbl_work.specs.Takes.{IsClashIn, IsTxnHalt, WasTaken}
 use Rattle.dbl_work.specs.Works.{CouldBeSent, IsWork}
-use Rattle.dbl_work.proofs.KindLemmas.{closing_none}
+use Rattle.dbl_follow.proofs.SnapshotSteps.{closing-None}
 use Rattle.dbl_causes.specs.Halted.{EndsCommit, IsTxnFault}
 use Rattle.dbl_causes.specs.Musts.{HaltsAtRecord, HaltsWith, MustHaltBy}
 use Rattle.dbl_causes.specs.Underway.{IsNewestHalt, IsOfFirst, NewestMessagesHalt, TakenMessagesAskNothing}
@@ -66,11 +66,11 @@ some_none x is = cc
 
 own_clash : (f : Following) (commit : Commit) (changes : List Change) → commit.body ≡ Changes changes → clash_by f commit ≡ clash_of f.identity f.infos commit
 own_clash f commit changes body =
-    ap (λ (b : Body). clash_in f (closing f.window (mark_in b)) commit) body ∙ ap (λ (o : Option Chunk). clash_in f o commit) (closing_none f.window)
+    ap (λ (b : Body). clash_in f (closing f.window (mark_in b)) commit) body ∙ ap (λ (o : Option Chunk). clash_in f o commit) (closing-None f.window)
 
 own_records : (f : Following) (commit : Commit) (changes : List Change) (now : ℤ) → commit.body ≡ Changes changes → records_by f commit now ≡ envelopes f.identity f.infos commit now
 own_records f commit changes now body =
-    ap (λ (b : Body). records_of f (closing f.window (mark_in b)) commit now) body ∙ ap (λ (o : Option Chunk). records_of f o commit now) (closing_none f.window)
+    ap (λ (b : Body). records_of f (closing f.window (mark_in b)) commit now) body ∙ ap (λ (o : Option Chunk). records_of f o commit now) (closing-None f.window)
 
 module _ (config : Config) (now : ℤ) (held : Option Offset) (first stored : Offset) (work : Work) (ms : List Message) (o : IsOfFirst config now held first stored work) (is : IsWork first.lsn ms work) where
   infos : work.offset.infos ≡ stored.infos

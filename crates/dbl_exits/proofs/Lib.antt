@@ -1,3 +1,4 @@
+pub mod KindLemmas
 pub mod Rising
 pub mod Fewer
 pub mod Keeping

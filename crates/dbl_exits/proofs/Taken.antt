@@ -36,7 +36,7 @@ use Rattle.dbl_work.specs.Works.{AreShort, CouldBeSent, EndsAt, IsOwnWaiting, Is
 use Rattle.dbl_exits.specs.Turns.{IsNextOf}
 use Rattle.dbl_exits.proofs.Rising.{accepted_rise, lsn_stays, lsn_moves}
 use Rattle.dbl_exits.proofs.Fewer.{left_fewer}
-use Rattle.dbl_work.proofs.KindLemmas.{closing_none}
+use Rattle.dbl_follow.proofs.SnapshotSteps.{closing-None}
 
 le_lt : (a b c : ℕ) → a ≤ b → b < c → a ≤ c
 le_lt a b c le lt = omega (arith, le, lt)
@@ -121,11 +121,11 @@ module _ (after : Lsn) (ms : List Message) (work : Work) (is : IsWork after ms w
           by (Changes changes) body = (
             subst (λ (i : Identity). clash_of i work.offset.infos commit ≡ None) is.identity
                 (subst (λ (l : List TableInfo). clash_of work.follower.identity l commit ≡ None) is.infos
-                (subst (λ (o : Option Chunk). clash_in work.follower o commit ≡ None) (closing_none work.follower.window)
+                (subst (λ (o : Option Chunk). clash_in work.follower o commit ≡ None) (closing-None work.follower.window)
                 (subst (λ (x : Body). clash_in work.follower (closing work.follower.window (mark_in x)) commit ≡ None) body no_clash))),
             subst (λ (i : Identity). AreShort (envelopes i work.offset.infos commit work.now_ms)) is.identity
                 (subst (λ (l : List TableInfo). AreShort (envelopes work.follower.identity l commit work.now_ms)) is.infos
-                (subst (λ (o : Option Chunk). AreShort (records_of work.follower o commit work.now_ms)) (closing_none work.follower.window)
+                (subst (λ (o : Option Chunk). AreShort (records_of work.follower o commit work.now_ms)) (closing-None work.follower.window)
                 (subst (λ (x : Body). AreShort (records_of work.follower (closing work.follower.window (mark_in x)) commit work.now_ms)) body short))),
           )
           by (Mark value) body = tt

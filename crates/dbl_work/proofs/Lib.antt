@@ -9,4 +9,3 @@ pub mod Looking
 pub mod Taking
 pub mod Following
 pub mod Working
-pub mod KindLemmas

@@ -40,7 +40,7 @@ use Rattle.dbl_work.specs.Groups.{HasLastsAtItsEnd, IsLeftByCut, WerePut, report
 use Rattle.dbl_work.specs.Takes.{IsLeftByStep, IsListed, ReportsStep, WasTaken}
 use Rattle.dbl_work.specs.Works.{AreShort, IsWork}
 use Rattle.dbl_work.proofs.Puts.{report_none}
-use Rattle.dbl_work.proofs.KindLemmas.{closing_none}
+use Rattle.dbl_follow.proofs.SnapshotSteps.{closing-None}
 
 -- ---- a message
 
@@ -190,7 +190,7 @@ pub none_by_changes : (work : Work) (commit : Commit) → is_some (mark_of commi
 none_by_changes work commit none = by (mark_of commit) none
   where
     by : (o : Option (List ℕ)) → is_some o ≡ false → is_some (closing work.follower.window o) ≡ false
-    by None none = ap (λ (c : Option Chunk). is_some c) (closing_none work.follower.window)
+    by None none = ap (λ (c : Option Chunk). is_some c) (closing-None work.follower.window)
     by (Some value) none = cc
 
 -- ---- what a report has behind a step

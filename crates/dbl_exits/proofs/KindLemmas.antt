@@ -24,18 +24,11 @@ use Rattle.dbl_faithful.specs.Kinds.{is_change, is_row}
 use Rattle.dbl_faithful.proofs.RecordKinds.{events_are_changes, progress_is_neither, read_rows_are_rows, rows_are_no_changes}
 use Rattle.dbl_faithful.proofs.RightSnapshots.{rows_in_range}
 use Rattle.dbl_window.specs.Plans.{Chunk}
-use Rattle.dbl_follow.specs.declared.window.Window.{Window}
-use Rattle.dbl_follow.specs.declared.window.Window.TheVariants.{Absent, Armed, Open}
 use Rattle.dbl_follow.specs.Followed.{Following}
 use Rattle.dbl_follow.specs.Steps.{closed_of, closing, mark_in, mark_of, records_by, records_of}
+use Rattle.dbl_follow.proofs.SnapshotSteps.{closing-None}
 use Rattle.dbl_session.specs.Reports.{chunks_in, rows_in}
 use Rattle.dbl_work.specs.Groups.{chunks_of, lasts, rows_of}
-
--- changes close no window
-pub closing_none : (window : Window) → closing window None ≡ None
-closing_none Absent = refl
-closing_none (Armed chunk) = refl
-closing_none (Open chunk) = refl
 
 -- ---- kinds
 
@@ -154,7 +147,7 @@ kinds_by f commit now range moment listed = by commit.body refl (closing f.windo
     by : (b : Body) → commit.body ≡ b → (o : Option Chunk) → closing f.window (mark_of commit) ≡ o → AllByRecursion (IsOfKind (is_some (mark_in b))) (records_of f o commit now)
     by (Changes changes) body None is = own
     by (Changes changes) body (Some chunk) is =
-        let nothing : closing f.window (mark_of commit) ≡ None = ap (λ (b : Body). closing f.window (mark_in b)) body ∙ closing_none f.window in
+        let nothing : closing f.window (mark_of commit) ≡ None = ap (λ (b : Body). closing f.window (mark_in b)) body ∙ closing-None f.window in
         let wrong : None ≡ Some chunk = sym nothing ∙ is in
         cc
     by (Mark value) body None is = none value body

@@ -10,12 +10,12 @@ ghost use Rattle.dbl_honest.specs.Standings.{Leads, Left, Standing, Stood};
 ghost use Rattle.dbl_honest.specs.Told.{Head, IsTakenBy, Tells, Told};
 ghost use Rattle.dbl_offset.specs.declared.offset.Offset.{Offset as SpecOffset};
 ghost use Rattle.dbl_offset.specs.Offsets.{IsOffset};
-ghost use Rattle.dbl_offset.specs.Stores.{ComesOf, Holds, IsLive, disk_of};
+ghost use Rattle.dbl_offset.specs.Stores.{ComesOf, IsLive, disk_of};
 ghost use Rattle.dbl_session.specs.Entries.{Entry as SpecEntry, HadOwnTables, IsKeptBehind, WasFaithful};
 ghost use Rattle.dbl_work.specs.Begins.{IsAbsentHalt, IsExhausted, IsOffsetFor, MayRest};
 ghost use Rattle.dbl_work.specs.Works.{IsBegun};
-ghost use Rattle.dbl_exits.specs.Ends.{AreAllDone, IsAtPosition, LeavesComplete};
-ghost use Rattle.dbl_exits.specs.Found.{BeganAt, BeginsAt, Found, HasStored, IsAsked, IsEntryOf, IsFound, entry_at, position_of};
+ghost use Rattle.dbl_exits.specs.Ends.{AreAllDone, IsAtPosition, LeavesComplete, StaysHeld};
+ghost use Rattle.dbl_exits.specs.Found.{BeganAt, BeginsAt, Found, HasStored, IsAsked, IsEntryOf, IsFirstAtHead, IsFirstStored, IsFound, entry_at, position_of};
 ghost use Rattle.dbl_exits.specs.Sessions.{AddsFew, InSession, LeavesBy, LeavesGoing};
 ghost use Rattle.dbl_causes.specs.Gained.{Gains, IsReported};
 ghost use Rattle.dbl_causes.specs.Halted.{IsHalt};
@@ -27,7 +27,7 @@ ghost use Rattle.dbl_causes.specs.Nevers.{IsFaithfulHalt, IsHonestHalt};
 ghost use Rattle.dbl_causes.specs.Sources.{IsUnderWay};
 ghost use Rattle.dbl_steps.specs.Caused.{AsksUnread, Halts, IsNotGone};
 ghost use Rattle.dbl_steps.specs.Awaited.{Awaits, IsWithin, IsWithinLog};
-ghost use Rattle.dbl_steps.specs.Stood.{IsHaltStanding, IsShort, IsShortOr};
+ghost use Rattle.dbl_steps.specs.Stood.{IsGoneBelow, IsHaltStanding, IsShort, IsShortOr};
 ghost use Rattle.dbl_steps.specs.Captured.{CapturesOrHalts, MustHaltAbsent};
 ghost use Rattle.dbl_causes.specs.Underway.{IsBeginHalt};
 ghost use Rattle.dbl_causes.specs.Written.{AddsAtMost, AddsExactly, marks_more};
@@ -91,7 +91,8 @@ fn offset_of<S: Source, D: Disk>(
         (S.told src.new)) }
     ensures free { IfErr result IsContentFree }
     ensures first { (s : Standing) → S.stands src.old s → store.now.offset ≡ None →
-        IfOk result (IsFirstByCatalogue config.now s.history) }
+        IfOk result (λ offset. IsFirstByCatalogue config.now s.history offset
+        × IsFirstAtHead config.now s.history offset) }
 {
     match again(alloc, store)? {
         Some(offset) => Ok(offset),
@@ -123,6 +124,7 @@ fn begun<S: Source, K: Sink, D: Disk>(
         OnErr result (LeavesBy tell S.may_leave K.may_leave D.may_leave entry
         src.new sink.now store.new) }
     ensures loads { IfOk result (λ offset. store.new.offset ≡ Some offset) }
+    ensures held { StaysHeld D.seen D.may_leave store.old store.new result }
     ensures offset { IfOk result IsOffset }
     ensures of { IfOk result (IsOffsetFor config.now store.old.offset) }
     ensures keeps { OnErr result (store.new.offset ≡ store.old.offset) }
@@ -145,6 +147,8 @@ fn begun<S: Source, K: Sink, D: Disk>(
         CapturesOrHalts config.now s.history result }
     ensures captured { (s : Standing) → S.stands src.old s →
         CapturesAll config.now store.old.offset store.new.offset s.history }
+    ensures first { (s : Standing) → S.stands src.old s → store.old.offset ≡ None →
+        IfOk result (IsFirstAtHead config.now s.history) }
     ensures exhausted { (h : _) → IsExhausted store.old.offset h → result ≡ Err h }
     ensures standing { (s : Standing) → S.stands src.old s →
         IfErr result (IsShortOr (S.stands src.new)) }
@@ -202,6 +206,7 @@ fn opened<S: Source, K: Sink, D: Disk>(
         × IsBegun offset now_ms config.now.chunk config.now.every work
         × IsOffsetFor config.now store.old.offset offset) }
     ensures at { OnOk result (IsAtPosition store.new.offset report.new) }
+    ensures held { StaysHeld D.seen D.may_leave store.old store.new result }
     ensures stored { OnErr result ((store.new.offset ≡ store.old.offset)
         ⊎ HasStored config.now store.old.offset store.new.offset) }
     ensures position { report.old.position ≡ 0 →
@@ -213,8 +218,12 @@ fn opened<S: Source, K: Sink, D: Disk>(
         CapturesOrHalts config.now s.history result }
     ensures captured { (s : Standing) → S.stands src.old s →
         CapturesAll config.now store.old.offset store.new.offset s.history }
+    ensures firsts { (s : Standing) → S.stands src.old s →
+        IsFirstStored config.now s.history store.old.offset store.new.offset }
     ensures gone { (s : Standing) → S.stands src.old s →
         IsKeptBehind s.confirmed store.old.offset → IfErr result IsNotGone }
+    ensures gone_stood { (s : Standing) → S.stands src.old s →
+        IfErr result (IsGoneBelow s.confirmed) }
     ensures report { (report.new.messages ≡ report.old.messages) ×
         (report.new.commits ≡ report.old.commits) }
     ensures reading { OnOk result (IsTrue (S.is_reading src.new)) }
@@ -259,8 +268,8 @@ fn opened<S: Source, K: Sink, D: Disk>(
     ensures awaits { (s : Standing) → S.stands src.old s →
         IsWithinLog s.history store.old.offset →
         IfOk result (λ work. Awaits S.stands work src.new) }
-    ensures unmarked { (s : Standing) (left : Left) → S.stands src.old s → S.may_leave src.new left →
-        marks_in left.history.commits ≡ marks_in s.history.commits }
+    ensures unmarked { (s : Standing) (left : Left) → S.stands src.old s →
+        S.may_leave src.new left → marks_in left.history.commits ≡ marks_in s.history.commits }
     ensures long { (s : Standing) → S.stands src.old s → store.old.offset ≡ None →
         IfErr result (IsLongBy config.now s.history) }
     ensures content { (entry : SpecEntry) → entry.config ≡ config.now →
@@ -310,12 +319,8 @@ pub fn session<S: Source, K: Sink, D: Disk>(
         HadOwnTables entry → result ≡ Ok Ending.Complete →
         LeavesComplete S.may_leave K.may_leave D.may_leave entry src.new sink.new offsets.new }
 
-    // Behind an ending the disk has what the store answers.
-    ensures holds { (entry : SpecEntry) → IsEntryOf config.now now_ms entry →
-        Found S.stands K.holds D.seen D.may_leave entry src.old sink.old offsets.old →
-        S.honest src.new →
-        HadOwnTables entry →
-        OnOk result (Holds D.seen D.may_leave offsets.new offsets.new.offset) }
+    // Whatever the source and the sink do: unless its disk failed, the store holds what it answers.
+    ensures holds { StaysHeld D.seen D.may_leave offsets.old offsets.new result }
 
     // The marks that it adds, by what the source stands for and the stored offset alone.
     ensures marks { (s : Standing) → S.stands src.old s → S.honest src.new →
@@ -339,6 +344,8 @@ pub fn session<S: Source, K: Sink, D: Disk>(
     // What it stores, and where it ends, of every source, sink and disk.
     ensures stores { (offsets.new.offset ≡ offsets.old.offset)
         ⊎ HasStored config.now offsets.old.offset offsets.new.offset }
+    ensures firsts { (s : Standing) → S.stands src.old s →
+        IsFirstStored config.now s.history offsets.old.offset offsets.new.offset }
     ensures done { result ≡ Ok Ending.Complete → (offset : SpecOffset) ×
         (offsets.new.offset ≡ Some offset)
         × AreAllDone offset.cursors × (report.new.messages < config.now.messages) }
@@ -375,6 +382,8 @@ pub fn session<S: Source, K: Sink, D: Disk>(
     ensures gone { (s : Standing) → S.stands src.old s →
         IsKeptBehind s.confirmed offsets.old.offset →
         (asked first : _) → result ≢ Err (Halt.Gone asked first) }
+    ensures gone_stood { (s : Standing) → S.stands src.old s →
+        IfErr result (IsGoneBelow s.confirmed) }
     ensures missing { (s : Standing) → S.stands src.old s → S.honest src.new →
         IsWithinLog s.history offsets.old.offset →
         (value at : _) → result ≢ Err (Halt.WatermarkMissing value at) }
@@ -399,6 +408,8 @@ pub fn session<S: Source, K: Sink, D: Disk>(
     ensures grouped { (groups left : List (List SpecRecord)) → K.holds sink.old groups →
         K.may_leave sink.new left →
         Gains config.now now_ms offsets.old.offset offsets.new.offset groups left }
+    ensures ungained { (groups left : List (List SpecRecord)) → K.holds sink.old groups →
+        K.may_leave sink.new left → offsets.new.offset ≡ offsets.old.offset → left ≡ groups }
     ensures counted { (groups : List (List SpecRecord)) → K.holds sink.old groups →
         IsReported K.holds K.may_leave groups result sink.new report.new }
 
@@ -412,8 +423,8 @@ pub fn session<S: Source, K: Sink, D: Disk>(
         IsTalliedBehind K.holds groups config.now now_ms offsets.old.offset offsets.new.offset
         report.new t sink.new result }
 
-    // Where it has to halt for what it found, for a table that can't be captured, and for the newest
-    // message, by what the source told, and stands for.
+    // Where it has to halt for what it found, for a table that can't be captured, and for the
+    // newest message, by what the source told, and stands for.
     ensures exhausted { MustExhaust offsets.old.offset result }
     ensures must_absent { (s : Standing) → S.stands src.old s →
         MustHaltAbsent config.now s.history offsets.old.offset result }

@@ -20,6 +20,7 @@ use Rattle.dbl_offset.specs.Stores.{StoreOn, Holds, LeavesOffset, disk_of}
 use Rattle.dbl_faithful.proofs.Items.{at_left, at_take, at_all, all_by_place, mapped, map_get, taken_at}
 use Rattle.dbl_stores.specs.Behind.{IsUnread}
 use Rattle.dbl_stores.specs.Kept.{IsTakenOver}
+use Rattle.dbl_stores.specs.Onward.{IsFirstOffset}
 use Rattle.dbl_stores.specs.Stores.{IsCommitAt, IsPositionOf}
 use Rattle.dbl_stores.proofs.Lists.{longer, is_longer}
 use Rattle.dbl_window.proofs.HonestLemmas.{captured_stays}
@@ -32,7 +33,7 @@ use Rattle.dbl_session.proofs.Growing.{first_longer}
 use Rattle.dbl_session.proofs.Starting.{sessions_begin}
 use Rattle.dbl_work.specs.declared.work.Work.{Work}
 use Rattle.dbl_work.specs.Begins.{IsAgain, IsFirst, IsOffsetFor}
-use Rattle.dbl_exits.specs.Found.{BeganAt, BeginsAt}
+use Rattle.dbl_exits.specs.Found.{BeganAt, BeginsAt, IsFirstAtHead}
 use Rattle.dbl_exits.specs.Sessions.{InSession, AddsFew, LeavesBy}
 use Rattle.dbl_work.specs.Works as works
 use Rattle.dbl_exits.proofs.Keeping.{held_left, left_weaker}
@@ -109,22 +110,25 @@ unread_zip (i ∷ infos) [] same all = absurd (no_length (length infos) same)
 unread_zip (i ∷ infos) (c ∷ cursors) same all = (all.0, unread_zip infos cursors (one_less (length cursors) (length infos) same) all.1)
 
 -- what is made at a head is a first offset
-pub first_is : (entry : Entry) (old new : History) (infos : List TableInfo) (head : Lsn) (first : Offset) (s t : Standing) → s.history ≡ old → t.history ≡ new → old ≡ entry.history → Grows old new → IsRising new → IsFirst entry.config infos head first
-    → map (λ info. info.name) infos ≡ entry.config.tables → IsHead head s t → IsFirstOf entry new first None
-first_is entry old new infos head first s t s_is t_is old_is g rise is names at =
-    let place : head ≡ head_of (take at.place new.commits) = at.is ∙ ap (λ (h : History). head_of (take at.place h.commits)) t_is in
-    let before : length old.commits ≤ at.place = subst (λ (h : History). length h.commits ≤ at.place) s_is at.not_before in (
-      record {
-        identity = is.identity;
-        tables = ap (map (λ (info : TableInfo). info.name)) is.infos_are ∙ names;
-        start = subst (λ (l : Lsn). IsPositionOf new l.0) (sym is.start) (head_position new head at.place place);
-        not_before = subst (λ (l : Lsn). AllByRecursion (λ (commit : RawCommit). commit.lsn.0 ≤ l.0) entry.history.commits) (sym is.start)
-            (subst (λ (h : History). AllByRecursion (λ (commit : RawCommit). commit.lsn.0 ≤ head.0) h.commits) old_is (head_not_before old new head at.place g rise before place));
-        incarnation = is.incarnation;
-      },
-      is.lsn ∙ sym is.start,
-      unread_zip first.infos first.cursors (is.cursors.many ∙ ap length (sym is.infos_are)) is.cursors.each,
-    )
+first_offset : (config : Config) (infos : List TableInfo) (head : Lsn) (first : Offset) (s t : Standing) → Grows s.history t.history → IsRising t.history → IsFirst config infos head first
+    → map (λ info. info.name) infos ≡ config.tables → IsHead head s t → IsFirstOffset config s.history t.history first
+first_offset config infos head first s t g rise is names at = record {
+  identity = is.identity;
+  tables = ap (map (λ (info : TableInfo). info.name)) is.infos_are ∙ names;
+  start = subst (λ (l : Lsn). IsPositionOf t.history l.0) (sym is.start) (head_position t.history head at.place at.is);
+  not_before = subst (λ (l : Lsn). AllByRecursion (λ (commit : RawCommit). commit.lsn.0 ≤ l.0) s.history.commits) (sym is.start)
+      (head_not_before s.history t.history head at.place g rise at.not_before at.is);
+  incarnation = is.incarnation;
+}
+
+pub first_at_head : (config : Config) (infos : List TableInfo) (head : Lsn) (first : Offset) (s t : Standing) → Moved s t → IsRising t.history → IsFirst config infos head first
+    → map (λ info. info.name) infos ≡ config.tables → AreInfosOf t.history infos → IsHead head s t → IsFirstAtHead config s.history first
+first_at_head config infos head first s t moved rise is names are at = record {
+  later = t.history;
+  grown = moved.grows;
+  infos = subst (AreInfosOf t.history) (sym is.infos_are) are;
+  is = first_offset config infos head first s t moved.grows rise is names at;
+}
 
 -- ---- where it begins
 
@@ -167,8 +171,12 @@ pub begins_first : (entry : Entry) (config : Config) (first : Offset) (s t : Sta
 begins_first entry config first s t asked none history rise moved infos head is names are at = record {
   moved = moved;
   infos = subst (AreInfosOf t.history) (sym is.infos_are) are;
-  began = subst (λ (o : Option Offset). IsFirstOf entry t.history first o) (sym none)
-      (first_is entry s.history t.history infos head first s t refl refl history moved.grows rise (subst (λ (c : Config). IsFirst c infos head first) (sym asked) is) (names ∙ ap (λ (c : Config). c.tables) (sym asked)) at);
+  began = subst (λ (o : Option Offset). IsFirstOf entry t.history first o) (sym none) (
+    subst (λ (h : History). IsFirstOffset entry.config h t.history first) history
+        (subst (λ (c : Config). IsFirstOffset c s.history t.history first) (sym asked) (first_offset config infos head first s t moved.grows rise is names at)),
+    is.lsn ∙ sym is.start,
+    unread_zip first.infos first.cursors (is.cursors.many ∙ ap length (sym is.infos_are)) is.cursors.each,
+  );
 }
 
 -- ---- what may be left

@@ -3,17 +3,20 @@ use Rattle.std.proofs.Common.{◌≡◌, ◌∙◌, ◌+◌, ◌≤◌, ℕ, suc
 use Rattle.std.specs.Prelude.{◌==◌, if◌then◌else◌, map, not, nat_lt}
 use Rattle.std.specs.List.{AllByRecursion, position, prefix_len}
 use Rattle.std.proofs.lemmas.Bool.Decides.{nat_tests}
+use Rattle.dbl_base.specs.declared.lsn.Lsn.{Lsn}
 use Rattle.dbl_record.specs.declared.record.Record.{Record}
 use Rattle.dbl_table.specs.declared.config.Config.{Config}
 use Rattle.dbl_table.specs.declared.table.TableInfo.{TableInfo}
 use Rattle.dbl_history.specs.declared.cursor.Cursor.{Cursor}
-use Rattle.dbl_history.specs.Fit.{IsFitHistory}
+use Rattle.dbl_history.specs.Fit.{AreInfosOf, IsFitHistory}
+use Rattle.dbl_history.specs.History.{History, RawCommit}
 use Rattle.dbl_honest.specs.Standings.{Standing, Left, left_of}
 use Rattle.dbl_offset.specs.declared.offset.Offset.{Offset}
-use Rattle.dbl_offset.specs.Stores.{StoreOn, disk_of}
+use Rattle.dbl_offset.specs.Stores.{Holds, StoreOn, disk_of}
 use Rattle.dbl_follow.specs.declared.window.Window.{Window}
 use Rattle.dbl_follow.specs.declared.window.Window.TheVariants.{Absent}
 use Rattle.dbl_follow.specs.Followed.{Following}
+use Rattle.dbl_stores.specs.Stores.{IsPositionOf}
 use Rattle.dbl_session.specs.Entries.{Entry}
 use Rattle.dbl_session.specs.Stages.{IsOfSession, next_offset}
 use Rattle.dbl_session.specs.Outcomes.{IsComplete}
@@ -22,7 +25,7 @@ use Rattle.dbl_work.specs.declared.report.Report.{Report}
 use Rattle.dbl_work.specs.declared.work.Work.{Work}
 use Rattle.dbl_work.specs.Begins.{IsOffsetFor}
 use Rattle.dbl_exits.specs.Ends.{AreAllDone, HasNoneNext, HasOwnStored, IsAtPosition, IsCompleteWith, LeavesComplete, table_in}
-use Rattle.dbl_exits.specs.Found.{HasStored, IsStoredBy, position_of}
+use Rattle.dbl_exits.specs.Found.{HasStored, IsFirstAtHead, IsFirstStored, IsStoredBy, position_of}
 use Rattle.dbl_exits.specs.Sessions.{standing_at, InSession}
 use Rattle.dbl_exits.specs.Turns.{IsSettledWhole}
 use Rattle.dbl_exits.proofs.Keeping.{held_left, left_weaker, rests_left}
@@ -130,3 +133,54 @@ position_none old new report same none = none ∙ sym (ap (position_of old) same
     by : (o : Option Offset) → position_of o o ≡ 0
     by None = refl
     by (Some offset) = ap (λ (b : Bool). if b then 0 else offset.lsn.0) (itself offset.incarnation)
+
+-- An offset that it stored is none that it found: it raises the incarnation by its first store.
+pub stored_anew : (config : Config) (old new : Option Offset) → HasStored config old new → new ≡ old → ⊥
+stored_anew config None new s same = let wrong : Some s.offset ≡ None = sym s.is ∙ same in cc
+stored_anew config (Some old) new s same =
+    let both : Some s.offset ≡ Some old = sym s.is ∙ same in
+    let one : s.offset ≡ old = cc in
+    no_more old.incarnation s.offset.incarnation s.by.3 (ap (λ (o : Offset). o.incarnation) one)
+  where
+    no_more : (a b : ℕ) → b ≡ a + 1 → b ≡ a → ⊥
+    no_more a b more is = omega (arith, more, is)
+
+-- ---- a first offset
+
+-- where nothing was stored, nothing is said
+pub first_none : (config : Config) (history : History) (old new : Option Offset) → new ≡ old → IsFirstStored config history old new
+first_none config history None new same = subst (IsFirstStored config history None) (sym same) tt
+first_none config history (Some old) new same = tt
+
+-- the session's later ones are of what the first one is
+later_at_head : (config : Config) (history : History) (first later : Offset) → IsOfSession first later → IsFirstAtHead config history first → IsFirstAtHead config history later
+later_at_head config history first later of f = record {
+  later = f.later;
+  grown = f.grown;
+  infos = subst (AreInfosOf f.later) (sym of.infos) f.infos;
+  is = record {
+    identity = of.identity ∙ f.is.identity;
+    tables = ap (map (λ (info : TableInfo). info.name)) of.infos ∙ f.is.tables;
+    start = subst (λ (l : Lsn). IsPositionOf f.later l.0) (sym of.start) f.is.start;
+    not_before = subst (λ (l : Lsn). AllByRecursion (λ (commit : RawCommit). commit.lsn.0 ≤ l.0) history.commits) (sym of.start) f.is.not_before;
+    incarnation = of.incarnation ∙ f.is.incarnation;
+  };
+}
+
+pub first_stored : (config : Config) (history : History) (old new : Option Offset) (first : Offset) → (old ≡ None → IsFirstAtHead config history first) → HasOwnStored first new → IsFirstStored config history old new
+first_stored config history None new first at own = subst (IsFirstStored config history None) (sym own.is) (later_at_head config history first own.offset own.of (at refl))
+first_stored config history (Some old) new first at own = tt
+
+pub first_of_stored : (config : Config) (history : History) (old new : Option Offset) (first : Offset) → IsFirstStored config history old new → new ≡ Some first → old ≡ None → IsFirstAtHead config history first
+first_of_stored config history None new first at is none = subst (IsFirstStored config history None) is at
+first_of_stored config history (Some old) new first at is none = let wrong : Some old ≡ None = none in cc
+
+-- ---- what the store holds
+
+-- a store that wasn't touched holds what it held
+pub held_same : {D : Type 0} (seen : D → Option (List ℕ)) (may_leave : D → List ℕ → Type 0) (old new : StoreOn D) → new ≡ old → Holds seen may_leave old old.offset → Holds seen may_leave new new.offset
+held_same {D} seen may_leave old new same held = subst (λ (s : StoreOn D). Holds seen may_leave s s.offset) (sym same) held
+
+-- and one that answered what it stored holds that
+pub held_stored : {D : Type 0} (seen : D → Option (List ℕ)) (may_leave : D → List ℕ → Type 0) (new : StoreOn D) (offset : Offset) → new.offset ≡ Some offset → Holds seen may_leave new (Some offset) → Holds seen may_leave new new.offset
+held_stored seen may_leave new offset is held = subst (Holds seen may_leave new) (sym is) held

@@ -1,16 +1,18 @@
 -- How a session ends.
-use Rattle.std.specs.Prelude.{◌≡◌, ◌⊎◌, ℕ, ◌+◌, ◌≤◌, Bool, true, false, not, position, Option, Some, None, List}
+use Rattle.std.specs.Prelude.{◌≡◌, ◌⊎◌, ℕ, ◌+◌, ◌≤◌, Bool, true, false, not, position, Option, Some, None, Result, Err, List}
 use Rattle.std.specs.List.{AllByRecursion}
 use Rattle.dbl_record.specs.declared.record.Record.{Record}
 use Rattle.dbl_history.specs.declared.cursor.Cursor.{Cursor}
 use Rattle.dbl_honest.specs.Standings.{Left}
 use Rattle.dbl_offset.specs.declared.offset.Offset.{Offset}
-use Rattle.dbl_offset.specs.Stores.{StoreOn, LeavesOffset, disk_of}
+use Rattle.dbl_offset.specs.Stores.{Holds, StoreOn, LeavesOffset, disk_of}
 use Rattle.dbl_follow.specs.declared.window.Window.{Window}
 use Rattle.dbl_follow.specs.declared.window.Window.TheVariants.{Absent, Armed, Open}
 use Rattle.dbl_session.specs.Entries.{Entry, WasFaithful}
 use Rattle.dbl_session.specs.Outcomes.{IsComplete}
 use Rattle.dbl_session.specs.Stages.{IsOfSession}
+use Rattle.dbl_work.specs.declared.halt.Halt.{Halt}
+use Rattle.dbl_work.specs.declared.halt.Halt.TheVariants as halt
 use Rattle.dbl_work.specs.declared.report.Report.{Report}
 use Rattle.dbl_work.specs.declared.work.Work.{Work}
 use Rattle.dbl_work.specs.Works.{IsReady, next_of}
@@ -51,6 +53,10 @@ pub record HasOwnStored (first : Offset) (stored : Option Offset) : Type 0 where
   pub offset : Offset
   pub is : stored ≡ Some offset
   pub of : IsOfSession first offset
+
+-- A store that held the offset that it answers does so again, unless its disk failed: nothing else leaves its bytes in doubt.
+abbrev pub StaysHeld : {A D : Type 0} → (D → Option (List ℕ)) → (D → List ℕ → Type 0) → StoreOn D → StoreOn D → Result A Halt → Type 0
+StaysHeld seen may_leave old new result = Holds seen may_leave old old.offset → (result ≡ Err halt.Offsets → ⊥) → Holds seen may_leave new new.offset
 
 -- ---- the report
 

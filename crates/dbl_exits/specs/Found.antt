@@ -3,11 +3,13 @@ use Rattle.std.specs.Prelude.{◌≡◌, ℕ, ℤ, ◌==◌, ◌+◌, if◌then�
 use Rattle.dbl_record.specs.declared.record.Record.{Record}
 use Rattle.dbl_table.specs.declared.config.Config.{Config}
 use Rattle.dbl_history.specs.Fit.{AreInfosOf}
+use Rattle.dbl_history.specs.History.{History}
 use Rattle.dbl_honest.specs.Calls.{Moved}
 use Rattle.dbl_honest.specs.Growth.{Grows}
 use Rattle.dbl_honest.specs.Standings.{Standing}
 use Rattle.dbl_offset.specs.declared.offset.Offset.{Offset}
 use Rattle.dbl_offset.specs.Stores.{StoreOn, Holds}
+use Rattle.dbl_stores.specs.Onward.{IsFirstOffset}
 use Rattle.dbl_session.specs.Entries.{Entry}
 use Rattle.dbl_session.specs.Going.{BeganWith}
 
@@ -91,6 +93,20 @@ position_of (Some old) (Some new) = if old.incarnation == new.incarnation then 0
 abbrev pub IsStoredBy : Config → Option Offset → Offset → Type 0
 IsStoredBy config None new = (new.identity ≡ config.identity) × (map (λ info. info.name) new.infos ≡ config.tables) × (new.incarnation ≡ 1)
 IsStoredBy config (Some old) new = (new.identity ≡ old.identity) × (new.infos ≡ old.infos) × (new.start ≡ old.start) × (new.incarnation ≡ old.incarnation + 1)
+
+-- A first offset of what is asked for: the catalogue has what it captures, and it begins at a position of the log as that stood while the
+-- session began, not below any commit that stood before.
+pub record IsFirstAtHead (config : Config) (history : History) (offset : Offset) : Type 0 where
+  pub later : History
+  pub grown : Grows history later
+  pub infos : AreInfosOf later offset.infos
+  pub is : IsFirstOffset config history later offset
+
+-- So it is with the stored one, where none was found.
+abbrev pub IsFirstStored : Config → History → Option Offset → Option Offset → Type 0
+IsFirstStored config history None None = Unit {0}
+IsFirstStored config history None (Some new) = IsFirstAtHead config history new
+IsFirstStored config history (Some old) new = Unit {0}
 
 -- it has stored one
 pub record HasStored (config : Config) (old new : Option Offset) : Type 0 where

@@ -1,5 +1,5 @@
 -- A log that is gone: a session that reads never halts for one.
-use Rattle.std.proofs.Common.{◌≡◌, ◌∙◌, ◌⊎◌, inl, inr, ◌≤◌, ℕ, Option, Some, None, List, refl, sym, ap, subst, arith}
+use Rattle.std.proofs.Common.{◌≡◌, ◌∙◌, ◌⊎◌, inl, inr, ◌≤◌, ◌<◌, ℕ, Option, Some, None, List, refl, sym, ap, subst, arith}
 use Rattle.dbl_base.specs.declared.lsn.Lsn.{Lsn}
 use Rattle.dbl_pgmsg.specs.declared.messages.Message.{Message}
 use Rattle.dbl_record.specs.declared.record.Record.{Record}
@@ -20,12 +20,13 @@ use Rattle.dbl_session.specs.Entries.{IsKeptBehind}
 use Rattle.dbl_work.specs.declared.halt.Halt.{Halt}
 use Rattle.dbl_work.specs.declared.halt.Halt.TheVariants as halt
 use Rattle.dbl_work.specs.declared.work.Work.{Work}
-use Rattle.dbl_work.specs.Begins.{IsExhausted, IsFaultOf, IsOffsetFor, IsTooLong}
+use Rattle.dbl_work.specs.Begins.{IsExhausted, IsFaultOf, IsGoneFrom, IsOffsetFor, IsTooLong}
 use Rattle.dbl_work.specs.Causes.{IsChunkHalt, IsLongRecord, IsOfRows}
 use Rattle.dbl_work.specs.Halts.{source_halt, window_halt}
 use Rattle.dbl_work.specs.Takes.{IsClashIn, IsMessageHalt, IsTxnHalt}
 use Rattle.dbl_causes.specs.Underway.{IsBeginHalt}
 use Rattle.dbl_steps.specs.Caused.{IsNotGone}
+use Rattle.dbl_steps.specs.Stood.{IsGoneBelow}
 
 pub memory_reads : (h : Halt) → h ≡ halt.Memory → IsNotGone h
 memory_reads h is = subst IsNotGone (sym is) tt
@@ -98,6 +99,18 @@ kept_low config (Some old) first before now for kept same =
 pub not_gone : (h : Halt) → ((asked first : Lsn) → h ≡ halt.Gone asked first → ⊥) → IsNotGone h
 not_gone (halt.Gone asked first) never = never asked first refl
 not_gone h never = tt
+
+-- and where one is, it is so by what was confirmed
+pub free_below : (confirmed : Lsn) (h : Halt) → IsNotGone h → IsGoneBelow confirmed h
+free_below confirmed (halt.Gone asked first) none = absurd none
+free_below confirmed h none = tt
+
+pub start_below : (after now before : Lsn) (h : Halt) → now ≡ before → (h ≡ halt.Memory) ⊎ ((h ≡ halt.Source) ⊎ IsGoneFrom after h)
+    → ((asked first : Lsn) → h ≡ halt.Gone asked first → (after.0 < first.0) × (first.0 ≤ now.0)) → IsGoneBelow before h
+start_below after now before h same (inl memory) gone = subst (IsGoneBelow before) (sym memory) tt
+start_below after now before h same (inr (inl failed)) gone = subst (IsGoneBelow before) (sym failed) tt
+start_below after now before h same (inr (inr from)) gone =
+    subst (λ (l : Lsn). IsGoneBelow l h) same (subst (IsGoneBelow now) (sym from.is) (gone after from.first from.is))
 
 -- a window that isn't there waits for nothing
 pub not_waiting : (w : Window) (value : List ℕ) → w ≡ Absent → awaited w ≡ Some value → ⊥

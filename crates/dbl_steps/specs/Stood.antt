@@ -1,5 +1,6 @@
 -- Why a session halts over a source that stands for something, whether it tells its answers or not.
-use Rattle.std.specs.Prelude.{◌⊎◌, ℤ, Option}
+use Rattle.std.specs.Prelude.{◌⊎◌, ℤ, ◌<◌, ◌≤◌, Option}
+use Rattle.dbl_base.specs.declared.lsn.Lsn.{Lsn}
 use Rattle.dbl_table.specs.declared.config.Config.{Config}
 use Rattle.dbl_honest.specs.Standings.{Standing}
 use Rattle.dbl_offset.specs.declared.offset.Offset.{Offset}
@@ -21,6 +22,11 @@ IsHaltStanding config now old new report stands (halt.WatermarkMissing value at)
     IsHaltAt config now old new report stands (halt.WatermarkMissing value at)
 IsHaltStanding config now old new report stands (halt.OffsetTooLong len) = IsHaltAt config now old new report stands (halt.OffsetTooLong len)
 IsHaltStanding config now old new report stands h = Unit {0}
+
+-- A log that is gone begins above the LSN that was asked for, and not above what was confirmed.
+abbrev pub IsGoneBelow : Lsn → Halt → Type 0
+IsGoneBelow confirmed (halt.Gone asked first) = (asked.0 < first.0) × (first.0 ≤ confirmed.0)
+IsGoneBelow confirmed h = Unit {0}
 
 -- For private clauses: it isn't for an offset that is too long,
 abbrev pub IsShort : Halt → Type 0

@@ -211,6 +211,8 @@ pub fn start<S: Source>(src: &mut S, after: Lsn) -> Result<(), Halt>
         × Tells (S.told src.new) (Began (Started.Gone first)) }
     ensures never { (s : Standing) → S.stands src.old s → s.confirmed.0 ≤ after.0 →
         (asked first : _) → result ≢ Err (Halt.Gone asked first) }
+    ensures gone_stood { (s : Standing) → S.stands src.old s → (asked first : _) →
+        result ≡ Err (Halt.Gone asked first) → (after.0 < first.0) × (first.0 ≤ s.confirmed.0) }
     ensures halt { IfErr result (λ h. (h ≡ Halt.Memory) ⊎ ((h ≡ Halt.Source)
         ⊎ IsGoneFrom after h)) }
     ensures reading { OnOk result (IsTrue (S.is_reading src.new)) }

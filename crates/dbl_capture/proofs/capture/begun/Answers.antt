@@ -1,10 +1,11 @@
-use Rattle.std.proofs.Common.{◌≡◌, ◌⊎◌, inl, inr, Some, refl, sym, subst}
+use Rattle.std.proofs.Common.{◌≡◌, ◌∙◌, ◌⊎◌, inl, inr, Some, refl, sym, subst}
 use Rattle.dbl_history.specs.Fit.{IsFitHistory}
 use Rattle.dbl_honest.specs.Standings.{left_of}
 use Rattle.dbl_offset.specs.declared.offset.Offset.{Offset}
 use Rattle.dbl_offset.specs.Stores.{Holds, LeavesOffset, disk_of}
 use Rattle.dbl_work.specs.declared.halt.Halt.TheVariants as halt
 use Rattle.dbl_steps.proofs.Causes.{OfNone, OfStore, err_at, residual_is, residual_of, store_of}
+use Rattle.dbl_exits.proofs.Endings.{held_same, held_stored}
 use Rattle.dbl_exits.proofs.Keeping.{on_err}
 use Rattle.dbl_exits.proofs.Openings.{began_at, rest_left, store_left}
 use Rattle.dbl_offset.specs.Offsets.{IsOffset}
@@ -186,7 +187,7 @@ returns-in_err-stored-clause-long g c s was none = residual_of c.from_residual-i
 pub returns-in_err-put_offset-clause-long : goal.returns-in_err-put_offset-clause-long
 returns-in_err-put_offset-clause-long g c s was none =
     residual_of c.from_residual-in_err-put_offset.result _ (IsLongBy c.args.config.now s.history) c.from_residual-in_err-put_offset.ensures.1
-    (first_long c.args.config.now s.history c.in_ok-stored.stored _ (subst (IsFirstByCatalogue c.args.config.now s.history) (sym c.in_ok-stored.ensures) (c.in_ok-offset.ensures.first s was none)) c.in_err-put_offset.ensures.halt)
+    (first_long c.args.config.now s.history c.in_ok-stored.stored _ (subst (IsFirstByCatalogue c.args.config.now s.history) (sym c.in_ok-stored.ensures) (c.in_ok-offset.ensures.first s was none).0) c.in_err-put_offset.ensures.halt)
 
 pub returns-in_err-offset-clause-content : goal.returns-in_err-offset-clause-content
 returns-in_err-offset-clause-content g c entry stored report asked f honest faithful =
@@ -244,3 +245,22 @@ pub returns-in_err-put_offset-clause-standing : goal.returns-in_err-put_offset-c
 returns-in_err-put_offset-clause-standing g c s is =
     let mid = c.in_ok-offset.ensures.stood s is in
     residual_of c.from_residual-in_err-put_offset.result _ (IsShortOr (g.S.Source.stands c.offset_of.new.src)) c.from_residual-in_err-put_offset.ensures.1 (inr (mid.standing, mid.is))
+
+-- ---- what the store holds
+
+pub returns-in_err-offset-clause-held : goal.returns-in_err-offset-clause-held
+returns-in_err-offset-clause-held g c held other = held
+
+pub returns-in_err-stored-clause-held : goal.returns-in_err-stored-clause-held
+returns-in_err-stored-clause-held g c held other = held
+
+pub returns-in_err-put_offset-clause-held : goal.returns-in_err-put_offset-clause-held
+returns-in_err-put_offset-clause-held g c held other =
+    held_same g.D.Disk.seen g.D.Disk.may_leave c.args.store.now c.put_offset.new.store
+    (c.in_err-put_offset.ensures.kept (λ is. other (residual_on c.put_offset.result c.from_residual-in_err-put_offset.result _ halt.Offsets (c.in_err-put_offset.was ∙ is) c.in_err-put_offset.was c.from_residual-in_err-put_offset.ensures.1))) held
+
+pub returns-clause-held : goal.returns-clause-held
+returns-clause-held g c held other = held_stored g.D.Disk.seen g.D.Disk.may_leave c.put_offset.new.store c.in_ok-stored.stored c.in_ok-put_offset.ensures.loads (c.in_ok-put_offset.ensures.stored c.args.store.now.offset held)
+
+pub returns-clause-first : goal.returns-clause-first
+returns-clause-first g c s is none = (c.in_ok-offset.ensures.first s is none).1

@@ -4,7 +4,7 @@ use Rattle.dbl_honest.proofs.GrowthLemmas.{grows_none}
 use Rattle.dbl_honest.specs.Standings.{Standing, left_of}
 use Rattle.dbl_offset.specs.declared.offset.Offset.{Offset}
 use Rattle.dbl_work.specs.Begins.{IsAgain, IsOffsetFor}
-use Rattle.dbl_exits.proofs.Beginnings.{again_for, begins_again, begins_first, none_again}
+use Rattle.dbl_exits.proofs.Beginnings.{again_for, begins_again, begins_first, first_at_head, none_again}
 use Rattle.dbl_steps.proofs.Causes.{OfNone, OfSource, again_of, err_at, err_then, first_of, residual_of}
 use Rattle.dbl_exits.proofs.Keeping.{answer_then}
 use Rattle.dbl_work.proofs.Exits.{none_taken}
@@ -15,7 +15,7 @@ use Rattle.dbl_work.specs.Begins.{IsAbsentHalt}
 use Rattle.dbl_steps.proofs.Telling.{again_absent}
 use Rattle.dbl_steps.specs.Caused.{AsksUnread}
 use Rattle.dbl_steps.proofs.Asking.{again_asks, again_found, first_asks}
-use Rattle.dbl_steps.specs.Owned.{IsContentFree, IsFirstByCatalogue}
+use Rattle.dbl_steps.specs.Owned.{IsContentFree}
 use Rattle.dbl_steps.proofs.Owning.{again_free, first_by_catalogue, first_free}
 use Rattle.dbl_window.proofs.HonestLemmas.{captured_stays}
 use Rattle.dbl_steps.specs.Captured.{CapturesOrHalts, IsOfTable}
@@ -173,8 +173,11 @@ returns-in-Some-clause-first g c s was none = absurd (again_found c.args.store.n
 
 pub returns-in-None-clause-first : goal.returns-in-None-clause-first
 returns-in-None-clause-first g c s was none =
-    answer_then c.first_offset.result _ (IsFirstByCatalogue c.args.config.now s.history) (c.first_offset.ensures.first s was)
-    (λ offset at. first_by_catalogue c.args.config.now s at.standing at.holds.1.0 at.holds.1.1 offset at.holds.0 at.holds.1.2 at.holds.1.3 at.holds.1.4)
+    answer_then c.first_offset.result _ _ (c.first_offset.ensures.first s was)
+    (λ offset at. (
+      first_by_catalogue c.args.config.now s at.standing at.holds.1.0 at.holds.1.1 offset at.holds.0 at.holds.1.2 at.holds.1.3 at.holds.1.4,
+      first_at_head c.args.config.now at.holds.1.0 at.holds.1.1 offset s at.standing at.holds.0 (g.met.S.Source.rising _ at.standing at.is) at.holds.1.2 at.holds.1.3 at.holds.1.4 at.holds.1.5,
+    ))
 
 pub returns-in_err-offset-clause-captures : goal.returns-in_err-offset-clause-captures
 returns-in_err-offset-clause-captures g c s is none =

@@ -10,10 +10,11 @@ use Rattle.dbl_work.proofs.Exits.{later_on, rose_behind}
 use Rattle.dbl_steps.proofs.Causes.{OfNone, OfSource, err_at, err_then, residual_is, residual_of, start_of}
 use Rattle.dbl_exits.specs.Ends.{IsAtPosition}
 use Rattle.dbl_exits.proofs.Beginnings.{begun_session}
-use Rattle.dbl_exits.proofs.Endings.{has_stored, own_first, position_is, position_none}
+use Rattle.dbl_exits.proofs.Endings.{first_none, first_stored, has_stored, own_first, position_is, position_none}
 use Rattle.dbl_exits.proofs.Keeping.{answer_then, on_err, on_ok}
 use Rattle.dbl_exits.proofs.Openings.{start_left}
 use Rattle.dbl_work.specs.declared.halt.Halt.{Halt}
+use Rattle.dbl_work.specs.declared.halt.Halt.TheVariants as halt
 use Rattle.dbl_causes.specs.Sources.{IsUnderWay}
 use Rattle.dbl_steps.specs.Caused.{Halts, IsNotGone}
 use Rattle.dbl_causes.proofs.Sources.{begins, halts_unread}
@@ -25,7 +26,8 @@ use Rattle.dbl_steps.specs.Sinks.{IsPutting}
 use Rattle.dbl_steps.proofs.Sinks.{puts_begin}
 use Rattle.dbl_work.specs.Begins.{IsAbsentHalt}
 use Rattle.dbl_steps.proofs.Telling.{memory_absent, start_absent}
-use Rattle.dbl_steps.proofs.Going.{begin_reads, kept_low, memory_reads, not_gone}
+use Rattle.dbl_steps.specs.Stood.{IsGoneBelow}
+use Rattle.dbl_steps.proofs.Going.{begin_reads, free_below, kept_low, memory_reads, not_gone, start_below}
 use Rattle.dbl_steps.proofs.Nevers.{begin_honest, memory_honest, start_honest}
 use Rattle.dbl_causes.specs.Nevers.{IsHonestHalt}
 use Rattle.dbl_steps.proofs.Lasting.{rest_unmarked}
@@ -348,3 +350,40 @@ returns-clause-awaits g c s is log =
     let began = c.in_ok-start.ensures.started mid.standing mid.is in
     answer_then c.make.result _ _ c.make.ensures.made
     (λ work made. awaits_first g.S.Source.stands work c.start.new.src c.in_ok-offset.offset.lsn mid.standing began.standing began.is began.holds mid.holds (ap (λ (f : Following). f.window) made.follower))
+
+-- ---- what the store holds
+
+pub returns-in_err-offset-clause-held : goal.returns-in_err-offset-clause-held
+returns-in_err-offset-clause-held g c held other = c.begun.ensures.held held (λ is. other (residual_on c.begun.result c.from_residual.result _ halt.Offsets is c.in_err-offset.was c.from_residual.ensures.1))
+
+pub returns-in_err-start-clause-held : goal.returns-in_err-start-clause-held
+returns-in_err-start-clause-held g c held other = c.begun.ensures.held held (λ is. not_both c.begun.result _ halt.Offsets is c.in_ok-offset.was)
+
+pub returns-clause-held : goal.returns-clause-held
+returns-clause-held g c held other = c.begun.ensures.held held (λ is. not_both c.begun.result _ halt.Offsets is c.in_ok-offset.was)
+
+-- ---- the first offset, and a log that is gone
+
+pub returns-in_err-offset-clause-firsts : goal.returns-in_err-offset-clause-firsts
+returns-in_err-offset-clause-firsts g c s is = first_none c.args.config.now s.history c.args.store.now.offset c.begun.new.store.offset c.in_err-offset.ensures.keeps
+
+pub returns-in_err-start-clause-firsts : goal.returns-in_err-start-clause-firsts
+returns-in_err-start-clause-firsts g c s is =
+    first_stored c.args.config.now s.history c.args.store.now.offset c.begun.new.store.offset c.in_ok-offset.offset (λ none. c.in_ok-offset.ensures.first s is none) (own_first c.in_ok-offset.offset c.begun.new.store.offset c.in_ok-offset.ensures.loads)
+
+pub returns-clause-firsts : goal.returns-clause-firsts
+returns-clause-firsts g c s is =
+    first_stored c.args.config.now s.history c.args.store.now.offset c.begun.new.store.offset c.in_ok-offset.offset (λ none. c.in_ok-offset.ensures.first s is none) (own_first c.in_ok-offset.offset c.begun.new.store.offset c.in_ok-offset.ensures.loads)
+
+pub returns-in_err-offset-clause-gone_stood : goal.returns-in_err-offset-clause-gone_stood
+returns-in_err-offset-clause-gone_stood g c s is =
+    residual_of c.from_residual.result _ (IsGoneBelow s.confirmed) c.from_residual.ensures.1 (free_below s.confirmed _ (begin_reads c.args.config.now c.args.store.now.offset (g.S.Source.told c.begun.new.src) _ c.in_err-offset.ensures.halt))
+
+pub returns-in_err-start-clause-gone_stood : goal.returns-in_err-start-clause-gone_stood
+returns-in_err-start-clause-gone_stood g c s is =
+    let mid = c.in_ok-offset.ensures.stood s is in
+    residual_of c.from_residual-in_err-start.result _ (IsGoneBelow s.confirmed) c.from_residual-in_err-start.ensures.1
+    (start_below c.in_ok-offset.offset.lsn mid.standing.confirmed s.confirmed c.in_err-start.field-0.0 mid.holds.confirmed c.in_err-start.ensures.halt (λ asked first gone. c.in_err-start.ensures.gone_stood mid.standing mid.is asked first (ap (λ (h : Halt). Err h) gone)))
+
+pub returns-clause-gone_stood : goal.returns-clause-gone_stood
+returns-clause-gone_stood g c s is = err_then c.make.result _ (IsGoneBelow s.confirmed) c.make.ensures.memory (λ h memory. free_below s.confirmed h (memory_reads h memory))

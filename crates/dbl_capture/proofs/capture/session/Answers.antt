@@ -1,17 +1,17 @@
-use Rattle.std.proofs.Common.{◌≡◌, ◌∙◌, arith, inl, inr, ℤ, true, false, Option, Some, None, [], Ok, Err, refl, sym, ap, subst}
+use Rattle.std.proofs.Common.{◌≡◌, ◌∙◌, arith, inl, inr, ℤ, true, false, Some, None, [], Ok, Err, refl, sym, ap, subst}
 use Rattle.std.specs.Prelude.{OnOk}
 use Rattle.std.proofs.Math.Facts.{to_z-of_z}
 use Rattle.dbl_history.specs.Ranges.{IsMomentInRange}
 use Rattle.dbl_offset.specs.declared.offset.Offset.{Offset}
-use Rattle.dbl_offset.specs.Stores.{Holds, disk_of}
+use Rattle.dbl_offset.specs.Stores.{disk_of}
 use Rattle.dbl_work.specs.Begins.{IsOffsetFor}
 use Rattle.dbl_work.specs.Works.{next_of}
 use Rattle.dbl_work.proofs.Exits.{later_on, rose_behind}
 use Rattle.dbl_steps.proofs.Causes.{err_at, err_then, residual_is, residual_of}
 use Rattle.dbl_exits.specs.Ends.{HasOwnStored}
 use Rattle.dbl_exits.specs.Found.{entry_at}
-use Rattle.dbl_exits.proofs.Endings.{complete_left, has_stored, own_first, position_is}
-use Rattle.dbl_exits.proofs.Keeping.{either_answer, ok_then, rests, some_chunk}
+use Rattle.dbl_exits.proofs.Endings.{complete_left, first_of_stored, first_stored, has_stored, own_first, position_is, stored_anew}
+use Rattle.dbl_exits.proofs.Keeping.{either_answer, rests, some_chunk}
 use Rattle.dbl_exits.proofs.Openings.{going_left, source_found, told_found}
 use Rattle.dbl_honest.specs.Standings.{Standing, Stood}
 use Rattle.dbl_causes.specs.Musts.{MustHalt, MustHaltStood, MustHaltTold}
@@ -46,7 +46,8 @@ use Rattle.dbl_causes.specs.Nevers.{IsFaithfulHalt}
 use Rattle.dbl_steps.proofs.Owning.{had_of, none_some}
 use Rattle.dbl_steps.specs.Captured.{CapturesOrHalts}
 use Rattle.dbl_steps.proofs.Captured.{captures_by, must_absent, must_captured}
-use Rattle.dbl_steps.specs.Stood.{IsHaltStanding}
+use Rattle.dbl_steps.specs.Stood.{IsGoneBelow, IsHaltStanding}
+use Rattle.dbl_steps.proofs.Going.{free_below}
 use Rattle.dbl_capture.proofs.capture.session.Goals as goal
 
 -- it didn't begin
@@ -415,13 +416,35 @@ returns-clause-long g c s was none still =
     absurd (none_some own.offset wrong)
 
 pub returns-in_err-work-clause-holds : goal.returns-in_err-work-clause-holds
-returns-in_err-work-clause-holds g c entry asked f honest had =
-    residual_as c.from_residual.result _ (λ x. OnOk x (Holds g.D.Disk.seen g.D.Disk.may_leave c.opened.new.store c.opened.new.store.offset)) c.from_residual.ensures.1 tt
+returns-in_err-work-clause-holds g c held other = c.opened.ensures.held held (λ is. other (residual_on c.opened.result c.from_residual.result _ halt.Offsets is c.in_err-work.was c.from_residual.ensures.1))
 
 pub returns-clause-holds : goal.returns-clause-holds
-returns-clause-holds g c entry asked f honest had =
-    let s = c.in_ok-work.ensures.opened true entry asked.config_is (asked.now_is ∙ sym (to_z-of_z c.ranges.now_ms)) (told_found f) (c.run.ensures.honest honest) had in
-    ok_then c.run.result _ _ (c.run.ensures.ran true entry s honest) (λ t. subst (λ (o : Option Offset). Holds g.D.Disk.seen g.D.Disk.may_leave c.run.new.store o) (sym (t.store_is refl).offset_is) (t.store_is refl))
+returns-clause-holds g c held = c.run.ensures.held (c.opened.ensures.held held (λ is. not_both c.opened.result _ halt.Offsets is c.in_ok-work.was))
+
+pub returns-in_err-work-clause-firsts : goal.returns-in_err-work-clause-firsts
+returns-in_err-work-clause-firsts g c s is = c.opened.ensures.firsts s is
+
+pub returns-clause-firsts : goal.returns-clause-firsts
+returns-clause-firsts g c s is =
+    let b = c.in_ok-work.ensures.begun in
+    first_stored c.args.config.now s.history c.args.offsets.now.offset c.run.new.store.offset b.0
+    (first_of_stored c.args.config.now s.history c.args.offsets.now.offset c.opened.new.store.offset b.0 (c.opened.ensures.firsts s is) b.1)
+    (subst (λ (o : Offset). HasOwnStored o c.run.new.store.offset) b.2.offset_is (c.run.ensures.stored (subst (λ (o : Offset). HasOwnStored o c.opened.new.store.offset) (sym b.2.offset_is) (own_first b.0 c.opened.new.store.offset b.1))))
+
+pub returns-in_err-work-clause-gone_stood : goal.returns-in_err-work-clause-gone_stood
+returns-in_err-work-clause-gone_stood g c s was = residual_of c.from_residual.result _ (IsGoneBelow s.confirmed) c.from_residual.ensures.1 (c.in_err-work.ensures.gone_stood s was)
+
+pub returns-clause-gone_stood : goal.returns-clause-gone_stood
+returns-clause-gone_stood g c s was = err_then c.run.result _ (IsGoneBelow s.confirmed) c.run.ensures.reads (free_below s.confirmed)
+
+pub returns-in_err-work-clause-ungained : goal.returns-in_err-work-clause-ungained
+returns-in_err-work-clause-ungained g c groups left held may same = g.met.K.Sink.only _ groups left held may
+
+pub returns-clause-ungained : goal.returns-clause-ungained
+returns-clause-ungained g c groups left held may same =
+    let b = c.in_ok-work.ensures.begun in
+    absurd (stored_anew c.args.config.now c.args.offsets.now.offset c.run.new.store.offset
+    (has_stored c.args.config.now c.args.offsets.now.offset c.run.new.store.offset c.in_ok-work.work.offset (subst (IsOffsetFor c.args.config.now c.args.offsets.now.offset) (sym b.2.offset_is) b.3) (c.run.ensures.stored (subst (λ (o : Offset). HasOwnStored o c.opened.new.store.offset) (sym b.2.offset_is) (own_first b.0 c.opened.new.store.offset b.1)))) same)
 
 pub returns-in_err-work-clause-halt_stood : goal.returns-in_err-work-clause-halt_stood
 returns-in_err-work-clause-halt_stood g c s was = residual_of c.from_residual.result _ (IsHaltStanding c.args.config.now c.args.now_ms c.args.offsets.now.offset c.opened.new.store.offset c.opened.new.report (g.S.Source.stands c.opened.new.src)) c.from_residual.ensures.1 ((subst (λ (n : ℤ). Halts g.S.Source.stands (Some s) (g.S.Source.told c.args.src.now) c.args.config.now n c.args.offsets.now.offset c.opened.new.store.offset c.opened.new.report c.opened.new.src (g.S.Source.told c.opened.new.src) c.in_err-work.field-0.0) (to_z-of_z c.ranges.now_ms) (c.in_err-work.ensures.halted (Some s) (at_some g.S.Source.stands c.args.src.now s was) (refl, refl, refl))).stood s refl)

@@ -8,6 +8,7 @@ use Rattle.dbl_work.specs.declared.halt.Halt.TheVariants as halt
 use Rattle.dbl_steps.proofs.Reporting.{report_err}
 use Rattle.dbl_steps.proofs.Causes.{OfNone, OfSource, OfStore, err_at, residual_is, residual_of, residual_source, source_of, store_of}
 use Rattle.dbl_exits.specs.Sessions.{standing_at}
+use Rattle.dbl_exits.proofs.Endings.{held_same, held_stored}
 use Rattle.dbl_exits.proofs.Keeping.{on_err, rests, some_chunk}
 use Rattle.dbl_exits.proofs.Settles.{settled_on, settled_whole, settle_fails, store_fails}
 use Rattle.dbl_honest.specs.Standings.{Standing, Stood}
@@ -15,7 +16,7 @@ use Rattle.dbl_work.proofs.Exits.{dead_source, none_taken}
 use Rattle.dbl_causes.specs.Halted.{IsHalt}
 use Rattle.dbl_steps.specs.Caused.{Halts, IsNotGone}
 use Rattle.dbl_causes.proofs.Sources.{halts_between, settles_on}
-use Rattle.dbl_steps.proofs.Telling.{memory_left, source_left, store_left}
+use Rattle.dbl_steps.proofs.Telling.{memory_left, residual_on, source_left, store_left}
 use Rattle.dbl_steps.proofs.Halting.{memory_caused, source_caused, store_caused}
 use Rattle.dbl_offset.specs.Offsets.{IsOffset}
 use Rattle.dbl_work.specs.Begins.{IsTooLong}
@@ -245,3 +246,19 @@ pub returns-clause-awaits : goal.returns-clause-awaits
 returns-clause-awaits g c a =
     let t = c.in_ok-confirm.ensures.confirmed a.standing a.is in
     awaits_still g.S.Source.stands c.args.work.now (record c.args.work.now { since = 0 }) c.args.src.now c.confirm.new.self a t.standing t.is t.holds.grows t.holds.reading refl refl
+
+-- ---- what the store holds
+
+pub returns-in_err-offset-clause-held : goal.returns-in_err-offset-clause-held
+returns-in_err-offset-clause-held g c held other = held
+
+pub returns-in_err-put_offset-clause-held : goal.returns-in_err-put_offset-clause-held
+returns-in_err-put_offset-clause-held g c held other =
+    held_same g.D.Disk.seen g.D.Disk.may_leave c.args.store.now c.put_offset.new.store
+    (c.in_err-put_offset.ensures.kept (λ is. other (residual_on c.put_offset.result c.from_residual-in_err-put_offset.result _ halt.Offsets (c.in_err-put_offset.was ∙ is) c.in_err-put_offset.was c.from_residual-in_err-put_offset.ensures.1))) held
+
+pub returns-in_err-confirm-clause-held : goal.returns-in_err-confirm-clause-held
+returns-in_err-confirm-clause-held g c held other = held_stored g.D.Disk.seen g.D.Disk.may_leave c.put_offset.new.store c.in_ok-offset.offset c.in_ok-put_offset.ensures.loads (c.in_ok-put_offset.ensures.stored c.args.store.now.offset held)
+
+pub returns-clause-held : goal.returns-clause-held
+returns-clause-held g c held other = held_stored g.D.Disk.seen g.D.Disk.may_leave c.put_offset.new.store c.in_ok-offset.offset c.in_ok-put_offset.ensures.loads (c.in_ok-put_offset.ensures.stored c.args.store.now.offset held)

@@ -1,6 +1,7 @@
 use Rattle.std.proofs.Common.{◌≡◌, ◌∙◌, ◌+◌, ℕ, Bool, Ok, IsTrue, le_refl, refl, sym, ap, subst, arith, true}
 use Rattle.dbl_history.specs.Ranges.{IsMomentInRange}
 use Rattle.dbl_offset.specs.Stores.{disk_of}
+use Rattle.dbl_work.specs.declared.halt.Halt.TheVariants as halt
 use Rattle.dbl_work.proofs.Exits.{rose_behind, later_on}
 use Rattle.dbl_steps.proofs.Causes.{residual_is, residual_of}
 use Rattle.std.specs.Prelude.{MatchBool}
@@ -14,6 +15,7 @@ use Rattle.dbl_steps.proofs.Sinks.{rests_put}
 use Rattle.dbl_causes.specs.Nevers.{IsHonestHalt}
 use Rattle.dbl_causes.specs.Nevers.{IsFaithfulHalt}
 use Rattle.dbl_steps.proofs.Owning.{free_own}
+use Rattle.dbl_steps.proofs.Telling.{not_both, residual_on}
 use Rattle.dbl_capture.proofs.turns.run.Goals as goal
 
 pub turns-init : goal.turns-init
@@ -27,6 +29,7 @@ turns-init g c = record {
   offset_is = refl;
   stored = λ own. own;
   position = λ at. at;
+  held = λ held. held;
   now_is = refl;
   since = c.requires.since;
   number = omega (arith, c.requires.number);
@@ -56,6 +59,7 @@ turns-preserved g c = record {
   offset_is = placed_on c.args.work.now.offset c.turns.work.offset c.turn.new.work.offset c.turns.invariant.offset_is c.in_ok-turn.ensures.offset_is;
   stored = λ own. c.turn.ensures.stored c.args.work.now.offset c.turns.invariant.offset_is (c.turns.invariant.stored own);
   position = λ at. c.turn.ensures.position (c.turns.invariant.position at);
+  held = λ held. c.turn.ensures.held (c.turns.invariant.held held) (λ is. not_both c.turn.result _ halt.Offsets is c.in_ok-turn.was);
   now_is = c.in_ok-turn.ensures.time ∙ c.turns.invariant.now_is;
   since = c.in_ok-turn.ensures.since;
   number = omega (arith, c.in_ok-turn.ensures.number, c.turns.invariant.number);
@@ -493,3 +497,21 @@ returns-in_err-settle-clause-content g c entry at found b s u faithful honest =
     let before = c.settle.ensures.honest honest in
     residual_of c.from_residual-in_err-settle.result _ (IsFaithfulHalt entry c.settle.new.store.offset c.settle.new.report (g.S.Source.stands c.settle.new.src) (g.K.Sink.holds c.turns.sink)) c.from_residual-in_err-settle.ensures.1
     (c.in_err-settle.ensures.content entry (c.in_ok-arm_next.ensures.armed true entry (c.turns.invariant.kept true entry s (c.arm_next.ensures.honest before)) before) faithful)
+
+-- ---- what the store holds
+
+pub returns-in_err-turn-clause-held : goal.returns-in_err-turn-clause-held
+returns-in_err-turn-clause-held g c held other = c.turn.ensures.held (c.turns.invariant.held held) (λ is. other (residual_on c.turn.result c.from_residual.result _ halt.Offsets is c.in_err-turn.was c.from_residual.ensures.1))
+
+pub returns-then-branch-clause-held : goal.returns-then-branch-clause-held
+returns-then-branch-clause-held g c held other = c.turn.ensures.held (c.turns.invariant.held held) (λ is. not_both c.turn.result _ halt.Offsets is c.in_ok-turn.was)
+
+pub returns-in_err-arm_next-clause-held : goal.returns-in_err-arm_next-clause-held
+returns-in_err-arm_next-clause-held g c held other = c.turns.invariant.held held
+
+pub returns-in_err-settle-clause-held : goal.returns-in_err-settle-clause-held
+returns-in_err-settle-clause-held g c held other =
+    c.settle.ensures.held (c.turns.invariant.held held) (λ is. other (residual_on c.settle.result c.from_residual-in_err-settle.result _ halt.Offsets is c.in_err-settle.was c.from_residual-in_err-settle.ensures.1))
+
+pub returns-clause-held : goal.returns-clause-held
+returns-clause-held g c held other = c.settle.ensures.held (c.turns.invariant.held held) (λ is. not_both c.settle.result _ halt.Offsets is c.in_ok-settle.was)

@@ -2,7 +2,7 @@ use Rattle.std.proofs.Common.{◌≡◌, ◌≤◌, ◌<◌, Bool, IsTrue, List,
 use Rattle.dbl_record.specs.declared.record.Record.{Record}
 use Rattle.dbl_honest.specs.Standings.{Standing}
 use Rattle.dbl_honest.specs.Told.{Told}
-use Rattle.dbl_offset.specs.Stores.{ComesOf, IsLive, disk_of}
+use Rattle.dbl_offset.specs.Stores.{ComesOf, Holds, IsLive, disk_of}
 use Rattle.dbl_session.specs.Entries.{Entry}
 use Rattle.dbl_work.specs.Works.{IsReady}
 use Rattle.dbl_exits.specs.Ends.{HasOwnStored, IsAtPosition}
@@ -29,6 +29,7 @@ invariant-turns g l = record {
   offset_is : l.work.offset ≡ record l.fn.work.offset { lsn = l.work.offset.lsn; end_lsn = l.work.offset.end_lsn };
   stored : HasOwnStored l.fn.work.offset l.fn.store.offset → HasOwnStored l.fn.work.offset l.store.offset;
   position : IsAtPosition l.fn.store.offset l.fn.report → IsAtPosition l.store.offset l.report;
+  held : Holds g.D.Disk.seen g.D.Disk.may_leave l.fn.store l.fn.store.offset → Holds g.D.Disk.seen g.D.Disk.may_leave l.store l.store.offset;
   now_is : l.work.now_ms ≡ l.fn.work.now_ms;
   since : l.work.since < l.work.every;
   number : l.work.number ≤ l._count;

@@ -1,5 +1,6 @@
 use Rattle.std.proofs.Common.{◌∙◌, Bool, IsTrue, Ok, Option, Some, sym, ap, subst, arith, true}
 use Rattle.dbl_history.specs.Ranges.{IsMomentInRange}
+use Rattle.dbl_work.specs.declared.halt.Halt.TheVariants as halt
 use Rattle.dbl_work.specs.declared.report.Report.{Report}
 use Rattle.dbl_work.specs.declared.work.Work.{Work}
 use Rattle.dbl_work.specs.Works.{next_of}
@@ -11,7 +12,7 @@ use Rattle.dbl_exits.proofs.Keeping.{on_err, settled_ready, settled_since}
 use Rattle.dbl_steps.proofs.Reporting.{IsPlacedOf, at_same, at_stored, counts_stored, not_due, own_stored, placed_on, placed_same}
 use Rattle.dbl_steps.specs.Caused.{Halts, IsNotGone}
 use Rattle.dbl_causes.proofs.Sources.{settled_rests}
-use Rattle.dbl_steps.proofs.Telling.{goes_false, goes_none, goes_true}
+use Rattle.dbl_steps.proofs.Telling.{goes_false, goes_none, goes_true, not_both, residual_on}
 use Rattle.dbl_steps.proofs.Marking.{absent_settled, none_settled}
 use Rattle.dbl_steps.specs.Sinks.{HasHaltedPut}
 use Rattle.dbl_steps.proofs.Sinking.{puts_false, puts_none, puts_true}
@@ -534,3 +535,27 @@ returns-in-Some-false-clause-awaits g c at found b u s first honest a is =
 
 pub returns-in_ok-end-in-None-clause-awaits : goal.returns-in_ok-end-in-None-clause-awaits
 returns-in_ok-end-in-None-clause-awaits g c at found b u s first honest a is = cc
+
+-- ---- what the store holds
+
+pub returns-in_err-arm_next-clause-held : goal.returns-in_err-arm_next-clause-held
+returns-in_err-arm_next-clause-held g c held other = held
+
+pub returns-in_err-next-clause-held : goal.returns-in_err-next-clause-held
+returns-in_err-next-clause-held g c held other = held
+
+pub returns-in-Some-false-clause-held : goal.returns-in-Some-false-clause-held
+returns-in-Some-false-clause-held g c held other = held
+
+pub returns-in_err-settle-in-Some-true-clause-held : goal.returns-in_err-settle-in-Some-true-clause-held
+returns-in_err-settle-in-Some-true-clause-held g c held other =
+    c.settle.ensures.held held (λ is. other (residual_on c.settle.result c.from_residual-in_err-settle-in-Some-true.result _ halt.Offsets is c.in_err-settle-in-Some-true.was c.from_residual-in_err-settle-in-Some-true.ensures.1))
+
+pub returns-in_ok-settle-in-Some-true-clause-held : goal.returns-in_ok-settle-in-Some-true-clause-held
+returns-in_ok-settle-in-Some-true-clause-held g c held other = c.settle.ensures.held held (λ is. not_both c.settle.result _ halt.Offsets is c.in_ok-settle-in-Some-true.was)
+
+pub returns-in_err-end-in-None-clause-held : goal.returns-in_err-end-in-None-clause-held
+returns-in_err-end-in-None-clause-held g c held other = c.end.ensures.held held (λ is. other (residual_on c.end.result c.from_residual-in_err-end-in-None.result _ halt.Offsets is c.in_err-end-in-None.was c.from_residual-in_err-end-in-None.ensures.1))
+
+pub returns-in_ok-end-in-None-clause-held : goal.returns-in_ok-end-in-None-clause-held
+returns-in_ok-end-in-None-clause-held g c held other = c.end.ensures.held held (λ is. not_both c.end.result _ halt.Offsets is c.in_ok-end-in-None.was)

@@ -22,7 +22,7 @@ use Rattle.dbl_exits.specs.Sessions.{standing_at}
 use Rattle.dbl_steps.proofs.Asking.{quiet_asks, read_quiet}
 use Rattle.dbl_causes.specs.Nevers.{IsFaithfulHalt}
 use Rattle.dbl_steps.proofs.Stood.{marks_stood, memory_stood}
-use Rattle.dbl_capture.proofs.turns.end.Goals as goal
+use Rattle.dbl_capture.proofs.settle.end.Goals as goal
 
 pub returns-in_err-copy-in-Some-clause-left : goal.returns-in_err-copy-in-Some-clause-left
 returns-in_err-copy-in-Some-clause-left g c tell entry s honest = on_err _ _ (rests s _ _ _ (g.met.S.Source.only _) (g.met.S.Source.may _) (g.met.K.Sink.only _) (g.met.K.Sink.may _) honest (λ h l is. g.met.S.Source.fit _ l is h) (some_chunk s))
@@ -148,3 +148,14 @@ returns-in_ok-copy-in-Some-clause-content g c entry s faithful = tt
 
 pub returns-in-None-clause-content : goal.returns-in-None-clause-content
 returns-in-None-clause-content g c = c.settle.ensures.content
+
+-- ---- what the store holds
+
+pub returns-in_err-copy-in-Some-clause-held : goal.returns-in_err-copy-in-Some-clause-held
+returns-in_err-copy-in-Some-clause-held g c held other = held
+
+pub returns-in_ok-copy-in-Some-clause-held : goal.returns-in_ok-copy-in-Some-clause-held
+returns-in_ok-copy-in-Some-clause-held g c held other = held
+
+pub returns-in-None-clause-held : goal.returns-in-None-clause-held
+returns-in-None-clause-held g c = c.settle.ensures.held

@@ -14,6 +14,7 @@ ghost use Rattle.dbl_offset.specs.Stores.{ComesOf, IsLive, disk_of};
 ghost use Rattle.dbl_session.specs.Entries.{Entry as SpecEntry, HadOwnTables, IsKeptBehind, WasFaithful};
 ghost use Rattle.dbl_work.specs.Begins.{IsAbsentHalt, IsExhausted, IsOffsetFor, MayRest};
 ghost use Rattle.dbl_work.specs.Works.{IsBegun};
+ghost use Rattle.dbl_exits.specs.Closed.{HasClosedRead};
 ghost use Rattle.dbl_exits.specs.Ends.{AreAllDone, IsAtPosition, LeavesComplete, StaysHeld};
 ghost use Rattle.dbl_exits.specs.Found.{BeganAt, BeginsAt, Found, HasStored, IsAsked, IsEntryOf, IsFirstAtHead, IsFirstStored, IsFound, entry_at, position_of};
 ghost use Rattle.dbl_exits.specs.Sessions.{AddsFew, InSession, LeavesBy, LeavesGoing};
@@ -340,6 +341,12 @@ pub fn session<S: Source, K: Sink, D: Disk>(
         HadOwnTables (entry_at config.now now_ms s offsets.old.offset) →
         (left : Left) → S.may_leave src.new left →
         AddsAtMost offsets.new.offset report.new.chunks s.history left.history }
+
+    // Over an honest source and faithful stores each window whose high mark it counts was closed.
+    ensures unclosed { (entry : SpecEntry) → IsEntryOf config.now now_ms entry →
+        Found S.stands K.holds D.seen D.may_leave entry src.old sink.old offsets.old →
+        S.honest src.new → WasFaithful entry → (t : Standing) → S.stands src.new t →
+        OnOk result (HasClosedRead offsets.new.offset report.new t) }
 
     // What it stores, and where it ends, of every source, sink and disk.
     ensures stores { (offsets.new.offset ≡ offsets.old.offset)

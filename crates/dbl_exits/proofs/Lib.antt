@@ -11,3 +11,4 @@ pub mod Nexts
 pub mod Beginnings
 pub mod Openings
 pub mod Endings
+pub mod Unclosed

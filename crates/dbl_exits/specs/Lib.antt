@@ -3,3 +3,4 @@ pub mod Turns
 pub mod Found
 pub mod Ends
 pub mod Laws
+pub mod Closed

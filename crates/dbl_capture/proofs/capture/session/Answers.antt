@@ -11,8 +11,10 @@ use Rattle.dbl_steps.proofs.Causes.{err_at, err_then, residual_is, residual_of}
 use Rattle.dbl_exits.specs.Ends.{HasOwnStored}
 use Rattle.dbl_exits.specs.Found.{entry_at}
 use Rattle.dbl_exits.proofs.Endings.{complete_left, first_of_stored, first_stored, has_stored, own_first, position_is, stored_anew}
-use Rattle.dbl_exits.proofs.Keeping.{either_answer, rests, some_chunk}
+use Rattle.dbl_exits.proofs.Keeping.{either_answer, ok_then, rests, some_chunk}
 use Rattle.dbl_exits.proofs.Openings.{going_left, source_found, told_found}
+use Rattle.dbl_exits.specs.Closed.{HasClosedRead}
+use Rattle.dbl_exits.proofs.Unclosed.{closed_read}
 use Rattle.dbl_honest.specs.Standings.{Standing, Stood}
 use Rattle.dbl_causes.specs.Musts.{MustHalt, MustHaltStood, MustHaltTold}
 use Rattle.dbl_causes.specs.Reported.{HasReadMessages, HasSettled, HasStoodBehind, IsFollowed, StoodAtLast}
@@ -499,3 +501,15 @@ returns-clause-tallied_stood g c groups held other s t was now =
     answer_as c.run.result _ _ (λ r. (r ≡ Err halt.Sink → ⊥) → IsTalliedBehind g.K.Sink.holds groups c.args.config.now c.args.now_ms c.args.offsets.now.offset c.run.new.store.offset c.run.new.report t c.run.new.sink r) on put
     (λ x e ok. between_stood g.S.Source.stands g.K.Sink.holds groups (Some s) (g.S.Source.told c.args.src.now) b c.run.new.store.offset c.run.new.store.offset c.run.new.work c.run.new.report c.run.new.report c.run.new.src c.run.new.src (g.S.Source.told c.run.new.src) (g.S.Source.told c.run.new.src) c.run.new.sink (rests_put g.S.Source.stands g.K.Sink.holds g.K.Sink.may_leave groups (Some s) (g.S.Source.told c.args.src.now) b c.run.new.store.offset c.run.new.work c.run.new.report c.run.new.src (g.S.Source.told c.run.new.src) c.run.new.sink x) (Ok e) refl refl refl (inl refl) (λ a z one two. ap (λ (y : Standing). y.reading) (g.met.S.Source.one c.run.new.src z a two one)) s t refl now)
     (λ h x ok. x.tallied_stood (λ is. ok (ap (λ (k : Halt). Err k) is)) s t refl now) other
+
+pub returns-in_err-work-clause-unclosed : goal.returns-in_err-work-clause-unclosed
+returns-in_err-work-clause-unclosed g c entry asked f honest faithful t now = residual_as c.from_residual.result _ (λ x. OnOk x (HasClosedRead c.opened.new.store.offset c.opened.new.report t)) c.from_residual.ensures.1 tt
+
+pub returns-clause-unclosed : goal.returns-clause-unclosed
+returns-clause-unclosed g c entry asked f honest faithful t now =
+    let in_session = c.in_ok-work.ensures.opened true entry asked.config_is (asked.now_is ∙ sym (to_z-of_z c.ranges.now_ms)) (told_found f) (c.run.ensures.honest honest) (had_of entry faithful) in
+    let way = c.in_ok-work.ensures.under_way None (at_none g.S.Source.stands c.args.src.now) (refl, refl, refl) in
+    let b = beginning_at c.args.config.now c.args.now_ms c.args.offsets.now.offset way.0 in
+    let u = subst (λ (n : ℤ). IsUnderWay g.S.Source.stands None (g.S.Source.told c.args.src.now) (beginning_at c.args.config.now n c.args.offsets.now.offset way.0) c.opened.new.store.offset c.in_ok-work.work c.opened.new.report c.opened.new.src (g.S.Source.told c.opened.new.src)) (to_z-of_z c.ranges.now_ms) way.1 in
+    ok_then c.run.result _ _ (ok_pair c.run.result _ _ (c.run.ensures.ran true entry in_session honest) (c.run.ensures.all None (g.S.Source.told c.args.src.now) b u))
+    (λ x. closed_read x.0 faithful c.run.new.store.offset c.run.new.report t x.1.stored_is (g.met.S.Source.one c.run.new.src t (standing_at x.0.stage) now x.0.source_is) x.1.is.is.windows)

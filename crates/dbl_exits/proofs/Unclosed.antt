@@ -1,0 +1,136 @@
+-- Each window whose high mark was read was closed: what a window waits for wasn't read yet, and no mark of the next one is written before it.
+use Rattle.std.proofs.Common.{◌≡◌, ◌≢◌, ◌∙◌, ◌+◌, ◌≤◌, ◌<◌, ◌^◌, ℕ, Bool, Option, Some, List, [], ◌∷◌, ◌++◌, length, take, refl, sym, ap, ap₂, subst, arith, length-append}
+use Rattle.std.specs.Prelude.{slice_get}
+use Rattle.std.specs.List.{AllByRecursion}
+use Rattle.dbl_record.specs.declared.record.Record.{Record}
+use Rattle.dbl_table.specs.declared.change.Body.TheVariants.{Mark}
+use Rattle.dbl_table.specs.declared.change.Commit.{Commit}
+use Rattle.dbl_table.specs.declared.table.TableInfo.{TableInfo}
+use Rattle.dbl_table.proofs.Lists.{slice_get-lt}
+use Rattle.dbl_history.specs.History.{RawCommit}
+use Rattle.dbl_history.specs.History as raw
+use Rattle.dbl_history.specs.MarkTexts.{mark_text}
+use Rattle.dbl_history.specs.MarkTexts.Side.{High}
+use Rattle.dbl_history.specs.Typed.{typed_commit}
+use Rattle.dbl_commit.specs.Stated.{commits_of}
+use Rattle.dbl_honest.specs.Standings.{Standing}
+use Rattle.dbl_offset.specs.declared.offset.Offset.{Offset}
+use Rattle.dbl_offset.specs.Stores.{StoreOn}
+use Rattle.dbl_faithful.proofs.Items.{all_by_place, at_all, at_left, at_right, mapped, taken_at}
+use Rattle.dbl_window.specs.Plans.{Chunk, high_text}
+use Rattle.dbl_follow.specs.declared.window.Window.{Window}
+use Rattle.dbl_follow.specs.declared.window.Window.TheVariants.{Absent, Armed, Open}
+use Rattle.dbl_follow.specs.Followed.{Following}
+use Rattle.dbl_session.specs.Counted.{waiting}
+use Rattle.dbl_session.specs.Entries.{Entry, WasFaithful}
+use Rattle.dbl_session.specs.Going.{IsGoing, IsKept, IsPlaced}
+use Rattle.dbl_session.specs.Marked.{IsArmedBefore, IsAwaited, IsMarkAt, IsOpenBefore, IsOwnWindow}
+use Rattle.dbl_session.specs.Stages.{Stage, behind_of, commits_at, read_at}
+use Rattle.dbl_session.proofs.Ending.{stood_of}
+use Rattle.dbl_session.proofs.Windowing.{raw_mark}
+use Rattle.dbl_work.specs.declared.report.Report.{Report}
+use Rattle.dbl_work.specs.declared.work.Work.{Work}
+use Rattle.dbl_work.specs.Works.{next_of}
+use Rattle.dbl_exits.specs.Closed.{HasClosedRead, HasNoHigh}
+use Rattle.dbl_exits.specs.Sessions.{InSession, standing_at}
+
+-- some first ones of a list are as all of it
+all_taken : (P : Commit → Type 0) (n : ℕ) (commits : List Commit) → AllByRecursion P commits → AllByRecursion P (take n commits)
+all_taken P n commits all = all_by_place P (take n commits) (λ k commit is. at_all P commits k commit all (taken_at n commits k commit is).1)
+
+no_more : (chunks number : ℕ) → number ≡ chunks + 0 → chunks + 1 ≤ number → ⊥
+no_more chunks number is le = omega (arith, is, le)
+
+not_behind : (place high read : ℕ) → place ≡ high → read ≤ high → place < read → ⊥
+not_behind place high read same le lt = omega (arith, same, le, lt)
+
+further : (a b c : ℕ) → a ≤ b → b < c → a ≤ c
+further a b c le lt = omega (arith, le, lt)
+
+under : (a b n m : ℕ) → n < b → m ≡ a + b → a + n < m
+under a b n m lt is = omega (arith, lt, is)
+
+module _ (entry : Entry) (stage : Stage) (faithful : WasFaithful entry) (going : IsGoing entry stage) (chunks : ℕ) (windows : stage.number ≡ chunks + waiting stage.following.window) where
+  abbrev placed : IsPlaced stage
+  placed = going.placed (stood_of entry faithful)
+
+  abbrev kept : IsKept entry stage (going.placed (stood_of entry faithful)).parts
+  kept = going.kept (stood_of entry faithful) faithful
+
+  abbrev old : List Commit
+  old = (going.placed (stood_of entry faithful)).parts.old
+
+  abbrev text : List ℕ
+  text = mark_text stage.first.incarnation (chunks + 1) High
+
+  -- a commit that was read, as its high mark
+  module _ (n : ℕ) (commit : Commit) (is : slice_get (read_at stage) n ≡ Some commit) (high : commit.body ≡ Mark text) (small : chunks + 1 < 2 ^ 64) where
+    at_place : slice_get (commits_at stage) (length old + n) ≡ Some commit
+    at_place =
+        ap (λ (l : List Commit). slice_get l (length old + n)) placed.parts.spelled
+        ∙ at_left (old ++ read_at stage) placed.parts.later (length old + n) commit (at_right old (read_at stage) n commit is)
+
+    raw_at : (c : RawCommit) × (slice_get stage.history.commits (length old + n) ≡ Some c) × (commit ≡ typed_commit stage.first.infos c)
+    raw_at = mapped (typed_commit stage.first.infos) stage.history.commits (length old + n) commit at_place
+
+    raw_is : raw_at.0.body ≡ raw.Mark text
+    raw_is = raw_mark stage.first.infos raw_at.0.body text (sym (ap (λ (c : Commit). c.body) raw_at.2) ∙ high)
+
+    read_lt : length old + n < behind_of placed.parts
+    read_lt = under (length old) (length (read_at stage)) n (behind_of placed.parts) (slice_get-lt (read_at stage) n commit is) (length-append old (read_at stage))
+
+    -- no such mark stands behind those that were read
+    not_later : (place : ℕ) → IsMarkAt stage.history text place → behind_of placed.parts ≤ place → ⊥
+    not_later place mark le =
+        not_behind (length old + n) place (behind_of placed.parts)
+        (kept.own_marks.once (length old + n) place (chunks + 1) High raw_at.0 mark.commit small raw_at.1 mark.stands raw_is mark.is_mark) le read_lt
+
+    -- that of a window that waits is this one
+    own_text : (chunk : Chunk) → (chunk.plan.incarnation ≡ stage.first.incarnation) × (chunk.plan.number ≡ stage.number) → stage.number ≡ chunks + 1 → high_text chunk.plan ≡ text
+    own_text chunk own number = ap₂ (λ (i m : ℕ). mark_text i m High) own.0 (own.1 ∙ number)
+
+    none_at : (w : Window) → stage.following.window ≡ w → ⊥
+    none_at Absent is_w =
+        no_more chunks stage.number (windows ∙ ap (λ (x : Window). chunks + waiting x) is_w)
+        (kept.own_marks.numbered (length old + n) (chunks + 1) High raw_at.0 small raw_at.1 raw_is).0
+    none_at (Armed chunk) is_w =
+        let awaited : IsArmedBefore stage.history (behind_of placed.parts) chunk = subst (IsAwaited stage.history (behind_of placed.parts)) is_w placed.awaited in
+        let own : (chunk.plan.incarnation ≡ stage.first.incarnation) × (chunk.plan.number ≡ stage.number) = subst (IsOwnWindow stage.first.incarnation stage.number) is_w kept.own_window in
+        not_later awaited.high
+        (subst (λ (value : List ℕ). IsMarkAt stage.history value awaited.high) (own_text chunk own (windows ∙ ap (λ (x : Window). chunks + waiting x) is_w)) awaited.high_is)
+        (further (behind_of placed.parts) awaited.low awaited.high awaited.not_yet awaited.order)
+    none_at (Open chunk) is_w =
+        let awaited : IsOpenBefore stage.history (behind_of placed.parts) chunk = subst (IsAwaited stage.history (behind_of placed.parts)) is_w placed.awaited in
+        let own : (chunk.plan.incarnation ≡ stage.first.incarnation) × (chunk.plan.number ≡ stage.number) = subst (IsOwnWindow stage.first.incarnation stage.number) is_w kept.own_window in
+        not_later awaited.high
+        (subst (λ (value : List ℕ). IsMarkAt stage.history value awaited.high) (own_text chunk own (windows ∙ ap (λ (x : Window). chunks + waiting x) is_w)) awaited.high_is)
+        awaited.not_yet
+
+  pub none_unclosed : chunks + 1 < 2 ^ 64 → HasNoHigh stage.first.incarnation (chunks + 1) (read_at stage)
+  none_unclosed small =
+      all_by_place (λ (commit : Commit). commit.body ≢ Mark text) (read_at stage) (λ n commit is high. none_at n commit is high small stage.following.window refl)
+
+-- ---- where a session stands
+
+module _ {S K D : Type 0} {tell : Bool} {stands : S → Standing → Type 0} {holds : K → List (List Record) → Type 0} {seen : D → Option (List ℕ)} {may_leave : D → List ℕ → Type 0} {entry : Entry} {work : Work} {src : S} {sink : K} {store : StoreOn D}
+    (s : InSession tell stands holds seen may_leave entry work src sink store) where
+  infos_are : (next_of work).infos ≡ s.stage.first.infos
+  infos_are = ap (λ (o : Offset). o.infos) s.work_is.offset_is
+
+  incarnation_is : (next_of work).incarnation ≡ s.stage.first.incarnation
+  incarnation_is = ap (λ (o : Offset). o.incarnation) s.work_is.offset_is
+
+  -- what it has stored is its next offset
+  pub closed_read : WasFaithful entry → (stored : Option Offset) (report : Report) (t : Standing) → stored ≡ Some (next_of work) → t ≡ standing_at s.stage → work.number ≡ report.chunks + waiting work.follower.window → HasClosedRead stored report t
+  closed_read faithful stored report t is stood windows = record {
+    offset = next_of work;
+    is = is;
+    reading = record { after = s.stage.first.lsn; messages = s.stage.messages };
+    reading_is = ap (λ (x : Standing). x.reading) stood;
+    none = λ small.
+        subst (λ (i : ℕ). HasNoHigh i (report.chunks + 1) (take report.commits (commits_of (next_of work).infos s.stage.messages))) (sym incarnation_is)
+        (subst (λ (l : List TableInfo). HasNoHigh s.stage.first.incarnation (report.chunks + 1) (take report.commits (commits_of l s.stage.messages))) (sym infos_are)
+        (all_taken (λ (commit : Commit). commit.body ≢ Mark (mark_text s.stage.first.incarnation (report.chunks + 1) High)) report.commits (read_at s.stage)
+        (none_unclosed entry s.stage faithful s.going report.chunks
+        (sym s.work_is.number_is ∙ (windows ∙ ap (λ (f : Following). report.chunks + waiting f.window) s.work_is.follower_is)) small)));
+  }

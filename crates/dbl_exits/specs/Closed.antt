@@ -1,0 +1,25 @@
+-- Which windows a session has closed, by the commits that it counts.
+use Rattle.std.specs.Prelude.{◌≡◌, ◌≢◌, ℕ, ◌+◌, ◌<◌, ◌^◌, take, Option, Some, List}
+use Rattle.std.specs.List.{AllByRecursion}
+use Rattle.dbl_table.specs.declared.change.Body.TheVariants.{Mark}
+use Rattle.dbl_table.specs.declared.change.Commit.{Commit}
+use Rattle.dbl_history.specs.MarkTexts.{mark_text}
+use Rattle.dbl_history.specs.MarkTexts.Side.{High}
+use Rattle.dbl_commit.specs.Stated.{commits_of}
+use Rattle.dbl_honest.specs.Standings.{Reading, Standing}
+use Rattle.dbl_offset.specs.declared.offset.Offset.{Offset}
+use Rattle.dbl_work.specs.declared.report.Report.{Report}
+
+-- none of the commits is the high mark of the window with this number
+abbrev pub HasNoHigh : ℕ → ℕ → List Commit → Type 0
+HasNoHigh incarnation number commits = AllByRecursion (λ commit. commit.body ≢ Mark (mark_text incarnation number High)) commits
+
+-- None of the commits that a report counts, of those behind which a source stands, is the high mark of the window behind those that it
+-- reports: each window whose high mark it counts was closed, its rows and its progress among the records. A report counts fewer than 2^64
+-- windows.
+pub record HasClosedRead (stored : Option Offset) (report : Report) (t : Standing) : Type 0 where
+  pub offset : Offset
+  pub is : stored ≡ Some offset
+  pub reading : Reading
+  pub reading_is : t.reading ≡ Some reading
+  pub none : report.chunks + 1 < 2 ^ 64 → HasNoHigh offset.incarnation (report.chunks + 1) (take report.commits (commits_of offset.infos reading.messages))

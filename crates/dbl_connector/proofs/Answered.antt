@@ -1,5 +1,5 @@
 -- What a session comes to over opened stores, where they are kept and where not.
-use Rattle.std.proofs.Common.{◌≤◌, ◌≡◌, ◌∙◌, ◌⊎◌, inl, inr, ℕ, ℤ, ◌+◌, ◌==◌, Bool, false, if◌then◌else◌, arith, ◌++◌, Option, Some, None, List, length, Result, Ok, Err, refl, sym, ap, subst}
+use Rattle.std.proofs.Common.{◌≤◌, ◌≡◌, ◌∙◌, ◌⊎◌, inl, inr, ℕ, ℤ, ◌+◌, ◌==◌, Bool, false, if◌then◌else◌, arith, ◌++◌, Option, Some, None, List, length, take, Result, Ok, Err, refl, sym, ap, subst}
 use Rattle.std.specs.Prelude.{is_some}
 use Rattle.dbl_base.specs.declared.lsn.Lsn.{Lsn}
 use Rattle.dbl_record.specs.declared.record.Record.{Record}
@@ -8,7 +8,8 @@ use Rattle.dbl_journal.specs.Stored.{OnDisk}
 use Rattle.dbl_history.specs.History.{IsRising}
 use Rattle.dbl_feed.specs.declared.place.Place.{Place}
 use Rattle.dbl_feed.proofs.LogLemmas.{is_rising}
-use Rattle.dbl_honest.specs.Standings.{Left, Standing}
+use Rattle.dbl_commit.specs.Stated.{commits_of}
+use Rattle.dbl_honest.specs.Standings.{Left, Reading, Standing}
 use Rattle.dbl_topic.specs.Held.{HoldsGroups}
 use Rattle.dbl_topic.specs.Logs.{IsLog}
 use Rattle.dbl_topic.specs.SinkLaws.{log_of, only_held}
@@ -26,6 +27,7 @@ use Rattle.dbl_work.specs.declared.report.Ending.{Ending}
 use Rattle.dbl_work.specs.declared.report.Ending.TheVariants.{Budget, Complete}
 use Rattle.dbl_work.specs.declared.report.Report.{Report}
 use Rattle.dbl_work.specs.Begins.{IsAbsentHalt}
+use Rattle.dbl_exits.specs.Closed.{HasClosedRead, HasNoHigh}
 use Rattle.dbl_exits.specs.Found as found
 use Rattle.dbl_exits.specs.Sessions.{AddsFew as AddsFewBy}
 use Rattle.dbl_causes.specs.Gained.{Gains, HasCounted, IsReported as IsCounted}
@@ -47,12 +49,12 @@ use Rattle.dbl_connector.specs.declared.error.ConnectError.{ConnectError}
 use Rattle.dbl_connector.specs.declared.error.ConnectError.TheVariants as error
 use Rattle.dbl_connector.specs.declared.error.ConnectError.TheVariants.{Halted}
 use Rattle.dbl_connector.specs.Asked.{asks_in}
-use Rattle.dbl_connector.specs.Ends.{AddsFew, AreGained, EndsBefore, GainsRecords, HasBegun, HasReadClean, HasRun, IsKeptError, IsReported, IsStoredLast}
+use Rattle.dbl_connector.specs.Ends.{AddsFew, AreGained, EndsBefore, GainsRecords, HasBegun, HasClosedSent, HasReadClean, HasRun, IsKeptError, IsReported, IsStoredLast}
 use Rattle.dbl_connector.specs.Errors.{IsOutside, IsOwnHalt, halt_error}
 use Rattle.dbl_connector.specs.Steps.{IsLogOf, IsSourceOf, IsStoreOf}
 use Rattle.dbl_connector.proofs.Causes.{IsHaltOver, cause_of, err_is, kept_halt, sent_front}
-use Rattle.dbl_connector.proofs.Left.{ended_store, ended_wal, image_of, ok_is, own_of, place_read, settled_of, source_kept}
-use Rattle.dbl_connector.proofs.Opened.{found_of, held_by, left_wal, log_come, read_of, store_come, stood_first}
+use Rattle.dbl_connector.proofs.Left.{ended_store, ended_wal, image_of, left_store, ok_is, own_of, place_read, settled_of, source_kept}
+use Rattle.dbl_connector.proofs.Opened.{found_of, held_by, left_wal, log_come, read_of, same_some, store_come, stood_first}
 use Rattle.dbl_connector.proofs.Ran.{LogLeaves, Ran, SourceLeaves}
 
 -- ---- halts
@@ -173,6 +175,9 @@ module _ {W T F : Type 0} (seen_w : W → Option (List ℕ)) (may_w : W → List
     gains = λ bytes groups leaves is. inr
         (at_begun asked w t f (λ h c. Gains c now h.offset fn.offset h.groups groups) begun old config read_here asks
         (ran.grouped lg.groups groups lg.holds (bytes, leaves, is)));
+    ungained = λ same bytes groups leaves is. inr
+        (at_begun asked w t f (λ h c. fn.offset ≡ h.offset → groups ≡ h.groups) begun old config read_here asks
+        (λ still. ran.ungained lg.groups groups lg.holds (bytes, leaves, is) still) same);
   }
 
   pub marks_of : (asked : Asked) → asks_in asked old ≡ Some config → AddsFew asked (may_w so.journal.disk) (may_w sn.journal.disk) w t f
@@ -205,12 +210,11 @@ module _ {W T F : Type 0} (seen_w : W → Option (List ℕ)) (may_w : W → List
   }
 
   clean_of : (ending : Ending) → result ≡ Ok ending → (bytes : List ℕ) (wal : Wal) → may_w sn.journal.disk bytes → IsWal bytes wal
-      → HasReadClean config now fo.offset wal (record { ending = ending; report = report })
+      → HasReadClean config now fo.offset fn.offset wal (record { ending = ending; report = report })
   clean_of ending is bytes wal leaves read =
       let settled = settled_at ending is wal (demo_at ending is bytes wal leaves read) in
       let front = sent_front (standing_in wal sn.place) settled.reading wal sn.place refl settled.reading_is in
       record {
-        stored = fn.offset;
         reading = settled.reading;
         was = record { by = settled.stored; behind = settled.behind; rest = front.0; front = front.1 };
         many = settled.many;
@@ -223,7 +227,7 @@ module _ {W T F : Type 0} (seen_w : W → Option (List ℕ)) (may_w : W → List
       }
 
   pub run_of : (asked : Asked) → asks_in asked old ≡ Some config → (ending : Ending) → result ≡ Ok ending
-      → HasRun asked now (may_w sn.journal.disk) (may_t ln.disk) w t f (record { ending = ending; report = report })
+      → HasRun asked now (may_w sn.journal.disk) (may_t ln.disk) (may_f (disk_of fn)) w t f (record { ending = ending; report = report })
   run_of asked asks ending is =
       let stands = ended_wal seen_w may_w seen_t may_t seen_f may_f is_w is_t is_f w t f so lo fo src lg st config now sn ln fn report result ran ending is in
       record {
@@ -232,6 +236,9 @@ module _ {W T F : Type 0} (seen_w : W → Option (List ℕ)) (may_w : W → List
         gained = gained_by (counted_ok ending is);
         raised = λ h exhausted. (let wrong : Ok ending ≡ Err h = sym is ∙ ran.exhausted h exhausted in cc);
         captured = λ none. ran.captures first first_stands none (settled_at ending is stands.0 stands.1).stored;
+        stored = fn.offset;
+        store = left_store seen_w may_w seen_t may_t seen_f may_f is_w is_t is_f w t f so lo fo src lg st config now sn ln fn report result ran (λ failed. (let wrong : Ok ending ≡ Err halt.Offsets = sym is ∙ failed in cc));
+        first = ran.firsts first first_stands;
         clean = clean_of ending is;
       }
 
@@ -245,7 +252,7 @@ module _ {W T F : Type 0} (seen_w : W → Option (List ℕ)) (may_w : W → List
     counts = counted_ok ending is
 
     stored : Holds seen_f may_f fn fn.offset
-    stored = ended_store seen_w may_w seen_t may_t seen_f may_f is_w is_t is_f w t f so lo fo src lg st config now sn ln fn report result ran ending is kept
+    stored = ended_store seen_w may_w seen_t may_t seen_f may_f is_w is_t is_f w t f so lo fo src lg st config now sn ln fn report result ran ending is
 
     abbrev left : Contents
     left = held_by stands.0 (lg.groups ++ counts.more) fn.offset
@@ -274,6 +281,25 @@ module _ {W T F : Type 0} (seen_w : W → Option (List ℕ)) (may_w : W → List
         told_w (is_t ln.disk counts.held.lists.bytes counts.held.lists.told) (is_f (disk_of fn) stored.lists.bytes stored.lists.told) in
         subst IsKept (disks_are_read_once stands.1.running.lists.bytes counts.held.lists.bytes stored.lists.bytes here.held left here.read read_told) here.kept
 
+    -- no high mark of a window that wasn't closed
+    closed_of : HasClosedSent config fo.offset fn.offset stands.0 report
+    closed_of =
+        let settled = settled_at ending is stands.0 stands.1 in
+        let here : Standing = standing_in stands.0 sn.place in
+        let front = sent_front here settled.reading stands.0 sn.place refl settled.reading_is in
+        let closed = ok_is result ending (λ e. HasClosedRead fn.offset report here)
+        (ran.unclosed entry (record { config_is = refl; now_is = refl }) (found_of seen_w may_w seen_t may_t seen_f may_f w t f so lo fo src lg st config now) kept.faithful here (stands.0, stands.1, refl)) is in
+        record {
+          reading = settled.reading;
+          was = record { by = settled.stored; behind = settled.behind; rest = front.0; front = front.1 };
+          many = settled.many;
+          none = λ small.
+              subst (λ (r : Reading). HasNoHigh settled.stored.offset.incarnation (report.chunks + 1) (take report.commits (commits_of settled.stored.offset.infos r.messages)))
+              (same_some closed.reading settled.reading here.reading closed.reading_is settled.reading_is)
+              (subst (λ (o : Offset). HasNoHigh o.incarnation (report.chunks + 1) (take report.commits (commits_of o.infos closed.reading.messages)))
+              (same_some closed.offset settled.stored.offset fn.offset closed.is settled.stored.is) (closed.none small));
+        }
+
     pub report_of : (asked : Asked) → asks_in asked old ≡ Some config
         → IsReported asked now (may_w sn.journal.disk) (may_t ln.disk) (may_f (disk_of fn)) w t f (record { ending = ending; report = report })
     report_of asked asks =
@@ -294,6 +320,7 @@ module _ {W T F : Type 0} (seen_w : W → Option (List ℕ)) (may_w : W → List
           marks = ok_is result ending (λ e. (l : Left) → SourceLeaves may_w sn l → AddsExactly report.chunks (marks_more e fn.offset) (standing_in src.wal so.place).history l.history)
               (ran.exactly first first_stands own) is (left_in stands.0)
               (record { image = stands.1.running.lists.bytes; may = told_w; wal = stands.0; is = read_told.source; left = refl });
+          closed = closed_of;
         }
 
   -- ---- where it halted
@@ -304,6 +331,7 @@ module _ {W T F : Type 0} (seen_w : W → Option (List ℕ)) (may_w : W → List
     stood = err_is result h _ (ran.halt_stood first first_stands) is;
     absent = err_is result h _ (ran.absent first first_stands) is;
     own = λ own. err_is result h _ (ran.own first first_stands own) is;
+    below = err_is result h _ (ran.gone_stood first first_stands) is;
     gone = λ asked far same behind. ran.gone first first_stands behind asked far (is ∙ ap (λ (x : Halt). Err x) same);
     missing = λ value at same within. ran.missing first first_stands within value at (is ∙ ap (λ (x : Halt). Err x) same);
     long = λ none still. err_is result h _ (ran.long first first_stands none still) is;
@@ -319,10 +347,10 @@ module _ {W T F : Type 0} (seen_w : W → Option (List ℕ)) (may_w : W → List
   one_left bytes wal leaves is s stands = stands.2 ∙ ap (λ (x : Wal). standing_in x sn.place) (sym (left_wal seen_w may_w sn stands.0 wal bytes stands.1 leaves is))
 
   pub ends_before : (asked : Asked) → asks_in asked old ≡ Some config → (h : Halt) → result ≡ Err h
-      → EndsBefore asked now (may_w sn.journal.disk) (may_t ln.disk) w t f (halt_error h)
+      → EndsBefore asked now (may_w sn.journal.disk) (may_t ln.disk) (may_f (disk_of fn)) w t f (halt_error h)
   ends_before asked asks h is = by (own_or h)
     where
-      by : IsOutside (halt_error h) ⊎ ((halt_error h ≡ Halted h) × IsOwnHalt h) → EndsBefore asked now (may_w sn.journal.disk) (may_t ln.disk) w t f (halt_error h)
+      by : IsOutside (halt_error h) ⊎ ((halt_error h ≡ Halted h) × IsOwnHalt h) → EndsBefore asked now (may_w sn.journal.disk) (may_t ln.disk) (may_f (disk_of fn)) w t f (halt_error h)
       by (inl out) = inl out
       by (inr own) = inr (inr (record {
         begun = begun_of asked asks;
@@ -330,6 +358,8 @@ module _ {W T F : Type 0} (seen_w : W → Option (List ℕ)) (may_w : W → List
         is = own.0;
         stored = fn.offset;
         last = ran.stores;
+        store = left_store seen_w may_w seen_t may_t seen_f may_f is_w is_t is_f w t f so lo fo src lg st config now sn ln fn report result ran (λ failed. subst IsOwnHalt (err_one result h halt.Offsets is failed) own.1);
+        first = ran.firsts first first_stands;
         report = report;
         raised = λ other exhausted. err_one result h other is (ran.exhausted other exhausted);
         captured = λ none name among cannot. (

@@ -29,7 +29,7 @@ use Rattle.dbl_causes.specs.Nevers.{IsFaithfulHalt, IsHonestHalt, IsOwnCell, IsO
 use Rattle.dbl_restarts.specs.Restarts.{entry_at}
 use Rattle.dbl_steps.specs.Awaited.{IsWithinLog}
 use Rattle.dbl_steps.specs.Owned.{IsLongBy}
-use Rattle.dbl_steps.specs.Stood.{IsHaltStanding}
+use Rattle.dbl_steps.specs.Stood.{IsGoneBelow, IsHaltStanding}
 use Rattle.dbl_kept.specs.Causes.{HasRead, IsBeyondLog, IsCauseOf, IsConfirmedBeyond, IsFirstTooLong, IsHaltAt, IsKeptHalt, IsOwnTxn}
 use Rattle.dbl_kept.specs.Contents.{Contents, HasOwnTables, confirmed_at, found_in, history_at}
 use Rattle.dbl_connector.proofs.Left.{place_read}
@@ -118,6 +118,7 @@ pub record IsHaltOver (config : Config) (now : ℤ) (old : Contents) (new : Opti
   pub absent : IsAbsentHalt config.tables (history_at old) h
   pub own : HasOwnTables old → IsHonestHalt (found.entry_at config now (standing_in old.wal None) old.offset) stands h
   pub gone : (asked first : Lsn) → h ≡ halt.Gone asked first → IsKeptBehind (confirmed_at old) old.offset → ⊥
+  pub below : IsGoneBelow (confirmed_at old) h
   pub missing : (value : List ℕ) (at : Lsn) → h ≡ halt.WatermarkMissing value at → IsWithinLog (history_at old) old.offset → ⊥
   pub long : old.offset ≡ None → new ≡ None → IsLongBy config (history_at old) h
 
@@ -167,7 +168,13 @@ module _ (config : Config) (now : ℤ) (old : Contents) (new : Option Offset) (r
       })
   cause_of (halt.Model error) over = (over.is.0, over.absent)
   cause_of (halt.UnknownTable table) over = (over.is.0, over.absent)
-  cause_of (halt.Gone asked first) over = confirmed_beyond (confirmed_at old) old.offset (over.gone asked first refl)
+  cause_of (halt.Gone asked first) over = record {
+    beyond = confirmed_beyond (confirmed_at old) old.offset (over.gone asked first refl);
+    by = over.is.0;
+    asked_is = over.is.1;
+    above = over.below.0;
+    dropped = over.below.1;
+  }
   cause_of (halt.WatermarkMissing value at) over =
       (beyond_log old old.offset refl (is_rising (tables_of old.wal) (logged_in old.wal.entries)) (over.missing value at refl), at_halt (halt.WatermarkMissing value at) over.stood)
   cause_of (halt.Exhausted incarnation) over = over.is.1

@@ -23,7 +23,7 @@ use Rattle.dbl_init.specs.declared.error.Store.TheVariants as store
 use Rattle.dbl_connector.specs.declared.asked.Asked.{Asked}
 use Rattle.dbl_connector.specs.declared.error.ConnectError.{ConnectError}
 use Rattle.dbl_connector.specs.declared.error.ConnectError.TheVariants as error
-use Rattle.dbl_connector.specs.Ends.{Counts, End, IsRefused, OnlyRead}
+use Rattle.dbl_connector.specs.Ends.{Counts, End, IsRefused, IsWrongSource, OnlyRead}
 use Rattle.dbl_connector.specs.Ends.IsRefused.{no_source, no_log, no_offset}
 use Rattle.dbl_connector.specs.Errors.{IsBefore, IsBehindOpening, IsConnectError, IsOutside, IsRefusal, demo_error, offset_error, topic_error}
 use Rattle.dbl_connector.proofs.Stays.{IsUnhalted}
@@ -60,6 +60,31 @@ demo_ends asked w t f (demo.Script e) bad fault = inl tt
 demo_ends asked w t f (demo.Model e) bad fault = inl tt
 demo_ends asked w t f (demo.BadEntry index) bad fault = inr (no_source (inr (index, refl, bad index refl)))
 demo_ends asked w t f demo.Memory bad fault = inl tt
+
+pub demo_wrong : (w : List ℕ) (e : DemoError) → ((index : ℕ) → e ≡ demo.BadEntry index → wal_bytes.HasBadEntry w index)
+    → ((at : ℕ) → e ≡ demo.Journal (journal.NotAJournal at) → IsFaultAt w at) → IsWrongSource w (demo_error e)
+demo_wrong w (demo.Journal journal.Failed) bad fault = tt
+demo_wrong w (demo.Journal (journal.NotAJournal at)) bad fault = fault at refl
+demo_wrong w (demo.Journal (journal.EntryTooLong len)) bad fault = tt
+demo_wrong w (demo.Journal journal.Memory) bad fault = tt
+demo_wrong w (demo.Script e) bad fault = tt
+demo_wrong w (demo.Model e) bad fault = tt
+demo_wrong w (demo.BadEntry index) bad fault = bad index refl
+demo_wrong w demo.Memory bad fault = tt
+
+-- where it is opened, it isn't told to be none
+pub not_wrong : (w : List ℕ) (e : ConnectError) → IsBehindOpening store.Wal e → IsWrongSource w e
+not_wrong w (error.Failed s) behind = tt
+not_wrong w (error.NotAStore store.Wal at) behind = absurd behind
+not_wrong w (error.NotAStore store.Topics at) behind = tt
+not_wrong w (error.NotAStore store.Offsets at) behind = tt
+not_wrong w (error.BadEntry store.Wal index) behind = absurd behind
+not_wrong w (error.BadEntry store.Topics index) behind = tt
+not_wrong w (error.BadEntry store.Offsets index) behind = tt
+not_wrong w error.AlreadyStarted behind = tt
+not_wrong w error.NotStarted behind = tt
+not_wrong w (error.Halted h) behind = tt
+not_wrong w error.Memory behind = tt
 
 -- ---- a topic log that isn't
 

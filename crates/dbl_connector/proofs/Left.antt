@@ -7,7 +7,7 @@ use Rattle.dbl_commit.specs.Past.{last_lsn}
 use Rattle.dbl_feed.specs.declared.place.Place.{Place}
 use Rattle.dbl_honest.specs.Standings.{Reading}
 use Rattle.dbl_topic.specs.Held.{HasGroups}
-use Rattle.dbl_offset.specs.Stores.{Holds, StoreOn, disk_of}
+use Rattle.dbl_offset.specs.Stores.{Holds, IsStore, StoreOn, disk_of}
 use Rattle.dbl_offset.proofs.StoreLaws.{one_store}
 use Rattle.dbl_sound.specs.Standings.{left_in, reading_in, standing_in}
 use Rattle.dbl_sound.specs.Wals.{Wal}
@@ -16,6 +16,7 @@ use Rattle.dbl_running.specs.Demo.{Demo, HasKept, IsDemo}
 use Rattle.dbl_running.specs.SourceLaws.{one_demo}
 use Rattle.dbl_session.specs.Entries.{Entry, HadOwnTables}
 use Rattle.dbl_work.specs.declared.halt.Halt.{Halt}
+use Rattle.dbl_work.specs.declared.halt.Halt.TheVariants as halt
 use Rattle.dbl_work.specs.declared.report.Ending.{Ending}
 use Rattle.dbl_work.specs.declared.report.Ending.TheVariants.{Complete}
 use Rattle.dbl_work.specs.declared.report.Report.{Report}
@@ -32,7 +33,7 @@ use Rattle.dbl_kept.proofs.KeptLaws.{disks_are_read_once, kept_runs_are_promised
 use Rattle.dbl_kept.proofs.WholeLaws.{complete_runs_leave_tables_equal}
 use Rattle.dbl_connector.specs.declared.asked.Asked.{Asked}
 use Rattle.dbl_connector.specs.Asked.{asks_in}
-use Rattle.dbl_connector.specs.Ends.{End, IsComplete}
+use Rattle.dbl_connector.specs.Ends.{AreStores, End, IsComplete}
 use Rattle.dbl_connector.specs.Steps.{IsLogOf, IsSourceOf, IsStoreOf}
 use Rattle.dbl_connector.proofs.Opened.{found_of, held_by, kept_log, kept_source, left_offset, left_wal, read_of, stood_first}
 use Rattle.dbl_connector.proofs.Ran.{LogLeaves, Ran, SourceLeaves}
@@ -108,10 +109,14 @@ module _ {W T F : Type 0} (seen_w : W → Option (List ℕ)) (may_w : W → List
     pub ended_wal : (ending : Ending) → result ≡ Ok ending → (wal : Wal) × IsDemo seen_w may_w wal sn × (wal.script ≡ src.wal.script)
     ended_wal ending is = source_kept.stands (ok_is result ending (λ e. IsTrue sn.live) ran.source_live is)
 
-    pub ended_store : (ending : Ending) → result ≡ Ok ending → IsKept old → Holds seen_f may_f fn fn.offset
-    ended_store ending is kept =
-        ok_is result ending (λ e. Holds seen_f may_f fn fn.offset)
-        (ran.holds entry (record { config_is = refl; now_is = refl }) (found_of seen_w may_w seen_t may_t seen_f may_f w t f so lo fo src lg st config now) (own_of kept)) is
+    pub ended_store : (ending : Ending) → result ≡ Ok ending → Holds seen_f may_f fn fn.offset
+    ended_store ending is = ran.held st.holds (λ failed. (let wrong : Ok ending ≡ Err halt.Offsets = sym is ∙ failed in cc))
+
+    -- unless its disk failed, a crash leaves a store of what was stored last
+    pub left_store : (result ≡ Err halt.Offsets → ⊥) → AreStores (may_f (disk_of fn)) fn.offset
+    left_store other bytes leaves =
+        let held = ran.held st.holds other in
+        subst (λ (b : List ℕ). IsStore b fn.offset) (sym (held.lists.only bytes leaves)) (record { entries = held.entries; journal = held.lists.spelled; each = held.each; last = held.last })
 
     pub settled_of : (ending : Ending) → result ≡ Ok ending → (wal : Wal) → IsDemo seen_w may_w wal sn → HasSettled config now fo.offset fn.offset report (standing_in wal sn.place)
     settled_of ending is wal demo =
@@ -127,7 +132,7 @@ module _ {W T F : Type 0} (seen_w : W → Option (List ℕ)) (may_w : W → List
         let demo : IsDemo seen_w may_w held.wal sn = subst (λ (x : Wal). IsDemo seen_w may_w x sn) same_wal wal.1 in
         let settled = settled_of Complete is held.wal demo in
         let place = place_read held.wal sn.place settled.reading settled.reading_is in
-        let offset_is : held.offset ≡ Some settled.stored.offset = left_offset seen_f may_f fn fn.offset held.offset f1 (ended_store Complete is kept) mf read.store ∙ settled.stored.is in
+        let offset_is : held.offset ≡ Some settled.stored.offset = left_offset seen_f may_f fn fn.offset held.offset f1 (ended_store Complete is) mf read.store ∙ settled.stored.is in
         let whole = ran.complete entry (record { config_is = refl; now_is = refl }) (found_of seen_w may_w seen_t may_t seen_f may_f w t f so lo fo src lg st config now) (own_of kept) is kept.faithful f1 mf in
         let complete = whole.2 (left_in held.wal) held.groups (record { image = w1; may = mw; wal = held.wal; is = read.source; left = refl }) (t1, mt, read.log) in
         let same : whole.0 ≡ Some settled.stored.offset = one_store f1 whole.0 held.offset whole.1 read.store ∙ offset_is in

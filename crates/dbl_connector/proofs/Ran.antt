@@ -17,8 +17,9 @@ use Rattle.dbl_work.specs.declared.report.Ending.{Ending}
 use Rattle.dbl_work.specs.declared.report.Ending.TheVariants.{Budget, Complete}
 use Rattle.dbl_work.specs.declared.report.Report.{Report}
 use Rattle.dbl_work.specs.Begins.{IsAbsentHalt}
+use Rattle.dbl_exits.specs.Closed.{HasClosedRead}
 use Rattle.dbl_exits.specs.Ends.{LeavesComplete}
-use Rattle.dbl_exits.specs.Found.{Found, HasStored, IsEntryOf, entry_at, position_of}
+use Rattle.dbl_exits.specs.Found.{Found, HasStored, IsEntryOf, IsFirstStored, entry_at, position_of}
 use Rattle.dbl_exits.specs.Sessions.{AddsFew, LeavesGoing}
 use Rattle.dbl_causes.specs.Gained.{Gains, IsReported}
 use Rattle.dbl_causes.specs.Halted.{IsHalt}
@@ -29,7 +30,7 @@ use Rattle.dbl_causes.specs.Written.{AddsExactly, marks_more}
 use Rattle.dbl_steps.specs.Awaited.{IsWithinLog}
 use Rattle.dbl_steps.specs.Captured.{MustHaltAbsent}
 use Rattle.dbl_steps.specs.Owned.{IsLongBy}
-use Rattle.dbl_steps.specs.Stood.{IsHaltStanding}
+use Rattle.dbl_steps.specs.Stood.{IsGoneBelow, IsHaltStanding}
 
 -- what a crash may leave of the source, and of the topic log
 abbrev pub SourceLeaves : {W : Type 0} → (W → List ℕ → Type 0) → Demo W → Left → Type 0
@@ -45,13 +46,15 @@ pub record Ran {W T F : Type 0} (seen_w : W → Option (List ℕ)) (may_w : W �
       → HadOwnTables entry → LeavesGoing (SourceLeaves may_w) (LogLeaves may_t) may_f entry sn ln fn
   pub complete : (entry : Entry) → IsEntryOf config now entry → Found (StandsFor seen_w may_w) (HoldsGroups seen_t may_t) seen_f may_f entry so lo fo
       → HadOwnTables entry → result ≡ Ok Complete → LeavesComplete (SourceLeaves may_w) (LogLeaves may_t) may_f entry sn ln fn
-  pub holds : (entry : Entry) → IsEntryOf config now entry → Found (StandsFor seen_w may_w) (HoldsGroups seen_t may_t) seen_f may_f entry so lo fo
-      → HadOwnTables entry → OnOk result (Holds seen_f may_f fn fn.offset)
+  pub held : Holds seen_f may_f fo fo.offset → (result ≡ Err halt.Offsets → ⊥) → Holds seen_f may_f fn fn.offset
   pub marks : (s : Standing) → StandsFor seen_w may_w so s → HadOwnTables (entry_at config now s fo.offset)
       → (left : Left) → SourceLeaves may_w sn left → AddsFew (entry_at config now s fo.offset) left
   pub exactly : (s : Standing) → StandsFor seen_w may_w so s → HadOwnTables (entry_at config now s fo.offset)
       → IfOk result (λ ending. (left : Left) → SourceLeaves may_w sn left → AddsExactly report.chunks (marks_more ending fn.offset) s.history left.history)
+  pub unclosed : (entry : Entry) → IsEntryOf config now entry → Found (StandsFor seen_w may_w) (HoldsGroups seen_t may_t) seen_f may_f entry so lo fo
+      → WasFaithful entry → (t : Standing) → StandsFor seen_w may_w sn t → OnOk result (HasClosedRead fn.offset report t)
   pub stores : (fn.offset ≡ fo.offset) ⊎ HasStored config fo.offset fn.offset
+  pub firsts : (s : Standing) → StandsFor seen_w may_w so s → IsFirstStored config s.history fo.offset fn.offset
   pub few : result ≡ Ok Complete → report.messages < config.messages
   pub ended : result ≡ Ok Complete → IsTrue sn.ended
   pub exhausted : MustExhaust fo.offset result
@@ -66,6 +69,7 @@ pub record Ran {W T F : Type 0} (seen_w : W → Option (List ℕ)) (may_w : W �
       → IfErr result (IsHaltStanding config now fo.offset fn.offset report (StandsFor seen_w may_w sn))
   pub absent : (s : Standing) → StandsFor seen_w may_w so s → IfErr result (IsAbsentHalt config.tables s.history)
   pub gone : (s : Standing) → StandsFor seen_w may_w so s → IsKeptBehind s.confirmed fo.offset → (asked first : Lsn) → result ≡ Err (halt.Gone asked first) → ⊥
+  pub gone_stood : (s : Standing) → StandsFor seen_w may_w so s → IfErr result (IsGoneBelow s.confirmed)
   pub missing : (s : Standing) → StandsFor seen_w may_w so s → IsWithinLog s.history fo.offset
       → (value : List ℕ) (at : Lsn) → result ≡ Err (halt.WatermarkMissing value at) → ⊥
   pub own : (s : Standing) → StandsFor seen_w may_w so s → HadOwnTables (entry_at config now s fo.offset)
@@ -75,6 +79,7 @@ pub record Ran {W T F : Type 0} (seen_w : W → Option (List ℕ)) (may_w : W �
   pub long : (s : Standing) → StandsFor seen_w may_w so s → fo.offset ≡ None → fn.offset ≡ None → IfErr result (IsLongBy config s.history)
   pub grouped : (groups left : List (List Record)) → HoldsGroups seen_t may_t lo groups → LogLeaves may_t ln left
       → Gains config now fo.offset fn.offset groups left
+  pub ungained : (groups left : List (List Record)) → HoldsGroups seen_t may_t lo groups → LogLeaves may_t ln left → fn.offset ≡ fo.offset → left ≡ groups
   pub counted : (groups : List (List Record)) → HoldsGroups seen_t may_t lo groups → IsReported (HoldsGroups seen_t may_t) (LogLeaves may_t) groups result ln report
   pub source_live : OnOk result (IsTrue sn.live)
   pub source_comes : ComesOf seen_w may_w so sn

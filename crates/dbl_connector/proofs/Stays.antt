@@ -70,9 +70,9 @@ never_so asked now wals logs stores w t f held read NotStarted own ends = tt
 never_so asked now wals logs stores w t f held read (Halted h) own ends = absurd own
 never_so asked now wals logs stores w t f held read Memory own ends = tt
 
-told_so : (asked : Asked) (now : ℤ) (wals logs : List ℕ → Type 0) (w t f : List ℕ) (e : ConnectError) → IsOutside e ⊎ IsRefused asked w t f e → EndsBefore asked now wals logs w t f e
-told_so asked now wals logs w t f e (inl outside) = inl outside
-told_so asked now wals logs w t f e (inr refused) = inr (inl refused)
+told_so : (asked : Asked) (now : ℤ) (wals logs stores : List ℕ → Type 0) (w t f : List ℕ) (e : ConnectError) → IsOutside e ⊎ IsRefused asked w t f e → EndsBefore asked now wals logs stores w t f e
+told_so asked now wals logs stores w t f e (inl outside) = inl outside
+told_so asked now wals logs stores w t f e (inr refused) = inr (inl refused)
 
 module _ {W T F : Type 0} (seen_w : W → Option (List ℕ)) (may_w : W → List ℕ → Type 0) (seen_t : T → Option (List ℕ)) (may_t : T → List ℕ → Type 0)
     (seen_f : F → Option (List ℕ)) (may_f : F → List ℕ → Type 0)
@@ -120,11 +120,12 @@ module _ {W T F : Type 0} (seen_w : W → Option (List ℕ)) (may_w : W → List
     never = λ kept w t f told_w told_t told_f. (
         let here = kept.each w t f (is_w wal0 w told_w) (is_t topics0 t told_t) (is_f offsets0 f told_f) in
         never_so asked now (may_w wal1) (may_t topics1) (may_f offsets1) w t f here.0 here.1 e own (ends w t f told_w told_t told_f));
-    told = λ w t f told_w told_t told_f. told_so asked now (may_w wal1) (may_t topics1) w t f e (ends w t f told_w told_t told_f);
+    told = λ w t f told_w told_t told_f. told_so asked now (may_w wal1) (may_t topics1) (may_f offsets1) w t f e (ends w t f told_w told_t told_f);
     gains = λ w t f told_w told_t told_f begun. record {
       stored = begun.held.offset;
       last = inl refl;
       gains = λ bytes groups leaves is. inl (images_t bytes leaves);
+      ungained = λ same bytes groups leaves is. inl (images_t bytes leaves);
     };
     marks = λ w t f told_w told_t told_f begun tables bytes left leaves is. inl (images_w bytes leaves);
   }
@@ -174,6 +175,7 @@ module _ {W T F : Type 0} (seen_w : W → Option (List ℕ)) (may_w : W → List
           stored = here.stored;
           last = here.last;
           gains = λ bytes groups leaves is. either (images_t bytes) (here.gains bytes groups leaves is);
+          ungained = λ same bytes groups leaves is. either (images_t bytes) (here.ungained same bytes groups leaves is);
         });
     marks = λ w t f told_w told_t told_f begun tables bytes left leaves is.
         either (images_w bytes) (by.marks w t f (same_w ∙ told_w) (same_t ∙ told_t) (same_f ∙ told_f) begun tables bytes left leaves is);

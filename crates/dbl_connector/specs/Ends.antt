@@ -1,5 +1,5 @@
 -- How `capture` and `resume` end, by the bytes that the disks told. Source: own.
-use Rattle.std.specs.Prelude.{Contains, ◌≡◌, ◌⊎◌, ℕ, ℤ, ◌<◌, ◌≤◌, ◌^◌, Option, Some, None, Result, Ok, Err, List, length}
+use Rattle.std.specs.Prelude.{Contains, ◌≡◌, ◌⊎◌, ℕ, ℤ, ◌+◌, ◌<◌, ◌≤◌, ◌^◌, take, Option, Some, None, Result, Ok, Err, List, length}
 use Rattle.std.specs.List.{AllByRecursion}
 use Rattle.dbl_base.specs.Streams.{Rose}
 use Rattle.dbl_record.specs.declared.record.Record.{Record}
@@ -13,7 +13,7 @@ use Rattle.dbl_honest.specs.Standings.{Reading}
 use Rattle.dbl_topic.specs.Logs.{IsLog}
 use Rattle.dbl_topic.specs.Logs as log_bytes
 use Rattle.dbl_offset.specs.declared.offset.Offset.{Offset}
-use Rattle.dbl_offset.specs.Stores.{HasBadOffset, IsNoStoreAt}
+use Rattle.dbl_offset.specs.Stores.{HasBadOffset, IsNoStoreAt, IsStore}
 use Rattle.dbl_sound.specs.Standings.{confirmed_of}
 use Rattle.dbl_sound.specs.Wals.{IsWal, Wal}
 use Rattle.dbl_sound.specs.Wals as wal_bytes
@@ -21,7 +21,8 @@ use Rattle.dbl_work.specs.declared.halt.Halt.{Halt}
 use Rattle.dbl_work.specs.declared.report.Ending.TheVariants.{Budget, Complete}
 use Rattle.dbl_work.specs.declared.report.Report.{Report}
 use Rattle.dbl_work.specs.Begins.{CanBeCaptured, IsAbsentHalt, IsExhausted}
-use Rattle.dbl_exits.specs.Found.{HasStored}
+use Rattle.dbl_exits.specs.Closed.{HasNoHigh}
+use Rattle.dbl_exits.specs.Found.{HasStored, IsFirstStored}
 use Rattle.dbl_causes.specs.Gained.{Gains}
 use Rattle.dbl_causes.specs.Reported.{AllCouldBeSent, course_at}
 use Rattle.dbl_init.specs.declared.error.Store.{Store}
@@ -58,6 +59,12 @@ abbrev pub IsNoOffset : List ℕ → ConnectError → Type 0
 IsNoOffset bytes e =
     ((at : ℕ) × (e ≡ NotAStore Offsets at) × IsNoStoreAt bytes at) ⊎ ((index : ℕ) × (e ≡ BadEntry Offsets index) × HasBadOffset bytes index)
 
+-- of the source's disk alone: where it is told to hold no log of a source, this is the place, or the entry
+abbrev pub IsWrongSource : List ℕ → ConnectError → Type 0
+IsWrongSource bytes (NotAStore WalStore at) = IsFaultAt bytes at
+IsWrongSource bytes (BadEntry WalStore index) = wal_bytes.HasBadEntry bytes index
+IsWrongSource bytes e = Unit {0}
+
 -- The first of these, in the order in which the disks are opened: one of them holds no such store; an offset is stored, or none is.
 pub data IsRefused (asked : Asked) (w t f : List ℕ) (e : ConnectError) : Type 0 where
   no_source : IsNoSource w e → IsRefused asked w t f e
@@ -80,8 +87,7 @@ IsStoredLast config found stored = (stored ≡ found) ⊎ HasStored config found
 
 -- What was read has no fault, the records of its commits could be sent, and so many messages and commits they are; the position is the last
 -- of these, up to which all is confirmed.
-pub record HasReadClean (config : Config) (now : ℤ) (found : Option Offset) (wal : Wal) (summary : Summary) : Type 0 where
-  pub stored : Option Offset
+pub record HasReadClean (config : Config) (now : ℤ) (found stored : Option Offset) (wal : Wal) (summary : Summary) : Type 0 where
   pub reading : Reading
   pub was : HasRead config found stored wal reading
   pub many : length reading.messages ≡ summary.report.messages
@@ -95,22 +101,31 @@ pub record HasReadClean (config : Config) (now : ℤ) (found : Option Offset) (w
 abbrev pub Stays : (List ℕ → Type 0) → Contents → Type 0
 Stays wals old = (bytes : List ℕ) → wals bytes → (wal : Wal) × IsWal bytes wal × (wal.script ≡ old.wal.script)
 
+-- what a crash leaves of the offset store is one of this offset
+abbrev pub AreStores : (List ℕ → Type 0) → Option Offset → Type 0
+AreStores stores offset = (bytes : List ℕ) → stores bytes → IsStore bytes offset
+
 -- what the topic log gained is what a report counts
 abbrev pub AreGained : (List ℕ → Type 0) → Contents → Report → Type 0
 AreGained logs old report = (bytes : List ℕ) (groups : List (List Record)) → logs bytes → IsLog bytes groups → HasGained old.groups groups report
 
 -- It ended as it should: it could begin, each of the tables could be captured, and what it read, of what the source's log is now, is clean.
-pub record HasRun (asked : Asked) (now : ℤ) (wals logs : List ℕ → Type 0) (w t f : List ℕ) (summary : Summary) : Type 0 where
+-- The offset that it stored last is what the disk holds; and where none was found, it is of the catalogue.
+pub record HasRun (asked : Asked) (now : ℤ) (wals logs stores : List ℕ → Type 0) (w t f : List ℕ) (summary : Summary) : Type 0 where
   pub begun : HasBegun asked w t f
   pub stays : Stays wals begun.held
   pub gained : AreGained logs begun.held summary.report
   pub raised : (h : Halt) → IsExhausted begun.held.offset h → ⊥
   pub captured : begun.held.offset ≡ None → AllByRecursion (CanBeCaptured (history_at begun.held)) begun.config.tables
-  pub clean : (bytes : List ℕ) (wal : Wal) → wals bytes → IsWal bytes wal → HasReadClean begun.config now begun.held.offset wal summary
+  pub stored : Option Offset
+  pub store : AreStores stores stored
+  pub first : IsFirstStored begun.config (history_at begun.held) begun.held.offset stored
+  pub clean : (bytes : List ℕ) (wal : Wal) → wals bytes → IsWal bytes wal → HasReadClean begun.config now begun.held.offset stored wal summary
 
 -- Its halt has its cause in what the disks held, and in what the source's log is now, whatever a crash leaves of it: this is one of the same
--- workload. Where no incarnation is left, or a table of a first session can't be captured, it is that.
-pub record HasHalted (asked : Asked) (now : ℤ) (wals logs : List ℕ → Type 0) (w t f : List ℕ) (e : ConnectError) : Type 0 where
+-- workload. Where no incarnation is left, or a table of a first session can't be captured, it is that. The offset that it stored last is what
+-- the disk holds; and where none was found, it is of the catalogue.
+pub record HasHalted (asked : Asked) (now : ℤ) (wals logs stores : List ℕ → Type 0) (w t f : List ℕ) (e : ConnectError) : Type 0 where
   pub begun : HasBegun asked w t f
   pub halt : Halt
   pub is : e ≡ Halted halt
@@ -120,21 +135,25 @@ pub record HasHalted (asked : Asked) (now : ℤ) (wals logs : List ℕ → Type 
       → IsOfTable halt × IsAbsentHalt begun.config.tables (history_at begun.held) halt
   pub stored : Option Offset
   pub last : IsStoredLast begun.config begun.held.offset stored
+  pub store : AreStores stores stored
+  pub first : IsFirstStored begun.config (history_at begun.held) begun.held.offset stored
   pub report : Report
   pub gained : AreGained logs begun.held report
   pub cause : (bytes : List ℕ) (wal : Wal) → wals bytes → IsWal bytes wal → IsCauseOf begun.config now begun.held stored report wal halt
 
 -- Why it ended before its time: a disk failed, or memory ran out; or the disks hold what it can't begin with; or its session halted.
-abbrev pub EndsBefore : Asked → ℤ → (List ℕ → Type 0) → (List ℕ → Type 0) → List ℕ → List ℕ → List ℕ → ConnectError → Type 0
-EndsBefore asked now wals logs w t f e = IsOutside e ⊎ (IsRefused asked w t f e ⊎ HasHalted asked now wals logs w t f e)
+abbrev pub EndsBefore : Asked → ℤ → (List ℕ → Type 0) → (List ℕ → Type 0) → (List ℕ → Type 0) → List ℕ → List ℕ → List ℕ → ConnectError → Type 0
+EndsBefore asked now wals logs stores w t f e = IsOutside e ⊎ (IsRefused asked w t f e ⊎ HasHalted asked now wals logs stores w t f e)
 
 -- What a crash leaves of the topic log is something that it might have left before; or what the log gained are the records of some commits,
--- made at this moment, and of windows of no more rows than it was asked for.
+-- made at this moment, and of windows of no more rows than it was asked for. Where it has stored nothing it gained nothing.
 pub record GainsRecords (asked : Asked) (now : ℤ) (before logs : List ℕ → Type 0) (w t f : List ℕ) (begun : HasBegun asked w t f) : Type 0 where
   pub stored : Option Offset
   pub last : IsStoredLast begun.config begun.held.offset stored
   pub gains : (bytes : List ℕ) (groups : List (List Record)) → logs bytes → IsLog bytes groups
       → before bytes ⊎ Gains begun.config now begun.held.offset stored begun.held.groups groups
+  pub ungained : stored ≡ begun.held.offset → (bytes : List ℕ) (groups : List (List Record)) → logs bytes → IsLog bytes groups
+      → before bytes ⊎ (groups ≡ begun.held.groups)
 
 -- What a crash leaves of the source's log is something that it might have left before; or few marks were added. It is said where a stored
 -- offset captures what the catalogue has.
@@ -150,11 +169,20 @@ pub record HasEnded (asked : Asked) (wals logs stores : List ℕ → Type 0) (w 
   pub left : Contents
   pub each : (w1 t1 f1 : List ℕ) → wals w1 → logs t1 → stores f1 → ReadAs w1 t1 f1 left
 
+-- Each window whose high mark it read is among those that it reports: of the commits that it counts none is the high mark of the next one.
+pub record HasClosedSent (config : Config) (found stored : Option Offset) (wal : Wal) (report : Report) : Type 0 where
+  pub reading : Reading
+  pub was : HasRead config found stored wal reading
+  pub many : length reading.messages ≡ report.messages
+  pub none : report.chunks + 1 < 2 ^ 64
+      → HasNoHigh was.by.offset.incarnation (report.chunks + 1) (take report.commits (commits_of was.by.offset.infos reading.messages))
+
 -- Its report is of what the disks held and hold, and it has added as many marks as it tells.
 pub record IsReported (asked : Asked) (now : ℤ) (wals logs stores : List ℕ → Type 0) (w t f : List ℕ) (summary : Summary) : Type 0 where
   pub ended : HasEnded asked wals logs stores w t f
   pub report : IsReportOf ended.begun.config now ended.begun.held ended.left summary.ending summary.report
   pub marks : AddsReportedMarks summary.ending summary.report.chunks ended.begun.held ended.left
+  pub closed : HasClosedSent ended.begun.config ended.begun.held.offset ended.left.offset ended.left.wal summary.report
   -- a count stops at 2^64 - 1, which no topic log of fewer than 2^40 bytes comes to
   pub exact : (bytes : List ℕ) → logs bytes → length bytes < 2 ^ 40 → AreCountedWhole report.more summary.report
 

@@ -62,7 +62,7 @@ pub record Answers {W T F : Type 0} (seen_w : W → Option (List ℕ)) (may_w : 
       → (w t f : List ℕ) → seen_w wal0 ≡ Some w → seen_t topics0 ≡ Some t → seen_f offsets0 ≡ Some f
       → IfErr end (IsKeptError asked now (may_w wal1) (may_t topics1) (may_f offsets1) w t f)
   pub told : (w t f : List ℕ) → seen_w wal0 ≡ Some w → seen_t topics0 ≡ Some t → seen_f offsets0 ≡ Some f
-      → MatchResult end (HasRun asked now (may_w wal1) (may_t topics1) w t f) (EndsBefore asked now (may_w wal1) (may_t topics1) w t f)
+      → MatchResult end (HasRun asked now (may_w wal1) (may_t topics1) (may_f offsets1) w t f) (EndsBefore asked now (may_w wal1) (may_t topics1) (may_f offsets1) w t f)
   pub gains : (w t f : List ℕ) → seen_w wal0 ≡ Some w → seen_t topics0 ≡ Some t → seen_f offsets0 ≡ Some f
       → (begun : HasBegun asked w t f) → GainsRecords asked now (may_t topics0) (may_t topics1) w t f begun
   pub marks : (w t f : List ℕ) → seen_w wal0 ≡ Some w → seen_t topics0 ≡ Some t → seen_f offsets0 ≡ Some f

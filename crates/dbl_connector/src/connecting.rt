@@ -7,7 +7,7 @@ ghost use Rattle.dbl_kept.specs.Kept.{AreKept};
 ghost use Rattle.dbl_offset.specs.Stores.{IsLive, disk_of};
 ghost use Rattle.dbl_workload.specs.Ready.{AreTableNames};
 ghost use Rattle.dbl_connector.specs.Asked.{IsWithin, asks_in, budget_of};
-ghost use Rattle.dbl_connector.specs.Ends.{AddsFew, Counts, EndsBefore, GainsRecords, HasBegun, HasRun, IsComplete, IsKeptError, IsReported, IsSpent, OnlyRead};
+ghost use Rattle.dbl_connector.specs.Ends.{AddsFew, Counts, EndsBefore, GainsRecords, HasBegun, HasRun, IsComplete, IsKeptError, IsReported, IsSpent, IsWrongSource, OnlyRead};
 ghost use Rattle.dbl_connector.specs.Errors.{IsBefore, IsBehindOpening, IsConnectError, IsRefusal};
 ghost use Rattle.dbl_connector.specs.Steps.{Answers, IsOpenedLog, IsOpenedSource, IsOpenedStore};
 
@@ -63,14 +63,20 @@ pub fn connect<W: Disk, T: Disk, F: Disk>(
     // Of disks that tell their bytes: what it answers, what the topic log gains, and how few marks it adds.
     ensures told { (w t f : List ℕ) → W.seen wal ≡ Some w → T.seen topics ≡ Some t →
         F.seen offsets ≡ Some f → MatchResult result.end
-        (HasRun asked now_ms (W.may_leave result.wal) (T.may_leave result.topics) w t f)
-        (EndsBefore asked now_ms (W.may_leave result.wal) (T.may_leave result.topics) w t f) }
+        (HasRun asked now_ms (W.may_leave result.wal) (T.may_leave result.topics)
+        (F.may_leave result.offsets) w t f)
+        (EndsBefore asked now_ms (W.may_leave result.wal) (T.may_leave result.topics)
+        (F.may_leave result.offsets) w t f) }
     ensures gains { (w t f : List ℕ) → W.seen wal ≡ Some w → T.seen topics ≡ Some t →
         F.seen offsets ≡ Some f → (begun : HasBegun asked w t f) → GainsRecords asked now_ms
         (T.may_leave topics) (T.may_leave result.topics) w t f begun }
     ensures marks { (w t f : List ℕ) → W.seen wal ≡ Some w → T.seen topics ≡ Some t →
         F.seen offsets ≡ Some f →
         AddsFew asked (W.may_leave wal) (W.may_leave result.wal) w t f }
+
+    // Of the source's disk, where it tells its bytes: how it is no log of a source.
+    ensures wal_wrong { (w : List ℕ) → W.seen wal ≡ Some w →
+        IfErr result.end (IsWrongSource w) }
 
     // Of every disk: how much it reads, which errors there are, and what is touched.
     ensures spent { IfOk result.end (IsSpent (budget_of asked)) }

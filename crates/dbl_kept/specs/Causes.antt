@@ -1,5 +1,5 @@
 -- Why a session over the disks halts, by what they held when it began and what they hold at its end. Source: own.
-use Rattle.std.specs.Prelude.{◌≡◌, ◌⊎◌, ℕ, ℤ, ◌+◌, ◌<◌, Option, Some, None, List, ◌++◌, length, reverse}
+use Rattle.std.specs.Prelude.{◌≡◌, ◌⊎◌, ℕ, ℤ, ◌+◌, ◌<◌, ◌≤◌, Option, Some, None, List, ◌++◌, length, reverse}
 use Rattle.std.specs.List.{AllByRecursion}
 use Rattle.dbl_base.specs.declared.lsn.Lsn.{Lsn}
 use Rattle.dbl_pgmsg.specs.declared.messages.Message.{Message}
@@ -74,11 +74,19 @@ IsLong config old stored report wal h =
 
 -- ---- logs that are gone, and beyond their end
 
--- More was confirmed than the stored LSN; and where none is stored, something was. By this a log is gone. Which LSN was asked for, and from
--- which on the log stands, isn't said.
+-- More was confirmed than the stored LSN; and where none is stored, something was. By this a log is gone.
 abbrev pub IsConfirmedBeyond : Lsn → Option Offset → Type 0
 IsConfirmedBeyond confirmed None = 0 < confirmed.0
 IsConfirmedBeyond confirmed (Some offset) = offset.lsn.0 < confirmed.0
+
+-- So it was. What was asked for is the LSN that the session had stored by then, and the log stands from above that on, and not from above what
+-- was confirmed.
+pub record IsGoneBehind (config : Config) (old : Contents) (stored : Option Offset) (asked first : Lsn) : Type 0 where
+  pub beyond : IsConfirmedBeyond (confirmed_at old) old.offset
+  pub by : HasStored config old.offset stored
+  pub asked_is : asked ≡ by.offset.lsn
+  pub above : asked.0 < first.0
+  pub dropped : first.0 ≤ (confirmed_at old).0
 
 -- The stored LSN lies beyond the log: above each of its commits.
 pub record IsBeyondLog (held : Contents) : Type 0 where
@@ -122,7 +130,7 @@ IsCauseOf config now old stored report wal (halt.WatermarkMissing value at) =
 IsCauseOf config now old stored report wal (halt.Model error) = (old.offset ≡ None) × IsAbsentHalt config.tables (history_at old) (halt.Model error)
 IsCauseOf config now old stored report wal (halt.UnknownTable table) =
     (old.offset ≡ None) × IsAbsentHalt config.tables (history_at old) (halt.UnknownTable table)
-IsCauseOf config now old stored report wal (halt.Gone asked first) = IsConfirmedBeyond (confirmed_at old) old.offset
+IsCauseOf config now old stored report wal (halt.Gone asked first) = IsGoneBehind config old stored asked first
 IsCauseOf config now old stored report wal (halt.Exhausted incarnation) = IsExhausted old.offset (halt.Exhausted incarnation)
 IsCauseOf config now old stored report wal h = Unit {0}
 

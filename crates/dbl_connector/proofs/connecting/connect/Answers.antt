@@ -2,10 +2,10 @@ use Rattle.std.proofs.Common.{◌≡◌, ◌∙◌, ◌⊎◌, ℤ, refl, sym, s
 use Rattle.std.proofs.Math.Facts.{to_z-of_z}
 use Rattle.dbl_init.specs.declared.error.Store.TheVariants as store
 use Rattle.dbl_connector.specs.declared.error.ConnectError.{ConnectError}
-use Rattle.dbl_connector.specs.Ends.{IsRefused}
+use Rattle.dbl_connector.specs.Ends.{IsRefused, IsWrongSource}
 use Rattle.dbl_connector.specs.Errors.{IsBefore, IsBehindOpening, IsConnectError, IsOutside}
 use Rattle.dbl_connector.specs.Steps.{Answers}
-use Rattle.dbl_connector.proofs.ErrorKinds.{bounded_on, counts_by, counts_on, counts_same, demo_ends, demo_fails, demo_kind, err_as, not_before_topics, only_same, read_on}
+use Rattle.dbl_connector.proofs.ErrorKinds.{bounded_on, counts_by, counts_on, counts_same, demo_ends, demo_fails, demo_kind, demo_wrong, err_as, not_before_topics, not_wrong, only_same, read_on}
 use Rattle.dbl_connector.proofs.Opened.{bounded_same}
 use Rattle.dbl_connector.proofs.Stays.{IsUnhalted, answers_before, answers_stay}
 use Rattle.dbl_connector.proofs.connecting.connect.Goals as goal
@@ -156,3 +156,11 @@ returns-in-Ok-clause-wal_counts g c = counts_on g.W.Disk.faults store.Wal c.conn
 
 pub returns-in-Ok-clause-wal_bounded : goal.returns-in-Ok-clause-wal_bounded
 returns-in-Ok-clause-wal_bounded g c = bounded_on g.W.Disk.seen c.args.wal c.in-Ok.source.journal.disk c.connect_source.result.wal c.in-Ok.ensures.seen c.connect_source.ensures.wal_bounded
+
+-- ---- how it is no log of a source
+
+pub returns-in-Err-clause-wal_wrong : goal.returns-in-Err-clause-wal_wrong
+returns-in-Err-clause-wal_wrong g c w told = subst (IsWrongSource w) (sym c.from.ensures) (demo_wrong w c.in-Err.field-0.error (λ index is. c.in-Err.ensures.bad w index told is) (λ at is. c.in-Err.ensures.not_a_journal w at told is))
+
+pub returns-in-Ok-clause-wal_wrong : goal.returns-in-Ok-clause-wal_wrong
+returns-in-Ok-clause-wal_wrong g c w told = err_as c.connect_source.result.end (IsBehindOpening store.Wal) (IsWrongSource w) (not_wrong w) c.connect_source.ensures.behind

@@ -1,5 +1,5 @@
 -- What a session comes to over opened stores, where they are kept and where not.
-use Rattle.std.proofs.Common.{◌≤◌, ◌≡◌, ◌∙◌, ◌⊎◌, inl, inr, ℕ, ℤ, ◌+◌, ◌==◌, Bool, false, if◌then◌else◌, arith, ◌++◌, Option, Some, None, List, length, take, Result, Ok, Err, refl, sym, ap, subst}
+use Rattle.std.proofs.Common.{◌≤◌, ◌≡◌, ◌∙◌, ◌⊎◌, inl, inr, ℕ, ℤ, ◌+◌, ◌==◌, Bool, false, if◌then◌else◌, arith, ◌++◌, Option, Some, None, List, length, Result, Ok, Err, refl, sym, ap, subst}
 use Rattle.std.specs.Prelude.{is_some}
 use Rattle.dbl_base.specs.declared.lsn.Lsn.{Lsn}
 use Rattle.dbl_record.specs.declared.record.Record.{Record}
@@ -8,8 +8,7 @@ use Rattle.dbl_journal.specs.Stored.{OnDisk}
 use Rattle.dbl_history.specs.History.{IsRising}
 use Rattle.dbl_feed.specs.declared.place.Place.{Place}
 use Rattle.dbl_feed.proofs.LogLemmas.{is_rising}
-use Rattle.dbl_commit.specs.Stated.{commits_of}
-use Rattle.dbl_honest.specs.Standings.{Left, Reading, Standing}
+use Rattle.dbl_honest.specs.Standings.{Left, Standing}
 use Rattle.dbl_topic.specs.Held.{HoldsGroups}
 use Rattle.dbl_topic.specs.Logs.{IsLog}
 use Rattle.dbl_topic.specs.SinkLaws.{log_of, only_held}
@@ -27,7 +26,7 @@ use Rattle.dbl_work.specs.declared.report.Ending.{Ending}
 use Rattle.dbl_work.specs.declared.report.Ending.TheVariants.{Budget, Complete}
 use Rattle.dbl_work.specs.declared.report.Report.{Report}
 use Rattle.dbl_work.specs.Begins.{IsAbsentHalt}
-use Rattle.dbl_exits.specs.Closed.{HasClosedRead, HasNoHigh}
+use Rattle.dbl_exits.specs.Closed.{HasClosedRead}
 use Rattle.dbl_exits.specs.Found as found
 use Rattle.dbl_exits.specs.Sessions.{AddsFew as AddsFewBy}
 use Rattle.dbl_causes.specs.Gained.{Gains, HasCounted, IsReported as IsCounted}
@@ -54,7 +53,7 @@ use Rattle.dbl_connector.specs.Errors.{IsOutside, IsOwnHalt, halt_error}
 use Rattle.dbl_connector.specs.Steps.{IsLogOf, IsSourceOf, IsStoreOf}
 use Rattle.dbl_connector.proofs.Causes.{IsHaltOver, cause_of, err_is, kept_halt, sent_front}
 use Rattle.dbl_connector.proofs.Left.{ended_store, ended_wal, image_of, left_store, ok_is, own_of, place_read, settled_of, source_kept}
-use Rattle.dbl_connector.proofs.Opened.{found_of, held_by, left_wal, log_come, read_of, same_some, store_come, stood_first}
+use Rattle.dbl_connector.proofs.Opened.{found_of, held_by, left_wal, log_come, read_of, store_come, stood_first}
 use Rattle.dbl_connector.proofs.Ran.{LogLeaves, Ran, SourceLeaves}
 
 -- ---- halts
@@ -293,11 +292,7 @@ module _ {W T F : Type 0} (seen_w : W → Option (List ℕ)) (may_w : W → List
           reading = settled.reading;
           was = record { by = settled.stored; behind = settled.behind; rest = front.0; front = front.1 };
           many = settled.many;
-          none = λ small.
-              subst (λ (r : Reading). HasNoHigh settled.stored.offset.incarnation (report.chunks + 1) (take report.commits (commits_of settled.stored.offset.infos r.messages)))
-              (same_some closed.reading settled.reading here.reading closed.reading_is settled.reading_is)
-              (subst (λ (o : Offset). HasNoHigh o.incarnation (report.chunks + 1) (take report.commits (commits_of o.infos closed.reading.messages)))
-              (same_some closed.offset settled.stored.offset fn.offset closed.is settled.stored.is) (closed.none small));
+          none = closed settled.stored.offset settled.reading settled.stored.is settled.reading_is;
         }
 
     pub report_of : (asked : Asked) → asks_in asked old ≡ Some config

@@ -13,10 +13,10 @@ use Rattle.dbl_history.specs.MarkTexts.{mark_text}
 use Rattle.dbl_history.specs.MarkTexts.Side.{High}
 use Rattle.dbl_history.specs.Typed.{typed_commit}
 use Rattle.dbl_commit.specs.Stated.{commits_of}
-use Rattle.dbl_honest.specs.Standings.{Standing}
+use Rattle.dbl_honest.specs.Standings.{Reading, Standing}
 use Rattle.dbl_offset.specs.declared.offset.Offset.{Offset}
 use Rattle.dbl_offset.specs.Stores.{StoreOn}
-use Rattle.dbl_faithful.proofs.Items.{all_by_place, at_all, at_left, at_right, mapped, taken_at}
+use Rattle.dbl_faithful.proofs.Items.{all_by_place, at_all, at_left, at_right, first_some, mapped, taken_at}
 use Rattle.dbl_window.specs.Plans.{Chunk, high_text}
 use Rattle.dbl_follow.specs.declared.window.Window.{Window}
 use Rattle.dbl_follow.specs.declared.window.Window.TheVariants.{Absent, Armed, Open}
@@ -120,17 +120,18 @@ module _ {S K D : Type 0} {tell : Bool} {stands : S → Standing → Type 0} {ho
   incarnation_is : (next_of work).incarnation ≡ s.stage.first.incarnation
   incarnation_is = ap (λ (o : Offset). o.incarnation) s.work_is.offset_is
 
+  abbrev here : Reading
+  here = record { after = s.stage.first.lsn; messages = s.stage.messages }
+
   -- what it has stored is its next offset
   pub closed_read : WasFaithful entry → (stored : Option Offset) (report : Report) (t : Standing) → stored ≡ Some (next_of work) → t ≡ standing_at s.stage → work.number ≡ report.chunks + waiting work.follower.window → HasClosedRead stored report t
-  closed_read faithful stored report t is stood windows = record {
-    offset = next_of work;
-    is = is;
-    reading = record { after = s.stage.first.lsn; messages = s.stage.messages };
-    reading_is = ap (λ (x : Standing). x.reading) stood;
-    none = λ small.
-        subst (λ (i : ℕ). HasNoHigh i (report.chunks + 1) (take report.commits (commits_of (next_of work).infos s.stage.messages))) (sym incarnation_is)
-        (subst (λ (l : List TableInfo). HasNoHigh s.stage.first.incarnation (report.chunks + 1) (take report.commits (commits_of l s.stage.messages))) (sym infos_are)
-        (all_taken (λ (commit : Commit). commit.body ≢ Mark (mark_text s.stage.first.incarnation (report.chunks + 1) High)) report.commits (read_at s.stage)
-        (none_unclosed entry s.stage faithful s.going report.chunks
-        (sym s.work_is.number_is ∙ (windows ∙ ap (λ (f : Following). report.chunks + waiting f.window) s.work_is.follower_is)) small)));
-  }
+  closed_read faithful stored report t is stood windows offset reading held reads small =
+      let own : next_of work ≡ offset = first_some (next_of work) offset (sym is ∙ held) in
+      let same : here ≡ reading = first_some here reading (sym (ap (λ (x : Standing). x.reading) stood) ∙ reads) in
+      subst (λ (r : Reading). HasNoHigh offset.incarnation (report.chunks + 1) (take report.commits (commits_of offset.infos r.messages))) same
+      (subst (λ (o : Offset). HasNoHigh o.incarnation (report.chunks + 1) (take report.commits (commits_of o.infos s.stage.messages))) own
+      (subst (λ (i : ℕ). HasNoHigh i (report.chunks + 1) (take report.commits (commits_of (next_of work).infos s.stage.messages))) (sym incarnation_is)
+      (subst (λ (l : List TableInfo). HasNoHigh s.stage.first.incarnation (report.chunks + 1) (take report.commits (commits_of l s.stage.messages))) (sym infos_are)
+      (all_taken (λ (commit : Commit). commit.body ≢ Mark (mark_text s.stage.first.incarnation (report.chunks + 1) High)) report.commits (read_at s.stage)
+      (none_unclosed entry s.stage faithful s.going report.chunks
+      (sym s.work_is.number_is ∙ (windows ∙ ap (λ (f : Following). report.chunks + waiting f.window) s.work_is.follower_is)) small)))))

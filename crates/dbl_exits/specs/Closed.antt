@@ -17,9 +17,6 @@ HasNoHigh incarnation number commits = AllByRecursion (λ commit. commit.body �
 -- None of the commits that a report counts, of those behind which a source stands, is the high mark of the window behind those that it
 -- reports: each window whose high mark it counts was closed, its rows and its progress among the records. A report counts fewer than 2^64
 -- windows.
-pub record HasClosedRead (stored : Option Offset) (report : Report) (t : Standing) : Type 0 where
-  pub offset : Offset
-  pub is : stored ≡ Some offset
-  pub reading : Reading
-  pub reading_is : t.reading ≡ Some reading
-  pub none : report.chunks + 1 < 2 ^ 64 → HasNoHigh offset.incarnation (report.chunks + 1) (take report.commits (commits_of offset.infos reading.messages))
+abbrev pub HasClosedRead : Option Offset → Report → Standing → Type 0
+HasClosedRead stored report t = (offset : Offset) (reading : Reading) → stored ≡ Some offset → t.reading ≡ Some reading → report.chunks + 1 < 2 ^ 64
+    → HasNoHigh offset.incarnation (report.chunks + 1) (take report.commits (commits_of offset.infos reading.messages))

@@ -6,15 +6,15 @@ use Rattle.dbl_kept.specs.Headline.{IsPromisedOf}
 use Rattle.dbl_kept.specs.Kept.{AreKept}
 use Rattle.dbl_connector.specs.declared.asked.Asked.{Asked}
 use Rattle.dbl_connector.specs.Asked.{asks_in, budget_of}
-use Rattle.dbl_connector.specs.Ends.{AddsFew, End, EndsBefore, GainsRecords, HasBegun, HasRun, IsKeptError, IsReported, IsSpent}
+use Rattle.dbl_connector.specs.Ends.{AddsFew, End, EndsBefore, GainsRecords, HasBegun, HasRun, IsKeptError, IsReported, IsSpent, IsWrongSource}
 use Rattle.dbl_connector.specs.Errors.{IsConnectError, IsRefusal}
 use Rattle.dbl_init.specs.declared.error.Store.TheVariants.{Wal, Topics, Offsets}
 use Rattle.dbl_session_runs.specs.Ends.{SaysSession, store_status}
 
 -- Of disks that told these bytes, and of which a crash might leave these before it, and may leave those now.
-pub record Answers (asked : Asked) (now : ℤ) (wals logs new_wals new_logs : List ℕ → Type 0) (w t f : List ℕ) (end : End) : Type 0 where
+pub record Answers (asked : Asked) (now : ℤ) (wals logs new_wals new_logs new_stores : List ℕ → Type 0) (w t f : List ℕ) (end : End) : Type 0 where
   -- why it ended
-  pub told : MatchResult end (HasRun asked now new_wals new_logs w t f) (EndsBefore asked now new_wals new_logs w t f)
+  pub told : MatchResult end (HasRun asked now new_wals new_logs new_stores w t f) (EndsBefore asked now new_wals new_logs new_stores w t f)
   -- what the topic log gained, and how few marks the source's log did
   pub gains : (begun : HasBegun asked w t f) → GainsRecords asked now logs new_logs w t f begun
   pub marks : AddsFew asked wals new_wals w t f
@@ -35,9 +35,11 @@ pub record RunsSession (asked : Asked) (now : ℤ) (told_wal told_topics told_of
     (status : ℕ) (before after : Option (List ℕ)) : Type 0 where
   pub end : End
   pub says : SaysSession end status before after
-  pub answers : (w t f : List ℕ) → told_wal ≡ Some w → told_topics ≡ Some t → told_offsets ≡ Some f → Answers asked now wals logs new_wals new_logs w t f end
+  pub answers : (w t f : List ℕ) → told_wal ≡ Some w → told_topics ≡ Some t → told_offsets ≡ Some f → Answers asked now wals logs new_wals new_logs new_stores w t f end
   pub kept : AreKept told_wal told_topics told_offsets wals logs stores → (w t f : List ℕ) → told_wal ≡ Some w → told_topics ≡ Some t → told_offsets ≡ Some f
       → AnswersKept asked now new_wals new_logs new_stores w t f end
+  -- where the source's disk tells its bytes, and is no log of one
+  pub wal_wrong : (w : List ℕ) → told_wal ≡ Some w → IfErr end (IsWrongSource w)
   -- where the disks hold what it can't begin with
   pub refused : IfErr end (λ e. IsRefusal e → WroteNothing wals logs stores new_wals new_logs new_stores)
   pub spent : IfOk end (IsSpent (budget_of asked))

@@ -31,11 +31,12 @@ returns-clause-connected g c =
         end = end;
         says = says;
         answers = λ w t f wal topics offsets.
-            subst (λ (n : ℤ). Answers c.args.asked n wals logs new_wals new_logs w t f end) moment
+            subst (λ (n : ℤ). Answers c.args.asked n wals logs new_wals new_logs new_stores w t f end) moment
             (record { told = told.told w t f wal topics offsets; gains = told.gains w t f wal topics offsets; marks = told.marks w t f wal topics offsets });
         kept = λ kept w t f wal topics offsets.
             subst (λ (n : ℤ). AnswersKept c.args.asked n new_wals new_logs new_stores w t f end) moment
             (record { report = told.report kept w t f wal topics offsets; never = told.never kept w t f wal topics offsets });
+        wal_wrong = told.wal_wrong;
         refused = refused_end g.W.Disk.seen g.W.Disk.may_leave g.T.Disk.seen g.T.Disk.may_leave g.F.Disk.seen g.F.Disk.may_leave _ _ _ _ _ _ end told.wal_read told.topics_read told.offsets_read;
         spent = told.spent;
         kinds = told.kinds;

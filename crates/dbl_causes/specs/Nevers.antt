@@ -1,5 +1,5 @@
 -- What never makes a session halt, over a source that stands, and one that is honest.
-use Rattle.std.specs.Prelude.{◌≡◌, ◌⊎◌, ℕ, ◌+◌, not, position, map, Contains, Option, Some, List, slice_get}
+use Rattle.std.specs.Prelude.{◌≡◌, ◌⊎◌, ℕ, ◌+◌, not, position, map, Contains, Option, Some, IsSome, List, slice_get}
 use Rattle.dbl_value.specs.declared.error.ValueError.{ValueError}
 use Rattle.dbl_record.specs.declared.record.Record.{Record}
 use Rattle.dbl_record.specs.Cuts.{joined}
@@ -7,6 +7,7 @@ use Rattle.dbl_table.specs.declared.config.Config.{Config}
 use Rattle.dbl_table.specs.declared.table.TableName.{TableName}
 use Rattle.dbl_table.specs.declared.table.TableInfo.{TableInfo}
 use Rattle.dbl_table.specs.declared.change.Commit.{Commit}
+use Rattle.dbl_table.specs.declared.row.Key.{Key}
 use Rattle.dbl_table.specs.Rows.{all_changes}
 use Rattle.dbl_history.specs.declared.cursor.Cursor.{Cursor}
 use Rattle.dbl_history.specs.Fit.{AreInfosOf}
@@ -20,6 +21,7 @@ use Rattle.dbl_event.specs.Clashes.{clash_of, snapshot_clash}
 use Rattle.dbl_event.specs.EventJson.{envelopes}
 use Rattle.dbl_event.specs.Snapshots.{AreInKeyOrder, snapshot}
 use Rattle.dbl_ageing.specs.Windows.{IsRightWindow}
+use Rattle.dbl_honest.specs.Selected.{rows_behind}
 use Rattle.dbl_honest.specs.Standings.{Reading, Standing}
 use Rattle.dbl_honest.specs.Stated.{IsOfContent}
 use Rattle.dbl_offset.specs.declared.offset.Offset.{Offset}
@@ -79,6 +81,8 @@ pub record IsOwnClosed (infos : List TableInfo) (offset : Offset) (report : Repo
   pub right : IsRightWindow infos (all_changes (typed infos history)) (moment_after_first (typed infos history) low)
       (moment_after_first (typed infos history) (place + 1)) cursor.last closed
   pub ordered : AreInKeyOrder closed.rows
+  -- the key up to which it was read is the cursor's, or that of a row that the table had at some place
+  pub through : (closed.through ≡ cursor.last) ⊎ ((key : Key) × (closed.through ≡ Some key) × (at : ℕ) × IsSome (rows_behind infos history at closed.table key))
 
 -- Of an honest source and faithful stores a clash is of the history: of a commit's changes, or of the rows of the window that is closed.
 pub record IsOwnClash (entry : Entry) (offset : Offset) (report : Report) (history : History) (h : Halt) : Type 0 where

@@ -175,7 +175,7 @@ module _ (infos : List TableInfo) (limit : ℕ) (history : History) (cursors : L
   reads_on : (key : Key) → IsUpTo is.cursor.last key → IsUpTo chunk.through key
   reads_on key up = subst (λ (b : Option Key). IsUpTo b key) through_is (up_on is.selected.plan.above selected_rows key is.rows.first.ordered (subst (λ (b : Option Key). IsUpTo b key) above_is up))
 
-  was_selected : (place : ℕ) (entry : Key × Row) → slice_get selected_rows place ≡ Some entry → WasRead infos history new_cursors (chunk.plan.table, entry.0)
+  pub was_selected : (place : ℕ) (entry : Key × Row) → slice_get selected_rows place ≡ Some entry → WasRead infos history new_cursors (chunk.plan.table, entry.0)
   was_selected place entry at = record {
     place = is.rows.place;
     row = entry.1.cells;

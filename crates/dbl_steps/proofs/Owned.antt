@@ -1,6 +1,6 @@
 -- What makes a session halt over an honest source and faithful stores: clashes, records and offsets of the source's history.
-use Rattle.std.proofs.Common.{◌≡◌, ◌∙◌, inl, inr, ◌+◌, ℕ, ℤ, zero, suc, Option, Some, None, List, [], ◌∷◌, ◌++◌, length, take, refl, sym, ap, ap₂, subst, arith, append_assoc, length-append}
-use Rattle.std.specs.Prelude.{Contains, not, slice_get}
+use Rattle.std.proofs.Common.{◌≡◌, ◌∙◌, ◌⊎◌, inl, inr, ◌+◌, ℕ, ℤ, zero, suc, Option, Some, None, List, [], ◌∷◌, ◌++◌, length, take, refl, sym, ap, ap₂, subst, arith, append_assoc, length-append}
+use Rattle.std.specs.Prelude.{Contains, IsSome, not, slice_get}
 use Rattle.std.specs.List.{position}
 use Rattle.dbl_base.specs.declared.lsn.Lsn.{Lsn}
 use Rattle.dbl_pgmsg.specs.declared.messages.Message.{Message}
@@ -62,6 +62,10 @@ use Rattle.dbl_work.specs.Takes.{IsClashIn}
 use Rattle.dbl_work.specs.Works.{IsOwnChunk, IsOwnWaiting, next_of}
 use Rattle.dbl_exits.specs.Sessions.{Captures, IsCapturing}
 use Rattle.dbl_causes.specs.Stored.{identity_of, named_by}
+use Rattle.dbl_history.specs.KeyedRows.{last_key}
+use Rattle.dbl_honest.specs.Selected.{rows_behind}
+use Rattle.dbl_session.proofs.Counts.{was_selected}
+use Rattle.dbl_table.specs.declared.row.Row.{Row}
 use Rattle.dbl_causes.specs.Nevers.{IsOwnClash, IsOwnClosed, IsOwnLong}
 use Rattle.dbl_causes.specs.Underway.{IsOrderedWindow}
 use Rattle.dbl_causes.specs.Carried.{Beginning}
@@ -103,6 +107,19 @@ module _ (entry : Entry) (stage : Stage) (going : IsGoing entry stage) where
 
   identity_is : stage.first.identity ≡ identity_of entry
   identity_is = named_of entry.offset going.reading.began
+
+-- ---- the last key of some rows: the bound, or that of one of them
+
+abbrev IsLastOf : Option Key → List (Key × Row) → Type 0
+IsLastOf bound rows = (last_key bound rows ≡ bound) ⊎ ((place : ℕ) × (row : Key × Row) × (slice_get rows place ≡ Some row) × (last_key bound rows ≡ Some row.0))
+
+last_of : (bound : Option Key) (rows : List (Key × Row)) → IsLastOf bound rows
+last_of bound [] = inl refl
+last_of bound (first ∷ rows) = by (last_of (Some first.0) rows)
+  where
+    by : IsLastOf (Some first.0) rows → IsLastOf bound (first ∷ rows)
+    by (inl same) = inr (0, first, refl, same)
+    by (inr (place, row, at, last)) = inr (suc place, row, at, last)
 
 -- ---- the newest commit
 
@@ -209,6 +226,19 @@ module _ (entry : Entry) (stage : Stage) (b : Beginning) (ms : List Message) (st
     number_own : stage.number ≡ later.chunks + 1
     number_own = sym o.work_is.number_is ∙ (o.rests.is.windows ∙ (ap (λ (x : Window). report.chunks + waiting x) waiting_open ∙ ap (λ (n : ℕ). n + 1) (sym same_chunks)))
 
+    -- it was read up to the cursor's key, or to that of its last row
+    through_own : (chunk.through ≡ waits.cursor.last) ⊎ ((key : Key) × (chunk.through ≡ Some key) × (at : ℕ) × IsSome (rows_behind stage.first.infos stage.history at chunk.plan.table key))
+    through_own = by (last_of waits.selected.plan.above waits.selected.rows)
+      where
+        is_last : last_key waits.selected.plan.above waits.selected.rows ≡ chunk.through
+        is_last = sym waits.rows.through_is ∙ waits.through
+
+        by : IsLastOf waits.selected.plan.above waits.selected.rows → (chunk.through ≡ waits.cursor.last) ⊎ ((key : Key) × (chunk.through ≡ Some key) × (at : ℕ) × IsSome (rows_behind stage.first.infos stage.history at chunk.plan.table key))
+        by (inl bound) = inl (sym is_last ∙ bound ∙ ap (λ (p : Plan). p.above) waits.plan ∙ waits.above)
+        by (inr (place, row, at, last)) =
+            let read = was_selected stage.first.infos entry.config.chunk stage.history stage.following.cursors chunk waits place row at in
+            inr (row.0, sym is_last ∙ last, read.place, subst IsSome (sym read.was) refl)
+
     own_closed : IsOwnClosed stage.first.infos o.rests.is.offset later stage.history (length before) (closed_of chunk)
     own_closed = record {
       here = record {
@@ -222,6 +252,7 @@ module _ (entry : Entry) (stage : Stage) (b : Beginning) (ms : List Message) (st
       low = w.low + 1;
       right = right;
       ordered = ordered;
+      through = through_own;
     }
       where
         first_open : position (λ (c : Cursor). not c.done) stage.following.cursors ≡ Some chunk.plan.table

@@ -111,14 +111,12 @@ module _ {W T F : Type 0} (seen_wal : W → Option (List ℕ)) (wals : W → Lis
 
   pub supported_generated_runs_succeed : SupportedGeneratedRunsSucceed seen_wal wals seen_topics logs seen_offsets stores
   supported_generated_runs_succeed text workload now wal new_wal topics new_topics offsets new_offsets status before after (inl refused) wal_is topics_is offsets_is short is supported none =
-      inl (inr (inr (refused_memory text workload wal topics offsets status before after refused wal_is topics_is offsets_is short is none)))
+      inr (inr (refused_memory text workload wal topics offsets status before after refused wal_is topics_is offsets_is short is none))
   supported_generated_runs_succeed text workload now wal new_wal topics new_topics offsets new_offsets status before after (inr captured) wal_is topics_is offsets_is short is supported none =
       let w = captured.wal_made.stored wal_is in
       let t = captured.topics_made.stored topics_is in
       let f = captured.offsets_made.stored offsets_is in
       let kept = made_kept seen_wal wals seen_topics logs seen_offsets stores text captured.made_wal captured.made_topics captured.made_offsets w t f in
       let run = supported w.bytes t.bytes f.bytes w.is t.is f.is in
-      let done =
       supported_runs_succeed (wals captured.made_wal) (logs captured.made_topics) (stores captured.made_offsets) (wals new_wal) (logs new_topics) (stores new_offsets) plainly now
-      (seen_wal captured.made_wal) (seen_topics captured.made_topics) (seen_offsets captured.made_offsets) status before after captured.runs kept w.bytes t.bytes f.bytes w.told t.told f.told run none in
-      elim done [ inl is ↦ inl is | inr long ↦ inr (w.bytes, t.bytes, f.bytes, run, long) ]
+      (seen_wal captured.made_wal) (seen_topics captured.made_topics) (seen_offsets captured.made_offsets) status before after captured.runs kept w.bytes t.bytes f.bytes w.told t.told f.told run none

@@ -1,17 +1,15 @@
 -- A supported session over kept disks: each error but those of the outside is refused by what it met.
-use Rattle.std.proofs.Common.{◌≡◌, ◌⊎◌, inl, inr, ◌∙◌, ℕ, ℤ, Option, Some, None, Ok, Err, List, [], ◌∷◌, refl, sym, ap, subst}
+use Rattle.std.proofs.Common.{◌≡◌, inl, inr, ◌∙◌, ℕ, ℤ, Option, Some, None, Ok, Err, List, [], ◌∷◌, refl, sym, ap, subst}
 use Rattle.std.specs.Prelude.{IfErr}
 use Rattle.dbl_base.specs.Lines.{lines_text}
 use Rattle.dbl_pgmsg.specs.declared.messages.Message.{Message}
 use Rattle.dbl_table.specs.declared.config.Config.{Config}
 use Rattle.dbl_table.specs.declared.table.TableInfo.{TableInfo}
 use Rattle.dbl_table.specs.declared.table.TableName.{TableName}
-use Rattle.dbl_history.specs.History.{History}
 use Rattle.dbl_commit.specs.declared.txn_error.TxnError.{TxnError}
 use Rattle.dbl_commit.specs.Blocks.{IsAccepted}
 use Rattle.dbl_honest.specs.Standings.{Reading}
 use Rattle.dbl_offset.specs.declared.offset.Offset.{Offset}
-use Rattle.dbl_session.specs.Entries.{Entry}
 use Rattle.dbl_work.specs.declared.halt.Halt.{Halt}
 use Rattle.dbl_work.specs.declared.halt.Halt.TheVariants as halt
 use Rattle.dbl_work.specs.declared.report.Ending.{Ending}
@@ -19,7 +17,7 @@ use Rattle.dbl_work.specs.declared.report.Ending.TheVariants.{Complete, Budget}
 use Rattle.dbl_work.specs.declared.report.Report.{Report}
 use Rattle.dbl_causes.specs.Halted.{IsTxnFault}
 use Rattle.dbl_supported.specs.Supported.{CanBegin}
-use Rattle.dbl_supported.proofs.Ending.{first_captures, long_window, not_absent, not_clash, not_exhausted, not_model, not_offset, not_unreadable}
+use Rattle.dbl_supported.proofs.Ending.{first_captures, not_absent, not_clash, not_exhausted, not_long, not_model, not_offset, not_unreadable}
 use Rattle.dbl_restarts.specs.Restarts.{entry_at}
 use Rattle.dbl_init.specs.declared.error.Store.TheVariants.{Wal, Topics, Offsets}
 use Rattle.dbl_causes.specs.Reported.{IsBehindOf}
@@ -36,10 +34,9 @@ use Rattle.dbl_connector.specs.Ends.{End, EndsBefore, HasHalted, IsKeptError, Is
 use Rattle.dbl_connector.specs.Errors.{IsConnectError, IsOutside, IsOwnHalt}
 use Rattle.dbl_session_text.specs.Reports.{ending_status}
 use Rattle.dbl_saying.specs.Says.{Writes}
-use Rattle.dbl_session_text.specs.Halts.{halt_line, halt_status}
 use Rattle.dbl_session_runs.specs.Ends.{SaysSession, connect_line, connect_status}
 use Rattle.dbl_completeness.specs.Laws.{SupportedRunsSucceed, SupportedSessionsSucceed}
-use Rattle.dbl_completeness.specs.Sessions.{IsReadFrom, IsSessionDone, IsSupportedOver, IsSupportedRun, MayStillEnd, NoneFailed, TellsTooLong, entry_in}
+use Rattle.dbl_completeness.specs.Sessions.{IsReadFrom, IsSessionDone, IsSupportedOver, IsSupportedRun, NoneFailed}
 
 -- ---- what it met
 
@@ -64,7 +61,7 @@ module _ (config : Config) (now : ℤ) (old left : Contents) (begins : CanBegin 
       let reads : IsReadFrom old.offset halted.reading.after = subst (λ (o : Option Offset). IsReadFrom o halted.reading.after) (sym is) behind.1 in
       not_faulty infos halted.reading number error (supported.messages infos captures halted.reading.after halted.reading.messages was.rest reads was.front) halted.is
 
-  never : (h : Halt) → IsOwnHalt h → IsKeptHalt config now old kept_stored kept_report left h → IsCauseOf config now old stored report left.wal h → MayStillEnd (entry_in config now old) (history_at left) (connect.Halted h)
+  never : (h : Halt) → IsOwnHalt h → IsKeptHalt config now old kept_stored kept_report left h → IsCauseOf config now old stored report left.wal h → ⊥
   never halt.Source own kept cause = absurd own
   never halt.Sink own kept cause = absurd own
   never halt.Offsets own kept cause = absurd own
@@ -79,7 +76,7 @@ module _ (config : Config) (now : ℤ) (old left : Contents) (begins : CanBegin 
       absurd (not_clash (entry_at config now (found_in old)) kept.0 kept_report (history_at left) (halt.Clash table column) clash (supported.content clash.infos clash.captured))
   never (halt.RecordTooLong len) own kept cause =
       let long = kept.2 in
-      long_window (entry_at config now (found_in old)) kept.0 kept_report (history_at left) (halt.RecordTooLong len) long (supported.content long.infos long.captured)
+      not_long (entry_at config now (found_in old)) kept.0 kept_report (history_at left) (halt.RecordTooLong len) long (supported.content long.infos long.captured)
   never (halt.OffsetTooLong len) own kept cause =
       absurd (not_offset (entry_at config now (found_in old)) (standing_left left) (records_at left) (halt.OffsetTooLong len) supported.offsets kept)
   never (halt.Model error) own kept cause = absurd (not_model config.tables (history_at old) (first_captures config (history_at old) old.offset cause.0 begins) error cause.1)
@@ -87,15 +84,6 @@ module _ (config : Config) (now : ℤ) (old left : Contents) (begins : CanBegin 
   never (halt.Gone asked first) own kept cause = absurd kept
   never (halt.WatermarkMissing value at) own kept cause = absurd kept
   never (halt.Exhausted incarnation) own kept cause = absurd (not_exhausted config (history_at old) old.offset (halt.Exhausted incarnation) begins cause)
-
-outside_so : (entry : Entry) (left : History) (e : ConnectError) → IsOutside e → MayStillEnd entry left e
-outside_so entry left (connect.Failed store) outside = tt
-outside_so entry left connect.Memory outside = tt
-outside_so entry left (connect.NotAStore store at) outside = absurd outside
-outside_so entry left (connect.BadEntry store index) outside = absurd outside
-outside_so entry left connect.AlreadyStarted outside = absurd outside
-outside_so entry left connect.NotStarted outside = absurd outside
-outside_so entry left (connect.Halted h) outside = absurd outside
 
 -- ---- it could begin
 
@@ -118,7 +106,7 @@ module _ (asked : Asked) (now : ℤ) (wals logs stores : List ℕ → Type 0) (w
       let asks : asks_in asked held ≡ Some run.begun.config = subst (λ (c : Contents). asks_in asked c ≡ Some run.begun.config) same run.begun.asks in
       not_both asked (tables_in held.wal) held.offset run.begun.config e refuses asks
 
-  halted_so : (e : ConnectError) → IsConnectError e → IsKeptError asked now wals logs stores w t f e → HasHalted asked now wals logs w t f e → MayStillEnd (entry_in run.begun.config now run.begun.held) (history_at run.left) e
+  halted_so : (e : ConnectError) → IsConnectError e → IsKeptError asked now wals logs stores w t f e → HasHalted asked now wals logs w t f e → IsOutside e
   halted_so e kind kept halted =
       let begun = run.begun in
       let may = run.may in
@@ -132,10 +120,10 @@ module _ (asked : Asked) (now : ℤ) (wals logs stores : List ℕ → Type 0) (w
       let halts = subst (IsKeptError asked now wals logs stores w t f) halted.is kept in
       let kept_halt = halts begun in
       let found = kept_halt.each may.w may.t may.f run.left may.wal may.topics may.offsets may.read in
-      subst (MayStillEnd (entry_in begun.config now begun.held) (history_at run.left)) (sym halted.is) (never begun.config now begun.held run.left run.can run.supported kept_halt.stored halted.stored kept_halt.report halted.report halted.halt own found cause)
+      absurd (never begun.config now begun.held run.left run.can run.supported kept_halt.stored halted.stored kept_halt.report halted.report halted.halt own found cause)
 
-  ended : (e : ConnectError) → IsConnectError e → IsKeptError asked now wals logs stores w t f e → EndsBefore asked now wals logs w t f e → MayStillEnd (entry_in run.begun.config now run.begun.held) (history_at run.left) e
-  ended e kind kept (inl outside) = outside_so (entry_in run.begun.config now run.begun.held) (history_at run.left) e outside
+  ended : (e : ConnectError) → IsConnectError e → IsKeptError asked now wals logs stores w t f e → EndsBefore asked now wals logs w t f e → IsOutside e
+  ended e kind kept (inl outside) = outside
   ended e kind kept (inr (inl refused)) = absurd (not_refused e kept refused)
   ended e kind kept (inr (inr halted)) = halted_so e kind kept halted
 
@@ -150,27 +138,8 @@ by_ending : (ending : Ending) (status : ℕ) → status ≡ ending_status ending
 by_ending Complete status is = inl is
 by_ending Budget status is = inr (inl is)
 
--- of a halt: it is one for what is too long
-other_halt : (entry : Entry) (left : History) (h : Halt) (status : ℕ) (before after : Option (List ℕ)) → MayStillEnd entry left (connect.Halted h) → Writes (halt_status h) (lines_text (halt_line h ∷ [])) status before after → TellsTooLong entry left status before after
-other_halt entry left (halt.OffsetTooLong len) status before after may writes = absurd may
-other_halt entry left (halt.Message number error) status before after may writes = absurd may
-other_halt entry left (halt.Txn number error) status before after may writes = absurd may
-other_halt entry left (halt.Chunk table row) status before after may writes = absurd may
-other_halt entry left (halt.Cell table column error) status before after may writes = absurd may
-other_halt entry left (halt.Clash table column) status before after may writes = absurd may
-other_halt entry left (halt.RecordTooLong len) status before after may writes = (len, may, writes)
-other_halt entry left (halt.Model error) status before after may writes = absurd may
-other_halt entry left (halt.UnknownTable table) status before after may writes = absurd may
-other_halt entry left (halt.Gone asked first) status before after may writes = absurd may
-other_halt entry left (halt.WatermarkMissing value at) status before after may writes = absurd may
-other_halt entry left (halt.Exhausted incarnation) status before after may writes = absurd may
-other_halt entry left halt.Source status before after may writes = absurd may
-other_halt entry left halt.Sink status before after may writes = absurd may
-other_halt entry left halt.Offsets status before after may writes = absurd may
-other_halt entry left halt.Memory status before after may writes = absurd may
-
-module _ (entry : Entry) (left : History) (status : ℕ) (before after : Option (List ℕ)) (none : NoneFailed status) where
-  by_error : (e : ConnectError) → MayStillEnd entry left e → Writes (connect_status e) (lines_text (connect_line e ∷ [])) status before after → IsSessionDone status ⊎ TellsTooLong entry left status before after
+module _ (status : ℕ) (before after : Option (List ℕ)) (none : NoneFailed status) where
+  by_error : (e : ConnectError) → IsOutside e → Writes (connect_status e) (lines_text (connect_line e ∷ [])) status before after → IsSessionDone status
   by_error e may (inr cut) = absurd (none.output cut.0)
   by_error (connect.Failed Wal) may (inl said) = absurd (none.wal said.0)
   by_error (connect.Failed Topics) may (inl said) = absurd (none.topics said.0)
@@ -179,17 +148,17 @@ module _ (entry : Entry) (left : History) (status : ℕ) (before after : Option 
   by_error (connect.BadEntry store index) may (inl said) = absurd may
   by_error connect.AlreadyStarted may (inl said) = absurd may
   by_error connect.NotStarted may (inl said) = absurd may
-  by_error (connect.Halted h) may (inl said) = inr (other_halt entry left h status before after may (inl said))
-  by_error connect.Memory may (inl said) = inl (inr (inr said.0))
+  by_error (connect.Halted h) may (inl said) = absurd may
+  by_error connect.Memory may (inl said) = inr (inr said.0)
 
-  by_end : (end : End) → IfErr end (MayStillEnd entry left) → SaysSession end status before after → IsSessionDone status ⊎ TellsTooLong entry left status before after
-  by_end end may (inr (inl said)) = inl (inr (inr said.0))
+  by_end : (end : End) → IfErr end IsOutside → SaysSession end status before after → IsSessionDone status
+  by_end end may (inr (inl said)) = inr (inr said.0)
   by_end end may (inr (inr cut)) = absurd (none.output cut.0)
-  by_end (Ok summary) may (inl (inl said)) = inl (by_ending summary.ending status said.0)
+  by_end (Ok summary) may (inl (inl said)) = by_ending summary.ending status said.0
   by_end (Ok summary) may (inl (inr cut)) = absurd (none.output cut.0)
   by_end (Err e) may (inl writes) = by_error e may writes
 
 pub supported_runs_succeed : (wals logs stores new_wals new_logs new_stores : List ℕ → Type 0) → SupportedRunsSucceed wals logs stores new_wals new_logs new_stores
 supported_runs_succeed wals logs stores new_wals new_logs new_stores asked now told_wal told_topics told_offsets status before after runs kept w t f wal_is topics_is offsets_is run none =
     let may = supported_sessions_succeed wals logs new_wals new_logs new_stores asked now w t f runs.end (runs.answers w t f wal_is topics_is offsets_is) (runs.kept kept w t f wal_is topics_is offsets_is) runs.kinds run in
-    by_end (entry_in run.begun.config now run.begun.held) (history_at run.left) status before after none runs.end may runs.says
+    by_end status before after none runs.end may runs.says

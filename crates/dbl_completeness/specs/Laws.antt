@@ -9,39 +9,38 @@ use Rattle.dbl_init.specs.Fresh.{IsEmptyLog, IsEmptyStore}
 use Rattle.dbl_work.specs.declared.report.Ending.TheVariants.{Budget, Complete}
 use Rattle.dbl_saying.specs.declared.halt.Halt.TheVariants.{Memory}
 use Rattle.dbl_saying.specs.Faults.{status_of}
-use Rattle.dbl_kept.specs.Contents.{history_at}
 use Rattle.dbl_kept.specs.Kept.{AreKept}
 use Rattle.dbl_connector.specs.declared.asked.Asked.{Asked}
 use Rattle.dbl_connector.specs.declared.connected.Summary.{Summary}
 use Rattle.dbl_connector.specs.Asked.{budget_of}
 use Rattle.dbl_connector.specs.Ends.{End}
-use Rattle.dbl_connector.specs.Errors.{IsConnectError}
+use Rattle.dbl_connector.specs.Errors.{IsConnectError, IsOutside}
 use Rattle.dbl_session_runs.specs.Runs.{Answers, AnswersKept, RunsSession}
 use Rattle.dbl_session_runs.specs.Generated.{EndsGenerated, WasCaptured, plainly}
 use Rattle.dbl_program.specs.Run.{Answer, EndsAs}
 use Rattle.dbl_program.specs.Disks.{OfDisk}
 use Rattle.dbl_program.specs.Means.{Given, InputFails, Runs, SpellSome, StandsAlone, WalFails, uses_offsets, uses_topics}
 use Rattle.dbl_completeness.specs.Commands.{CanRun}
-use Rattle.dbl_completeness.specs.Sessions.{IsDone, IsSessionDone, IsSupportedRun, MayStillEnd, NoneFailed, TellsTooLong, entry_in}
+use Rattle.dbl_completeness.specs.Sessions.{IsDone, IsSessionDone, IsSupportedRun, NoneFailed}
 
 -- ---- sessions
 
--- A session over kept disks that was supported had its way, unless a disk failed, memory ran out, or a record of a window was too long.
+-- A session over kept disks that was supported had its way, unless a disk failed or memory ran out.
 abbrev pub SupportedSessionsSucceed : (wals logs new_wals new_logs new_stores : List ℕ → Type 0) → Type 0
 SupportedSessionsSucceed wals logs new_wals new_logs new_stores = (asked : Asked) (now : ℤ) (w t f : List ℕ) (end : End)
     → Answers asked now wals logs new_wals new_logs w t f end → AnswersKept asked now new_wals new_logs new_stores w t f end
-    → IfErr end IsConnectError → (run : IsSupportedRun asked now new_wals new_logs new_stores w t f)
-    → IfErr end (MayStillEnd (entry_in run.begun.config now run.begun.held) (history_at run.left))
+    → IfErr end IsConnectError → IsSupportedRun asked now new_wals new_logs new_stores w t f
+    → IfErr end IsOutside
 
--- So `capture` and `resume` answer 0, 3 or 12 then, where no device failed, or tell that a record of a window is too long: clause `session` of `run`.
+-- So `capture` and `resume` answer 0, 3 or 12 then, where no device failed: clause `session` of `run`.
 abbrev pub SupportedRunsSucceed : (wals logs stores new_wals new_logs new_stores : List ℕ → Type 0) → Type 0
 SupportedRunsSucceed wals logs stores new_wals new_logs new_stores = (asked : Asked) (now : ℤ) (told_wal told_topics told_offsets : Option (List ℕ))
     (status : ℕ) (before after : Option (List ℕ))
     → RunsSession asked now told_wal told_topics told_offsets wals logs stores new_wals new_logs new_stores status before after
     → AreKept told_wal told_topics told_offsets wals logs stores
     → (w t f : List ℕ) → told_wal ≡ Some w → told_topics ≡ Some t → told_offsets ≡ Some f
-    → (run : IsSupportedRun asked now new_wals new_logs new_stores w t f) → NoneFailed status
-    → IsSessionDone status ⊎ TellsTooLong (entry_in run.begun.config now run.begun.held) (history_at run.left) status before after
+    → IsSupportedRun asked now new_wals new_logs new_stores w t f → NoneFailed status
+    → IsSessionDone status
 
 -- With 3 the session has read exactly so many messages as its budget allows, and with 0 fewer.
 pub record EndsBy (budget : ℕ) (status : ℕ) (end : End) : Type 0 where
@@ -57,7 +56,7 @@ StatusesTellBudgets wals logs stores new_wals new_logs new_stores = (asked : Ask
 -- ---- a generated workload
 
 -- `gen --run` on three empty disks: where the workload can be run, and the capture of its stores is supported, it answers 0, 3 or 12, where
--- no device failed, or tells that a record of a window is too long: clause `generating` of `run`.
+-- no device failed: clause `generating` of `run`.
 abbrev pub SupportedGeneratedRunsSucceed : {W T F : Type 0} → (W → Option (List ℕ)) → (W → List ℕ → Type 0) → (T → Option (List ℕ)) → (T → List ℕ → Type 0)
     → (F → Option (List ℕ)) → (F → List ℕ → Type 0) → Type 0
 SupportedGeneratedRunsSucceed {W} {T} {F} seen_wal wals seen_topics logs seen_offsets stores =
@@ -67,8 +66,6 @@ SupportedGeneratedRunsSucceed {W} {T} {F} seen_wal wals seen_topics logs seen_of
     → length text ≤ input_limit → IsWorkload text workload
     → ((w t f : List ℕ) → IsFreshWal text w → IsEmptyLog t → IsEmptyStore f → IsSupportedRun plainly now (wals new_wal) (logs new_topics) (stores new_offsets) w t f)
     → NoneFailed status → IsSessionDone status
-    ⊎ ((w t f : List ℕ) × (run : IsSupportedRun plainly now (wals new_wal) (logs new_topics) (stores new_offsets) w t f)
-    × TellsTooLong (entry_in run.begun.config now run.begun.held) (history_at run.left) status before after)
 
 -- Its `init` part is done then, or memory ran out: so it is of no text that can be run refused. That a number's text can be run is proved for its lines
 -- and its tables (`workloads_are_read`), and not for its rows and its length.

@@ -1,17 +1,15 @@
 -- When a session over kept disks must have its way: what it was asked for, what it may meet, and that no device failed. Source: own.
-use Rattle.std.specs.Prelude.{◌≡◌, ◌≢◌, ◌⊎◌, ℕ, ℤ, ◌++◌, Option, Some, None, List, [], ◌∷◌, reverse}
-use Rattle.dbl_base.specs.Lines.{lines_text}
+use Rattle.std.specs.Prelude.{◌≡◌, ◌≢◌, ◌⊎◌, ℕ, ℤ, ◌++◌, Option, Some, None, List, reverse}
 use Rattle.dbl_base.specs.declared.lsn.Lsn.{Lsn}
 use Rattle.dbl_pgmsg.specs.declared.messages.Message.{Message}
 use Rattle.dbl_table.specs.declared.config.Config.{Config}
 use Rattle.dbl_table.specs.declared.table.TableInfo.{TableInfo}
-use Rattle.dbl_history.specs.History.{History}
 use Rattle.dbl_commit.specs.Blocks.{IsAccepted}
 use Rattle.dbl_sound.specs.Standings.{sent}
 use Rattle.dbl_sound.specs.Wals.{Wal}
 use Rattle.dbl_saying.specs.declared.halt.Halt.TheVariants.{InputFailed, Memory as NoMemory}
 use Rattle.dbl_saying.specs.Faults.{output_failed_status, status_of}
-use Rattle.dbl_supported.specs.Supported.{CanBegin, IsLongWindow, IsSupported, OffsetsAreShort}
+use Rattle.dbl_supported.specs.Supported.{CanBegin, IsSupported, OffsetsAreShort}
 use Rattle.dbl_session.specs.Entries.{Entry}
 use Rattle.dbl_offset.specs.declared.offset.Offset.{Offset}
 use Rattle.dbl_exits.specs.Sessions.{Captures}
@@ -19,12 +17,7 @@ use Rattle.dbl_restarts.specs.Restarts.{entry_at}
 use Rattle.dbl_init.specs.declared.error.Store.TheVariants.{Wal as WalStore, Topics, Offsets}
 use Rattle.dbl_kept.specs.Causes.{standing_left}
 use Rattle.dbl_kept.specs.Contents.{Contents, ReadAs, found_in, history_at, records_at}
-use Rattle.dbl_work.specs.declared.halt.Halt.TheVariants.{RecordTooLong}
-use Rattle.dbl_session_text.specs.Halts.{halt_line}
-use Rattle.dbl_saying.specs.Says.{Writes}
 use Rattle.dbl_connector.specs.declared.asked.Asked.{Asked}
-use Rattle.dbl_connector.specs.declared.error.ConnectError.{ConnectError}
-use Rattle.dbl_connector.specs.declared.error.ConnectError.TheVariants.{Failed, Halted, Memory}
 use Rattle.dbl_connector.specs.Ends.{HasBegun}
 use Rattle.dbl_session_runs.specs.Ends.{store_status}
 
@@ -40,7 +33,7 @@ abbrev pub AreClean : Option Offset → List TableInfo → Wal → Type 0
 AreClean found infos wal = (after : Lsn) (newest rest : List Message) → IsReadFrom found after → sent wal after ≡ reverse newest ++ rest → IsAccepted infos after newest
 
 -- Of the tables that are captured the source's log, as a session leaves it, holds nothing that isn't supported: no transaction, no cell, no
--- record of a commit; and no offset to what is left is too long.
+-- record of a commit and of a window; and no offset to what is left is too long.
 pub record IsSupportedOver (config : Config) (now : ℤ) (old left : Contents) : Type 0 where
   pub messages : (infos : List TableInfo) → Captures config (history_at old) old.offset infos → AreClean old.offset infos left.wal
   pub content : (infos : List TableInfo) → Captures config (history_at old) old.offset infos → IsSupported (entry_at config now (found_in old)) (history_at left) infos
@@ -81,18 +74,6 @@ pub record NoneFailed (status : ℕ) : Type 0 where
   pub input : status ≢ status_of InputFailed
 
 -- ---- what it answers then
-
--- a disk failed, or memory ran out; or a record of a window was too long
-abbrev pub MayStillEnd : Entry → History → ConnectError → Type 0
-MayStillEnd entry left (Failed store) = Unit {0}
-MayStillEnd entry left Memory = Unit {0}
-MayStillEnd entry left (Halted (RecordTooLong len)) = IsLongWindow entry left (RecordTooLong len)
-MayStillEnd entry left e = ⊥
-
--- That is told: that a record is of so many bytes. Why no premise excludes it stands at `IsLongWindow`.
-abbrev pub TellsTooLong : Entry → History → ℕ → Option (List ℕ) → Option (List ℕ) → Type 0
-TellsTooLong entry left status before after =
-    (len : ℕ) × IsLongWindow entry left (RecordTooLong len) × Writes 6 (lines_text (halt_line (RecordTooLong len) ∷ [])) status before after
 
 abbrev pub IsDone : ℕ → Type 0
 IsDone status = (status ≡ 0) ⊎ (status ≡ status_of NoMemory)

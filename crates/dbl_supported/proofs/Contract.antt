@@ -80,7 +80,7 @@ module _ (entry : Entry) (config : Config) (now : ℤ) (s : Standing) (old : Opt
         → IfErr result (IsHalt config now old stored report told) → IfErr result (IsAbsentHalt config.tables s.history)
         → (HadOwnTables (entry_at config now s old) → IfErr result (IsHonestHalt (entry_at config now s old) stands)) → IfErr result (IsFaithfulHalt entry stored report stands holds)
         → (IsKeptBehind s.confirmed old → (asked first : Lsn) → result ≡ Err (halt.Gone asked first) → ⊥) → ((value : List ℕ) (at : Lsn) → result ≡ Err (halt.WatermarkMissing value at) → ⊥)
-        → CanBegin entry.config entry.history entry.offset → HasMetSupported entry stands holds → IfErr result (MayStillHalt entry stands)
+        → CanBegin entry.config entry.history entry.offset → HasMetSupported entry stands holds → IfErr result MayStillHalt
     ends (Ok ending) cause absent own content gone missing begins met = tt
     ends (Err h) cause absent own content gone missing begins met =
         let why : SaysWhy entry stored report told stands holds (Err h) = record {

@@ -37,7 +37,7 @@ use Rattle.dbl_causes.specs.Nevers.{IsOwnCell, IsOwnClash, IsOwnClosed, IsOwnLon
 use Rattle.dbl_causes.specs.Stored.{identity_of}
 use Rattle.dbl_record.specs.Cuts.{joined}
 use Rattle.dbl_supported.specs.Laws.{SaysWhy, SupportedSessionsEnd}
-use Rattle.dbl_supported.specs.Supported.{CanBegin, HasMetSupported, IsClean, IsLongWindow, IsSupported, MayStillHalt, OffsetsAreShort}
+use Rattle.dbl_supported.specs.Supported.{CanBegin, HasMetSupported, IsClean, IsSupported, MayStillHalt, OffsetsAreShort}
 
 -- ---- it could begin
 
@@ -96,23 +96,22 @@ not_clash entry offset report history h own supported = by own.clash
         ⊎ ((place : ℕ) × (closed : Closed) × IsOwnClosed own.infos offset report history place closed
         × IsClashIn (snapshot_clash (identity_of entry) own.infos closed) h) → ⊥
     by (inl commit) = no_clash (clash_of (identity_of entry) own.infos commit.0) h (supported.commits commit.0 commit.1).clear commit.2
-    by (inr window) = no_clash (snapshot_clash (identity_of entry) own.infos window.1) h (supported.windows offset report window.0 window.1 window.2) window.3
+    by (inr window) = no_clash (snapshot_clash (identity_of entry) own.infos window.1) h (supported.windows offset report window.0 window.1 window.2).clear window.3
 
 pub short_one : (records : List Record) (h : Halt) → AreShort records → IsLongRecord records h → ⊥
 short_one records h short long =
     let fits : length (group_form (long.item ∷ [])) ≤ 2 ^ 28 = at_all (λ (item : Record). length (group_form (item ∷ [])) ≤ 2 ^ 28) records long.place long.item short long.stands in
     omega (arith, fits, long.long)
 
--- it is of a window
-pub long_window : (entry : Entry) (offset : Offset) (report : Report) (history : History) (h : Halt) (own : IsOwnLong entry offset report history h) → IsSupported entry history own.infos → IsLongWindow entry history h
-long_window entry offset report history h own supported = by own.long
+pub not_long : (entry : Entry) (offset : Offset) (report : Report) (history : History) (h : Halt) (own : IsOwnLong entry offset report history h) → IsSupported entry history own.infos → ⊥
+not_long entry offset report history h own supported = by own.long
   where
     by : (Contains (typed own.infos history) own.commit × IsLongRecord (envelopes (identity_of entry) own.infos own.commit entry.now) h)
         ⊎ ((place : ℕ) × (closed : Closed) × IsOwnClosed own.infos offset report history place closed
         × (slice_get (typed own.infos history) place ≡ Some own.commit)
-        × IsLongRecord (snapshot (identity_of entry) own.infos closed own.commit entry.now) h) → IsLongWindow entry history h
-    by (inl commit) = absurd (short_one (envelopes (identity_of entry) own.infos own.commit entry.now) h (supported.commits own.commit commit.0).short commit.1)
-    by (inr window) = (own.infos, offset, report, window.0, window.1, own.commit, window.2, window.3, window.4)
+        × IsLongRecord (snapshot (identity_of entry) own.infos closed own.commit entry.now) h) → ⊥
+    by (inl commit) = short_one (envelopes (identity_of entry) own.infos own.commit entry.now) h (supported.commits own.commit commit.0).short commit.1
+    by (inr window) = short_one (snapshot (identity_of entry) own.infos window.1 own.commit entry.now) h ((supported.windows offset report window.0 window.1 window.2).short own.commit window.3) window.4
 
 pub not_offset : (entry : Entry) (t : Standing) (records : List Record) (h : Halt) → OffsetsAreShort entry t records → IsOwnOffset entry t records h → ⊥
 not_offset entry t records h short own =
@@ -123,7 +122,7 @@ not_offset entry t records h short own =
 
 module _ (entry : Entry) (stored : Option Offset) (report : Report) (told : Option Told) (stands : Standing → Type 0) (holds : List (List Record) → Type 0)
     (begins : CanBegin entry.config entry.history entry.offset) (met : HasMetSupported entry stands holds) where
-  pub outside : (h : Halt) → SaysWhy entry stored report told stands holds (Err h) → MayStillHalt entry stands h
+  pub outside : (h : Halt) → SaysWhy entry stored report told stands holds (Err h) → MayStillHalt h
   outside halt.Source why = tt
   outside halt.Sink why = tt
   outside halt.Offsets why = tt
@@ -137,7 +136,7 @@ module _ (entry : Entry) (stored : Option Offset) (report : Report) (told : Opti
       not_clash entry why.content.2 report why.content.0.history (halt.Clash table column) own (met.content why.content.0 own.infos why.content.1 own.captured)
   outside (halt.RecordTooLong len) why =
       let own = why.content.4 in
-      (why.content.0, why.content.1, long_window entry why.content.2 report why.content.0.history (halt.RecordTooLong len) own (met.content why.content.0 own.infos why.content.1 own.captured))
+      not_long entry why.content.2 report why.content.0.history (halt.RecordTooLong len) own (met.content why.content.0 own.infos why.content.1 own.captured)
   outside (halt.OffsetTooLong len) why = not_offset entry why.content.0 (joined why.content.2) (halt.OffsetTooLong len) (met.offsets why.content.0 why.content.2 why.content.1 why.content.3) why.content.4
   outside (halt.Model error) why = not_model entry.config.tables entry.history (first_captures entry.config entry.history entry.offset why.cause.0 begins) error why.absent
   outside (halt.UnknownTable table) why = not_absent entry.config.tables entry.history (first_captures entry.config entry.history entry.offset why.cause.0 begins) table why.absent

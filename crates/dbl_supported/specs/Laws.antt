@@ -29,13 +29,12 @@ pub record SaysWhy (entry : Entry) (stored : Option Offset) (report : Report) (t
   pub gone : (asked first : Lsn) → result ≡ Err (halt.Gone asked first) → ⊥
   pub missing : (value : List ℕ) (at : Lsn) → result ≡ Err (halt.WatermarkMissing value at) → ⊥
 
--- So a session that could begin, and met nothing that isn't supported, halts where a device failed or memory ran out, or a record of a
--- window was too long, and nowhere else.
+-- So a session that could begin, and met nothing that isn't supported, halts where a device failed or memory ran out, and nowhere else.
 abbrev pub SupportedSessionsEnd : {S K : Type 0} → (S → Standing → Type 0) → (K → List (List Record) → Type 0) → Type 0
 SupportedSessionsEnd {S} {K} stands holds = (entry : Entry) (stored : Option Offset) (report : Report) (told : Option Told) (src : S) (sink : K)
     (result : Result Ending Halt) → SaysWhy entry stored report told (stands src) (holds sink) result
     → CanBegin entry.config entry.history entry.offset → HasMetSupported entry (stands src) (holds sink)
-    → IfErr result (MayStillHalt entry (stands src))
+    → IfErr result MayStillHalt
 
 -- What the clauses `halt`, `absent`, `own`, `content`, `gone` and `missing` of a session tell of its halts, which was asked for this at a
 -- moment, over a source that stood so, and found this offset.
@@ -49,11 +48,11 @@ pub record TellsHalts (entry : Entry) (config : Config) (now : ℤ) (s : Standin
   pub missing : IsWithinLog s.history found → (value : List ℕ) (at : Lsn) → result ≡ Err (halt.WatermarkMissing value at) → ⊥
 
 -- A session over an honest source, whose history rises as that of each source does, and faithful stores, that could begin, and met nothing that isn't supported, ended as it should; or a
--- device failed, memory ran out, or a record of a window was too long.
+-- device failed, or memory ran out.
 abbrev pub FaithfulSessionsEnd : {S K : Type 0} → (S → Standing → Type 0) → (K → List (List Record) → Type 0) → Type 0
 FaithfulSessionsEnd {S} {K} stands holds = (entry : Entry) (config : Config) (now : ℤ) (s : Standing) (found : Option Offset)
     → entry.config ≡ config → entry.now ≡ now → s.history ≡ entry.history → s.confirmed ≡ entry.confirmed → entry.offset ≡ found → IsRising s.history
     → (stored : Option Offset) (report : Report) (told : Option Told) (src : S) (sink : K) (result : Result Ending Halt)
     → TellsHalts entry config now s found stored report told (stands src) (holds sink) result → WasFaithful entry
     → CanBegin entry.config entry.history entry.offset → HasMetSupported entry (stands src) (holds sink)
-    → IfErr result (MayStillHalt entry (stands src))
+    → IfErr result MayStillHalt

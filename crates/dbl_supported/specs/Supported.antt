@@ -30,7 +30,6 @@ use Rattle.dbl_work.specs.declared.halt.Halt.{Halt}
 use Rattle.dbl_work.specs.declared.halt.Halt.TheVariants as halt
 use Rattle.dbl_work.specs.declared.report.Report.{Report}
 use Rattle.dbl_work.specs.Begins.{CanBeCaptured}
-use Rattle.dbl_work.specs.Causes.{IsLongRecord}
 use Rattle.dbl_work.specs.Works.{AreShort}
 use Rattle.dbl_exits.specs.Sessions.{IsCapturing}
 use Rattle.dbl_causes.specs.Nevers.{IsOwnClosed}
@@ -62,15 +61,20 @@ pub record CanBeSent (identity : Identity) (infos : List TableInfo) (now : ℤ) 
   pub clear : clash_of identity infos commit ≡ None
   pub short : AreShort (envelopes identity infos commit now)
 
+-- The same of the records of a window that is closed by the commit at this place.
+pub record CanBeClosed (identity : Identity) (infos : List TableInfo) (now : ℤ) (commits : List Commit) (place : ℕ) (closed : Closed) : Type 0 where
+  pub clear : snapshot_clash identity infos closed ≡ None
+  pub short : (commit : Commit) → slice_get commits place ≡ Some commit → AreShort (snapshot identity infos closed commit now)
+
 -- ---- what a session meets
 
--- Of what it captures the history has no commit, and no chunk, with content that isn't supported: each cell can be read; the records of each
--- commit can be sent; and in no window that is right there a cell is the placeholder.
+-- Of what it captures the history has no commit, and no chunk, with content that isn't supported: each cell can be read; and the records of
+-- each commit, and of each window that is right there, can be sent.
 pub record IsSupported (entry : Entry) (history : History) (infos : List TableInfo) : Type 0 where
   pub cells : RowsAreReadable infos history
   pub commits : (commit : Commit) → Contains (typed infos history) commit → CanBeSent (identity_of entry) infos entry.now commit
   pub windows : (offset : Offset) (report : Report) (place : ℕ) (closed : Closed) → IsOwnClosed infos offset report history place closed
-      → snapshot_clash (identity_of entry) infos closed ≡ None
+      → CanBeClosed (identity_of entry) infos entry.now (typed infos history) place closed
 
 -- none of the messages that were read has a fault, whatever is said of their content
 abbrev pub IsClean : List TableInfo → Option Reading → Type 0
@@ -89,19 +93,10 @@ pub record HasMetSupported (entry : Entry) (stands : Standing → Type 0) (holds
 
 -- ---- halts
 
--- A window of the history is closed so, one of whose records is too long. Its clause (`IsOwnClosed`) ties the rows to the history, and not the
--- key up to which it was read, which stands in the last record: so that each history with a high mark has such a window.
-abbrev pub IsLongWindow : Entry → History → Halt → Type 0
-IsLongWindow entry history h = (infos : List TableInfo) × (offset : Offset) × (report : Report) × (place : ℕ) × (closed : Closed) × (commit : Commit)
-    × IsOwnClosed infos offset report history place closed × (slice_get (typed infos history) place ≡ Some commit)
-    × IsLongRecord (snapshot (identity_of entry) infos closed commit entry.now) h
-
--- A call of the source, the sink or the store failed, or memory ran out. And a record of a window was too long: by its clause that can't be
--- excluded yet.
-abbrev pub MayStillHalt : Entry → (Standing → Type 0) → Halt → Type 0
-MayStillHalt entry stands halt.Source = Unit {0}
-MayStillHalt entry stands halt.Sink = Unit {0}
-MayStillHalt entry stands halt.Offsets = Unit {0}
-MayStillHalt entry stands halt.Memory = Unit {0}
-MayStillHalt entry stands (halt.RecordTooLong len) = (t : Standing) × stands t × IsLongWindow entry t.history (halt.RecordTooLong len)
-MayStillHalt entry stands h = ⊥
+-- a call of the source, the sink or the store failed, or memory ran out
+abbrev pub MayStillHalt : Halt → Type 0
+MayStillHalt halt.Source = Unit {0}
+MayStillHalt halt.Sink = Unit {0}
+MayStillHalt halt.Offsets = Unit {0}
+MayStillHalt halt.Memory = Unit {0}
+MayStillHalt h = ⊥

@@ -5,8 +5,7 @@ ghost use Rattle.dbl_supported.specs.Laws.{FaithfulSessionsEnd, SupportedSession
 use dbl_source::Source;
 use dbl_topic::Sink;
 
-/// Where a session could begin, and what it met is supported, it ends as it should, unless a device failed, memory ran out,
-/// or a record of a window was too long.
+/// Where a session could begin, and what it met is supported, it ends as it should, unless a device failed or memory ran out.
 pub fn supported_sessions_end<S: Source, K: Sink>()
     ensures { SupportedSessionsEnd S.stands K.holds }
 {}

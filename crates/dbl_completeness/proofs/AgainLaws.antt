@@ -115,7 +115,7 @@ module _ (chunk every budget : ℕ) (now : ℤ) (told_wal told_topics told_offse
   own_tables : HasOwnTables held
   own_tables = own_so (stores_of (found_in held)).history (stores_of (found_in held)).confirmed (stores_of (found_in held)).records held.offset held_kept.faithful
 
-  workload_is : (summary : Summary) → HasRun (Again chunk every budget) now new_wals new_logs w t f summary → left.wal.workload ≡ held.wal.workload
+  workload_is : (summary : Summary) → HasRun (Again chunk every budget) now new_wals new_logs new_stores w t f summary → left.wal.workload ≡ held.wal.workload
   workload_is summary run =
       let stays = run.stays may.w may.wal in
       let same : stays.0 ≡ left.wal = one_wal may.w stays.0 left.wal stays.1 may.read.source in
@@ -163,7 +163,7 @@ module _ (chunk every budget : ℕ) (now : ℤ) (told_wal told_topics told_offse
           let many : few.windows ≤ length infos + length pairs / chunk = few.few pairs here in
           omega (arith, few.marks, many, ap length own)
 
-  few_read : (summary : Summary) → HasRun (Again chunk every budget) now new_wals new_logs w t f summary → IsReported (Again chunk every budget) now new_wals new_logs new_stores w t f summary
+  few_read : (summary : Summary) → HasRun (Again chunk every budget) now new_wals new_logs new_stores w t f summary → IsReported (Again chunk every budget) now new_wals new_logs new_stores w t f summary
       → AddsFew (Again chunk every budget) wals new_wals w t f → summary.report.messages ≤ length (sent held.wal offset.lsn) + most_messages 1 held.wal.workload windows
   few_read summary run reported adds =
       let same = workload_is summary run in

@@ -137,7 +137,7 @@ module _ (options : CaptureOptions) (now : ℤ) (told_wal told_topics told_offse
       subst IsKept (disks_are_read_once w t f there.0 held there.1 read) there.2
 
   -- the workload is the same
-  workload_is : (summary : Summary) → HasRun (First options) now new_wals new_logs w t f summary → left.wal.workload ≡ held.wal.workload
+  workload_is : (summary : Summary) → HasRun (First options) now new_wals new_logs new_stores w t f summary → left.wal.workload ≡ held.wal.workload
   workload_is summary run =
       let stays = run.stays may.w may.wal in
       let same : stays.0 ≡ left.wal = one_wal may.w stays.0 left.wal stays.1 may.read.source in
@@ -187,7 +187,7 @@ module _ (options : CaptureOptions) (now : ℤ) (told_wal told_topics told_offse
       let one : came.old.wal.workload ≡ left.wal.workload = one_workload came.old.wal.script came.old.wal.workload left.wal.workload came.read.source.are.workload script in
       subst (λ (x : Workload). length (log_at x 0) ≤ commits_upto offset.start) one (behind_rows came.wal config came.old left offset came.read.source empty stored goes)
 
-  pub few_read : (summary : Summary) → HasRun (First options) now new_wals new_logs w t f summary → IsReported (First options) now new_wals new_logs new_stores w t f summary
+  pub few_read : (summary : Summary) → HasRun (First options) now new_wals new_logs new_stores w t f summary → IsReported (First options) now new_wals new_logs new_stores w t f summary
       → AddsFew (First options) wals new_wals w t f → summary.report.messages ≤ most_messages 1 held.wal.workload (most_windows options held (length pairs))
   few_read summary run reported adds =
       let same = workload_is summary run in

@@ -106,7 +106,7 @@ module _ (asked : Asked) (now : ℤ) (wals logs stores : List ℕ → Type 0) (w
       let asks : asks_in asked held ≡ Some run.begun.config = subst (λ (c : Contents). asks_in asked c ≡ Some run.begun.config) same run.begun.asks in
       not_both asked (tables_in held.wal) held.offset run.begun.config e refuses asks
 
-  halted_so : (e : ConnectError) → IsConnectError e → IsKeptError asked now wals logs stores w t f e → HasHalted asked now wals logs w t f e → IsOutside e
+  halted_so : (e : ConnectError) → IsConnectError e → IsKeptError asked now wals logs stores w t f e → HasHalted asked now wals logs stores w t f e → IsOutside e
   halted_so e kind kept halted =
       let begun = run.begun in
       let may = run.may in
@@ -122,7 +122,7 @@ module _ (asked : Asked) (now : ℤ) (wals logs stores : List ℕ → Type 0) (w
       let found = kept_halt.each may.w may.t may.f run.left may.wal may.topics may.offsets may.read in
       absurd (never begun.config now begun.held run.left run.can run.supported kept_halt.stored halted.stored kept_halt.report halted.report halted.halt own found cause)
 
-  ended : (e : ConnectError) → IsConnectError e → IsKeptError asked now wals logs stores w t f e → EndsBefore asked now wals logs w t f e → IsOutside e
+  ended : (e : ConnectError) → IsConnectError e → IsKeptError asked now wals logs stores w t f e → EndsBefore asked now wals logs stores w t f e → IsOutside e
   ended e kind kept (inl outside) = outside
   ended e kind kept (inr (inl refused)) = absurd (not_refused e kept refused)
   ended e kind kept (inr (inr halted)) = halted_so e kind kept halted

@@ -119,11 +119,12 @@ module _ {W T F : Type 0} (seen_wal : W → Option (List ℕ)) (wals : W → Lis
         ]
 
     pub stopped : e ≢ init.InputFailed → AnswersWorkload workload (seen_wal wal) (seen_topics topics) (seen_offsets offsets) (Err e)
+        → inits.AnswersInput workload (Err e) ⊎ (inits.IsBeforeInput (Err e) ⊎ inits.IsOutside (Err e))
         → (HoldsBytes seen_wal wal ⊎ (HoldsBytes seen_topics topics ⊎ HoldsBytes seen_offsets offsets) → IsAsked seen_wal wals faults_wal store.Wal (Err e) wal mid_wal
         × (IsAsked seen_topics logs faults_topics store.Topics (Err e) topics mid_topics × IsAsked seen_offsets stores faults_offsets store.Offsets (Err e) offsets mid_offsets))
         → RunsGenerated seen_wal wals faults_wal seen_topics logs faults_topics seen_offsets stores faults_offsets workload now wal mid_wal topics mid_topics offsets mid_offsets status before after
-    stopped other answers full = record {
-      ends = inl (record { error = e; not_input = other; answers = answers; says = says });
+    stopped other answers input full = record {
+      ends = inl (record { error = e; not_input = other; answers = answers; input = input; says = says });
       headline = stopped_promised;
       end = Err e;
       full = full;

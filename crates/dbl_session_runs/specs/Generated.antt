@@ -73,6 +73,8 @@ pub record WasRefused (workload : List ℕ) (told_wal told_topics told_offsets :
   pub error : InitError
   pub not_input : error ≢ InputFailed
   pub answers : AnswersWorkload workload told_wal told_topics told_offsets (Err error)
+  -- of the workload alone it tells what that means, whatever the disks tell
+  pub input : inits.AnswersInput workload (Err error) ⊎ (inits.IsBeforeInput (Err error) ⊎ inits.IsOutside (Err error))
   pub says : SaysInit error status before after
 
 -- That part was done and left the disks so; and a session over the stores that it made, asked for as by `capture` without a word behind it, ended

@@ -56,6 +56,7 @@ returns-clause-generated g c =
     (told.torn c.args.plan.workload refl w t (c.in-Err.is ∙ ap (λ (x : InitError). Err x) failed)))
     (λ failed. not_rose (told.input_failed (c.in-Err.is ∙ ap (λ (x : InitError). Err x) failed)))
     (λ given same w t f. subst (λ (end : inits.End). inits.Answers given end ⊎ inits.IsOutside end) c.in-Err.is (told.told given (ap (λ (l : List ℕ). let o : Option (List ℕ) = Some l in o) (sym same)) w t f))
+    (subst (λ (end : inits.End). inits.AnswersInput c.args.plan.workload end ⊎ (inits.IsBeforeInput end ⊎ inits.IsOutside end)) c.in-Err.is (told.input_told c.args.plan.workload refl))
     (λ holds. subst (λ (end : inits.End). IsAsked g.W.Disk.seen g.W.Disk.may_leave g.W.Disk.faults store.Wal end c.args.wal begun.wal × (IsAsked g.T.Disk.seen g.T.Disk.may_leave g.T.Disk.faults store.Topics end c.args.topics begun.topics
     × IsAsked g.F.Disk.seen g.F.Disk.may_leave g.F.Disk.faults store.Offsets end c.args.offsets begun.offsets)) c.in-Err.is (told.unwritten holds))
 

@@ -51,7 +51,8 @@ impl<'a> Model for RecordsLeft<'a> {
 
     ghost invariant = { λ l. (All (Suits l.writer.now.infos) (changes_of l.commit.now))
         × ((l.change ≤ length (changes_of l.commit.now)) × ((l.ordinal ≤ 3 * l.change)
-        × ((length l.tails.items ≡ length l.writer.now.infos) × AreTails l.writer.now l.commit.now l.now_ms l.tails.items))) };
+        × ((length l.tails.items ≡ length l.writer.now.infos)
+        × AreTails l.writer.now l.commit.now l.now_ms l.tails.items))) };
 }
 
 /// Makes the tail of a table where there is none.

@@ -1,6 +1,6 @@
 //! The records of a commit by the definition, by way of JSON trees. It only serves tests of the definitions.
 
-ghost use Rattle.std.specs.Prelude.{◌≡◌, ◌++◌, ℕ, map, false, IfOk, IfErr, OnOk, OnErr, Option, Some, None, [], ◌∷◌, flat_map};
+ghost use Rattle.std.specs.Prelude.{◌≡◌, ◌++◌, ℕ, map, false, IfOk, IfErr, OnOk, Option, Some, None, [], ◌∷◌, flat_map};
 ghost use Rattle.serde_json.specs.View.{view};
 ghost use Rattle.serde_json.specs.Written.{compact_text, has_float};
 ghost use Rattle.dbl_table.specs.Infos.{topic_of};

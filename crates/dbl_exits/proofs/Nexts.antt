@@ -36,7 +36,6 @@ use Rattle.dbl_session.specs.Going.{IsGoing}
 use Rattle.dbl_session.specs.Steps.{ReadsOn, WasFollowed, followed_at}
 use Rattle.dbl_session.specs.Outcomes.{Follows}
 use Rattle.dbl_session.proofs.Commits.{commits_keep_going}
-use Rattle.dbl_session.proofs.Completing.{windows_are_read}
 use Rattle.dbl_session.proofs.Ending.{sources_may_end}
 use Rattle.dbl_session.proofs.Growing.{state_longer}
 use Rattle.dbl_session.proofs.Sinks.{sinks_may_end}
@@ -299,5 +298,4 @@ module _ {S K D : Type 0} {tell : Bool} {stands : S → Standing → Type 0} {ho
       is = moved_on s src2 t is moved fit;
       more = map (typed_commit s.stage.first.infos) (commits_after s.stage.first.lsn s.going.reading.more) ++ all_read.0;
       all = all_read.1 ∙ (ap (λ (l : List Commit). l ++ all_read.0) entry_state ∙ append_assoc (to_state s.stage.first.infos s.stage.first.lsn entry.history) (map (typed_commit s.stage.first.infos) (commits_after s.stage.first.lsn s.going.reading.more)) all_read.0);
-      none = λ stood. ap (λ (f : Following). f.window) s.work_is.follower_is ∙ windows_are_read entry s.stage all_read.0 all_read.1 stood s.going;
     }

@@ -5,8 +5,7 @@ use Rattle.dbl_table.specs.declared.change.Commit.{Commit}
 use Rattle.dbl_honest.specs.Stated.{to_state}
 use Rattle.dbl_honest.specs.Standings.{Standing}
 use Rattle.dbl_offset.specs.Stores.{StoreOn}
-use Rattle.dbl_follow.specs.declared.window.Window.TheVariants.{Absent}
-use Rattle.dbl_session.specs.Entries.{Entry, StoodInLog}
+use Rattle.dbl_session.specs.Entries.{Entry}
 use Rattle.dbl_session.specs.Stages.{read_at, next_offset}
 use Rattle.dbl_work.specs.declared.halt.Halt.{Halt}
 use Rattle.dbl_work.specs.declared.report.Report.{Report}
@@ -37,15 +36,13 @@ IsDue old new (Some due) =
 
 -- ---- the end
 
--- All commits that stood in the history when the session began were read, and perhaps others; and no window waits, where the offset
--- that the session found stands in the log.
+-- All commits that stood in the history when the session began were read, and perhaps others.
 pub record HasReadAllAt {S K D : Type 0} (tell : Bool) (stands : S → Standing → Type 0) (holds : K → List (List Record) → Type 0)
     (seen : D → Option (List ℕ)) (may_leave : D → List ℕ → Type 0) (entry : Entry) (work : Work) (src : S) (sink : K)
     (store : StoreOn D) : Type 0 where
   pub is : InSession tell stands holds seen may_leave entry work src sink store
   pub more : List Commit
   pub all : read_at is.stage ≡ to_state is.stage.first.infos is.stage.first.lsn entry.history ++ more
-  pub none : StoodInLog entry → work.follower.window ≡ Absent
 
 -- ---- settled
 

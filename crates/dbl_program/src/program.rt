@@ -196,7 +196,8 @@ pub fn run<I: Input, O: Output, W: Disk, T: Disk, F: Disk>(
         Spells words.now.items (Command.Gen number rows groups true) →
         HasMade W.seen W.may_leave T.seen T.may_leave F.seen F.may_leave
         wal topics offsets result.offsets →
-        IsSome (W.seen result.wal) → IsSome (T.seen result.topics) → IsSome (F.seen result.offsets) →
+        IsSome (W.seen result.wal) → IsSome (T.seen result.topics) →
+        IsSome (F.seen result.offsets) →
         AreKept (W.seen result.wal) (T.seen result.topics) (F.seen result.offsets)
         (W.may_leave result.wal) (T.may_leave result.topics) (F.may_leave result.offsets) }
 

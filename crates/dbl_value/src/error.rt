@@ -5,7 +5,7 @@ use thiserror::Error;
 #[derive(Debug, Drop, PartialEq, Eq, Error)]
 pub enum ValueError {
     /// float4 and float8: their texts don't read back in JSON as they were.
-    #[error("floats aren't captured")]
+    #[error("float type")]
     FloatType,
     /// The text spells no value of the type.
     #[error("bad text")]

@@ -99,7 +99,7 @@ fn row_of<'a>(held: &'a Held, topic: &Text, text: &Text) -> Option<&'a Row> {
         .and_then(|table| table.get(text))
 }
 
-fn shown(cell: Option<&HeldCell>) -> &str {
+fn shown_text(cell: Option<&HeldCell>) -> &str {
     match cell {
         Some(HeldCell::Known(text)) => text.as_str(),
         Some(HeldCell::Unknown) => "unknown",
@@ -134,7 +134,7 @@ fn ask(
     let known = is_known_at(alloc, source, held, &asked)?;
     let aged = is_aged(alloc, source, &asked, known, cell)?;
     let key = words::field(fields, 2);
-    let (column, shown) = (words::field(fields, 3), shown(cell));
+    let (column, shown) = (words::field(fields, 3), shown_text(cell));
     let (from, to) = (asked.from, asked.to);
     let known = if known { "known" } else { "not known" };
     let aged = if aged { "aged" } else { "not aged" };

@@ -8,7 +8,7 @@ use Rattle.dbl_record.specs.declared.acts.Act.TheVariants.{Nothing, Set, Remove,
 use Rattle.dbl_record.specs.declared.reading.Line.{Line}
 use Rattle.dbl_record.specs.Line.{text_or_null}
 use Rattle.dbl_record.specs.Whole.{IsWhole}
-use Rattle.dbl_record.specs.Acts.{json_in, act, act_of, act_of_data, unwrapped, is_progress, cells_of}
+use Rattle.dbl_record.specs.Acts.{json_in, act, act_of, act_of_data, bare_value, is_progress, cells_of}
 use Rattle.dbl_record.proofs.Back.{read-compact_text}
 use Rattle.dbl_table.specs.declared.identity.Identity.{Identity}
 use Rattle.dbl_table.specs.declared.row.Key.{Key}
@@ -37,7 +37,7 @@ line_of_event identity commit now info key content = record {
 
 -- what is read is done, in a topic that isn't of progress records
 pub read_act : (placeholder topic : List ℕ) (k v : Data) → is_progress topic ≡ false → IsWhole k → depth k ≤ 127 → IsWhole v → depth v ≤ 127
-    → act placeholder (record { topic = topic; key = compact_text k; value = compact_text v }) ≡ act_of_data placeholder (unwrapped k) (unwrapped v)
+    → act placeholder (record { topic = topic; key = compact_text k; value = compact_text v }) ≡ act_of_data placeholder (bare_value k) (bare_value v)
 unfolding json_in act_of
 read_act placeholder topic k v other kw kd vw vd =
     ap₂ (λ key value. act_of placeholder (record { topic = topic; key = key; value = value })) (read-compact_text k kw kd) (read-compact_text v vw vd) ∙ rw other refl
@@ -46,7 +46,7 @@ module _ (identity : Identity) (commit : Commit) (now : ℤ) (range : IsCommitIn
   -- `snapshot` is what the source block says of it
   pub event_act : (snapshot : List ℕ) (k before after : Data) (op : List ℕ) → IsPart k → IsPart before → IsPart after
       → act identity.placeholder (record { topic = topic_of identity info; key = compact_text k; value = compact_text (event_data (source_data identity info.name commit snapshot) now before op after) })
-      ≡ act_of_data identity.placeholder (unwrapped k) (event_data (source_data identity info.name commit snapshot) now before op after)
+      ≡ act_of_data identity.placeholder (bare_value k) (event_data (source_data identity info.name commit snapshot) now before op after)
   unfolding event_data
   event_act snapshot k before after op kp bp ap =
       let value = event_data (source_data identity info.name commit snapshot) now before op after in

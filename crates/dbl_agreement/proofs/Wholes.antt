@@ -16,7 +16,7 @@ use Rattle.dbl_value.specs.Values.{json_data}
 use Rattle.dbl_time.specs.Stamps.{is_instant, zulu_text}
 use Rattle.dbl_record.specs.declared.acts.ConsumeError.{ConsumeError}
 use Rattle.dbl_record.specs.Whole.{IsInteger, IsWhole, ItemsAreWhole, IsBelow, MembersAreWhole}
-use Rattle.dbl_record.specs.Acts.{cell_error, or_later, first_error, unwrapped}
+use Rattle.dbl_record.specs.Acts.{cell_error, or_later, first_error, bare_value}
 use Rattle.dbl_table.specs.declared.identity.Identity.{Identity}
 use Rattle.dbl_table.specs.declared.row.Key.{Key}
 use Rattle.dbl_table.specs.declared.table.TableName.{TableName}
@@ -269,7 +269,7 @@ either_none true o e = e
 either_none false o e = refl
 
 -- a flat object is no wrapped one
-pub unwrapped_flat : (ms : Members) → first_error ms ≡ None → unwrapped (object ms) ≡ object ms
+pub unwrapped_flat : (ms : Members) → first_error ms ≡ None → bare_value (object ms) ≡ object ms
 unwrapped_flat ms e = rw (either_none _ _ (no_payload (codes "payload") ms e)) refl
 
 -- ---- whole data have no float

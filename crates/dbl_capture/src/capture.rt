@@ -102,7 +102,7 @@ fn offset_of<S: Source, D: Disk>(
 }
 
 // That offset, stored.
-fn begun<S: Source, K: Sink, D: Disk>(
+fn begin_session<S: Source, K: Sink, D: Disk>(
     alloc: Global,
     config: &Config,
     src: &mut S,
@@ -178,7 +178,7 @@ fn begun<S: Source, K: Sink, D: Disk>(
 }
 
 // The same, with reading begun behind its LSN.
-fn opened<S: Source, K: Sink, D: Disk>(
+fn open_session<S: Source, K: Sink, D: Disk>(
     alloc: Global,
     config: &Config,
     now_ms: i64,
@@ -279,7 +279,7 @@ fn opened<S: Source, K: Sink, D: Disk>(
         IfErr result (IsFaithfulHalt entry store.new.offset report.new (S.stands src.new)
         (K.holds sink.now)) }
 {
-    let offset = begun(alloc, config, src, sink, store)?;
+    let offset = begin_session(alloc, config, src, sink, store)?;
     report.position = offset.lsn.0;
     start(src, offset.lsn)?;
     Work::make(alloc, offset, now_ms, config.chunk, config.every)
@@ -476,6 +476,6 @@ pub fn session<S: Source, K: Sink, D: Disk>(
         snapshot_rows: 0,
         position: 0,
     };
-    let mut work = opened(alloc, config, now_ms, src, sink, offsets, report)?;
+    let mut work = open_session(alloc, config, now_ms, src, sink, offsets, report)?;
     run(config.messages, &mut work, src, sink, offsets, report)
 }

@@ -24,7 +24,7 @@ use dbl_disk::Disk;
 use dbl_offset::OffsetStore;
 use dbl_source::Source;
 use dbl_topic::Sink;
-use dbl_work::{Halt, Report, Work, follow, taken};
+use dbl_work::{Halt, Report, Work, follow, take_message};
 
 // Whether the offset is to be stored.
 fn is_due(work: &Work, closed: bool) -> bool
@@ -153,7 +153,7 @@ pub(crate) fn next<S: Source, K: Sink, D: Disk>(
     match src.read()? {
         Some(bytes) => {
             report.messages += 1;
-            match taken(work, report.messages, &bytes)? {
+            match take_message(work, report.messages, &bytes)? {
                 Some(commit) => {
                     let closed = follow(work, &commit, sink, report)?;
                     Ok(Some(is_due(work, closed)))

@@ -112,12 +112,12 @@ fn show_compared(alloc: Global, shown: &mut String, bytes: &Bytes, count: usize)
 fn output(alloc: Global, shown: &mut String, arguments: &str) -> Result<()> {
     let (pieces, fails) = words::split(arguments, " fails ");
     let mut output = MemOutput::make(alloc, words::numbers(alloc, fails)?);
-    written(shown, &mut output, pieces)?;
+    show_written(shown, &mut output, pieces)?;
     show_held(shown, output.bytes())
 }
 
 // What each write answers.
-fn written(shown: &mut String, output: &mut MemOutput, pieces: &str) -> Result<()> {
+fn show_written(shown: &mut String, output: &mut MemOutput, pieces: &str) -> Result<()> {
     for piece in pieces.split(' ') {
         outcome(shown, output.write(piece.as_bytes()))?;
     }

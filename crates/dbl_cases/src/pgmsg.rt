@@ -45,10 +45,10 @@ fn zeros(alloc: Global, shown: &mut String, arguments: &str) -> Result<()> {
 
 // The bytes that are written of the message that is read.
 fn again(alloc: Global, shown: &mut String, bytes: &[u8]) -> Result<()> {
-    written(alloc, shown, &decode(alloc, bytes)?)
+    show_written(alloc, shown, &decode(alloc, bytes)?)
 }
 
-fn written(alloc: Global, shown: &mut String, message: &Message) -> Result<()> {
+fn show_written(alloc: Global, shown: &mut String, message: &Message) -> Result<()> {
     if !message.fits() {
         return words::add(shown, "doesn't fit");
     }

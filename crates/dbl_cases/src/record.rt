@@ -136,11 +136,11 @@ fn records(alloc: Global, list: &Value) -> Result<Vec<Record>> {
 
 fn of_group(alloc: Global, shown: &mut String, arguments: &str) -> Result<()> {
     let list = Value::from_str(alloc, arguments)?;
-    written(alloc, shown, &records(alloc, &list)?)
+    show_written(alloc, shown, &records(alloc, &list)?)
 }
 
 // How many bytes a group has, which, and whether they are read as the same group.
-fn written(alloc: Global, shown: &mut String, group: &Vec<Record>) -> Result<()> {
+fn show_written(alloc: Global, shown: &mut String, group: &Vec<Record>) -> Result<()> {
     let length = group_length(group);
     if length > 100_000 {
         bail!("too long");

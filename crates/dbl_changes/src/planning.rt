@@ -18,7 +18,7 @@ use crate::planned::{Planned, Write};
 use crate::sessions::Session;
 use dbl_base::Text;
 use dbl_pgmsg::Message;
-use dbl_rows::{Held, Rows, key_holder, lesser, seen};
+use dbl_rows::{Held, Rows, key_holder, lesser, seen_row};
 use dbl_serial::{
     DemoTable, StepError, are_each_readable, are_of_key, delete_message, enter_cells, grown_size,
     has_key_texts, insert_message, keep_key, key_from, key_in, key_texts, key_texts_set, row_given,
@@ -121,7 +121,7 @@ pub fn plan_insert(
     let message = insert_message(alloc, oid, &row)?;
     let size = measure(&rows.table, session.size, &message)?;
     pass(alloc, key_holder(rows, name, &key))?;
-    if seen(rows, name, &key).is_some() {
+    if seen_row(rows, name, &key).is_some() {
         return Err(StepError::RowExists);
     }
     let mut writes = Vec::new(alloc);
@@ -187,7 +187,7 @@ fn is_taken(rows: &Rows, name: &Text, from: &Key, to: &Key) -> bool
     if compare(from, to).is_eq() {
         return false;
     }
-    seen(rows, name, to).is_some()
+    seen_row(rows, name, to).is_some()
 }
 
 // An update of a row that is there.
@@ -243,7 +243,7 @@ pub fn plan_update(
     let new_key = key_texts_set(alloc, info, set, &places, old_key.as_slice())?;
     let from = key_from(alloc, info, old_key.as_slice())?;
     let to = key_from(alloc, info, new_key.as_slice())?;
-    let Some(before) = seen(rows, name, &from) else {
+    let Some(before) = seen_row(rows, name, &from) else {
         pass(alloc, in_the_way(rows, name, &from, &to))?;
         return Err(StepError::NoRow);
     };
@@ -268,7 +268,7 @@ pub fn plan_delete(
 {
     let texts = read_key(alloc, rows, key)?;
     let from = key_from(alloc, &rows.table.info, texts.as_slice())?;
-    let Some(before) = seen(rows, name, &from) else {
+    let Some(before) = seen_row(rows, name, &from) else {
         pass(alloc, key_holder(rows, name, &from))?;
         return Err(StepError::NoRow);
     };

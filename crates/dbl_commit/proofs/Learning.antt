@@ -22,7 +22,7 @@ use Rattle.dbl_commit.specs.declared.txn_error.TxnError.TheVariants as errors
 use Rattle.dbl_table.specs.Tables.{same_name, is_watermark}
 use Rattle.dbl_table.specs.Infos.{number_of}
 use Rattle.dbl_commit.specs.Tuples.{◌>>=◌, some_or}
-use Rattle.dbl_commit.specs.Past.{named, described, relation_of, begin_of, mark_of, HasNoRelation}
+use Rattle.dbl_commit.specs.Past.{table_named, described, relation_of, begin_of, mark_of, HasNoRelation}
 use Rattle.dbl_commit.specs.Stated.{captured_at, target, has_some, row_stated, targets_at, truncate_stated, stated_in, ok_or_none, open_changes, commit_of, ended, list_of, commits_of, columns_fault, schema_fault, err_of, first_of, transaction_fault}
 use Rattle.dbl_table.proofs.Lists.{position_from-at}
 
@@ -214,7 +214,7 @@ module _ (infos : List TableInfo) (info : TableInfo) where
   fault_learnt after (says.Logical f l p c) ms none = refl
   fault_learnt after (says.Relation given namespace tname identity columns) ms none =
       let r = described namespace tname identity columns in
-      ap (schema_fault more r) (target_learnt infos info (named namespace tname) none.0) ∙ schema_learnt_at r (target infos (named namespace tname)) (target_within infos (named namespace tname))
+      ap (schema_fault more r) (target_learnt infos info (table_named namespace tname) none.0) ∙ schema_learnt_at r (target infos (table_named namespace tname)) (target_within infos (table_named namespace tname))
   fault_learnt after (says.Insert oid new) ms none = ap (fault_by (is_some (begin_of ms))) (said_learnt (says.Insert oid new) ms none)
   fault_learnt after (says.Update oid before new) ms none = ap (fault_by (is_some (begin_of ms))) (said_learnt (says.Update oid before new) ms none)
   fault_learnt after (says.Delete oid before) ms none = ap (fault_by (is_some (begin_of ms))) (said_learnt (says.Delete oid before) ms none)

@@ -18,11 +18,11 @@ abbrev pub schema_of : List ℕ → List ℕ
 schema_of [] = codes "pg_catalog"
 schema_of (c ∷ cs) = c ∷ cs
 
-abbrev pub named : List ℕ → List ℕ → TableName
-named namespace name = record { schema = schema_of namespace; name = name }
+abbrev pub table_named : List ℕ → List ℕ → TableName
+table_named namespace name = record { schema = schema_of namespace; name = name }
 
 abbrev pub described : List ℕ → List ℕ → ℕ → List RelationColumn → Relation
-described namespace name identity columns = record { name = named namespace name; identity = identity; columns = columns }
+described namespace name identity columns = record { name = table_named namespace name; identity = identity; columns = columns }
 
 -- the last Relation with this OID
 abbrev pub relation_of : ℕ → List Message → Option Relation
@@ -77,5 +77,5 @@ mark_of (m ∷ ms) = mark_of ms
 -- no Relation among the messages describes a table of this name
 abbrev pub HasNoRelation : TableName → List Message → Type 0
 HasNoRelation table [] = Unit {0}
-HasNoRelation table (says.Relation oid namespace name identity columns ∷ ms) = (named namespace name ≢ table) × HasNoRelation table ms
+HasNoRelation table (says.Relation oid namespace name identity columns ∷ ms) = (table_named namespace name ≢ table) × HasNoRelation table ms
 HasNoRelation table (m ∷ ms) = HasNoRelation table ms

@@ -24,7 +24,7 @@ use Rattle.dbl_commit.specs.declared.txn_error.TxnError.{TxnError}
 use Rattle.dbl_commit.specs.declared.txn_error.TxnError.TheVariants as errors
 use Rattle.dbl_table.specs.Tables.{is_watermark}
 use Rattle.dbl_table.specs.Infos.{number_of}
-use Rattle.dbl_commit.specs.Past.{named, described, relation_of, Begun, begin_of, last_lsn, mark_in, mark_of}
+use Rattle.dbl_commit.specs.Past.{table_named, described, relation_of, Begun, begin_of, last_lsn, mark_in, mark_of}
 use Rattle.dbl_commit.specs.Tuples.{◌>>=◌, refuse_if, some_or, change_of}
 
 abbrev pub captured_at : Option ℕ → Target
@@ -82,8 +82,8 @@ truncate_stated marked targets = do
   Ok (clears targets)
 
 -- an unknown OID comes before all else
-abbrev pub truncated : List TableInfo → List ℕ → List Message → Bool → Result (List Change) TxnError
-truncated infos oids ms marked = do
+abbrev pub truncated_tables : List TableInfo → List ℕ → List Message → Bool → Result (List Change) TxnError
+truncated_tables infos oids ms marked = do
   targets ← targets_at infos oids ms
   truncate_stated marked targets
 
@@ -98,7 +98,7 @@ abbrev pub stated_in : List TableInfo → Message → List Message → Option (L
 stated_in infos (says.Insert oid new) ms mark changed = row_at infos oid (row.Insert new) ms mark changed
 stated_in infos (says.Update oid before new) ms mark changed = row_at infos oid (row.Update before new) ms mark changed
 stated_in infos (says.Delete oid before) ms mark changed = row_at infos oid (row.Delete before) ms mark changed
-stated_in infos (says.Truncate options oids) ms mark changed = truncated infos oids ms (is_some mark)
+stated_in infos (says.Truncate options oids) ms mark changed = truncated_tables infos oids ms (is_some mark)
 stated_in infos m ms mark changed = Ok []
 
 abbrev pub ok_or_none : {A : Type 0} → Result (List A) TxnError → List A
@@ -176,7 +176,7 @@ err_of (Err e) = Some e
 abbrev pub own_fault : List TableInfo → Lsn → Message → List Message → Option TxnError
 own_fault infos after (says.Begin lsn time xid) ms = if nat_lt (last_lsn after ms).0 lsn.0 then None else Some (errors.LsnOrder (last_lsn after ms) lsn)
 own_fault infos after (says.Commit flags lsn end_lsn time) ms = mismatch (begin_of ms) lsn
-own_fault infos after (says.Relation oid namespace name identity columns) ms = schema_fault infos (described namespace name identity columns) (target infos (named namespace name))
+own_fault infos after (says.Relation oid namespace name identity columns) ms = schema_fault infos (described namespace name identity columns) (target infos (table_named namespace name))
 own_fault infos after m ms = err_of (stated infos m ms)
 
 abbrev pub first_of : Option TxnError → Option TxnError → Option TxnError

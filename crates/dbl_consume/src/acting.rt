@@ -47,8 +47,8 @@ fn payload(value: &Value) -> Option<&Value>
 }
 
 /// The payload of an object of exactly `schema` and `payload`, where that is an object, and else the value itself.
-fn unwrapped(value: &Value) -> &Value
-    ensures { view result.now ≡ spec.unwrapped (view value.now) }
+fn bare_value(value: &Value) -> &Value
+    ensures { view result.now ≡ spec.bare_value (view value.now) }
 {
     match payload(value) {
         Some(inner) => inner,
@@ -253,7 +253,7 @@ pub(crate) fn act_of_values(
     if is_progress(topic) {
         return Ok(Act::Nothing);
     }
-    act_of(alloc, placeholder, unwrapped(key), unwrapped(value))
+    act_of(alloc, placeholder, bare_value(key), bare_value(value))
 }
 
 /// A text as JSON.
@@ -280,10 +280,10 @@ fn act_by_key(
     value: &Text,
 ) -> Result<Act, ConsumeError>
     ensures { Answers (or_error BadJson (λ v. spec.act_of_data placeholder.now
-        (spec.unwrapped (view key.now)) (spec.unwrapped v)) (json_in value.now)) result }
+        (spec.bare_value (view key.now)) (spec.bare_value v)) (json_in value.now)) result }
 {
     match value_of(alloc, value) {
-        Ok(value) => act_of(alloc, placeholder, unwrapped(key), unwrapped(&value)),
+        Ok(value) => act_of(alloc, placeholder, bare_value(key), bare_value(&value)),
         Err(error) => Err(error),
     }
 }

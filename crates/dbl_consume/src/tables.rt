@@ -30,7 +30,7 @@ fn copy_of(alloc: Global, cell: &HeldCell) -> Result<HeldCell, AllocError>
 }
 
 // What a row holds of a cell that wasn't sent.
-fn kept(alloc: Global, row: Option<&Row>, column: &Text) -> Result<HeldCell, AllocError>
+fn kept_cell(alloc: Global, row: Option<&Row>, column: &Text) -> Result<HeldCell, AllocError>
     ensures { IfOk result (λ cell. cell ≡ held_now (cells_in row.entry) column.now None) }
 {
     match row {
@@ -52,7 +52,7 @@ fn row_of(alloc: Global, row: Option<&Row>, cells: Seq<GivenCell>) -> Result<Row
         let GivenCell { column, text } = given;
         let held = match text {
             Some(text) => HeldCell::Known(text),
-            None => kept(alloc, row, &column)?,
+            None => kept_cell(alloc, row, &column)?,
         };
         made.insert(column, held)?;
     }

@@ -45,7 +45,7 @@ fn heads(alloc: Global, count: u64) -> Result<String> {
 // The disk of a source that has run so many groups.
 fn run(alloc: Global, groups: u64) -> Result<MemDisk> {
     let text = workload(alloc, groups.saturating_add(GROUPS_LEFT))?;
-    let disk = FuseDisk::make(stops::made(alloc, text.as_bytes())?, u64::MAX);
+    let disk = FuseDisk::make(stops::made_disk(alloc, text.as_bytes())?, u64::MAX);
     let mut shown = String::new(alloc);
     let calls = heads(alloc, groups)?;
     let disk = stops::run(alloc, &mut shown, disk, calls.as_str())?;

@@ -51,7 +51,7 @@ fn entries(alloc: Global, shown: &mut String, journal: &mut Journal<MemDisk>) ->
 }
 
 /// What the source opens, and the entries there.
-pub fn opened(alloc: Global, shown: &mut String, disk: MemDisk) -> Result<()> {
+pub fn show_opened(alloc: Global, shown: &mut String, disk: MemDisk) -> Result<()> {
     let disk = match DemoSource::open(alloc, disk) {
         Ok(source) => source.into_disk(),
         Err(refused) => return words::said(shown, &refused.error),
@@ -64,7 +64,7 @@ pub fn opened(alloc: Global, shown: &mut String, disk: MemDisk) -> Result<()> {
 
 fn one(alloc: Global, shown: &mut String, disk: &MemDisk, choice: Choice) -> Result<()> {
     words::add(shown, " (")?;
-    opened(alloc, shown, disk.crash(choice)?)?;
+    show_opened(alloc, shown, disk.crash(choice)?)?;
     words::add(shown, ")")
 }
 

@@ -22,9 +22,9 @@ fn answer(alloc: Global, name: &str, arguments: &str) -> Result<String> {
     match family {
         "stop" => stops::answer(alloc, &mut shown, arguments)?,
         "counted" => counts::answer(alloc, &mut shown, arguments)?,
-        "wal" => wal::opened(alloc, &mut shown, arguments)?,
+        "wal" => wal::show_opened(alloc, &mut shown, arguments)?,
         "cut" => wal::cut(alloc, &mut shown, arguments)?,
-        "changed" => wal::changed(alloc, &mut shown, arguments)?,
+        "changed" => wal::show_changed(alloc, &mut shown, arguments)?,
         _ => bail!("no such family"),
     }
     Ok(shown)

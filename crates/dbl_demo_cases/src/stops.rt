@@ -25,7 +25,7 @@ fn lines(alloc: Global, text: &str) -> Result<String> {
 }
 
 /// A disk with a source that begins with the workload.
-pub fn made(alloc: Global, workload: &[u8]) -> Result<MemDisk> {
+pub fn made_disk(alloc: Global, workload: &[u8]) -> Result<MemDisk> {
     if workload.len() > 1_000_000 {
         bail!("too long");
     }
@@ -57,7 +57,7 @@ pub fn run(alloc: Global, shown: &mut String, disk: Device, calls: &str) -> Resu
 // What a disk leaves that passes so many calls.
 fn stop(alloc: Global, workload: &[u8], calls: &str, passes: u64) -> Result<String> {
     let mut shown = String::new(alloc);
-    let disk = FuseDisk::make(made(alloc, workload)?, passes);
+    let disk = FuseDisk::make(made_disk(alloc, workload)?, passes);
     let disk = run(alloc, &mut shown, disk, calls)?.into_inner();
     left::show(alloc, &mut shown, &disk)?;
     Ok(shown)

@@ -30,17 +30,17 @@ fn disk(alloc: Global, bytes: &[u8]) -> Result<MemDisk> {
 }
 
 // What the source opens there, in one line.
-fn told(alloc: Global, bytes: &[u8]) -> Result<String> {
+fn opened_text(alloc: Global, bytes: &[u8]) -> Result<String> {
     let mut shown = String::new(alloc);
-    left::opened(alloc, &mut shown, disk(alloc, bytes)?)?;
+    left::show_opened(alloc, &mut shown, disk(alloc, bytes)?)?;
     Ok(shown)
 }
 
 /// Adds what the source opens of a disk of these bytes.
-pub fn opened(alloc: Global, shown: &mut String, digits: &str) -> Result<()> {
+pub fn show_opened(alloc: Global, shown: &mut String, digits: &str) -> Result<()> {
     let bytes = hex::decode(alloc, digits)?;
     words::add(shown, " ")?;
-    words::add(shown, told(alloc, &bytes)?.as_str())
+    words::add(shown, opened_text(alloc, &bytes)?.as_str())
 }
 
 // Adds a line for what is told at a place, where it differs from what was told last.
@@ -56,14 +56,14 @@ pub fn cut(alloc: Global, shown: &mut String, digits: &str) -> Result<()> {
     let bytes = hex::decode(alloc, digits)?;
     let mut last = String::new(alloc);
     for (count, _) in bytes.iter().enumerate() {
-        let next = told(alloc, &bytes[..count])?;
+        let next = opened_text(alloc, &bytes[..count])?;
         add_other(shown, count, next.as_str(), last.as_str())?;
         last = next;
     }
     add_other(
         shown,
         bytes.len(),
-        told(alloc, &bytes)?.as_str(),
+        opened_text(alloc, &bytes)?.as_str(),
         last.as_str(),
     )
 }
@@ -74,12 +74,12 @@ fn with(alloc: Global, bytes: &[u8], at: usize, other: u8) -> Result<String>
 {
     let mut changed = bytes.to_vec(alloc)?;
     changed[at] = other;
-    told(alloc, &changed)
+    opened_text(alloc, &changed)
 }
 
 /// Adds what the source opens where these bits of one byte are turned: the byte's place, where it differs. The arguments are the bits,
 /// the first place that is turned, the first behind it that isn't, and the bytes.
-pub fn changed(alloc: Global, shown: &mut String, arguments: &str) -> Result<()> {
+pub fn show_changed(alloc: Global, shown: &mut String, arguments: &str) -> Result<()> {
     let (bits, rest) = words::split(arguments, " ");
     let (first, rest) = words::split(rest, " ");
     let (end, digits) = words::split(rest, " ");

@@ -151,7 +151,7 @@ fn fill_extents(image: &mut [u8], dirty: &[Extent], byte: u8)
 }
 
 // The current bytes with this one wherever a crash may leave any byte.
-fn filled(
+fn filled_bytes(
     alloc: Global,
     stable: &[u8],
     current: &[u8],
@@ -168,7 +168,7 @@ fn filled(
 }
 
 // The bytes that the choice leaves.
-fn chosen(
+fn chosen_bytes(
     alloc: Global,
     stable: &Vec<u8>,
     current: &Vec<u8>,
@@ -187,7 +187,7 @@ fn chosen(
     match choice {
         Choice::Old => stable.clone(),
         Choice::New => current.clone(),
-        Choice::Fill(byte) => filled(alloc, stable, current, dirty, byte),
+        Choice::Fill(byte) => filled_bytes(alloc, stable, current, dirty, byte),
     }
 }
 
@@ -221,7 +221,7 @@ impl MemDisk {
         ensures fill { (byte : ℕ) → choice ≡ Choice.Fill byte → IfOk result
             (λ disk. IsFilled byte self.now.stable self.now.current self.now.dirty disk.current) }
     {
-        let current = chosen(self.alloc, &self.stable, &self.current, &self.dirty, choice)?;
+        let current = chosen_bytes(self.alloc, &self.stable, &self.current, &self.dirty, choice)?;
         Ok(MemDisk {
             alloc: self.alloc,
             stable: current.clone()?,

@@ -10,7 +10,7 @@ use std::alloc::Global;
 struct Plain;
 
 impl Store for Plain {
-    fn told(alloc: Global, disk: MemDisk) -> Result<String> {
+    fn told_text(alloc: Global, disk: MemDisk) -> Result<String> {
         words::digits(alloc, disk.bytes())
     }
 

@@ -14,7 +14,7 @@ use std::fmt::Write;
 struct Listed;
 
 impl Store for Listed {
-    fn told(alloc: Global, disk: MemDisk) -> Result<String> {
+    fn told_text(alloc: Global, disk: MemDisk) -> Result<String> {
         match Journal::open(alloc, disk) {
             Ok(mut journal) => all(alloc, &mut journal),
             Err(refused) => words::said(alloc, &refused.error),
@@ -111,7 +111,7 @@ fn built(alloc: Global, place: &mut Device, digits: &str) -> Result<String> {
 fn entries(alloc: Global, place: &mut Device, numbers: &str) -> Result<String> {
     match Journal::open(alloc, steps::take(alloc, place)) {
         Ok(mut journal) => {
-            let answer = chosen(alloc, &mut journal, numbers);
+            let answer = chosen_entries(alloc, &mut journal, numbers);
             steps::put(place, journal.into_disk());
             answer
         }
@@ -120,7 +120,7 @@ fn entries(alloc: Global, place: &mut Device, numbers: &str) -> Result<String> {
 }
 
 // How many entries a journal has, the listed ones, and whether it is live then.
-fn chosen(alloc: Global, journal: &mut Journal<Device>, numbers: &str) -> Result<String>
+fn chosen_entries(alloc: Global, journal: &mut Journal<Device>, numbers: &str) -> Result<String>
     requires { IsTrue journal.old.live }
 {
     let count = journal.count();

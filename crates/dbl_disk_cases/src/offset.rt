@@ -13,7 +13,7 @@ use std::alloc::Global;
 pub struct Last;
 
 impl Store for Last {
-    fn told(alloc: Global, disk: MemDisk) -> Result<String> {
+    fn told_text(alloc: Global, disk: MemDisk) -> Result<String> {
         match OffsetStore::open(alloc, disk) {
             Ok(store) => match store.load() {
                 Some(offset) => brief(alloc, offset),

@@ -102,7 +102,7 @@ fn run(
         "apply" => run_apply(alloc, disks, &mut output),
         _ => bail!("no such call"),
     };
-    written(shown, output.bytes())?;
+    show_written(shown, output.bytes())?;
     show_end(shown, end)
 }
 
@@ -132,7 +132,7 @@ fn run_apply(alloc: Global, disks: &mut Disks, output: &mut MemOutput) -> End {
 }
 
 // A text from a line of its own on, or how many lines it has, and bytes, and the last line.
-fn written(shown: &mut String, bytes: &[u8]) -> Result<()> {
+fn show_written(shown: &mut String, bytes: &[u8]) -> Result<()> {
     let text = str::from_utf8(bytes)?;
     shown.push('\n')?;
     if text.len() <= LONGEST {

@@ -15,7 +15,7 @@ pub type Device = FuseDisk<MemDisk>;
 /// What a family keeps on a disk.
 pub trait Store {
     /// What the disk holds.
-    fn told(alloc: Global, disk: MemDisk) -> Result<String>;
+    fn told_text(alloc: Global, disk: MemDisk) -> Result<String>;
 
     /// Takes a step of the family: what it answers.
     fn step(alloc: Global, disk: &mut Device, word: &str, rest: &str) -> Result<String>;
@@ -91,7 +91,7 @@ fn choice(word: &str) -> Result<Choice> {
 
 // What a family finds after a crash.
 fn found<S: Store>(alloc: Global, disk: &MemDisk, choice: Choice) -> Result<String> {
-    S::told(alloc, disk.crash(choice)?)
+    S::told_text(alloc, disk.crash(choice)?)
 }
 
 // The same for the old bytes, the new ones, and other bytes than 1 and 1 wherever any may be left.

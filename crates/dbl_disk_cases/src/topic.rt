@@ -15,7 +15,7 @@ use std::alloc::Global;
 pub struct Groups;
 
 impl Store for Groups {
-    fn told(alloc: Global, disk: MemDisk) -> Result<String> {
+    fn told_text(alloc: Global, disk: MemDisk) -> Result<String> {
         match TopicLog::open(alloc, disk) {
             Ok(mut log) => last(alloc, &mut log),
             Err(refused) => words::said(alloc, &refused.error),

@@ -12,7 +12,7 @@ use Rattle.dbl_table.specs.declared.change.Commit.{Commit}
 use Rattle.dbl_table.specs.Rows.{table_of}
 use Rattle.dbl_event.specs.Events.{Notice, change_notices, notices, is_nil, numbered}
 use Rattle.dbl_event.specs.EventJson.{print, envelopes}
-use Rattle.dbl_event.specs.PlainEvents.{notice_texts, placed}
+use Rattle.dbl_event.specs.PlainEvents.{notice_texts, placed_records}
 
 -- a change at whose place no table is captured tells nothing
 pub notices-past : (infos : List TableInfo) (c : Change) → length infos ≤ table_of c → notices infos c ≡ []
@@ -23,14 +23,14 @@ tells_nothing f ys xs h = sym (append-nil ys) ∙ ap (λ (l : List _). ys ++ map
 
 -- events that are numbered and printed are their texts, numbered
 pub print-numbered : (identity : Identity) (commit : Commit) (now : ℤ) (position ordinal : ℕ) (ns : List Notice)
-    → map (print identity commit now) (numbered position ordinal ns) ≡ placed position ordinal (map (notice_texts identity commit now) ns)
+    → map (print identity commit now) (numbered position ordinal ns) ≡ placed_records position ordinal (map (notice_texts identity commit now) ns)
 print-numbered identity commit now position ordinal [] = refl
 print-numbered identity commit now position ordinal (n ∷ []) = refl
 print-numbered identity commit now position ordinal (n ∷ m ∷ ns) =
     ap (λ (rs : List Record). print identity commit now (record { notice = n; position = position; ordinal = ordinal; last = is_nil (m ∷ ns) }) ∷ rs) (print-numbered identity commit now position (ordinal + 1) (m ∷ ns))
 
 pub envelopes-placed : (identity : Identity) (infos : List TableInfo) (commit : Commit) (now : ℤ) (changes : List Change) → commit.body ≡ Changes changes
-    → placed commit.lsn.0 0 (map (notice_texts identity commit now) (flat_map (notices infos) changes)) ≡ envelopes identity infos commit now
+    → placed_records commit.lsn.0 0 (map (notice_texts identity commit now) (flat_map (notices infos) changes)) ≡ envelopes identity infos commit now
 envelopes-placed identity infos commit now changes is =
     sym (print-numbered identity commit now commit.lsn.0 0 (flat_map (notices infos) changes))
     ∙ ap (λ (b : Body). map (print identity commit now) (numbered commit.lsn.0 0 (flat_map (notices infos) (elim b [ Changes cs ↦ cs | Mark value ↦ [] ])))) (sym is)

@@ -46,9 +46,9 @@ abbrev pub Tells : Frame → Change → List Texts → List Texts → Type 0
 Tells frame change old new = new ≡ old ++ map (notice_texts frame.identity.now frame.commit.now frame.now_ms.now) (change_notices (table_of change) frame.info.now change)
 
 -- records of these texts at a position, numbered from an ordinal on; the last of them says so
-abbrev pub placed : ℕ → ℕ → List Texts → List Record
-placed position ordinal [] = []
-placed position ordinal (t ∷ ts) = record {
+abbrev pub placed_records : ℕ → ℕ → List Texts → List Record
+placed_records position ordinal [] = []
+placed_records position ordinal (t ∷ ts) = record {
   topic = t.topic;
   key = t.key;
   value = t.value;
@@ -57,4 +57,4 @@ placed position ordinal (t ∷ ts) = record {
   last = is_nil ts;
   newkey = t.newkey;
   oldkey = t.oldkey;
-} ∷ placed position (ordinal + 1) ts
+} ∷ placed_records position (ordinal + 1) ts

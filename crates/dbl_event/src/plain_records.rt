@@ -8,7 +8,7 @@ ghost use Rattle.dbl_history.specs.Image.{key_text};
 ghost use Rattle.dbl_table.specs.declared.change.Change.TheVariants.{Insert, Update, Delete, Clear};
 ghost use Rattle.dbl_event.specs.Events.{Content, notices};
 ghost use Rattle.dbl_event.specs.EventJson.{envelopes};
-ghost use Rattle.dbl_event.specs.PlainEvents.{event_of, content_text, plain_texts, event_texts, Tells, notice_texts, placed};
+ghost use Rattle.dbl_event.specs.PlainEvents.{event_of, content_text, plain_texts, event_texts, Tells, notice_texts, placed_records};
 
 use crate::plain_json::{
     event_value, key_text, old_value, row_value, sent_value, source_value, text_of,
@@ -297,7 +297,7 @@ fn tell_if_captured(
 }
 
 /// What changes of a commit tell, in order.
-fn told(
+fn told_texts(
     alloc: Global,
     identity: &Identity,
     infos: &Vec<TableInfo>,
@@ -317,8 +317,8 @@ fn told(
 }
 
 /// The records of these texts at a position, in order.
-fn placed(alloc: Global, position: u64, told: Vec<Texts>) -> Result<Vec<Record>, AllocError>
-    ensures { IfOk result (λ made. made.items ≡ placed position 0 told.items) }
+fn placed_records(alloc: Global, position: u64, told: Vec<Texts>) -> Result<Vec<Record>, AllocError>
+    ensures { IfOk result (λ made. made.items ≡ placed_records position 0 told.items) }
 {
     let count = told.len();
     let mut records = Vec::new(alloc);
@@ -350,8 +350,8 @@ fn records_of(
 {
     match &commit.body {
         Body::Changes(changes) => {
-            let told = told(alloc, identity, infos, commit, changes, now_ms)?;
-            placed(alloc, commit.lsn.0, told)
+            let told = told_texts(alloc, identity, infos, commit, changes, now_ms)?;
+            placed_records(alloc, commit.lsn.0, told)
         }
         Body::Mark(_) => Ok(Vec::new(alloc)),
     }

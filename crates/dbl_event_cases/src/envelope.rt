@@ -17,7 +17,7 @@ const UNSUITED: &str = "doesn't suit the writer";
 pub fn answer(alloc: Global, shown: &mut String, call: &str, arguments: &str) -> Result<()> {
     match call {
         "records" => records(alloc, shown, arguments),
-        "unlearnt" => unlearnt(alloc, shown, arguments),
+        "unlearnt" => show_unlearnt(alloc, shown, arguments),
         "pieces" => pieces(alloc, shown, arguments),
         "snapshot" => snapshot(alloc, shown, arguments),
         "memory" => words::said(shown, &EnvelopeError::Memory),
@@ -70,7 +70,7 @@ fn learner(alloc: Global, arguments: &str, known: &Vec<TableInfo>) -> Result<Eve
 }
 
 // What a writer makes of a commit.
-fn written(
+fn add_written(
     alloc: Global,
     shown: &mut String,
     writer: &EventWriter,
@@ -116,7 +116,7 @@ fn commit(
 ) -> Result<()> {
     let now_ms = now_of(arguments)?;
     let mut made = String::new(alloc);
-    written(alloc, &mut made, writer, commit, now_ms)?;
+    add_written(alloc, &mut made, writer, commit, now_ms)?;
     let identity = model::identity_of(alloc, common(arguments))?;
     let mut wanted = String::new(alloc);
     plain(alloc, &mut wanted, &identity, known, commit, now_ms)?;
@@ -152,7 +152,7 @@ fn records(alloc: Global, shown: &mut String, arguments: &str) -> Result<()> {
 }
 
 // The writer and the definitions lack the last table.
-fn unlearnt(alloc: Global, shown: &mut String, arguments: &str) -> Result<()> {
+fn show_unlearnt(alloc: Global, shown: &mut String, arguments: &str) -> Result<()> {
     let mut known = items::tables(alloc, arguments)?;
     known.pop();
     by_learner(alloc, shown, arguments, &known)

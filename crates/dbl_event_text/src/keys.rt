@@ -12,7 +12,7 @@ ghost use Rattle.dbl_event_text.specs.Layouts.{members_at};
 
 use crate::frame::Frame;
 use crate::layout::Place;
-use crate::tokens::{write_cells, write_sent, written};
+use crate::tokens::{write_cells, write_sent, written_text};
 use dbl_base::{Seq, Text};
 use dbl_table::{Cell, Key, TableInfo};
 use dbl_value::Val;
@@ -34,7 +34,7 @@ pub(crate) fn cells_text(
 {
     let mut writer = Writer::new(Vec::with_capacity(alloc, KEY_CAPACITY)?);
     write_cells(alloc, &mut writer, places, cells)?;
-    Ok(Text::make(written(writer)))
+    Ok(Text::make(written_text(writer)))
 }
 
 fn sent_text(
@@ -49,7 +49,7 @@ fn sent_text(
 {
     let mut writer = Writer::new(Vec::with_capacity(alloc, KEY_CAPACITY)?);
     write_sent(alloc, &mut writer, placeholder, places, cells)?;
-    Ok(Text::make(written(writer)))
+    Ok(Text::make(written_text(writer)))
 }
 
 /// The text of the key of a row's cells.

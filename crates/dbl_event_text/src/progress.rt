@@ -12,7 +12,7 @@ ghost use Rattle.dbl_event_text.specs.Frames.{Framed, table_data, through_data};
 
 use crate::frame::Frame;
 use crate::layout::Layout;
-use crate::tokens::{text_member, write_cells, written};
+use crate::tokens::{text_member, write_cells, written_text};
 use dbl_base::Text;
 use dbl_record::Record;
 use dbl_table::{Identity, Key, TableName};
@@ -45,7 +45,7 @@ fn key_text(alloc: Global, table: &str) -> Result<Text, AllocError>
 {
     let mut writer = Writer::new(Vec::with_capacity(alloc, KEY_CAPACITY)?);
     write_key(&mut writer, table)?;
-    Ok(Text::make(written(writer)))
+    Ok(Text::make(written_text(writer)))
 }
 
 /// The last key that was read, and null where there is none.
@@ -106,7 +106,7 @@ fn value_text(
 {
     let mut writer = Writer::new(Vec::with_capacity(alloc, VALUE_CAPACITY)?);
     write_value(alloc, &mut writer, frame.layout, through, done, table)?;
-    Ok(Text::make(written(writer)))
+    Ok(Text::make(written_text(writer)))
 }
 
 fn topic_text(alloc: Global, identity: &Identity) -> Result<Text, AllocError>

@@ -7,7 +7,7 @@ ghost use Rattle.dbl_event.specs.EventJson.{source_data, milliseconds_of};
 ghost use Rattle.dbl_event_text.specs.Tokens.{first_tokens, last_tokens, tail_tokens};
 ghost use Rattle.dbl_event_text.specs.Frames.{tail_text};
 
-use crate::tokens::{i64_member, null_member, text_member, u64_member, written};
+use crate::tokens::{i64_member, null_member, text_member, u64_member, written_text};
 use dbl_base::Text;
 use dbl_event::milliseconds;
 use dbl_table::{Commit, Identity, TableName};
@@ -114,5 +114,5 @@ pub fn tail_text(
 {
     let mut writer = Writer::new(Vec::with_capacity(alloc, TAIL_CAPACITY)?);
     write_tail(&mut writer, identity, table, commit, snapshot, now_ms)?;
-    Ok(Text::make(written(writer)))
+    Ok(Text::make(written_text(writer)))
 }

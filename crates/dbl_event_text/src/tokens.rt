@@ -114,7 +114,7 @@ pub(crate) fn write_sent(
 }
 
 /// What was written.
-pub(crate) fn written(writer: Writer) -> String
+pub(crate) fn written_text(writer: Writer) -> String
     requires { writer.before ≡ [] }
     ensures { string_bytes result ≡ print_tokens writer.tokens }
 {

@@ -9,7 +9,7 @@ ghost use Rattle.dbl_event_text.specs.Frames.{Framed, FitsPlaces, IsWide, side_d
 use crate::frame::Frame;
 use crate::layout::Place;
 use crate::side::Side;
-use crate::tokens::{null_member, text_member, write_cells, write_sent, written};
+use crate::tokens::{null_member, text_member, write_cells, write_sent, written_text};
 use dbl_base::{Seq, Text};
 use json::Writer;
 use std::alloc::{AllocError, Global};
@@ -77,7 +77,7 @@ fn head_text(
 {
     let mut writer = Writer::new(Vec::with_capacity(alloc, VALUE_CAPACITY)?);
     write_head(alloc, &mut writer, placeholder, columns, after, before, op)?;
-    Ok(written(writer))
+    Ok(written_text(writer))
 }
 
 /// The value of an event with these parts, as JSON (RFC 8259); `op` is the letter of the connector's field `op`.

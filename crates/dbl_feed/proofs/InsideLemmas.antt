@@ -29,7 +29,7 @@ use Rattle.dbl_commit.specs.declared.message_parts.Target.{Target}
 use Rattle.dbl_commit.specs.declared.message_parts.Target.TheVariants.{Watermark, Captured, Passed}
 use Rattle.dbl_commit.specs.declared.txn_error.TxnError.{TxnError}
 use Rattle.dbl_commit.specs.declared.txn_error.TxnError.TheVariants as errors
-use Rattle.dbl_commit.specs.Past.{relation_of, Begun, begin_of, last_lsn, mark_of, mark_by, described, named}
+use Rattle.dbl_commit.specs.Past.{relation_of, Begun, begin_of, last_lsn, mark_of, mark_by, described, table_named}
 use Rattle.dbl_commit.specs.Tuples.{◌>>=◌, some_or}
 use Rattle.dbl_commit.specs.Stated.{target, has_some, list_of, row_stated, stated, stated_in, err_of, ok_or_none, open_changes, body_of, commit_of, ended, commits_of, same_columns, columns_fault, schema_fault, place_fault, own_fault, mismatch, first_of, transaction_fault}
 use Rattle.dbl_commit.specs.Blocks.{IsAccepted}
@@ -222,7 +222,7 @@ module _ (tables : List LogTable) (infos : List TableInfo) (after : Lsn) (n : �
   relation_step oid identity namespace name columns past so_far rest mark i told =
       let m : Message = says.Relation oid namespace name identity columns in
       subst (λ (cs : List Change). Inside tables infos after n done commit later cs rest mark (m ∷ past)) (append-nil so_far)
-      (further_step m past so_far [] rest mark mark i (λ accepted. schema_may_stand (described namespace name identity columns) (target infos (named namespace name))) told refl i.marked i.mark_is refl (λ accepted. refl))
+      (further_step m past so_far [] rest mark mark i (λ accepted. schema_may_stand (described namespace name identity columns) (target infos (table_named namespace name))) told refl i.marked i.mark_is refl (λ accepted. refl))
 
   -- ---- the Commit
 

@@ -18,7 +18,7 @@ use Rattle.dbl_commit.specs.declared.message_parts.Target.{Target}
 use Rattle.dbl_commit.specs.declared.message_parts.Target.TheVariants.{Watermark}
 use Rattle.dbl_commit.specs.declared.txn_error.TxnError.{TxnError}
 use Rattle.dbl_commit.specs.declared.txn_error.TxnError.TheVariants as errors
-use Rattle.dbl_commit.specs.Past.{named, described, relation_of, mark_in, mark_by, mark_of}
+use Rattle.dbl_commit.specs.Past.{table_named, described, relation_of, mark_in, mark_by, mark_of}
 use Rattle.dbl_commit.specs.Tuples.{◌>>=◌, some_or}
 use Rattle.dbl_commit.specs.Stated.{captured_at, target, list_of, row_stated, targets_at, truncate_stated, row_at, stated_in}
 use Rattle.dbl_feed.specs.declared.logged.LogTable.{LogTable}
@@ -209,7 +209,7 @@ module _ (tables : List LogTable) where
 
 -- ---- two readers that have the same Relations of a change's tables find the same changes and faults
 
-name_is : (schema name : List ℕ) → (schema ≡ [] → ⊥) → named schema name ≡ (let n : TableName = record { schema = schema; name = name } in n)
+name_is : (schema name : List ℕ) → (schema ≡ [] → ⊥) → table_named schema name ≡ (let n : TableName = record { schema = schema; name = name } in n)
 name_is [] name some = absurd (some refl)
 name_is (c ∷ cs) name some = refl
 

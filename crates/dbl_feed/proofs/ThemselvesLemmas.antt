@@ -40,7 +40,7 @@ use Rattle.dbl_commit.specs.declared.txn_error.TxnError.{TxnError}
 use Rattle.dbl_commit.specs.declared.txn_error.TxnError.TheVariants as errors
 use Rattle.dbl_commit.specs.Past.{relation_of}
 use Rattle.dbl_commit.specs.Tuples.{◌>>=◌, refuse_if, some_or, is_full, is_whole, is_unsent, unsent_fault, key_in_identity, row_of, old_row, old_row_if_sent, new_cells, key_before, all_sent_if_moved, change_of}
-use Rattle.dbl_commit.specs.Stated.{captured_at, target, list_of, in_table, row_stated, targets_at, is_the_watermark, has_some, clears, truncate_stated, truncated, row_at, stated_in}
+use Rattle.dbl_commit.specs.Stated.{captured_at, target, list_of, in_table, row_stated, targets_at, is_the_watermark, has_some, clears, truncate_stated, truncated_tables, row_at, stated_in}
 use Rattle.dbl_feed.specs.declared.logged.LogTable.{LogTable}
 use Rattle.dbl_feed.specs.Relations.{first_oid, table_at, catalogue}
 use Rattle.dbl_feed.specs.Sent.{oids_of}
@@ -341,7 +341,7 @@ module _ (tables : List LogTable) (infos : List TableInfo) (named_so : AreNamed 
       ∙ clears_step (number_of infos name) b.item (filter_map (typed_change infos) (filter_map clear_of oids)) (clears_are past oids b.item known.1 described.1 b.first)
       ∙ sym (ap (λ (o : Option LogTable). filter_map (typed_change infos) (cons_option (option_map (λ (t : LogTable). raw.Clear t.raw.name) o) (filter_map clear_of oids))) k.there)
 
-  truncate_states : (past : List Message) (oids : List ℕ) (changes : List Change) → AllByRecursion (IsKnown tables) oids → AreDescribed tables oids past → truncated infos oids past false ≡ Ok changes
+  truncate_states : (past : List Message) (oids : List ℕ) (changes : List Change) → AllByRecursion (IsKnown tables) oids → AreDescribed tables oids past → truncated_tables infos oids past false ≡ Ok changes
       → changes ≡ filter_map (typed_change infos) (filter_map clear_of oids)
   unfolding truncate_stated
   truncate_states past oids changes known described is =

@@ -100,7 +100,7 @@ impl PieceFiles {
 }
 
 // Nothing else is done.
-fn unsupported<T>() -> io::Result<T> {
+fn unsupported_error<T>() -> io::Result<T> {
     Err(io::Error::from(ErrorKind::Unsupported))
 }
 
@@ -121,38 +121,38 @@ impl Files for PieceFiles {
     }
 
     fn open_dir(&self, _path: &str) -> io::Result<PieceFile> {
-        unsupported()
+        unsupported_error()
     }
 
     fn metadata(&self, _path: &str) -> io::Result<Metadata> {
-        unsupported()
+        unsupported_error()
     }
 
     fn symlink_metadata(&self, _path: &str) -> io::Result<Metadata> {
-        unsupported()
+        unsupported_error()
     }
 
     fn copy(&self, _from: &str, _to: &str) -> io::Result<u64> {
-        unsupported()
+        unsupported_error()
     }
 
     fn rename(&self, _from: &str, _to: &str) -> io::Result<()> {
-        unsupported()
+        unsupported_error()
     }
 
     fn remove_file(&self, _path: &str) -> io::Result<()> {
-        unsupported()
+        unsupported_error()
     }
 
     fn create_dir(&self, _path: &str) -> io::Result<()> {
-        unsupported()
+        unsupported_error()
     }
 
     fn remove_dir(&self, _path: &str) -> io::Result<()> {
-        unsupported()
+        unsupported_error()
     }
 
     fn remove_dir_all<B: Allocator>(&self, _alloc: B, _path: &str) -> io::Result<()> {
-        unsupported()
+        unsupported_error()
     }
 }

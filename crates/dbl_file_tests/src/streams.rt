@@ -54,7 +54,7 @@ impl PieceWriter {
     }
 
     /// The bytes that it took.
-    pub fn written(&self) -> Result<Vec<u8>, AllocError> {
+    pub fn written_bytes(&self) -> Result<Vec<u8>, AllocError> {
         self.bytes.clone()
     }
 }

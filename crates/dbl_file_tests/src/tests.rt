@@ -25,7 +25,7 @@ fn a_writer_may_take_short_pieces(rt: HostRuntime) -> Result<(), Fail> {
     let mut output = StdOutput::make(&mut writer);
     assert!(rt; output.write(b"some ").is_ok());
     assert!(rt; output.write(b"bytes").is_ok());
-    assert_eq!(rt; writer.written()?.as_slice(), b"some bytes".as_slice());
+    assert_eq!(rt; writer.written_bytes()?.as_slice(), b"some bytes".as_slice());
     Ok(())
 }
 
@@ -35,7 +35,7 @@ fn a_writer_that_takes_nothing_fails(rt: HostRuntime) -> Result<(), Fail> {
     let mut output = StdOutput::make(&mut writer);
     assert!(rt; output.write(b"some").is_err());
     assert!(rt; output.write(b"").is_ok());
-    assert!(rt; writer.written()?.is_empty());
+    assert!(rt; writer.written_bytes()?.is_empty());
     Ok(())
 }
 

@@ -59,7 +59,7 @@ fn first_open(cursors: &Vec<Cursor>) -> Option<usize>
 }
 
 // What a mark makes of an armed window.
-fn seen(armed: Armed, value: &Text) -> Window
+fn seen_window(armed: Armed, value: &Text) -> Window
     ensures seen { result ≡ seen_by (windows.Armed armed) value.now }
     ensures fits { (infos : List SpecInfo) → IsPlanned infos armed.plan → IsWindowOf infos result }
 {
@@ -245,7 +245,7 @@ impl Follower {
         match mem::replace(&mut self.window, Window::Absent) {
             Window::Absent => Ok(Vec::new(self.alloc)),
             Window::Armed(armed) => {
-                self.window = seen(armed, value);
+                self.window = seen_window(armed, value);
                 Ok(Vec::new(self.alloc))
             }
             Window::Open(opened) => self.see_high(opened, value, commit, now_ms),

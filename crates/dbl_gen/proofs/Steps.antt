@@ -32,7 +32,7 @@ utf8_plain bytes is = rw (is_utf8-from_IsUtf8 bytes (IsUtf8-from_ascii bytes (λ
 
 -- a plain word is the text of a cell as it stands
 pub text_plain : (bytes : List ℕ) → is_plain bytes ≡ true → text.text_of bytes ≡ Some bytes
-unfolding text.text_of text.unescaped text.escapes_of
+unfolding text.text_of text.unescaped_bytes text.escapes_of
 text_plain bytes is = rw (parts_last 37 bytes (free_percent bytes is), append-nil bytes) (utf8_plain bytes is)
 
 abbrev pub named : List ℕ → List ℕ → NamedCell

@@ -105,7 +105,7 @@ fn cell_over(alloc: Global, cells: &Seq<Cell>, i: usize, old: &Val) -> Result<Va
     }
 }
 
-fn overlaid(alloc: Global, cells: &Seq<Cell>, row: &Seq<Val>) -> Result<Seq<Val>, AllocError>
+fn overlaid_cells(alloc: Global, cells: &Seq<Cell>, row: &Seq<Val>) -> Result<Seq<Val>, AllocError>
     ensures { IfOk result (λ new. new ≡ overlay cells.now row.now) }
 {
     let mut new = Vec::new(alloc);
@@ -131,7 +131,7 @@ fn row_updated(
     }
     match row {
         Some(row) => Ok(Some(Row {
-            cells: overlaid(alloc, cells, &row.cells)?,
+            cells: overlaid_cells(alloc, cells, &row.cells)?,
         })),
         None => Ok(None),
     }

@@ -18,7 +18,7 @@ use Rattle.dbl_commit.specs.declared.message_parts.Target.TheVariants.{Watermark
 use Rattle.dbl_commit.specs.declared.txn_error.TxnError.{TxnError}
 use Rattle.dbl_commit.specs.declared.txn_error.TxnError.TheVariants as faults
 use Rattle.dbl_commit.specs.Past.{relation_of}
-use Rattle.dbl_commit.specs.Stated.{err_of, captured_at, target, in_table, row_stated, row_at, targets_at, is_the_watermark, has_some, clears, truncate_stated, truncated}
+use Rattle.dbl_commit.specs.Stated.{err_of, captured_at, target, in_table, row_stated, row_at, targets_at, is_the_watermark, has_some, clears, truncate_stated, truncated_tables}
 use Rattle.dbl_commit.specs.Tuples.{◌>>=◌, refuse_if, some_or, change_of}
 use Rattle.dbl_feed.specs.declared.logged.LogTable.{LogTable}
 use Rattle.dbl_feed.specs.Fair.{AreNamed}
@@ -138,7 +138,7 @@ module _ (tables : List DemoTable) (infos : List TableInfo) (captured : AreInfos
   unfolding truncate_stated
   cleared_fine ts none = subst (λ (b : Bool). IsMovedAtMost (err_of (refuse_if (b || false && has_some (clears ts)) faults.BadMark >>= λ u. Ok (clears ts)))) (sym none) tt
 
-  pub truncate_told : (oids : List ℕ) → AllByRecursion (IsKnown (log_tables tables)) oids → IsMovedAtMost (err_of (truncated infos oids (onto_relations (log_tables tables) oids []) false))
+  pub truncate_told : (oids : List ℕ) → AllByRecursion (IsKnown (log_tables tables)) oids → IsMovedAtMost (err_of (truncated_tables infos oids (onto_relations (log_tables tables) oids []) false))
   truncate_told oids known =
       let ms : List Message = onto_relations (log_tables tables) oids [] in
       let t = targets_told ms oids (described_targets ms oids (described_onto (log_tables tables) oids [] (none_told (log_tables tables)) known) known) in

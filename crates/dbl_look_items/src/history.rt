@@ -66,7 +66,7 @@ fn messages(alloc: Global, source: &mut ScriptedSource) -> Result<Vec<Message>>
     bail!("it goes on")
 }
 
-fn copied(alloc: Global, infos: &Vec<TableInfo>) -> Result<Vec<TableInfo>> {
+fn copied_infos(alloc: Global, infos: &Vec<TableInfo>) -> Result<Vec<TableInfo>> {
     let mut copies = Vec::with_capacity(alloc, infos.len())?;
     for info in infos {
         copies.push(info.copy(alloc)?)?;
@@ -80,6 +80,6 @@ pub fn commits(alloc: Global, script: &str, infos: &Vec<TableInfo>) -> Result<Ve
     play(alloc, &mut source, script)?;
     begin(&mut source)?;
     let messages = messages(alloc, &mut source)?;
-    let mut assembler = Assembler::make(alloc, copied(alloc, infos)?, Lsn(0));
+    let mut assembler = Assembler::make(alloc, copied_infos(alloc, infos)?, Lsn(0));
     Ok(take_all(alloc, &mut assembler, messages)?)
 }

@@ -4,7 +4,7 @@
 
 use crate::ageing::{is_aged, is_aged_behind};
 use crate::agreement::agrees;
-use crate::cells::known;
+use crate::cells::is_known;
 use crate::holding::consumer;
 use crate::left::{Left, left_since};
 use crate::questions::{Question, questions, sayings};
@@ -41,7 +41,7 @@ fn seen_key(
     asked: &Question,
     seen: Seen,
 ) -> Result<Seen> {
-    let known = known(alloc, left, left.records, said, to, asked)?;
+    let known = is_known(alloc, left, left.records, said, to, asked)?;
     let aged = is_aged(alloc, left, consumer, known, to, asked)?;
     Ok(Seen {
         known: seen.known.saturating_add(if known { 1 } else { 0 }),
@@ -68,7 +68,7 @@ fn look_at(alloc: Global, left: &Left<'_>, asked: &Vec<Question>) -> Result<Seen
     Ok(seen)
 }
 
-fn told(answers: &mut String, seen: Seen) -> Result<()> {
+fn show_seen(answers: &mut String, seen: Seen) -> Result<()> {
     let (known, keys) = (seen.known, seen.keys);
     let agrees = if seen.agrees {
         "agrees"
@@ -80,7 +80,7 @@ fn told(answers: &mut String, seen: Seen) -> Result<()> {
     Ok(())
 }
 
-fn stored(
+fn look_at_stored(
     alloc: Global,
     case: &str,
     script: &str,
@@ -90,7 +90,7 @@ fn stored(
 ) -> Result<()> {
     let left = left_since(alloc, script, offset, offset.lsn.0, records)?;
     let asked = questions(alloc, case, offset)?;
-    told(answers, look_at(alloc, &left, &asked)?)
+    show_seen(answers, look_at(alloc, &left, &asked)?)
 }
 
 /// Adds whether each cell is aged behind each of the records from one on, since the offset with which their session began. `offset`
@@ -132,7 +132,7 @@ pub fn answer(
     answers: &mut String,
 ) -> Result<()> {
     match offset {
-        Some(offset) => stored(alloc, case, script, offset, records, answers),
+        Some(offset) => look_at_stored(alloc, case, script, offset, records, answers),
         None => words::add(
             answers,
             if records.is_empty() {

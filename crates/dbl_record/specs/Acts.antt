@@ -37,8 +37,8 @@ abbrev pub payload_of : Members → Option Members
 payload_of ms = if (members_len ms == 2) && is_some (get_member (codes "schema") ms) then option_and_then as_object (get_member (codes "payload") ms) else None
 
 -- a key or a value without its schema, which the JSON converter of Kafka Connect may put beside it
-abbrev pub unwrapped : Data → Data
-unwrapped d = unwrap_or (option_map object (option_and_then payload_of (as_object d))) d
+abbrev pub bare_value : Data → Data
+bare_value d = unwrap_or (option_map object (option_and_then payload_of (as_object d))) d
 
 -- by their letters: create, read, update, delete, truncate and message
 abbrev pub operation_of : List ℕ → Option Operation
@@ -115,7 +115,7 @@ reading_of line = record { topic = line.topic; key = json_in line.key; value = j
 unfoldable pub act_of : List ℕ → Reading → Result Act ConsumeError
 act_of placeholder reading =
     if is_progress reading.topic then Ok Nothing
-    else or_error BadJson (λ key. or_error BadJson (λ value. act_of_data placeholder (unwrapped key) (unwrapped value)) reading.value) reading.key
+    else or_error BadJson (λ key. or_error BadJson (λ value. act_of_data placeholder (bare_value key) (bare_value value)) reading.value) reading.key
 
 -- the same of a record's texts
 abbrev pub act : List ℕ → Line → Result Act ConsumeError

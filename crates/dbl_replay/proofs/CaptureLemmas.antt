@@ -15,7 +15,7 @@ use Rattle.dbl_table.specs.declared.table.TableKey.{TableKey}
 use Rattle.dbl_table.specs.declared.table.TableName.{TableName}
 use Rattle.dbl_table.specs.Tables.{same_name, is_watermark}
 use Rattle.dbl_table.specs.Infos.{catalogue_of, IsInfoOf}
-use Rattle.dbl_commit.specs.Past.{named, HasNoRelation}
+use Rattle.dbl_commit.specs.Past.{table_named, HasNoRelation}
 use Rattle.dbl_commit.specs.Stated.{list_of}
 use Rattle.dbl_table.proofs.InfoLemmas.{one_info}
 use Rattle.dbl_table.specs.declared.error.ModelError.{ModelError}
@@ -48,7 +48,7 @@ new_other tables raw name no_mark none later is =
 none_more : (keys : List TableKey) (name : TableName) (m : Message) (ms : List Message) → is_watermark name ≡ false → is_among name (tables_in keys ms) ≡ false → is_among name (list_of (table_told keys (tables_in keys ms) m)) ≡ false
     → HasNoRelation name ms → HasNoRelation name (m ∷ ms)
 none_more keys name (says.Relation oid namespace told identity columns) ms no_mark none later before =
-    (λ is. new_other (tables_in keys ms) (entry_of keys (named namespace told) columns) name no_mark none later is, before)
+    (λ is. new_other (tables_in keys ms) (entry_of keys (table_named namespace told) columns) name no_mark none later is, before)
 none_more keys name (says.Begin lsn time xid) ms no_mark none later before = before
 none_more keys name (says.Commit flags lsn end_lsn time) ms no_mark none later before = before
 none_more keys name (says.Origin lsn told) ms no_mark none later before = before
@@ -79,7 +79,7 @@ told_some tables raw found false is told = let yes : Some raw ≡ Some found = s
 -- no Relation before it describes the table that a message is the first to describe
 pub told_has_none : (keys : List TableKey) (ms : List Message) (m : Message) (raw : RawTable) → table_told keys (tables_in keys ms) m ≡ Some raw → HasNoRelation raw.name ms
 told_has_none keys ms (says.Relation oid namespace told identity columns) raw is =
-    let entry = entry_of keys (named namespace told) columns in
+    let entry = entry_of keys (table_named namespace told) columns in
     let found = told_some (tables_in keys ms) entry raw (is_watermark entry.name || is_among entry.name (tables_in keys ms)) refl is in
     let parts = or_false (is_watermark entry.name) (is_among entry.name (tables_in keys ms)) found.0 in
     subst (λ (r : RawTable). HasNoRelation r.name ms) found.1 (none_told keys entry.name ms parts.0 parts.1)

@@ -20,7 +20,7 @@ use Rattle.dbl_table.specs.Tables.{same_name, is_watermark}
 use Rattle.dbl_table.specs.Infos.{IsInfoOf}
 use Rattle.dbl_table.specs.declared.change.Commit.{Commit}
 use Rattle.dbl_commit.specs.declared.txn_error.TxnError.{TxnError}
-use Rattle.dbl_commit.specs.Past.{begin_of, named, schema_of, HasNoRelation}
+use Rattle.dbl_commit.specs.Past.{begin_of, table_named, schema_of, HasNoRelation}
 use Rattle.dbl_commit.specs.Stated.{list_of, ended, transaction_fault}
 use Rattle.dbl_replay.specs.declared.log_fault.LogFault.{LogFault}
 use Rattle.dbl_replay.specs.declared.log_fault.LogFault.TheVariants as log
@@ -43,10 +43,10 @@ is_test table infos = not (is_watermark table || list_any (λ (info : TableInfo)
 
 test_is : (s n ns nm : List ℕ) (items infos : List TableInfo) (test : Bool) → s ≡ schema_of ns → n ≡ nm → items ≡ infos
     → test ≡ not (is_watermark (record { schema = s; name = n }) || list_any (λ (info : TableInfo). same_name info.name (record { schema = s; name = n })) items)
-    → test ≡ not (is_watermark (named ns nm) || list_any (λ (info : TableInfo). same_name info.name (named ns nm)) infos)
+    → test ≡ not (is_watermark (table_named ns nm) || list_any (λ (info : TableInfo). same_name info.name (table_named ns nm)) infos)
 test_is s n ns nm items infos test schema name same is = is ∙ ap₂ is_test (ap₂ name_of schema name) same
 
-entry_is : (keys : List TableKey) (s n ns nm : List ℕ) (columns : List RelationColumn) (entry : RawTable) → s ≡ schema_of ns → n ≡ nm → entry ≡ entry_of keys (record { schema = s; name = n }) columns → entry ≡ entry_of keys (named ns nm) columns
+entry_is : (keys : List TableKey) (s n ns nm : List ℕ) (columns : List RelationColumn) (entry : RawTable) → s ≡ schema_of ns → n ≡ nm → entry ≡ entry_of keys (record { schema = s; name = n }) columns → entry ≡ entry_of keys (table_named ns nm) columns
 entry_is keys s n ns nm columns entry schema name is = is ∙ ap (λ (t : TableName). entry_of keys t columns) (ap₂ name_of schema name)
 
 -- the entry by the keys that are given
@@ -60,7 +60,7 @@ module _ (options : ReplayOptions) (ms : List Message) (r : Replayer) (oid ident
   -- the table is captured already
   pub learn_known : test ≡ false → IsReady options ms (says.Relation oid ns nm identity columns) r
   learn_known known =
-      let none = is_known options.keys ms follows.infos (named ns nm) columns test follows.captured (test_is s n ns nm items follows.infos test schema name same is) known in
+      let none = is_known options.keys ms follows.infos (table_named ns nm) columns test follows.captured (test_is s n ns nm items follows.infos test schema name same is) known in
       record {
         infos = follows.infos;
         behind = follows.behind;
@@ -73,28 +73,28 @@ module _ (options : ReplayOptions) (ms : List Message) (r : Replayer) (oid ident
       → (e ≡ log.Memory) ⊎ (capture_fault count entry ≡ Some e) → (e ≡ log.Memory) ⊎ (told_fault options.keys (tables_in options.keys ms) (says.Relation oid ns nm identity columns) ≡ Some e)
   learn_fails entry count e new entry_told counted (inl memory) = inl memory
   learn_fails entry count e new entry_told counted (inr fault) =
-      let told = is_new options.keys ms follows.infos (named ns nm) columns test follows.captured (test_is s n ns nm items follows.infos test schema name same is) new in
+      let told = is_new options.keys ms follows.infos (table_named ns nm) columns test follows.captured (test_is s n ns nm items follows.infos test schema name same is) new in
       let count_told : count ≡ length (tables_in options.keys ms) = counted ∙ ap length same ∙ count_is options.keys ms follows.infos follows.captured in
       inr (ap (option_and_then (capture_fault (length (tables_in options.keys ms)))) told ∙ ap₂ capture_fault (sym count_told) (sym (entry_is options.keys s n ns nm columns entry schema name entry_told)) ∙ fault)
 
   -- no Relation of it was taken
   pub learn_none : (entry : RawTable) (info : TableInfo) → test ≡ true → entry ≡ entry_of options.keys (record { schema = s; name = n }) columns → IsInfoOf entry info → HasNoRelation info.name ms
   learn_none entry info new entry_told info_told =
-      let none = new_has_none options.keys ms follows.infos (named ns nm) test follows.captured (test_is s n ns nm items follows.infos test schema name same is) new in
+      let none = new_has_none options.keys ms follows.infos (table_named ns nm) test follows.captured (test_is s n ns nm items follows.infos test schema name same is) new in
       subst (λ (t : RawTable). HasNoRelation t.name ms) (sym (info_told ∙ entry_is options.keys s n ns nm columns entry schema name entry_told)) none
 
   -- and it is captured now
   pub learn_more : (entry : RawTable) (count : ℕ) (info : TableInfo) (t : Replayer) → test ≡ true → entry ≡ entry_of options.keys (record { schema = s; name = n }) columns → count ≡ length items → IsInfoOf entry info
       → capture_fault count entry ≡ None → IsBehind options (follows.infos ++ info ∷ []) ms t → IsReady options ms (says.Relation oid ns nm identity columns) t
   learn_more entry count info t new entry_told counted info_told clean behind =
-      let told = is_new options.keys ms follows.infos (named ns nm) columns test follows.captured (test_is s n ns nm items follows.infos test schema name same is) new in
+      let told = is_new options.keys ms follows.infos (table_named ns nm) columns test follows.captured (test_is s n ns nm items follows.infos test schema name same is) new in
       let entry_same = entry_is options.keys s n ns nm columns entry schema name entry_told in
       let count_told : count ≡ length (tables_in options.keys ms) = counted ∙ ap length same ∙ count_is options.keys ms follows.infos follows.captured in
       record {
         infos = follows.infos ++ info ∷ [];
         behind = behind;
         capturable = ap (option_and_then (capture_fault (length (tables_in options.keys ms)))) told ∙ ap₂ capture_fault (sym count_told) (sym entry_same) ∙ clean;
-        captured = captured_more options.keys (says.Relation oid ns nm identity columns) ms follows.infos info (entry_of options.keys (named ns nm) columns) follows.captured told (info_told ∙ entry_same);
+        captured = captured_more options.keys (says.Relation oid ns nm identity columns) ms follows.infos info (entry_of options.keys (table_named ns nm) columns) follows.captured told (info_told ∙ entry_same);
       }
 
 -- ---- one message

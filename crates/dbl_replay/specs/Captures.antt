@@ -14,7 +14,7 @@ use Rattle.dbl_table.specs.declared.table.TableName.{TableName}
 use Rattle.dbl_table.specs.Tables.{same_name, is_watermark}
 use Rattle.dbl_table.specs.Infos.{catalogue_of}
 use Rattle.dbl_table.specs.Made.{table_fault}
-use Rattle.dbl_commit.specs.Past.{named}
+use Rattle.dbl_commit.specs.Past.{table_named}
 use Rattle.dbl_commit.specs.Stated.{list_of}
 use Rattle.dbl_replay.specs.declared.log_fault.LogFault.{LogFault}
 use Rattle.dbl_replay.specs.declared.log_fault.LogFault.TheVariants.{Table, TooManyTables}
@@ -48,7 +48,7 @@ new_table tables table = if is_watermark table.name || is_among table.name table
 
 -- the table that a message is the first to describe, beside these
 abbrev pub table_told : List TableKey → List RawTable → Message → Option RawTable
-table_told keys tables (says.Relation oid namespace name identity columns) = new_table tables (entry_of keys (named namespace name) columns)
+table_told keys tables (says.Relation oid namespace name identity columns) = new_table tables (entry_of keys (table_named namespace name) columns)
 table_told keys tables m = None
 
 -- the tables that messages describe, in the order of their first Relations

@@ -9,5 +9,5 @@ mod slots;
 
 pub use ends::{commit_tables, roll_back_tables};
 pub use held::{HeldKey, list_key};
-pub use rows::{Cleared, Rows, key_holder, lesser, make_rows, seen, table_holder, truncate};
+pub use rows::{Cleared, Rows, key_holder, lesser, make_rows, seen_row, table_holder, truncate};
 pub use slots::{Held, Slot, Slots, hold, make_slot};

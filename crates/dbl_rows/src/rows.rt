@@ -87,7 +87,7 @@ fn seen_under<'a>(
 }
 
 /// The row that a session sees at a key.
-pub fn seen<'a>(rows: &'a Rows, session: &Text, key: &Key) -> Option<&'a RawRow>
+pub fn seen_row<'a>(rows: &'a Rows, session: &Text, key: &Key) -> Option<&'a RawRow>
     ensures { option_map (λ row. row.cells) (option_copied result) ≡
         seen_at rows.now session.now key.now }
 {

@@ -97,14 +97,14 @@ escapes_of (part ∷ parts) = do
   others ← escapes_of parts
   Some (bytes ++ others)
 
-unfoldable pub unescaped : List (List ℕ) → Option (List ℕ)
-unescaped [] = None
-unescaped (plain ∷ parts) = do
+unfoldable pub unescaped_bytes : List (List ℕ) → Option (List ℕ)
+unescaped_bytes [] = None
+unescaped_bytes (plain ∷ parts) = do
   bytes ← escapes_of parts
   Some (plain ++ bytes)
 
 -- the text of a cell: the bytes that the word spells, which are UTF-8
 unfoldable pub text_of : List ℕ → Option (List ℕ)
 text_of word = do
-  bytes ← unescaped (parts_at 37 word)
+  bytes ← unescaped_bytes (parts_at 37 word)
   utf8_text bytes

@@ -6,7 +6,7 @@ ghost use Rattle.std.specs.Char.{is_ascii_digit};
 ghost use Rattle.std.specs.Str.Parse.{digits_value};
 ghost use Rattle.dbl_script.specs.Words.{parts_at};
 ghost use Rattle.dbl_script.specs.Reads.{Reads, Gives};
-ghost use Rattle.dbl_script.specs.Texts.{utf8_text, name_of, table_name_of, is_session_byte, session_of, is_column_byte, column_name_of, number_of, measured_oid_of, listed_oid_of, oid_of, escape_of, escapes_of, unescaped, text_of};
+ghost use Rattle.dbl_script.specs.Texts.{utf8_text, name_of, table_name_of, is_session_byte, session_of, is_column_byte, column_name_of, number_of, measured_oid_of, listed_oid_of, oid_of, escape_of, escapes_of, unescaped_bytes, text_of};
 
 use crate::fault::Fault;
 use crate::parts::{Parts, cut};
@@ -213,9 +213,9 @@ fn read_escapes(parts: &mut Parts<'_>, plain: Vec<u8>) -> Result<Vec<u8>, Fault>
     Ok(bytes)
 }
 
-#[tactic(auto, unfolding(crate::specs::Texts::unescaped))]
-fn unescaped(alloc: Global, word: &[u8]) -> Result<Vec<u8>, Fault>
-    ensures { Gives (λ v. v.items) result (unescaped (parts_at 37 word.now)) }
+#[tactic(auto, unfolding(crate::specs::Texts::unescaped_bytes))]
+fn unescaped_bytes(alloc: Global, word: &[u8]) -> Result<Vec<u8>, Fault>
+    ensures { Gives (λ v. v.items) result (unescaped_bytes (parts_at 37 word.now)) }
 {
     let mut parts = Parts::of(b'%', word);
     let Some(plain) = parts.next_part() else {
@@ -230,6 +230,6 @@ fn unescaped(alloc: Global, word: &[u8]) -> Result<Vec<u8>, Fault>
 pub fn cell_text(alloc: Global, word: &[u8]) -> Result<Text, Fault>
     ensures { Reads (text_of word.now) result }
 {
-    let bytes = unescaped(alloc, word)?;
+    let bytes = unescaped_bytes(alloc, word)?;
     utf8(alloc, &bytes)
 }

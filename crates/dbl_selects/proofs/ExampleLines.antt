@@ -13,7 +13,7 @@ use Rattle.dbl_script.specs.Columns.{column_of, columns_of, named_column, typed_
 use Rattle.dbl_script.specs.Grammar.{cell_in, cell_of, delete_in, identity_of, insert_in, line_at, null_cell_of, row_in, step_in, table_in, toast_of, value_cell_of, verb_in, worded}
 use Rattle.dbl_script.specs.Reads.{all_of, some_of}
 use Rattle.dbl_script.specs.Scripts.{first_bad, may_follow, script_of}
-use Rattle.dbl_script.specs.Texts.{column_name_of, escape_of, escapes_of, listed_oid_of, measured_oid_of, name_of, number_of, oid_of, session_of, table_name_of, text_of, unescaped, utf8_text}
+use Rattle.dbl_script.specs.Texts.{column_name_of, escape_of, escapes_of, listed_oid_of, measured_oid_of, name_of, number_of, oid_of, session_of, table_name_of, text_of, unescaped_bytes, utf8_text}
 use Rattle.dbl_selects.specs.Example.{example_lines, example_name}
 
 abbrev pub table : ScriptTable
@@ -57,9 +57,9 @@ pub lines_are : lines_of (lines_text example_lines) ≡ example_lines
 lines_are = refl
 
 pub script_is : script ≡ script_of example_lines
-unfolding line_at worded table_in identity_of toast_of columns_of column_of named_column typed_column utf8_text name_of table_name_of column_name_of number_of oid_of listed_oid_of measured_oid_of some_of all_of is_utf8 chars encode row_in cell_of cell_in value_cell_of null_cell_of text_of unescaped escapes_of escape_of step_in session_of verb_in insert_in delete_in
+unfolding line_at worded table_in identity_of toast_of columns_of column_of named_column typed_column utf8_text name_of table_name_of column_name_of number_of oid_of listed_oid_of measured_oid_of some_of all_of is_utf8 chars encode row_in cell_of cell_in value_cell_of null_cell_of text_of unescaped_bytes escapes_of escape_of step_in session_of verb_in insert_in delete_in
 script_is = refl
 
 pub good : first_bad example_lines ≡ None
-unfolding line_at worded table_in identity_of toast_of columns_of column_of named_column typed_column utf8_text name_of table_name_of column_name_of number_of oid_of listed_oid_of measured_oid_of some_of all_of is_utf8 chars encode row_in cell_of cell_in value_cell_of null_cell_of text_of unescaped escapes_of escape_of step_in session_of verb_in insert_in delete_in may_follow
+unfolding line_at worded table_in identity_of toast_of columns_of column_of named_column typed_column utf8_text name_of table_name_of column_name_of number_of oid_of listed_oid_of measured_oid_of some_of all_of is_utf8 chars encode row_in cell_of cell_in value_cell_of null_cell_of text_of unescaped_bytes escapes_of escape_of step_in session_of verb_in insert_in delete_in may_follow
 good = refl

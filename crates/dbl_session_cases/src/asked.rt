@@ -58,7 +58,7 @@ fn two(alloc: Global, first: TableName, other: TableName) -> Result<Vec<TableNam
 }
 
 // The names of one table or two.
-fn named(alloc: Global, first: &str, other: &str) -> Result<Vec<TableName>>
+fn named_tables(alloc: Global, first: &str, other: &str) -> Result<Vec<TableName>>
     ensures some { IfOk result (λ names. 1 ≤ length names.items) }
     ensures few { IfOk result (λ names. length names.items ≤ 2) }
     ensures distinct { IfOk result (λ names. IsTrue (are_distinct same_name names.items)) }
@@ -83,9 +83,9 @@ fn tables(alloc: Global, asked: &str, script: &str) -> Result<Vec<TableName>>
     match items::first_of(asked, "tables/") {
         Some(fields) => {
             let (first, other) = words::split(fields, " ");
-            named(alloc, first, other)
+            named_tables(alloc, first, other)
         }
-        None => named(alloc, of_script(script, "t/"), of_script(script, "u/")),
+        None => named_tables(alloc, of_script(script, "t/"), of_script(script, "u/")),
     }
 }
 
@@ -150,7 +150,7 @@ fn names(alloc: Global, infos: &Vec<TableInfo>) -> Result<Vec<TableName>>
 }
 
 /// The same of a session that goes on from an offset, with its connector and its tables.
-pub fn resumed(alloc: Global, fields: &str, offset: &Offset) -> Result<Config>
+pub fn resumed_config(alloc: Global, fields: &str, offset: &Offset) -> Result<Config>
     requires { IsOffset offset.now }
     ensures good { IfOk result IsGoodConfig }
     ensures asked { IfOk result (λ config. IsAsked config (Some offset.now)) }

@@ -32,7 +32,7 @@ pub struct Ran {
 }
 
 /// A store without an offset, on a disk whose listed calls are to fail. It takes the first two of them.
-pub fn made(alloc: Global, fails: Vec<u64>) -> Result<OffsetStore<MemDisk>>
+pub fn made_store(alloc: Global, fails: Vec<u64>) -> Result<OffsetStore<MemDisk>>
     ensures live { IfOk result IsLive }
     ensures empty { IfOk result (λ store. store.offset ≡ None) }
 {
@@ -43,7 +43,7 @@ pub fn made(alloc: Global, fails: Vec<u64>) -> Result<OffsetStore<MemDisk>>
 }
 
 /// A report of nothing.
-pub fn unset() -> Report {
+pub fn unset_report() -> Report {
     Report {
         messages: 0,
         commits: 0,
@@ -63,7 +63,7 @@ pub fn word(ending: &Ending) -> &'static str {
 }
 
 // A halt, with what it keeps beside its text.
-fn halted(alloc: Global, halt: &Halt) -> Result<String> {
+fn halt_text(alloc: Global, halt: &Halt) -> Result<String> {
     Ok(match halt {
         Halt::Gone { asked, first: _ } => format!(in alloc; "{halt}, asked for {asked}")?,
         Halt::WatermarkMissing { value: _, position } => format!(in alloc; "{halt} at {position}")?,
@@ -75,7 +75,7 @@ fn halted(alloc: Global, halt: &Halt) -> Result<String> {
 fn ending(alloc: Global, ended: &std::result::Result<Ending, Halt>) -> Result<String> {
     match ended {
         Ok(ending) => Ok(String::from_str(alloc, word(ending))?),
-        Err(halt) => halted(alloc, halt),
+        Err(halt) => halt_text(alloc, halt),
     }
 }
 
@@ -91,7 +91,7 @@ fn first_left(source: &mut ScriptedSource) -> Option<u64>
 }
 
 // The position that the source is confirmed to, behind an ending without a halt.
-fn confirmed(ended: &std::result::Result<Ending, Halt>, source: &mut ScriptedSource) -> Option<u64>
+fn confirmed_lsn(ended: &std::result::Result<Ending, Halt>, source: &mut ScriptedSource) -> Option<u64>
     requires { OnOk ended.now (IsTrue source.old.live) }
 {
     match ended {
@@ -134,7 +134,7 @@ pub fn run(
     let mut source = source;
     let mut store = store;
     let mut sink = MemSink::make(alloc, puts);
-    let mut report = unset();
+    let mut report = unset_report();
     let ended = session(
         alloc,
         config,
@@ -144,7 +144,7 @@ pub fn run(
         &mut store,
         &mut report,
     );
-    let confirmed = confirmed(&ended, &mut source);
+    let confirmed = confirmed_lsn(&ended, &mut source);
     left_by(alloc, &ended, report, confirmed, sink, store)
 }
 
@@ -159,7 +159,7 @@ pub fn first(
 ) -> Result<Ran>
     requires { IsGoodConfig config.now }
 {
-    let store = made(alloc, calls)?;
+    let store = made_store(alloc, calls)?;
     run(
         alloc,
         config,

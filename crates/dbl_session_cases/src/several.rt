@@ -6,7 +6,7 @@ ghost use Rattle.dbl_offset.specs.Offsets.{IsOffset};
 ghost use Rattle.dbl_offset.specs.Stores.{IsLive};
 ghost use Rattle.dbl_exits.specs.Found.{IsAsked};
 
-use crate::run::{Ran, image, made, run, unset, word};
+use crate::run::{Ran, image, made_store, run, unset_report, word};
 use crate::{asked, left, shown};
 use anyhow::{Result, bail};
 use dbl_capture::{Ending, Report, session};
@@ -84,7 +84,7 @@ fn config(
         (λ config. IsAsked config (option_copied offset.entry)) }
 {
     match offset {
-        Some(offset) => asked::resumed(alloc, fields, offset),
+        Some(offset) => asked::resumed_config(alloc, fields, offset),
         None => asked::config(alloc, asked, fields, script),
     }
 }
@@ -126,7 +126,7 @@ fn source(alloc: Global, fields: &str, script: &str, stops: usize) -> Result<Scr
     }
 }
 
-fn stored(
+fn stored_before(
     alloc: Global,
     store: OffsetStore<MemDisk>,
     offset: &Offset,
@@ -151,12 +151,12 @@ fn store(alloc: Global, fields: &str, offset: Option<&Offset>) -> Result<OffsetS
         (λ store. store.offset ≡ option_copied offset.entry) }
 {
     match offset {
-        Some(offset) => stored(
+        Some(offset) => stored_before(
             alloc,
-            made(alloc, fails(alloc, fields, "store", 6)?)?,
+            made_store(alloc, fails(alloc, fields, "store", 6)?)?,
             offset,
         ),
-        None => made(alloc, fails(alloc, fields, "store", 2)?),
+        None => made_store(alloc, fails(alloc, fields, "store", 2)?),
     }
 }
 
@@ -227,7 +227,7 @@ fn show(
     let (records, entry) = (&past.records, past.offset.as_ref());
     let count = records.len();
     write!(answers, "\n  {}; ", ran.ending)?;
-    shown::reported(answers, ran)?;
+    shown::show_reported(answers, ran)?;
     write!(answers, "; {count} records")?;
     left::images(alloc, asked, script, &ran.disk, records, answers)?;
     if has(asked, "each/") {
@@ -301,7 +301,7 @@ fn make_three(alloc: Global, script: &str) -> Result<Three>
     Ok(Three {
         source: script::source(alloc, script)?,
         sink: MemSink::make(alloc, Vec::new(alloc)),
-        store: made(alloc, Vec::new(alloc))?,
+        store: made_store(alloc, Vec::new(alloc))?,
     })
 }
 
@@ -350,7 +350,7 @@ fn go_on(
 {
     let config = config(alloc, asked, fields, script, three.store.load())?;
     let now_ms = asked::now_ms(fields)?;
-    let mut report = unset();
+    let mut report = unset_report();
     let ended = session(
         alloc,
         &config,

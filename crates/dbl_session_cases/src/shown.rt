@@ -35,7 +35,7 @@ pub fn report(answers: &mut String, report: &Report) -> Result<()> {
 }
 
 /// The report of a session, and the position that the source was confirmed to.
-pub fn reported(answers: &mut String, ran: &Ran) -> Result<()> {
+pub fn show_reported(answers: &mut String, ran: &Ran) -> Result<()> {
     report(answers, &ran.report)?;
     if let Some(confirmed) = ran.confirmed {
         write!(answers, ", confirmed {confirmed}")?;
@@ -48,7 +48,7 @@ pub fn ending(answers: &mut String, ran: &Ran) -> Result<()> {
     line(answers)?;
     words::add(answers, ran.ending.as_str())?;
     line(answers)?;
-    reported(answers, ran)
+    show_reported(answers, ran)
 }
 
 fn last(alloc: Global, answers: &mut String, key: &Option<Key>) -> Result<()> {
@@ -68,7 +68,7 @@ fn cursor(alloc: Global, answers: &mut String, info: &TableInfo, cursor: &Cursor
     Ok(())
 }
 
-fn stored(alloc: Global, answers: &mut String, offset: &Offset) -> Result<()> {
+fn show_stored(alloc: Global, answers: &mut String, offset: &Offset) -> Result<()> {
     let (incarnation, start, lsn) = (offset.incarnation, offset.start, offset.lsn);
     let end = offset.end_lsn;
     write!(
@@ -87,7 +87,7 @@ fn stored(alloc: Global, answers: &mut String, offset: &Offset) -> Result<()> {
 /// An offset, and how far each table was read.
 pub fn offset(alloc: Global, answers: &mut String, offset: Option<&Offset>) -> Result<()> {
     match offset {
-        Some(offset) => stored(alloc, answers, offset),
+        Some(offset) => show_stored(alloc, answers, offset),
         None => words::add(answers, "\n  no offset"),
     }
 }

@@ -102,7 +102,7 @@ pub fn answer(
         let records = ran.sink.records();
         let count = records.len();
         write!(answers, "\n  {kind} {number}: {}; ", ran.ending)?;
-        shown::reported(answers, &ran)?;
+        shown::show_reported(answers, &ran)?;
         write!(answers, "; {count} records")?;
         left::images(alloc, asked, script, &ran.disk, records, answers)?;
         if !goes_on(kind, ran.ending.as_str()) {

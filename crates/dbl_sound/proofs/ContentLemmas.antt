@@ -15,7 +15,7 @@ use Rattle.dbl_script.specs.declared.line.Line.{Line}
 use Rattle.dbl_script.specs.declared.line.Line.TheVariants.{Passed, Table, Row, Act}
 use Rattle.dbl_script.specs.Words.{cut_at, parts_at, words_of}
 use Rattle.dbl_script.specs.Reads.{◌>>=◌, all_of, some_of}
-use Rattle.dbl_script.specs.Texts.{utf8_text, table_name_of, session_of, is_column_byte, column_name_of, oid_of, unescaped, text_of}
+use Rattle.dbl_script.specs.Texts.{utf8_text, table_name_of, session_of, is_column_byte, column_name_of, oid_of, unescaped_bytes, text_of}
 use Rattle.dbl_script.specs.Columns.{column_with, typed_column, named_column, column_of, columns_in, key_in, columns_of}
 use Rattle.dbl_script.specs.Grammar.{identity_of, toast_of, value_cell_of, null_cell_of, cell_in, cell_of, cells_of, table_in, row_in, alone, insert_in, before_set, behind_set, update_in, delete_in, truncate_in, verb_in, step_in, worded, line_at}
 use Rattle.dbl_script.specs.Scripts.{said, table_said, row_said, step_said}
@@ -39,7 +39,7 @@ spelled_fits (Some b) = text_fits b
 
 word_fits : (word : List ℕ) → IfSome (text_of word) IsUtf8
 unfolding text_of
-word_fits word = spelled_fits (unescaped (parts_at 37 word))
+word_fits word = spelled_fits (unescaped_bytes (parts_at 37 word))
 
 value_parts : (column text : Option (List ℕ)) → IfSome text IsUtf8 → IfSome (do
   c ← column

@@ -194,7 +194,7 @@ impl ScriptedSource {
     }
 
     // A message that has no spelling counts a fault.
-    fn unread(&mut self, error: SourceError) -> SourceError
+    fn note_unread(&mut self, error: SourceError) -> SourceError
         ensures same { result ≡ error }
         ensures failed { error ≡ Failed → self.new ≡ with_fault self.old }
         ensures memory { error ≡ Memory → self.new ≡ self.old }
@@ -229,7 +229,7 @@ impl ScriptedSource {
         );
         match next {
             Ok(next) => Ok(Some(self.advance(next)?)),
-            Err(error) => Err(self.unread(error)),
+            Err(error) => Err(self.note_unread(error)),
         }
     }
 

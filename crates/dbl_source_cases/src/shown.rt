@@ -37,7 +37,7 @@ fn entry(answers: &mut String, entry: &Option<RawTable>) -> Result<()> {
     }
 }
 
-fn started(answers: &mut String, started: &Started) -> Result<()> {
+fn show_started(answers: &mut String, started: &Started) -> Result<()> {
     match started {
         Started::Ready => words::add(answers, "ready"),
         Started::Gone { first } => {
@@ -92,7 +92,7 @@ pub fn answer(alloc: Global, answers: &mut String, answer: &Answer) -> Result<()
     match answer {
         Answer::Entry(found) => entry(answers, found),
         Answer::Head(lsn) => words::said(answers, lsn),
-        Answer::Began(began) => started(answers, began),
+        Answer::Began(began) => show_started(answers, began),
         Answer::Message(read) => message(alloc, answers, read),
         Answer::Rows(found) => rows(answers, found),
         Answer::Done => words::add(answers, "ok"),

@@ -99,7 +99,7 @@ fn behind<'a>(
 }
 
 /// The row at a key behind all commits.
-pub fn committed<'a>(
+pub fn committed_row<'a>(
     alloc: Global,
     acts: &'a [Accepted],
     place: usize,
@@ -115,14 +115,14 @@ pub fn committed<'a>(
 }
 
 /// The row that a session sees at a key.
-pub fn seen<'a>(
+pub fn seen_row<'a>(
     alloc: Global,
     acts: &'a [Accepted],
     by: &Text,
     place: usize,
     key: &Key,
 ) -> Result<Option<&'a RawRow>> {
-    let row = committed(alloc, acts, place, key)?;
+    let row = committed_row(alloc, acts, place, key)?;
     Ok(behind(&changes(alloc, acts, acts.len(), by)?, place, key, row))
 }
 

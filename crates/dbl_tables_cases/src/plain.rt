@@ -6,7 +6,7 @@ ghost use Rattle.std.specs.BTreeMap.{IsEmpty};
 ghost use Rattle.dbl_serial.specs.Given.{HasCells};
 
 use crate::past::{
-    Accepted, Done, changes, committed, holder, is_of_open, is_open, key_above, seen,
+    Accepted, Done, changes, committed_row, holder, is_of_open, is_open, key_above, seen_row,
 };
 use crate::shown;
 use anyhow::{Result, bail};
@@ -49,7 +49,7 @@ fn key_of(alloc: Global, info: &TableInfo, cells: &Seq<NamedCell>) -> Result<Key
     Ok(key_from(alloc, info, texts.as_slice())?)
 }
 
-fn given(alloc: Global, info: &TableInfo, cells: &Seq<NamedCell>) -> Result<RawRow> {
+fn given_row(alloc: Global, info: &TableInfo, cells: &Seq<NamedCell>) -> Result<RawRow> {
     let mut places = BTreeMap::new(alloc);
     enter(cells.items().as_slice(), &mut places)?;
     Ok(row_given(alloc, info, cells.items().as_slice(), &places)?)
@@ -65,7 +65,7 @@ fn oid(place: usize) -> u32 {
     if place == 0 { 16384 } else { 16385 }
 }
 
-fn inserted(alloc: Global, by: &Text, place: usize, key: Key, row: RawRow) -> Result<Done> {
+fn done_insert(alloc: Global, by: &Text, place: usize, key: Key, row: RawRow) -> Result<Done> {
     let message = insert_message(alloc, oid(place), &row)?;
     let by = by.copy(alloc)?;
     Ok(Done {
@@ -77,7 +77,7 @@ fn inserted(alloc: Global, by: &Text, place: usize, key: Key, row: RawRow) -> Re
     })
 }
 
-fn updated(
+fn done_update(
     alloc: Global,
     by: &Text,
     place: usize,
@@ -97,7 +97,7 @@ fn updated(
     })
 }
 
-fn deleted(
+fn done_delete(
     alloc: Global,
     by: &Text,
     place: usize,
@@ -142,7 +142,7 @@ impl Plain {
                 by: by.copy(alloc)?,
             }));
         }
-        let row = seen(alloc, self.acts.as_slice(), &done.by, done.place, &done.key)?;
+        let row = seen_row(alloc, self.acts.as_slice(), &done.by, done.place, &done.key)?;
         match row {
             None if there => Ok(Some(StepError::NoRow)),
             Some(_) if !there => Ok(Some(StepError::RowExists)),
@@ -153,7 +153,7 @@ impl Plain {
     // Takes a change unless it is refused.
     fn change(&mut self, alloc: Global, text: &mut String, done: Done, there: bool) -> Result<()> {
         if let Some(error) = self.refusal(alloc, &done, there)? {
-            return shown::refused(text, &error);
+            return shown::show_refused(text, &error);
         }
         self.acts.push(Accepted::Did(done))?;
         shown::done(text)
@@ -168,8 +168,8 @@ impl Plain {
     ) -> Result<Done> {
         let (place, table) = self.table(name)?;
         let key = key_of(alloc, &table.info, cells)?;
-        let row = given(alloc, &table.info, cells)?;
-        inserted(alloc, by, place, key, row)
+        let row = given_row(alloc, &table.info, cells)?;
+        done_insert(alloc, by, place, key, row)
     }
 
     // The row that a session sees at a key, or one of the key's cells alone.
@@ -182,9 +182,9 @@ impl Plain {
     ) -> Result<RawRow> {
         let (place, table) = self.table(name)?;
         let key = key_of(alloc, &table.info, cells)?;
-        match seen(alloc, self.acts.as_slice(), by, place, &key)? {
+        match seen_row(alloc, self.acts.as_slice(), by, place, &key)? {
             Some(row) => Ok(row.copy(alloc)?),
-            None => given(alloc, &table.info, cells),
+            None => given_row(alloc, &table.info, cells),
         }
     }
 
@@ -200,7 +200,7 @@ impl Plain {
         let (place, table) = self.table(name)?;
         let row = set(alloc, &table.info, cells, before)?;
         let key = key_of(alloc, &table.info, key)?;
-        updated(alloc, by, place, table, key, before, row)
+        done_update(alloc, by, place, table, key, before, row)
     }
 
     fn update_of(
@@ -225,7 +225,7 @@ impl Plain {
     ) -> Result<Done> {
         let (place, table) = self.table(name)?;
         let key = key_of(alloc, &table.info, key)?;
-        deleted(alloc, by, place, table, key, before)
+        done_delete(alloc, by, place, table, key, before)
     }
 
     fn delete_of(
@@ -252,7 +252,7 @@ impl Plain {
     }
 
     // The changes of an open session, as they are sent.
-    fn sent(&self, alloc: Global, text: &mut String, by: &Text) -> Result<()> {
+    fn show_sent(&self, alloc: Global, text: &mut String, by: &Text) -> Result<()> {
         let mut later = false;
         let list = changes(alloc, self.acts.as_slice(), self.acts.len(), by)?;
         for done in &list {
@@ -271,7 +271,7 @@ impl Plain {
             let Some(key) = key_above(self.acts.as_slice(), place, above) else {
                 break;
             };
-            if let Some(row) = committed(alloc, self.acts.as_slice(), place, key)? {
+            if let Some(row) = committed_row(alloc, self.acts.as_slice(), place, key)? {
                 shown::row(text, row)?;
             }
             above = Some(key);
@@ -291,7 +291,7 @@ impl Plain {
 
     fn commit(&mut self, alloc: Global, text: &mut String, by: &Text) -> Result<()> {
         text.push_str("; commit")?;
-        self.sent(alloc, text, by)?;
+        self.show_sent(alloc, text, by)?;
         self.end(alloc, by, true)
     }
 
@@ -313,14 +313,14 @@ impl Plain {
             self.first_row(alloc, nobody, row)?;
         }
         text.push_str("rows")?;
-        self.sent(alloc, text, nobody)?;
+        self.show_sent(alloc, text, nobody)?;
         self.end(alloc, nobody, true)
     }
 
     // A begin, where the session isn't open.
     fn begin_step(&mut self, alloc: Global, text: &mut String, by: &Text) -> Result<()> {
         if is_open(self.acts.as_slice(), by) {
-            return shown::refused(text, &StepError::AlreadyOpen);
+            return shown::show_refused(text, &StepError::AlreadyOpen);
         }
         self.begin(alloc, by)?;
         shown::done(text)
@@ -369,7 +369,7 @@ impl Plain {
             Step::Tick => self.rows(alloc, text),
             Step::Begin { session } => self.begin_step(alloc, text, session),
             _ if is_of_open(self.acts.as_slice(), step) => self.open_step(alloc, text, step),
-            _ => shown::refused(text, &StepError::NotOpen),
+            _ => shown::show_refused(text, &StepError::NotOpen),
         }
     }
 

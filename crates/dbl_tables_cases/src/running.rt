@@ -65,14 +65,14 @@ fn store_of(alloc: Global, tables: &Vec<ScriptTable>) -> Result<Tables> {
 fn done(shown: &mut String, answer: std::result::Result<(), StepError>) -> Result<()> {
     match answer {
         Ok(()) => shown::done(shown),
-        Err(error) => shown::refused(shown, &error),
+        Err(error) => shown::show_refused(shown, &error),
     }
 }
 
 fn commit(shown: &mut String, store: &mut Tables, session: &Text) -> Result<()> {
     match store.commit(session) {
-        Ok(messages) => shown::committed(shown, &messages),
-        Err(error) => shown::refused(shown, &error),
+        Ok(messages) => shown::show_committed(shown, &messages),
+        Err(error) => shown::show_refused(shown, &error),
     }
 }
 

@@ -117,13 +117,13 @@ pub fn done(shown: &mut String) -> Result<()> {
 }
 
 /// The answer of a step that was refused.
-pub fn refused(shown: &mut String, error: &StepError) -> Result<()> {
+pub fn show_refused(shown: &mut String, error: &StepError) -> Result<()> {
     write!(shown, "; {error}")?;
     Ok(())
 }
 
 /// The answer of a commit.
-pub fn committed(shown: &mut String, list: &Seq<Message>) -> Result<()> {
+pub fn show_committed(shown: &mut String, list: &Seq<Message>) -> Result<()> {
     shown.push_str("; commit")?;
     messages(shown, list)
 }

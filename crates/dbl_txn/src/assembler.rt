@@ -9,13 +9,13 @@ ghost use Rattle.dbl_table.specs.declared.change.Commit.{Commit};
 ghost use Rattle.dbl_table.specs.declared.table.TableInfo.{TableInfo};
 ghost use Rattle.dbl_commit.specs.Past.{Begun, begin_of, second_text, mark_in, HasNoRelation};
 ghost use Rattle.dbl_commit.specs.Tuples.{refuse_if};
-ghost use Rattle.dbl_commit.specs.Stated.{is_empty, has_some, in_table, row_stated, targets_at, is_the_watermark, clears, truncate_stated, truncated, commit_of};
+ghost use Rattle.dbl_commit.specs.Stated.{is_empty, has_some, in_table, row_stated, targets_at, is_the_watermark, clears, truncate_stated, truncated_tables, commit_of};
 ghost use Rattle.dbl_commit.specs.Blocks.{onto, States};
 ghost use Rattle.dbl_txn.specs.Stands.{message_of, IsBlock, Recalls, Stands, StandsWhole, Moves, Says, Takes};
 ghost use Rattle.dbl_txn.specs.Answers.{Gives};
 
 use crate::changes::change_of;
-use crate::tables::{check_schema, named, target_of};
+use crate::tables::{check_schema, table_named, target_of};
 use dbl_base::{Lsn, Seq, Text};
 use dbl_commit::{Relation, RowChange, Target, TxnError};
 use dbl_pgmsg::{Message, RelationColumn, TupleCell};
@@ -191,7 +191,7 @@ fn truncate_stated(
     Ok(Seq::make(changes))
 }
 
-fn truncated(
+fn truncated_tables(
     alloc: Global,
     relations: &IndexMap<u32, Known>,
     marked: bool,
@@ -199,7 +199,7 @@ fn truncated(
 ) -> Result<Seq<Change>, TxnError>
     ensures { (infos : List TableInfo) (ms : List Message) →
         Recalls infos ms (get nat_eq relations.now) →
-        Gives result (truncated infos oids.now.items ms marked) }
+        Gives result (truncated_tables infos oids.now.items ms marked) }
 {
     let targets = targets_in(alloc, relations, oids)?;
     truncate_stated(alloc, marked, targets.items())
@@ -243,11 +243,11 @@ fn truncate_at(
 ) -> Result<Seq<Change>, TxnError>
     ensures gives { (infos : List TableInfo) (ms : List Message) →
         Recalls infos ms (get nat_eq relations.now) →
-        Gives result (truncated infos oids.now.items ms (is_some block.old.mark)) }
+        Gives result (truncated_tables infos oids.now.items ms (is_some block.old.mark)) }
     ensures block { IfOk result
         (λ cs. block.new ≡ record block.old { changed = block.old.changed || has_some cs }) }
 {
-    let stated = truncated(alloc, relations, block.mark.is_some(), oids)?;
+    let stated = truncated_tables(alloc, relations, block.mark.is_some(), oids)?;
     note(block, &stated);
     Ok(stated)
 }
@@ -388,7 +388,7 @@ impl Assembler {
             (says.Relation oid namespace name identity columns) ms held self.new result }
     {
         let relation = Relation {
-            name: named(alloc, namespace, name)?,
+            name: table_named(alloc, namespace, name)?,
             identity,
             columns,
         };

@@ -3,7 +3,7 @@
 ghost use Rattle.std.specs.Prelude.{◌≡◌, Ok, IfOk, Some};
 ghost use Rattle.std.specs.List.{list_all, zip};
 ghost use Rattle.dbl_table.specs.Infos.{number_of};
-ghost use Rattle.dbl_commit.specs.Past.{named};
+ghost use Rattle.dbl_commit.specs.Past.{table_named};
 ghost use Rattle.dbl_commit.specs.Stated.{target, same_column, same_columns, columns_fault, schema_fault};
 ghost use Rattle.dbl_txn.specs.Answers.{Gives, Judges};
 
@@ -15,8 +15,8 @@ use dbl_value::oid;
 use std::alloc::{AllocError, Global};
 
 /// A table's name: an empty namespace is `pg_catalog`.
-pub fn named(alloc: Global, namespace: Text, name: Text) -> Result<TableName, AllocError>
-    ensures { IfOk result (λ table. table ≡ named namespace name) }
+pub fn table_named(alloc: Global, namespace: Text, name: Text) -> Result<TableName, AllocError>
+    ensures { IfOk result (λ table. table ≡ table_named namespace name) }
 {
     let schema = if namespace.as_str().is_empty() {
         Text::of(alloc, "pg_catalog")?

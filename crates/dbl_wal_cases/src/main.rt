@@ -26,7 +26,7 @@ fn of_bytes(alloc: Global, shown: &mut String, call: &str, bytes: &[u8]) -> Resu
         "read" => reading::show(alloc, shown, bytes),
         "told" => reading::tell(alloc, shown, bytes),
         "cut" => sweeps::cut(alloc, shown, bytes),
-        "changed" => sweeps::changed(alloc, shown, bytes),
+        "changed" => sweeps::show_changed(alloc, shown, bytes),
         _ => bail!("no such call"),
     }
 }

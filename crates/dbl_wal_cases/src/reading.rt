@@ -135,7 +135,7 @@ fn more(count: u64, is_one: bool) -> u64 {
 }
 
 /// The counts with these bytes more.
-pub fn counted(alloc: Global, bytes: &[u8], counts: Counts) -> Result<Counts> {
+pub fn count_reading(alloc: Global, bytes: &[u8], counts: Counts) -> Result<Counts> {
     let is_entry = tag_of(alloc, bytes)? != "-";
     Ok(Counts {
         entries: more(counts.entries, is_entry),

@@ -21,7 +21,7 @@ fn with(alloc: Global, bytes: &[u8], at: usize, other: u8, counts: Counts) -> Re
 {
     let mut changed = bytes.to_vec(alloc)?;
     changed[at] = other;
-    reading::counted(alloc, &changed, counts)
+    reading::count_reading(alloc, &changed, counts)
 }
 
 fn at_place(alloc: Global, bytes: &[u8], at: usize, own: u8) -> Result<Counts>
@@ -39,7 +39,7 @@ fn at_place(alloc: Global, bytes: &[u8], at: usize, own: u8) -> Result<Counts>
 }
 
 /// Adds for each byte how many of the others in its place spell an entry, tell of steps, and make it hold a workload.
-pub fn changed(alloc: Global, shown: &mut String, bytes: &[u8]) -> Result<()> {
+pub fn show_changed(alloc: Global, shown: &mut String, bytes: &[u8]) -> Result<()> {
     for (at, own) in bytes.iter().enumerate() {
         let counts = at_place(alloc, bytes, at, *own)?;
         let Counts {

@@ -8,7 +8,7 @@ use dbl_journal::ENTRY_ROOM;
 use dbl_wal::{Entry, commit_entry, confirm_entry, mark_entry, workload_entry};
 use std::alloc::Global;
 
-fn written(alloc: Global, entry: &Entry) -> Result<Vec<u8>>
+fn written_bytes(alloc: Global, entry: &Entry) -> Result<Vec<u8>>
     requires { FitsEntry entry.now }
     ensures { IfOk result (λ bytes. 4 ≤ length bytes.items) }
 {
@@ -32,7 +32,7 @@ fn holds(buffer: &Vec<u8>, bytes: &[u8]) -> bool
 pub fn is_same(alloc: Global, bytes: &[u8], entry: &Entry) -> Result<bool>
     requires { FitsEntry entry.now }
 {
-    Ok(holds(&written(alloc, entry)?, bytes))
+    Ok(holds(&written_bytes(alloc, entry)?, bytes))
 }
 
 /// Whether the first entry of the workload is written as these bytes.

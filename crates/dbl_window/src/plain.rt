@@ -9,7 +9,7 @@ ghost use Rattle.dbl_history.specs.PlainRows.{cells_of};
 ghost use Rattle.dbl_window.specs.Changing.{left_from};
 
 use crate::keys::gives_all;
-use crate::rows::overlaid;
+use crate::rows::overlaid_row;
 use dbl_base::Seq;
 use dbl_history::{given_or_nulls, is_same, key_at};
 use dbl_table::{Cell, Change, Key, Row, TableInfo};
@@ -36,7 +36,7 @@ fn left_of_update(
         return Ok(None);
     }
     match row {
-        Some(row) => Ok(Some(overlaid(alloc, cells, row)?)),
+        Some(row) => Ok(Some(overlaid_row(alloc, cells, row)?)),
         None => Ok(None),
     }
 }

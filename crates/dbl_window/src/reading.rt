@@ -21,7 +21,7 @@ use dbl_value::{Val, ValueError, read_owned};
 use std::alloc::Global;
 use std::collections::BTreeMap;
 
-fn unread(alloc: Global, column: &Column, error: ValueError) -> WindowError
+fn unread_cell(alloc: Global, column: &Column, error: ValueError) -> WindowError
     ensures { (result ≡ WindowError.Memory)
         ⊎ ((error ≢ ValueError.Memory) × (result ≡ WindowError.Cell column.now.name error)) }
 {
@@ -42,7 +42,7 @@ fn read_value(alloc: Global, column: &Column, text: Text) -> Result<Val, WindowE
     let _text = text.as_str();
     match read_owned(alloc, column.ty, text) {
         Ok(value) => Ok(value),
-        Err(error) => Err(unread(alloc, column, error)),
+        Err(error) => Err(unread_cell(alloc, column, error)),
     }
 }
 

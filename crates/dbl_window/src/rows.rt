@@ -51,7 +51,7 @@ fn lay_cell(
 }
 
 /// The row with the cells that an update gives. The others move along.
-pub(crate) fn overlaid(alloc: Global, cells: &Seq<Cell>, row: Row) -> Result<Row, AllocError>
+pub(crate) fn overlaid_row(alloc: Global, cells: &Seq<Cell>, row: Row) -> Result<Row, AllocError>
     ensures { IfOk result (λ new. new.cells ≡ overlay cells.now row.cells) }
 {
     let mut values = row.cells.into_items();
@@ -122,7 +122,7 @@ fn overlay_row(
 {
     match remove_row(rows, key) {
         Some(row) => {
-            let row = overlaid(alloc, cells, row)?;
+            let row = overlaid_row(alloc, cells, row)?;
             put_row(rows, key.copy(alloc)?, row)
         }
         None => Ok(()),

@@ -166,7 +166,7 @@ pub fn new(
 
 impl Idle {
     // The window with the texts of its marks.
-    fn named(self) -> Result<Marked, AllocError>
+    fn name_marks(self) -> Result<Marked, AllocError>
         ensures { IfOk result (λ marked. marked ≡ self) }
     {
         let low = marks::low_text(self.frame.alloc, self.frame.incarnation, self.frame.number)?;
@@ -202,7 +202,7 @@ impl Idle {
         ensures failed { result ≡ Err WindowError.Failed →
             Rose (S.faults src.old) (S.faults src.new) }
     {
-        let marked = self.named()?;
+        let marked = self.name_marks()?;
         src.mark(marked.low_mark())?;
         Ok(marked)
     }
@@ -242,7 +242,7 @@ impl Marked {
     }
 
     // The rows that the source answers.
-    fn answered<S: Source>(&self, src: &mut S) -> Result<Vec<RawRow>, WindowError>
+    fn answered_rows<S: Source>(&self, src: &mut S) -> Result<Vec<RawRow>, WindowError>
         requires { IsTrue (S.is_live src.old) }
         ensures selected { Leads S.stands src.old src.new result (λ rows s t. Moved s t
             × (S.honest src.new → Selects self.now.info.name self.now.above self.now.limit
@@ -305,7 +305,7 @@ impl Marked {
         ensures failed { result ≡ Err WindowError.Failed →
             Rose (S.faults src.old) (S.faults src.new) }
     {
-        let rows = self.answered(src)?;
+        let rows = self.answered_rows(src)?;
         self.holding(rows)
     }
 }

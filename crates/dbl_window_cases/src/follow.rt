@@ -80,7 +80,7 @@ fn cursors(alloc: Global, infos: &Vec<TableInfo>) -> Result<Vec<Cursor>>
     Ok(cursors)
 }
 
-fn copied(alloc: Global, infos: &Vec<TableInfo>) -> Result<Vec<TableInfo>>
+fn copied_infos(alloc: Global, infos: &Vec<TableInfo>) -> Result<Vec<TableInfo>>
     ensures { IfOk result (λ copies. copies.items ≡ infos.now.items) }
 {
     let mut copies = Vec::with_capacity(alloc, infos.len())?;
@@ -94,11 +94,11 @@ fn copied(alloc: Global, infos: &Vec<TableInfo>) -> Result<Vec<TableInfo>>
 fn assembler(alloc: Global, infos: &Vec<TableInfo>) -> Result<Assembler>
     ensures { IfOk result (IsReading infos.now.items) }
 {
-    Ok(Assembler::make(alloc, copied(alloc, infos)?, Lsn(0)))
+    Ok(Assembler::make(alloc, copied_infos(alloc, infos)?, Lsn(0)))
 }
 
 // A follower of these tables, without a window.
-fn unarmed(alloc: Global, infos: Vec<TableInfo>) -> Result<Follower>
+fn unarmed_follower(alloc: Global, infos: Vec<TableInfo>) -> Result<Follower>
     requires { length infos.items ≤ 2 }
     ensures infos { IfOk result (λ follower. follower.infos ≡ infos.items) }
     ensures window { IfOk result (λ follower. follower.window ≡ states.Absent) }
@@ -113,7 +113,7 @@ fn follower(alloc: Global, infos: Vec<TableInfo>, window: Armed) -> Result<Follo
     requires planned { IsPlanned infos.items window.plan }
     ensures { IfOk result (λ follower. follower.infos ≡ infos.items) }
 {
-    let mut follower = unarmed(alloc, infos)?;
+    let mut follower = unarmed_follower(alloc, infos)?;
     follower.arm(window);
     Ok(follower)
 }
@@ -145,7 +145,7 @@ fn begins(started: &Started) -> bool
 }
 
 // Reading begins with the first commit.
-fn begun(source: &mut ScriptedSource, answers: &mut String) -> Result<bool>
+fn begin_reading(source: &mut ScriptedSource, answers: &mut String) -> Result<bool>
     requires { IsTrue source.old.live }
     ensures live { IfOk result (λ on. IsTrue on → IsTrue source.new.live) }
     ensures begun { IfOk result (λ on. IsTrue on → IsTrue (is_some source.new.place)) }
@@ -153,7 +153,7 @@ fn begun(source: &mut ScriptedSource, answers: &mut String) -> Result<bool>
     match source.start(Lsn(0)) {
         Ok(started) => Ok(begins(&started)),
         Err(error) => {
-            shown::failed(answers, &error)?;
+            shown::show_failed(answers, &error)?;
             Ok(false)
         }
     }
@@ -165,7 +165,7 @@ fn read(alloc: Global, session: &mut Session, answers: &mut String) -> Result<()
     requires reading { IsReading session.old.follower.infos session.old.assembler }
 {
     shown::follower(alloc, answers, &session.follower)?;
-    if !begun(&mut session.source, answers)? {
+    if !begin_reading(&mut session.source, answers)? {
         return Ok(());
     }
     session::run(alloc, session, answers)
@@ -194,12 +194,12 @@ fn run(
 }
 
 // Opens the window, clears it, and closes it.
-fn cleared(alloc: Global, armed: Armed, answers: &mut String) -> Result<()> {
+fn show_cleared(alloc: Global, armed: Armed, answers: &mut String) -> Result<()> {
     let low = armed.awaited_mark().copy(alloc)?;
     match armed.see(&low) {
         Seen::Opened(mut opened) => {
             opened.clear();
-            shown::closed(answers, &opened.finish())
+            shown::show_closed(answers, &opened.finish())
         }
         Seen::Waiting(_) => words::add(answers, "it waits"),
     }
@@ -223,7 +223,7 @@ fn steps(
         return Ok(None);
     }
     let window = windows::window(alloc, first, case)?;
-    windows::armed(alloc, source, window, behind, answers)
+    windows::arm_window(alloc, source, window, behind, answers)
 }
 
 // What the window of this table answers.
@@ -234,7 +234,7 @@ fn of_table(alloc: Global, case: &str, first: &TableInfo, answers: &mut String) 
     };
     let fields = items::first_of(case, "window/").unwrap_or("");
     match items::field(fields, 2) {
-        "cleared" => cleared(alloc, armed, answers),
+        "cleared" => show_cleared(alloc, armed, answers),
         _ => run(alloc, case, first, source, armed, answers),
     }
 }

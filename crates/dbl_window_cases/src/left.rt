@@ -42,7 +42,7 @@ fn row(alloc: Global, fields: &str) -> Result<Row> {
     })
 }
 
-fn left(
+fn left_row(
     alloc: Global,
     infos: &Vec<TableInfo>,
     key: &Key,
@@ -62,8 +62,8 @@ fn of_key(
     answers: &mut String,
 ) -> Result<()> {
     let changes = changes(alloc, case)?;
-    let left = left(alloc, infos, key, fields, &changes)?;
-    shown::left(alloc, answers, &left)
+    let left = left_row(alloc, infos, key, fields, &changes)?;
+    shown::show_left(alloc, answers, &left)
 }
 
 /// Adds what is left.

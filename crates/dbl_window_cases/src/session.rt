@@ -25,7 +25,7 @@ pub struct Session {
 }
 
 // The commit that a message ends, where it ends one.
-fn taken(alloc: Global, assembler: &mut Assembler, bytes: &Bytes) -> Result<Option<Commit>>
+fn take_message(alloc: Global, assembler: &mut Assembler, bytes: &Bytes) -> Result<Option<Commit>>
     ensures reading { (infos : List SpecInfo) → IsReading infos assembler.old →
         OnOk result (IsReading infos assembler.new) }
     ensures fits { (infos : List SpecInfo) → IsReading infos assembler.old →
@@ -36,7 +36,7 @@ fn taken(alloc: Global, assembler: &mut Assembler, bytes: &Bytes) -> Result<Opti
 }
 
 // Follows a commit, and tells whether it goes on.
-fn followed(
+fn follow_commit(
     alloc: Global,
     follower: &mut Follower,
     commit: &Commit,
@@ -51,7 +51,7 @@ fn followed(
             Ok(true)
         }
         Err(error) => {
-            shown::failed(answers, &error)?;
+            shown::show_failed(answers, &error)?;
             Ok(false)
         }
     }
@@ -64,8 +64,8 @@ fn read(alloc: Global, session: &mut Session, bytes: &Bytes, answers: &mut Strin
         IsReading session.new.follower.infos session.new.assembler) }
     ensures source { session.new.source ≡ session.old.source }
 {
-    match taken(alloc, &mut session.assembler, bytes)? {
-        Some(commit) => followed(alloc, &mut session.follower, &commit, answers),
+    match take_message(alloc, &mut session.assembler, bytes)? {
+        Some(commit) => follow_commit(alloc, &mut session.follower, &commit, answers),
         None => Ok(true),
     }
 }
@@ -80,7 +80,7 @@ fn turn(alloc: Global, session: &mut Session, answers: &mut String) -> Result<bo
             None => Ok(false),
         },
         Err(error) => {
-            shown::failed(answers, &error)?;
+            shown::show_failed(answers, &error)?;
             Ok(false)
         }
     }

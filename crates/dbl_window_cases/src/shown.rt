@@ -83,7 +83,7 @@ fn cursor(alloc: Global, answers: &mut String, cursor: &Cursor) -> Result<()> {
 }
 
 /// An error, on a line of its own.
-pub fn failed<T: Display>(answers: &mut String, error: &T) -> Result<()> {
+pub fn show_failed<T: Display>(answers: &mut String, error: &T) -> Result<()> {
     words::add(answers, "\n  ")?;
     words::said(answers, error)
 }
@@ -119,7 +119,7 @@ pub fn step(
 }
 
 /// How many rows a closed window has, and whether its table was read to its end.
-pub fn closed(answers: &mut String, closed: &Closed) -> Result<()> {
+pub fn show_closed(answers: &mut String, closed: &Closed) -> Result<()> {
     let count = closed.rows.rows().len();
     let done = closed.done;
     write!(answers, "\n  {count} rows, done {done}")?;
@@ -127,7 +127,7 @@ pub fn closed(answers: &mut String, closed: &Closed) -> Result<()> {
 }
 
 /// What is left of a row.
-pub fn left(alloc: Global, answers: &mut String, row: &Option<Row>) -> Result<()> {
+pub fn show_left(alloc: Global, answers: &mut String, row: &Option<Row>) -> Result<()> {
     words::add(answers, "\n ")?;
     match row {
         Some(row) => shown::row(alloc, answers, &row.cells),

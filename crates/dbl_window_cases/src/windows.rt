@@ -52,7 +52,7 @@ pub fn window(alloc: Global, info: &TableInfo, case: &str) -> Result<Idle>
 }
 
 // Writes a mark that the window doesn't write, and tells whether it was written.
-fn marked(source: &mut ScriptedSource, value: &Text, answers: &mut String) -> Result<bool>
+fn write_mark(source: &mut ScriptedSource, value: &Text, answers: &mut String) -> Result<bool>
     requires { IsTrue source.old.live }
     ensures { IfOk result (λ on. IsTrue on → IsTrue source.new.live) }
 {
@@ -62,7 +62,7 @@ fn marked(source: &mut ScriptedSource, value: &Text, answers: &mut String) -> Re
     match source.mark(value) {
         Ok(()) => Ok(true),
         Err(error) => {
-            shown::failed(answers, &error)?;
+            shown::show_failed(answers, &error)?;
             Ok(false)
         }
     }
@@ -80,7 +80,7 @@ pub fn other_marks(
 {
     for item in items.split(" | ") {
         if let Some(value) = script::call_of(item).strip_prefix("mark/") {
-            if !marked(source, &Text::of(alloc, value)?, answers)? {
+            if !write_mark(source, &Text::of(alloc, value)?, answers)? {
                 return Ok(false);
             }
         }
@@ -138,7 +138,7 @@ fn write_error(answers: &mut String, step: &str, error: &WindowError) -> Result<
 }
 
 /// Takes the window's steps up to its high mark, with the marks of others between the last two; none behind one that fails.
-pub fn armed(
+pub fn arm_window(
     alloc: Global,
     source: &mut ScriptedSource,
     window: Idle,

@@ -26,7 +26,7 @@ use dbl_table::{Config, TableInfo, TableName};
 use std::alloc::{AllocError, Global};
 
 // What is captured of a table, as the catalogue describes it.
-fn described<S: Source>(alloc: Global, src: &mut S, name: &TableName) -> Result<TableInfo, Halt>
+fn describe_table<S: Source>(alloc: Global, src: &mut S, name: &TableName) -> Result<TableInfo, Halt>
     requires { IsTrue (S.is_live src.old) }
     ensures described { Leads S.stands src.old src.new result (IsDescribedAs name.now) }
     ensures named { IfOk result (λ info. info.name ≡ name.now) }
@@ -55,7 +55,7 @@ fn described<S: Source>(alloc: Global, src: &mut S, name: &TableName) -> Result<
 }
 
 // The same of each table, in order.
-fn all_described<S: Source>(
+fn describe_tables<S: Source>(
     alloc: Global,
     src: &mut S,
     names: &Vec<TableName>,
@@ -81,13 +81,13 @@ fn all_described<S: Source>(
 {
     let mut infos = Vec::with_capacity(alloc, names.len())?;
     'tables: for name in names {
-        infos.push(described(alloc, src, name)?)?;
+        infos.push(describe_table(alloc, src, name)?)?;
     }
     Ok(infos)
 }
 
 // Nothing was read yet of so many tables.
-fn unread(alloc: Global, count: usize) -> Result<Vec<Cursor>, AllocError>
+fn unread_cursors(alloc: Global, count: usize) -> Result<Vec<Cursor>, AllocError>
     ensures { IfOk result (λ cursors. AreUnread count cursors.items) }
 {
     let mut cursors = Vec::with_capacity(alloc, count)?;
@@ -109,7 +109,7 @@ fn offset_at(
 ) -> Result<Offset, AllocError>
     ensures { IfOk result (IsFirst config.now infos.items head) }
 {
-    let cursors = unread(alloc, infos.len())?;
+    let cursors = unread_cursors(alloc, infos.len())?;
     Ok(Offset {
         identity: config.identity.copy(alloc)?,
         incarnation: 1,
@@ -147,7 +147,7 @@ pub fn first_offset<S: Source>(alloc: Global, config: &Config, src: &mut S) -> R
     ensures later { S.faults src.old ≤ S.faults src.new }
     ensures failed { result ≡ Err Halt.Source → Rose (S.faults src.old) (S.faults src.new) }
 {
-    let infos = all_described(alloc, src, config.tables.items())?;
+    let infos = describe_tables(alloc, src, config.tables.items())?;
     let head = src.head()?;
     Ok(offset_at(alloc, config, infos, head)?)
 }

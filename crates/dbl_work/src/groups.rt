@@ -30,7 +30,7 @@ struct Gathered {
     position: u64,
 }
 
-fn begun(alloc: Global, item: Record) -> Result<Gathered, AllocError>
+fn begin_group(alloc: Global, item: Record) -> Result<Gathered, AllocError>
     ensures items { IfOk result (λ gathered. gathered.items.items ≡ item ∷ []) }
     ensures gathered { IfOk result IsGathered }
 {
@@ -177,11 +177,11 @@ pub fn put_all<K: Sink>(
     let Some(first) = rest.next() else {
         return Ok(());
     };
-    let mut gathered = begun(alloc, first)?;
+    let mut gathered = begin_group(alloc, first)?;
     'records: for item in rest {
         if begins(&gathered, &item) {
             put_group(sink, &gathered.items, snapshot, report)?;
-            gathered = begun(alloc, item)?;
+            gathered = begin_group(alloc, item)?;
         } else {
             gather(&mut gathered, item)?;
         }

@@ -12,7 +12,7 @@ mod work;
 
 pub use begin::{again, first_offset, put_offset, start};
 pub use halt::Halt;
-pub use messages::{follow, taken};
+pub use messages::{follow, take_message};
 pub use report::{Ending, Report};
 pub use windows::read_window;
 pub use work::Work;

@@ -61,7 +61,7 @@ fn assemble(work: &mut Work, number: u64, message: Message) -> Result<Option<Com
 }
 
 /// The commit that the newest message ends, by its bytes.
-pub fn taken(work: &mut Work, number: u64, bytes: &Bytes) -> Result<Option<Commit>, Halt>
+pub fn take_message(work: &mut Work, number: u64, bytes: &Bytes) -> Result<Option<Commit>, Halt>
     requires { IsReady work.old }
     ensures taken { (after : SpecLsn) (ms : List SpecMessage) → IsWork after ms work.old →
         IfOk result (WasTaken after ms bytes.now work.old work.new) }

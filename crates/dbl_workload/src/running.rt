@@ -26,7 +26,7 @@ pub fn is_tick(step: &Step) -> bool
 }
 
 // A refused step is as if it had never been asked.
-fn passed(answer: Result<(), StepError>) -> Result<Option<Seq<Message>>, AllocError>
+fn pass_answer(answer: Result<(), StepError>) -> Result<Option<Seq<Message>>, AllocError>
     ensures { IsPassed answer result }
 {
     match answer {
@@ -54,26 +54,26 @@ fn run_step(store: &mut Tables, step: &Step) -> Result<Option<Seq<Message>>, All
         → OnErr result (Stands tables past store.new) }
 {
     match step {
-        Step::Begin { session } => passed(store.begin(session)),
+        Step::Begin { session } => pass_answer(store.begin(session)),
         Step::Commit { session } => Ok(commit(store, session)),
-        Step::Rollback { session } => passed(store.rollback(session)),
+        Step::Rollback { session } => pass_answer(store.rollback(session)),
         Step::Insert {
             session,
             table,
             cells,
-        } => passed(store.insert(session, table, cells.items())),
+        } => pass_answer(store.insert(session, table, cells.items())),
         Step::Update {
             session,
             table,
             key,
             set,
-        } => passed(store.update(session, table, key.items(), set.items())),
+        } => pass_answer(store.update(session, table, key.items(), set.items())),
         Step::Delete {
             session,
             table,
             key,
-        } => passed(store.delete(session, table, key.items())),
-        Step::Truncate { session, tables } => passed(store.truncate(session, tables.items())),
+        } => pass_answer(store.delete(session, table, key.items())),
+        Step::Truncate { session, tables } => pass_answer(store.truncate(session, tables.items())),
         Step::Tick => Ok(None),
     }
 }

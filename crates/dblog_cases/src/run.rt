@@ -70,7 +70,7 @@ impl Run {
         text: &str,
     ) -> Result<(), AllocError> {
         for number in from..=to {
-            let line = numbered(alloc, text, number)?;
+            let line = numbered_line(alloc, text, number)?;
             self.input.extend_from_slice(line.as_slice())?;
         }
         Ok(())
@@ -150,7 +150,7 @@ impl Run {
 }
 
 // The line with the number for each `#`, and its newline.
-fn numbered(alloc: Global, text: &str, number: u32) -> Result<Vec<u8>, AllocError> {
+fn numbered_line(alloc: Global, text: &str, number: u32) -> Result<Vec<u8>, AllocError> {
     let digits = format!(in alloc; "{number}")?;
     let mut line = Vec::new(alloc);
     for (index, part) in text.split('#').enumerate() {

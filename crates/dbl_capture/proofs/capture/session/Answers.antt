@@ -99,14 +99,14 @@ pub returns-clause-stores : goal.returns-clause-stores
 returns-clause-stores g c =
     let b = c.in_ok-work.ensures.begun in
     inr (has_stored c.args.config.now c.args.offsets.now.offset c.run.new.store.offset c.in_ok-work.work.offset (subst (IsOffsetFor c.args.config.now c.args.offsets.now.offset) (sym b.2.offset_is) b.3)
-    (c.run.ensures.stored (subst (λ (o : Offset). HasOwnStored o c.opened.new.store.offset) (sym b.2.offset_is) (own_first b.0 c.opened.new.store.offset b.1))))
+    (c.run.ensures.stored (subst (λ (o : Offset). HasOwnStored o c.open_session.new.store.offset) (sym b.2.offset_is) (own_first b.0 c.open_session.new.store.offset b.1))))
 
 pub returns-clause-position : goal.returns-clause-position
 returns-clause-position g c =
     let b = c.in_ok-work.ensures.begun in
     position_is c.args.config.now c.args.offsets.now.offset c.run.new.store.offset c.run.new.report
     (has_stored c.args.config.now c.args.offsets.now.offset c.run.new.store.offset c.in_ok-work.work.offset (subst (IsOffsetFor c.args.config.now c.args.offsets.now.offset) (sym b.2.offset_is) b.3)
-    (c.run.ensures.stored (subst (λ (o : Offset). HasOwnStored o c.opened.new.store.offset) (sym b.2.offset_is) (own_first b.0 c.opened.new.store.offset b.1))))
+    (c.run.ensures.stored (subst (λ (o : Offset). HasOwnStored o c.open_session.new.store.offset) (sym b.2.offset_is) (own_first b.0 c.open_session.new.store.offset b.1))))
     (c.run.ensures.position c.in_ok-work.ensures.at)
 
 pub returns-clause-done : goal.returns-clause-done
@@ -115,46 +115,46 @@ returns-clause-done g c is = let done = c.run.ensures.done is in (next_of c.run.
 -- ---- counts, and what no call undoes
 
 pub returns-in_err-work-clause-source : goal.returns-in_err-work-clause-source
-returns-in_err-work-clause-source g c is = c.opened.ensures.source (residual_is c.from_residual.result c.opened.result _ _ c.in_err-work.was c.from_residual.ensures.1 is)
+returns-in_err-work-clause-source g c is = c.open_session.ensures.source (residual_is c.from_residual.result c.open_session.result _ _ c.in_err-work.was c.from_residual.ensures.1 is)
 
 pub returns-in_err-work-clause-sink : goal.returns-in_err-work-clause-sink
-returns-in_err-work-clause-sink g c is = absurd (c.opened.ensures.sink (residual_is c.from_residual.result c.opened.result _ _ c.in_err-work.was c.from_residual.ensures.1 is))
+returns-in_err-work-clause-sink g c is = absurd (c.open_session.ensures.sink (residual_is c.from_residual.result c.open_session.result _ _ c.in_err-work.was c.from_residual.ensures.1 is))
 
 pub returns-in_err-work-clause-offsets : goal.returns-in_err-work-clause-offsets
-returns-in_err-work-clause-offsets g c is = c.opened.ensures.offsets (residual_is c.from_residual.result c.opened.result _ _ c.in_err-work.was c.from_residual.ensures.1 is)
+returns-in_err-work-clause-offsets g c is = c.open_session.ensures.offsets (residual_is c.from_residual.result c.open_session.result _ _ c.in_err-work.was c.from_residual.ensures.1 is)
 
 pub returns-in_err-work-clause-sink_comes : goal.returns-in_err-work-clause-sink_comes
 returns-in_err-work-clause-sink_comes g c = g.met.K.Sink.comes_self _
 
 pub returns-clause-source : goal.returns-clause-source
-returns-clause-source g c is = rose_behind (g.S.Source.faults c.args.src.now) (g.S.Source.faults c.opened.new.src) (g.S.Source.faults c.run.new.src) c.opened.ensures.source_later (c.run.ensures.source is)
+returns-clause-source g c is = rose_behind (g.S.Source.faults c.args.src.now) (g.S.Source.faults c.open_session.new.src) (g.S.Source.faults c.run.new.src) c.open_session.ensures.source_later (c.run.ensures.source is)
 
 pub returns-clause-offsets : goal.returns-clause-offsets
-returns-clause-offsets g c is = rose_behind _ _ _ c.opened.ensures.store_later (c.run.ensures.offsets is)
+returns-clause-offsets g c is = rose_behind _ _ _ c.open_session.ensures.store_later (c.run.ensures.offsets is)
 
 pub returns-clause-source_comes : goal.returns-clause-source_comes
-returns-clause-source_comes g c = g.met.S.Source.comes_on c.args.src.now c.opened.new.src c.run.new.src c.opened.ensures.source_comes c.run.ensures.source_comes
+returns-clause-source_comes g c = g.met.S.Source.comes_on c.args.src.now c.open_session.new.src c.run.new.src c.open_session.ensures.source_comes c.run.ensures.source_comes
 
 pub returns-in_err-work-clause-missed : goal.returns-in_err-work-clause-missed
-returns-in_err-work-clause-missed g c value at is = absurd (c.opened.ensures.never value at (residual_is c.from_residual.result c.opened.result _ _ c.in_err-work.was c.from_residual.ensures.1 is))
+returns-in_err-work-clause-missed g c value at is = absurd (c.open_session.ensures.never value at (residual_is c.from_residual.result c.open_session.result _ _ c.in_err-work.was c.from_residual.ensures.1 is))
 
 pub returns-clause-missed : goal.returns-clause-missed
 returns-clause-missed g c = c.run.ensures.missed
 
 pub returns-clause-honest : goal.returns-clause-honest
-returns-clause-honest g c honest = c.opened.ensures.honest (c.run.ensures.honest honest)
+returns-clause-honest g c honest = c.open_session.ensures.honest (c.run.ensures.honest honest)
 
 pub returns-clause-source_later : goal.returns-clause-source_later
-returns-clause-source_later g c = later_on (g.S.Source.faults c.args.src.now) (g.S.Source.faults c.opened.new.src) (g.S.Source.faults c.run.new.src) c.opened.ensures.source_later c.run.ensures.source_later
+returns-clause-source_later g c = later_on (g.S.Source.faults c.args.src.now) (g.S.Source.faults c.open_session.new.src) (g.S.Source.faults c.run.new.src) c.open_session.ensures.source_later c.run.ensures.source_later
 
 pub returns-clause-store_later : goal.returns-clause-store_later
-returns-clause-store_later g c = later_on (g.D.Disk.faults (disk_of c.args.offsets.now)) (g.D.Disk.faults (disk_of c.opened.new.store)) (g.D.Disk.faults (disk_of c.run.new.store)) c.opened.ensures.store_later c.run.ensures.store_later
+returns-clause-store_later g c = later_on (g.D.Disk.faults (disk_of c.args.offsets.now)) (g.D.Disk.faults (disk_of c.open_session.new.store)) (g.D.Disk.faults (disk_of c.run.new.store)) c.open_session.ensures.store_later c.run.ensures.store_later
 
 pub returns-clause-store_comes : goal.returns-clause-store_comes
-returns-clause-store_comes g c gate most come = c.run.ensures.store_comes gate most (c.opened.ensures.store_comes gate most come)
+returns-clause-store_comes g c gate most come = c.run.ensures.store_comes gate most (c.open_session.ensures.store_comes gate most come)
 
 pub run-requires-clause-report : goal.run-requires-clause-report
-run-requires-clause-report g c = (c.opened.ensures.report.0, c.opened.ensures.report.1)
+run-requires-clause-report g c = (c.open_session.ensures.report.0, c.open_session.ensures.report.1)
 
 pub run-requires-clause-number : goal.run-requires-clause-number
 run-requires-clause-number g c = c.in_ok-work.ensures.begun.2.unread
@@ -164,41 +164,41 @@ run-requires-clause-budget g c = c.requires.config.messages.1
 
 pub returns-in_err-work-clause-commits : goal.returns-in_err-work-clause-commits
 returns-in_err-work-clause-commits g c =
-    let messages : c.opened.new.report.messages ≡ 0 = c.opened.ensures.report.0 in
-    let commits : c.opened.new.report.commits ≡ 0 = c.opened.ensures.report.1 in
+    let messages : c.open_session.new.report.messages ≡ 0 = c.open_session.ensures.report.0 in
+    let commits : c.open_session.new.report.commits ≡ 0 = c.open_session.ensures.report.1 in
     omega (arith, messages, commits)
 
 pub returns-in_err-work-clause-bounded : goal.returns-in_err-work-clause-bounded
 returns-in_err-work-clause-bounded g c =
-    let messages : c.opened.new.report.messages ≡ 0 = c.opened.ensures.report.0 in
+    let messages : c.open_session.new.report.messages ≡ 0 = c.open_session.ensures.report.0 in
     omega (arith, messages)
 
 pub returns-in_err-work-clause-read : goal.returns-in_err-work-clause-read
-returns-in_err-work-clause-read g c = residual_as c.from_residual.result _ (λ x. HasReadMessages x c.opened.new.report.messages (g.S.Source.told c.args.src.now) (g.S.Source.told c.opened.new.src)) c.from_residual.ensures.1 (subst (λ (n : ℤ). Halts g.S.Source.stands None (g.S.Source.told c.args.src.now) c.args.config.now n c.args.offsets.now.offset c.opened.new.store.offset c.opened.new.report c.opened.new.src (g.S.Source.told c.opened.new.src) c.in_err-work.field-0.0) (to_z-of_z c.ranges.now_ms) (c.in_err-work.ensures.halted None (at_none g.S.Source.stands c.args.src.now) (refl, refl, refl))).halted.tells.read
+returns-in_err-work-clause-read g c = residual_as c.from_residual.result _ (λ x. HasReadMessages x c.open_session.new.report.messages (g.S.Source.told c.args.src.now) (g.S.Source.told c.open_session.new.src)) c.from_residual.ensures.1 (subst (λ (n : ℤ). Halts g.S.Source.stands None (g.S.Source.told c.args.src.now) c.args.config.now n c.args.offsets.now.offset c.open_session.new.store.offset c.open_session.new.report c.open_session.new.src (g.S.Source.told c.open_session.new.src) c.in_err-work.field-0.0) (to_z-of_z c.ranges.now_ms) (c.in_err-work.ensures.halted None (at_none g.S.Source.stands c.args.src.now) (refl, refl, refl))).halted.tells.read
 
 pub returns-in_err-work-clause-last : goal.returns-in_err-work-clause-last
-returns-in_err-work-clause-last g c = residual_as c.from_residual.result _ (λ x. OnOk x (StoodAtLast c.args.config.now c.args.now_ms c.args.offsets.now.offset c.opened.new.store.offset c.opened.new.report (g.S.Source.told c.opened.new.src))) c.from_residual.ensures.1 tt
+returns-in_err-work-clause-last g c = residual_as c.from_residual.result _ (λ x. OnOk x (StoodAtLast c.args.config.now c.args.now_ms c.args.offsets.now.offset c.open_session.new.store.offset c.open_session.new.report (g.S.Source.told c.open_session.new.src))) c.from_residual.ensures.1 tt
 
 pub returns-in_err-work-clause-settled : goal.returns-in_err-work-clause-settled
-returns-in_err-work-clause-settled g c s was = residual_as c.from_residual.result _ (λ x. OnOk x (Stood g.S.Source.stands c.opened.new.src (HasSettled c.args.config.now c.args.now_ms c.args.offsets.now.offset c.opened.new.store.offset c.opened.new.report))) c.from_residual.ensures.1 tt
+returns-in_err-work-clause-settled g c s was = residual_as c.from_residual.result _ (λ x. OnOk x (Stood g.S.Source.stands c.open_session.new.src (HasSettled c.args.config.now c.args.now_ms c.args.offsets.now.offset c.open_session.new.store.offset c.open_session.new.report))) c.from_residual.ensures.1 tt
 
 pub returns-in_err-work-clause-followed : goal.returns-in_err-work-clause-followed
-returns-in_err-work-clause-followed g c = residual_of c.from_residual.result _ (IsFollowed c.args.config.now c.args.now_ms c.args.offsets.now.offset c.opened.new.store.offset c.opened.new.report (g.S.Source.told c.opened.new.src)) c.from_residual.ensures.1 (subst (λ (n : ℤ). Halts g.S.Source.stands None (g.S.Source.told c.args.src.now) c.args.config.now n c.args.offsets.now.offset c.opened.new.store.offset c.opened.new.report c.opened.new.src (g.S.Source.told c.opened.new.src) c.in_err-work.field-0.0) (to_z-of_z c.ranges.now_ms) (c.in_err-work.ensures.halted None (at_none g.S.Source.stands c.args.src.now) (refl, refl, refl))).halted.tells.followed
+returns-in_err-work-clause-followed g c = residual_of c.from_residual.result _ (IsFollowed c.args.config.now c.args.now_ms c.args.offsets.now.offset c.open_session.new.store.offset c.open_session.new.report (g.S.Source.told c.open_session.new.src)) c.from_residual.ensures.1 (subst (λ (n : ℤ). Halts g.S.Source.stands None (g.S.Source.told c.args.src.now) c.args.config.now n c.args.offsets.now.offset c.open_session.new.store.offset c.open_session.new.report c.open_session.new.src (g.S.Source.told c.open_session.new.src) c.in_err-work.field-0.0) (to_z-of_z c.ranges.now_ms) (c.in_err-work.ensures.halted None (at_none g.S.Source.stands c.args.src.now) (refl, refl, refl))).halted.tells.followed
 
 pub returns-in_err-work-clause-stood : goal.returns-in_err-work-clause-stood
-returns-in_err-work-clause-stood g c s t was now = residual_of c.from_residual.result _ (HasStoodBehind c.args.config.now c.args.now_ms c.args.offsets.now.offset c.opened.new.store.offset c.opened.new.report s t) c.from_residual.ensures.1 ((subst (λ (n : ℤ). Halts g.S.Source.stands (Some s) (g.S.Source.told c.args.src.now) c.args.config.now n c.args.offsets.now.offset c.opened.new.store.offset c.opened.new.report c.opened.new.src (g.S.Source.told c.opened.new.src) c.in_err-work.field-0.0) (to_z-of_z c.ranges.now_ms) (c.in_err-work.ensures.halted (Some s) (at_some g.S.Source.stands c.args.src.now s was) (refl, refl, refl))).halted.stood s t refl now).stood
+returns-in_err-work-clause-stood g c s t was now = residual_of c.from_residual.result _ (HasStoodBehind c.args.config.now c.args.now_ms c.args.offsets.now.offset c.open_session.new.store.offset c.open_session.new.report s t) c.from_residual.ensures.1 ((subst (λ (n : ℤ). Halts g.S.Source.stands (Some s) (g.S.Source.told c.args.src.now) c.args.config.now n c.args.offsets.now.offset c.open_session.new.store.offset c.open_session.new.report c.open_session.new.src (g.S.Source.told c.open_session.new.src) c.in_err-work.field-0.0) (to_z-of_z c.ranges.now_ms) (c.in_err-work.ensures.halted (Some s) (at_some g.S.Source.stands c.args.src.now s was) (refl, refl, refl))).halted.stood s t refl now).stood
 
 pub returns-in_err-work-clause-must : goal.returns-in_err-work-clause-must
-returns-in_err-work-clause-must g c t is = residual_as c.from_residual.result _ (λ x. MustHaltTold c.args.config.now c.args.now_ms c.args.offsets.now.offset c.opened.new.store.offset c.opened.new.report t x) c.from_residual.ensures.1 ((subst (λ (n : ℤ). Halts g.S.Source.stands None (g.S.Source.told c.args.src.now) c.args.config.now n c.args.offsets.now.offset c.opened.new.store.offset c.opened.new.report c.opened.new.src (g.S.Source.told c.opened.new.src) c.in_err-work.field-0.0) (to_z-of_z c.ranges.now_ms) (c.in_err-work.ensures.halted None (at_none g.S.Source.stands c.args.src.now) (refl, refl, refl))).halted.tells.must t is)
+returns-in_err-work-clause-must g c t is = residual_as c.from_residual.result _ (λ x. MustHaltTold c.args.config.now c.args.now_ms c.args.offsets.now.offset c.open_session.new.store.offset c.open_session.new.report t x) c.from_residual.ensures.1 ((subst (λ (n : ℤ). Halts g.S.Source.stands None (g.S.Source.told c.args.src.now) c.args.config.now n c.args.offsets.now.offset c.open_session.new.store.offset c.open_session.new.report c.open_session.new.src (g.S.Source.told c.open_session.new.src) c.in_err-work.field-0.0) (to_z-of_z c.ranges.now_ms) (c.in_err-work.ensures.halted None (at_none g.S.Source.stands c.args.src.now) (refl, refl, refl))).halted.tells.must t is)
 
 pub returns-in_err-work-clause-must_stood : goal.returns-in_err-work-clause-must_stood
-returns-in_err-work-clause-must_stood g c s t was now = residual_as c.from_residual.result _ (λ x. MustHaltStood c.args.config.now c.args.now_ms c.args.offsets.now.offset c.opened.new.store.offset c.opened.new.report t x) c.from_residual.ensures.1 ((subst (λ (n : ℤ). Halts g.S.Source.stands (Some s) (g.S.Source.told c.args.src.now) c.args.config.now n c.args.offsets.now.offset c.opened.new.store.offset c.opened.new.report c.opened.new.src (g.S.Source.told c.opened.new.src) c.in_err-work.field-0.0) (to_z-of_z c.ranges.now_ms) (c.in_err-work.ensures.halted (Some s) (at_some g.S.Source.stands c.args.src.now s was) (refl, refl, refl))).halted.stood s t refl now).must
+returns-in_err-work-clause-must_stood g c s t was now = residual_as c.from_residual.result _ (λ x. MustHaltStood c.args.config.now c.args.now_ms c.args.offsets.now.offset c.open_session.new.store.offset c.open_session.new.report t x) c.from_residual.ensures.1 ((subst (λ (n : ℤ). Halts g.S.Source.stands (Some s) (g.S.Source.told c.args.src.now) c.args.config.now n c.args.offsets.now.offset c.open_session.new.store.offset c.open_session.new.report c.open_session.new.src (g.S.Source.told c.open_session.new.src) c.in_err-work.field-0.0) (to_z-of_z c.ranges.now_ms) (c.in_err-work.ensures.halted (Some s) (at_some g.S.Source.stands c.args.src.now s was) (refl, refl, refl))).halted.stood s t refl now).must
 
 pub returns-clause-read : goal.returns-clause-read
 returns-clause-read g c =
     let way = c.in_ok-work.ensures.under_way None (at_none g.S.Source.stands c.args.src.now) (refl, refl, refl) in
     let b = beginning_at c.args.config.now c.args.now_ms c.args.offsets.now.offset way.0 in
-    let u = subst (λ (n : ℤ). IsUnderWay g.S.Source.stands None (g.S.Source.told c.args.src.now) (beginning_at c.args.config.now n c.args.offsets.now.offset way.0) c.opened.new.store.offset c.in_ok-work.work c.opened.new.report c.opened.new.src (g.S.Source.told c.opened.new.src)) (to_z-of_z c.ranges.now_ms) way.1 in
+    let u = subst (λ (n : ℤ). IsUnderWay g.S.Source.stands None (g.S.Source.told c.args.src.now) (beginning_at c.args.config.now n c.args.offsets.now.offset way.0) c.open_session.new.store.offset c.in_ok-work.work c.open_session.new.report c.open_session.new.src (g.S.Source.told c.open_session.new.src)) (to_z-of_z c.ranges.now_ms) way.1 in
     let all = c.run.ensures.all None (g.S.Source.told c.args.src.now) b u in
     let halted = c.run.ensures.halted None (g.S.Source.told c.args.src.now) b u in
     answer_as c.run.result _ _ (λ r. HasReadMessages r c.run.new.report.messages (g.S.Source.told c.args.src.now) (g.S.Source.told c.run.new.src)) all halted (λ a e. inl (ended_told g.S.Source.stands None (g.S.Source.told c.args.src.now) b c.run.new.store.offset c.run.new.work c.run.new.report c.run.new.src (g.S.Source.told c.run.new.src) e a).1) (λ h x. x.halted.tells.read)
@@ -207,7 +207,7 @@ pub returns-clause-last : goal.returns-clause-last
 returns-clause-last g c =
     let way = c.in_ok-work.ensures.under_way None (at_none g.S.Source.stands c.args.src.now) (refl, refl, refl) in
     let b = beginning_at c.args.config.now c.args.now_ms c.args.offsets.now.offset way.0 in
-    let u = subst (λ (n : ℤ). IsUnderWay g.S.Source.stands None (g.S.Source.told c.args.src.now) (beginning_at c.args.config.now n c.args.offsets.now.offset way.0) c.opened.new.store.offset c.in_ok-work.work c.opened.new.report c.opened.new.src (g.S.Source.told c.opened.new.src)) (to_z-of_z c.ranges.now_ms) way.1 in
+    let u = subst (λ (n : ℤ). IsUnderWay g.S.Source.stands None (g.S.Source.told c.args.src.now) (beginning_at c.args.config.now n c.args.offsets.now.offset way.0) c.open_session.new.store.offset c.in_ok-work.work c.open_session.new.report c.open_session.new.src (g.S.Source.told c.open_session.new.src)) (to_z-of_z c.ranges.now_ms) way.1 in
     let all = c.run.ensures.all None (g.S.Source.told c.args.src.now) b u in
     let halted = c.run.ensures.halted None (g.S.Source.told c.args.src.now) b u in
     answer_as c.run.result _ _ (λ r. OnOk r (StoodAtLast c.args.config.now c.args.now_ms c.args.offsets.now.offset c.run.new.store.offset c.run.new.report (g.S.Source.told c.run.new.src))) all halted (λ a e. (ended_told g.S.Source.stands None (g.S.Source.told c.args.src.now) b c.run.new.store.offset c.run.new.work c.run.new.report c.run.new.src (g.S.Source.told c.run.new.src) e a).0) (λ h x. tt)
@@ -216,7 +216,7 @@ pub returns-clause-settled : goal.returns-clause-settled
 returns-clause-settled g c s was =
     let way = c.in_ok-work.ensures.under_way (Some s) (at_some g.S.Source.stands c.args.src.now s was) (refl, refl, refl) in
     let b = beginning_at c.args.config.now c.args.now_ms c.args.offsets.now.offset way.0 in
-    let u = subst (λ (n : ℤ). IsUnderWay g.S.Source.stands (Some s) (g.S.Source.told c.args.src.now) (beginning_at c.args.config.now n c.args.offsets.now.offset way.0) c.opened.new.store.offset c.in_ok-work.work c.opened.new.report c.opened.new.src (g.S.Source.told c.opened.new.src)) (to_z-of_z c.ranges.now_ms) way.1 in
+    let u = subst (λ (n : ℤ). IsUnderWay g.S.Source.stands (Some s) (g.S.Source.told c.args.src.now) (beginning_at c.args.config.now n c.args.offsets.now.offset way.0) c.open_session.new.store.offset c.in_ok-work.work c.open_session.new.report c.open_session.new.src (g.S.Source.told c.open_session.new.src)) (to_z-of_z c.ranges.now_ms) way.1 in
     let all = c.run.ensures.all (Some s) (g.S.Source.told c.args.src.now) b u in
     let halted = c.run.ensures.halted (Some s) (g.S.Source.told c.args.src.now) b u in
     answer_as c.run.result _ _ (λ r. OnOk r (Stood g.S.Source.stands c.run.new.src (HasSettled c.args.config.now c.args.now_ms c.args.offsets.now.offset c.run.new.store.offset c.run.new.report))) all halted (λ a e. let end = ended_stood g.S.Source.stands (Some s) (g.S.Source.told c.args.src.now) b c.run.new.store.offset c.run.new.work c.run.new.report c.run.new.src (g.S.Source.told c.run.new.src) e a s refl in record { standing = end.standing; is = end.is; holds = end.holds.0 }) (λ h x. tt)
@@ -225,7 +225,7 @@ pub returns-clause-followed : goal.returns-clause-followed
 returns-clause-followed g c =
     let way = c.in_ok-work.ensures.under_way None (at_none g.S.Source.stands c.args.src.now) (refl, refl, refl) in
     let b = beginning_at c.args.config.now c.args.now_ms c.args.offsets.now.offset way.0 in
-    let u = subst (λ (n : ℤ). IsUnderWay g.S.Source.stands None (g.S.Source.told c.args.src.now) (beginning_at c.args.config.now n c.args.offsets.now.offset way.0) c.opened.new.store.offset c.in_ok-work.work c.opened.new.report c.opened.new.src (g.S.Source.told c.opened.new.src)) (to_z-of_z c.ranges.now_ms) way.1 in
+    let u = subst (λ (n : ℤ). IsUnderWay g.S.Source.stands None (g.S.Source.told c.args.src.now) (beginning_at c.args.config.now n c.args.offsets.now.offset way.0) c.open_session.new.store.offset c.in_ok-work.work c.open_session.new.report c.open_session.new.src (g.S.Source.told c.open_session.new.src)) (to_z-of_z c.ranges.now_ms) way.1 in
     let all = c.run.ensures.all None (g.S.Source.told c.args.src.now) b u in
     let halted = c.run.ensures.halted None (g.S.Source.told c.args.src.now) b u in
     err_then c.run.result _ _ halted (λ h x. x.halted.tells.followed)
@@ -234,7 +234,7 @@ pub returns-clause-stood : goal.returns-clause-stood
 returns-clause-stood g c s t was now =
     let way = c.in_ok-work.ensures.under_way (Some s) (at_some g.S.Source.stands c.args.src.now s was) (refl, refl, refl) in
     let b = beginning_at c.args.config.now c.args.now_ms c.args.offsets.now.offset way.0 in
-    let u = subst (λ (n : ℤ). IsUnderWay g.S.Source.stands (Some s) (g.S.Source.told c.args.src.now) (beginning_at c.args.config.now n c.args.offsets.now.offset way.0) c.opened.new.store.offset c.in_ok-work.work c.opened.new.report c.opened.new.src (g.S.Source.told c.opened.new.src)) (to_z-of_z c.ranges.now_ms) way.1 in
+    let u = subst (λ (n : ℤ). IsUnderWay g.S.Source.stands (Some s) (g.S.Source.told c.args.src.now) (beginning_at c.args.config.now n c.args.offsets.now.offset way.0) c.open_session.new.store.offset c.in_ok-work.work c.open_session.new.report c.open_session.new.src (g.S.Source.told c.open_session.new.src)) (to_z-of_z c.ranges.now_ms) way.1 in
     let all = c.run.ensures.all (Some s) (g.S.Source.told c.args.src.now) b u in
     let halted = c.run.ensures.halted (Some s) (g.S.Source.told c.args.src.now) b u in
     err_then c.run.result _ _ halted (λ h x. (x.halted.stood s t refl now).stood)
@@ -243,7 +243,7 @@ pub returns-clause-must : goal.returns-clause-must
 returns-clause-must g c t is =
     let way = c.in_ok-work.ensures.under_way None (at_none g.S.Source.stands c.args.src.now) (refl, refl, refl) in
     let b = beginning_at c.args.config.now c.args.now_ms c.args.offsets.now.offset way.0 in
-    let u = subst (λ (n : ℤ). IsUnderWay g.S.Source.stands None (g.S.Source.told c.args.src.now) (beginning_at c.args.config.now n c.args.offsets.now.offset way.0) c.opened.new.store.offset c.in_ok-work.work c.opened.new.report c.opened.new.src (g.S.Source.told c.opened.new.src)) (to_z-of_z c.ranges.now_ms) way.1 in
+    let u = subst (λ (n : ℤ). IsUnderWay g.S.Source.stands None (g.S.Source.told c.args.src.now) (beginning_at c.args.config.now n c.args.offsets.now.offset way.0) c.open_session.new.store.offset c.in_ok-work.work c.open_session.new.report c.open_session.new.src (g.S.Source.told c.open_session.new.src)) (to_z-of_z c.ranges.now_ms) way.1 in
     let all = c.run.ensures.all None (g.S.Source.told c.args.src.now) b u in
     let halted = c.run.ensures.halted None (g.S.Source.told c.args.src.now) b u in
     answer_as c.run.result _ _ (λ r. MustHaltTold c.args.config.now c.args.now_ms c.args.offsets.now.offset c.run.new.store.offset c.run.new.report t r) all halted (λ a e. (ended_told g.S.Source.stands None (g.S.Source.told c.args.src.now) b c.run.new.store.offset c.run.new.work c.run.new.report c.run.new.src (g.S.Source.told c.run.new.src) e a).2 t is) (λ h x. x.halted.tells.must t is)
@@ -252,19 +252,19 @@ pub returns-clause-must_stood : goal.returns-clause-must_stood
 returns-clause-must_stood g c s t was now =
     let way = c.in_ok-work.ensures.under_way (Some s) (at_some g.S.Source.stands c.args.src.now s was) (refl, refl, refl) in
     let b = beginning_at c.args.config.now c.args.now_ms c.args.offsets.now.offset way.0 in
-    let u = subst (λ (n : ℤ). IsUnderWay g.S.Source.stands (Some s) (g.S.Source.told c.args.src.now) (beginning_at c.args.config.now n c.args.offsets.now.offset way.0) c.opened.new.store.offset c.in_ok-work.work c.opened.new.report c.opened.new.src (g.S.Source.told c.opened.new.src)) (to_z-of_z c.ranges.now_ms) way.1 in
+    let u = subst (λ (n : ℤ). IsUnderWay g.S.Source.stands (Some s) (g.S.Source.told c.args.src.now) (beginning_at c.args.config.now n c.args.offsets.now.offset way.0) c.open_session.new.store.offset c.in_ok-work.work c.open_session.new.report c.open_session.new.src (g.S.Source.told c.open_session.new.src)) (to_z-of_z c.ranges.now_ms) way.1 in
     let all = c.run.ensures.all (Some s) (g.S.Source.told c.args.src.now) b u in
     let halted = c.run.ensures.halted (Some s) (g.S.Source.told c.args.src.now) b u in
     answer_as c.run.result _ _ (λ r. MustHaltStood c.args.config.now c.args.now_ms c.args.offsets.now.offset c.run.new.store.offset c.run.new.report t r) all halted (λ a e. let end = ended_stood g.S.Source.stands (Some s) (g.S.Source.told c.args.src.now) b c.run.new.store.offset c.run.new.work c.run.new.report c.run.new.src (g.S.Source.told c.run.new.src) e a s refl in subst (λ (x : Standing). MustHaltStood c.args.config.now c.args.now_ms c.args.offsets.now.offset c.run.new.store.offset c.run.new.report x (Ok e)) (g.met.S.Source.one c.run.new.src end.standing t end.is now) end.holds.1) (λ h x. (x.halted.stood s t refl now).must)
 
 pub returns-in_err-work-clause-halt : goal.returns-in_err-work-clause-halt
-returns-in_err-work-clause-halt g c = residual_of c.from_residual.result _ (IsHalt c.args.config.now c.args.now_ms c.args.offsets.now.offset c.opened.new.store.offset c.opened.new.report (g.S.Source.told c.opened.new.src)) c.from_residual.ensures.1 (subst (λ (n : ℤ). Halts g.S.Source.stands None (g.S.Source.told c.args.src.now) c.args.config.now n c.args.offsets.now.offset c.opened.new.store.offset c.opened.new.report c.opened.new.src (g.S.Source.told c.opened.new.src) c.in_err-work.field-0.0) (to_z-of_z c.ranges.now_ms) (c.in_err-work.ensures.halted None (at_none g.S.Source.stands c.args.src.now) (refl, refl, refl))).cause
+returns-in_err-work-clause-halt g c = residual_of c.from_residual.result _ (IsHalt c.args.config.now c.args.now_ms c.args.offsets.now.offset c.open_session.new.store.offset c.open_session.new.report (g.S.Source.told c.open_session.new.src)) c.from_residual.ensures.1 (subst (λ (n : ℤ). Halts g.S.Source.stands None (g.S.Source.told c.args.src.now) c.args.config.now n c.args.offsets.now.offset c.open_session.new.store.offset c.open_session.new.report c.open_session.new.src (g.S.Source.told c.open_session.new.src) c.in_err-work.field-0.0) (to_z-of_z c.ranges.now_ms) (c.in_err-work.ensures.halted None (at_none g.S.Source.stands c.args.src.now) (refl, refl, refl))).cause
 
 pub returns-clause-halt : goal.returns-clause-halt
 returns-clause-halt g c =
     let way = c.in_ok-work.ensures.under_way None (at_none g.S.Source.stands c.args.src.now) (refl, refl, refl) in
     let b = beginning_at c.args.config.now c.args.now_ms c.args.offsets.now.offset way.0 in
-    let u = subst (λ (n : ℤ). IsUnderWay g.S.Source.stands None (g.S.Source.told c.args.src.now) (beginning_at c.args.config.now n c.args.offsets.now.offset way.0) c.opened.new.store.offset c.in_ok-work.work c.opened.new.report c.opened.new.src (g.S.Source.told c.opened.new.src)) (to_z-of_z c.ranges.now_ms) way.1 in
+    let u = subst (λ (n : ℤ). IsUnderWay g.S.Source.stands None (g.S.Source.told c.args.src.now) (beginning_at c.args.config.now n c.args.offsets.now.offset way.0) c.open_session.new.store.offset c.in_ok-work.work c.open_session.new.report c.open_session.new.src (g.S.Source.told c.open_session.new.src)) (to_z-of_z c.ranges.now_ms) way.1 in
     let all = c.run.ensures.all None (g.S.Source.told c.args.src.now) b u in
     let halted = c.run.ensures.halted None (g.S.Source.told c.args.src.now) b u in
     err_then c.run.result _ _ halted (λ h x. x.cause)
@@ -275,31 +275,31 @@ returns-clause-exactly g c s was honest had =
     let in_session = c.in_ok-work.ensures.opened false entry refl (sym (to_z-of_z c.ranges.now_ms)) (source_found _ _ _ _ c.args.config.now c.args.now_ms s _ _ c.args.offsets.now was) (c.run.ensures.honest honest) had in
     let way = c.in_ok-work.ensures.under_way None (at_none g.S.Source.stands c.args.src.now) (refl, refl, refl) in
     let b = beginning_at c.args.config.now c.args.now_ms c.args.offsets.now.offset way.0 in
-    let u = subst (λ (n : ℤ). IsUnderWay g.S.Source.stands None (g.S.Source.told c.args.src.now) (beginning_at c.args.config.now n c.args.offsets.now.offset way.0) c.opened.new.store.offset c.in_ok-work.work c.opened.new.report c.opened.new.src (g.S.Source.told c.opened.new.src)) (to_z-of_z c.ranges.now_ms) way.1 in
+    let u = subst (λ (n : ℤ). IsUnderWay g.S.Source.stands None (g.S.Source.told c.args.src.now) (beginning_at c.args.config.now n c.args.offsets.now.offset way.0) c.open_session.new.store.offset c.in_ok-work.work c.open_session.new.report c.open_session.new.src (g.S.Source.told c.open_session.new.src)) (to_z-of_z c.ranges.now_ms) way.1 in
     let all = c.run.ensures.all None (g.S.Source.told c.args.src.now) b u in
     exactly_by c.run.result _ _ _ _ _ (c.run.ensures.ran false entry in_session honest) all c.run.ensures.none c.run.ensures.waited
     (λ t e none left may. exact_left t c.run.new.report.chunks _ left (g.met.S.Source.only _ (standing_at t.stage) left t.source_is may) (exact_budget t c.run.new.store.offset c.run.new.report.chunks e.stored_is e.is.is.windows none))
     (λ t e none absent left may. exact_left t c.run.new.report.chunks _ left (g.met.S.Source.only _ (standing_at t.stage) left t.source_is may) (exact_complete t c.run.new.store.offset c.run.new.report.chunks e.stored_is e.is.is.windows none absent))
 
 pub returns-in_err-work-clause-exhausted : goal.returns-in_err-work-clause-exhausted
-returns-in_err-work-clause-exhausted g c h is = residual_on c.opened.result c.from_residual.result _ h (c.opened.ensures.exhausted h is) c.in_err-work.was c.from_residual.ensures.1
+returns-in_err-work-clause-exhausted g c h is = residual_on c.open_session.result c.from_residual.result _ h (c.open_session.ensures.exhausted h is) c.in_err-work.was c.from_residual.ensures.1
 
 pub returns-clause-exhausted : goal.returns-clause-exhausted
-returns-clause-exhausted g c h is = absurd (not_both c.opened.result _ h (c.opened.ensures.exhausted h is) c.in_ok-work.was)
+returns-clause-exhausted g c h is = absurd (not_both c.open_session.result _ h (c.open_session.ensures.exhausted h is) c.in_ok-work.was)
 
 pub returns-in_err-work-clause-grouped : goal.returns-in_err-work-clause-grouped
-returns-in_err-work-clause-grouped g c groups left held may = gains_nothing c.args.config.now c.args.now_ms c.args.offsets.now.offset c.opened.new.store.offset groups left (g.met.K.Sink.only c.args.sink.now groups left held may)
+returns-in_err-work-clause-grouped g c groups left held may = gains_nothing c.args.config.now c.args.now_ms c.args.offsets.now.offset c.open_session.new.store.offset groups left (g.met.K.Sink.only c.args.sink.now groups left held may)
 
 pub returns-in_err-work-clause-counted : goal.returns-in_err-work-clause-counted
 returns-in_err-work-clause-counted g c groups held =
-    residual_as c.from_residual.result _ (λ x. IsReported g.K.Sink.holds g.K.Sink.may_leave groups x c.args.sink.now c.opened.new.report) c.from_residual.ensures.1
-    (reported_other g.K.Sink.holds g.K.Sink.may_leave groups _ c.args.sink.now c.opened.new.report (λ is. c.opened.ensures.sink (c.in_err-work.was ∙ ap (λ (h : Halt). Err h) is)) (counts_nothing g.K.Sink.holds groups c.args.sink.now c.opened.new.report held c.opened.ensures.counts.0 c.opened.ensures.counts.1 c.opened.ensures.counts.2))
+    residual_as c.from_residual.result _ (λ x. IsReported g.K.Sink.holds g.K.Sink.may_leave groups x c.args.sink.now c.open_session.new.report) c.from_residual.ensures.1
+    (reported_other g.K.Sink.holds g.K.Sink.may_leave groups _ c.args.sink.now c.open_session.new.report (λ is. c.open_session.ensures.sink (c.in_err-work.was ∙ ap (λ (h : Halt). Err h) is)) (counts_nothing g.K.Sink.holds groups c.args.sink.now c.open_session.new.report held c.open_session.ensures.counts.0 c.open_session.ensures.counts.1 c.open_session.ensures.counts.2))
 
 pub returns-clause-grouped : goal.returns-clause-grouped
 returns-clause-grouped g c groups left held may =
     let way = c.in_ok-work.ensures.putting groups held None (at_none g.S.Source.stands c.args.src.now) (refl, refl, refl, refl, refl) in
     let b = beginning_at c.args.config.now c.args.now_ms c.args.offsets.now.offset way.0 in
-    let u = subst (λ (n : ℤ). IsPutting g.S.Source.stands g.K.Sink.holds groups None (g.S.Source.told c.args.src.now) (beginning_at c.args.config.now n c.args.offsets.now.offset way.0) c.opened.new.store.offset c.in_ok-work.work c.opened.new.report c.opened.new.src (g.S.Source.told c.opened.new.src) c.args.sink.now) (to_z-of_z c.ranges.now_ms) way.1 in
+    let u = subst (λ (n : ℤ). IsPutting g.S.Source.stands g.K.Sink.holds groups None (g.S.Source.told c.args.src.now) (beginning_at c.args.config.now n c.args.offsets.now.offset way.0) c.open_session.new.store.offset c.in_ok-work.work c.open_session.new.report c.open_session.new.src (g.S.Source.told c.open_session.new.src) c.args.sink.now) (to_z-of_z c.ranges.now_ms) way.1 in
     let on = c.run.ensures.putting groups None (g.S.Source.told c.args.src.now) b u in
     let put = c.run.ensures.put groups None (g.S.Source.told c.args.src.now) b u in
     either_of c.run.result _ _ _ on put (λ x. left_gains g.S.Source.stands g.K.Sink.holds g.K.Sink.may_leave groups None (g.S.Source.told c.args.src.now) b c.run.new.store.offset c.run.new.src (g.S.Source.told c.run.new.src) c.run.new.sink c.run.new.work c.run.new.report (rests_put g.S.Source.stands g.K.Sink.holds g.K.Sink.may_leave groups None (g.S.Source.told c.args.src.now) b c.run.new.store.offset c.run.new.work c.run.new.report c.run.new.src (g.S.Source.told c.run.new.src) c.run.new.sink x) (g.met.K.Sink.only c.run.new.sink) left may) (λ h x. x.grouped left may)
@@ -308,7 +308,7 @@ pub returns-clause-counted : goal.returns-clause-counted
 returns-clause-counted g c groups held =
     let way = c.in_ok-work.ensures.putting groups held None (at_none g.S.Source.stands c.args.src.now) (refl, refl, refl, refl, refl) in
     let b = beginning_at c.args.config.now c.args.now_ms c.args.offsets.now.offset way.0 in
-    let u = subst (λ (n : ℤ). IsPutting g.S.Source.stands g.K.Sink.holds groups None (g.S.Source.told c.args.src.now) (beginning_at c.args.config.now n c.args.offsets.now.offset way.0) c.opened.new.store.offset c.in_ok-work.work c.opened.new.report c.opened.new.src (g.S.Source.told c.opened.new.src) c.args.sink.now) (to_z-of_z c.ranges.now_ms) way.1 in
+    let u = subst (λ (n : ℤ). IsPutting g.S.Source.stands g.K.Sink.holds groups None (g.S.Source.told c.args.src.now) (beginning_at c.args.config.now n c.args.offsets.now.offset way.0) c.open_session.new.store.offset c.in_ok-work.work c.open_session.new.report c.open_session.new.src (g.S.Source.told c.open_session.new.src) c.args.sink.now) (to_z-of_z c.ranges.now_ms) way.1 in
     let on = c.run.ensures.putting groups None (g.S.Source.told c.args.src.now) b u in
     let put = c.run.ensures.put groups None (g.S.Source.told c.args.src.now) b u in
     answer_as c.run.result _ _ (λ r. IsReported g.K.Sink.holds g.K.Sink.may_leave groups r c.run.new.sink c.run.new.report) on put (λ x e. still_counted g.S.Source.stands g.K.Sink.holds g.K.Sink.may_leave groups None (g.S.Source.told c.args.src.now) b c.run.new.store.offset c.run.new.src (g.S.Source.told c.run.new.src) c.run.new.sink c.run.new.work c.run.new.report (rests_put g.S.Source.stands g.K.Sink.holds g.K.Sink.may_leave groups None (g.S.Source.told c.args.src.now) b c.run.new.store.offset c.run.new.work c.run.new.report c.run.new.src (g.S.Source.told c.run.new.src) c.run.new.sink x) (g.met.K.Sink.only c.run.new.sink) c.run.new.report refl refl refl) (λ h x. x.counted)
@@ -320,11 +320,11 @@ pub returns-clause-absent : goal.returns-clause-absent
 returns-clause-absent g c s is =
     let way = c.in_ok-work.ensures.under_way None (at_none g.S.Source.stands c.args.src.now) (refl, refl, refl) in
     let b = beginning_at c.args.config.now c.args.now_ms c.args.offsets.now.offset way.0 in
-    let u = subst (λ (n : ℤ). IsUnderWay g.S.Source.stands None (g.S.Source.told c.args.src.now) (beginning_at c.args.config.now n c.args.offsets.now.offset way.0) c.opened.new.store.offset c.in_ok-work.work c.opened.new.report c.opened.new.src (g.S.Source.told c.opened.new.src)) (to_z-of_z c.ranges.now_ms) way.1 in
+    let u = subst (λ (n : ℤ). IsUnderWay g.S.Source.stands None (g.S.Source.told c.args.src.now) (beginning_at c.args.config.now n c.args.offsets.now.offset way.0) c.open_session.new.store.offset c.in_ok-work.work c.open_session.new.report c.open_session.new.src (g.S.Source.told c.open_session.new.src)) (to_z-of_z c.ranges.now_ms) way.1 in
     let all = c.run.ensures.all None (g.S.Source.told c.args.src.now) b u in
     let halted = c.run.ensures.halted None (g.S.Source.told c.args.src.now) b u in
     let begun = c.in_ok-work.ensures.begun in
-    let own = c.run.ensures.stored (subst (λ (o : Offset). HasOwnStored o c.opened.new.store.offset) (sym begun.2.offset_is) (own_first begun.0 c.opened.new.store.offset begun.1)) in
+    let own = c.run.ensures.stored (subst (λ (o : Offset). HasOwnStored o c.open_session.new.store.offset) (sym begun.2.offset_is) (own_first begun.0 c.open_session.new.store.offset begun.1)) in
     err_then c.run.result _ (IsAbsentHalt c.args.config.now.tables s.history) halted (λ h x. caused_absent c.args.config.now.tables s.history c.args.config.now c.args.now_ms c.args.offsets.now.offset c.run.new.store.offset c.run.new.report (g.S.Source.told c.run.new.src) own.offset h own.is x.cause)
 
 pub returns-in_err-work-clause-gone : goal.returns-in_err-work-clause-gone
@@ -334,18 +334,18 @@ pub returns-clause-gone : goal.returns-clause-gone
 returns-clause-gone g c s is kept asked first gone = err_at c.run.result _ IsNotGone c.run.ensures.reads gone
 
 pub returns-in_err-work-clause-missing : goal.returns-in_err-work-clause-missing
-returns-in_err-work-clause-missing g c s was honest log value at is = c.opened.ensures.never value at (residual_is c.from_residual.result c.opened.result _ _ c.in_err-work.was c.from_residual.ensures.1 is)
+returns-in_err-work-clause-missing g c s was honest log value at is = c.open_session.ensures.never value at (residual_is c.from_residual.result c.open_session.result _ _ c.in_err-work.was c.from_residual.ensures.1 is)
 
 pub returns-clause-missing : goal.returns-clause-missing
 returns-clause-missing g c s was honest log value at is =
     let way = c.in_ok-work.ensures.under_way (Some s) (at_some g.S.Source.stands c.args.src.now s was) (refl, refl, refl) in
     let b = beginning_at c.args.config.now c.args.now_ms c.args.offsets.now.offset way.0 in
-    let u = subst (λ (n : ℤ). IsUnderWay g.S.Source.stands (Some s) (g.S.Source.told c.args.src.now) (beginning_at c.args.config.now n c.args.offsets.now.offset way.0) c.opened.new.store.offset c.in_ok-work.work c.opened.new.report c.opened.new.src (g.S.Source.told c.opened.new.src)) (to_z-of_z c.ranges.now_ms) way.1 in
+    let u = subst (λ (n : ℤ). IsUnderWay g.S.Source.stands (Some s) (g.S.Source.told c.args.src.now) (beginning_at c.args.config.now n c.args.offsets.now.offset way.0) c.open_session.new.store.offset c.in_ok-work.work c.open_session.new.report c.open_session.new.src (g.S.Source.told c.open_session.new.src)) (to_z-of_z c.ranges.now_ms) way.1 in
     c.run.ensures.unmissed (Some s) (g.S.Source.told c.args.src.now) b u s refl honest (c.in_ok-work.ensures.awaits s was log) value at is
 
 pub returns-in_err-work-clause-own : goal.returns-in_err-work-clause-own
 returns-in_err-work-clause-own g c s was honest had =
-    residual_of c.from_residual.result _ (IsHonestHalt (entry_at c.args.config.now c.args.now_ms s c.args.offsets.now.offset) (g.S.Source.stands c.opened.new.src)) c.from_residual.ensures.1
+    residual_of c.from_residual.result _ (IsHonestHalt (entry_at c.args.config.now c.args.now_ms s c.args.offsets.now.offset) (g.S.Source.stands c.open_session.new.src)) c.from_residual.ensures.1
     (c.in_err-work.ensures.own (entry_at c.args.config.now c.args.now_ms s c.args.offsets.now.offset))
 
 pub returns-clause-own : goal.returns-clause-own
@@ -354,11 +354,11 @@ returns-clause-own g c s was honest had =
     let in_session = c.in_ok-work.ensures.opened false entry refl (sym (to_z-of_z c.ranges.now_ms)) (source_found _ _ _ _ c.args.config.now c.args.now_ms s _ _ c.args.offsets.now was) (c.run.ensures.honest honest) had in
     let way = c.in_ok-work.ensures.under_way (Some s) (at_some g.S.Source.stands c.args.src.now s was) (refl, refl, refl) in
     let b = beginning_at c.args.config.now c.args.now_ms c.args.offsets.now.offset way.0 in
-    let u = subst (λ (n : ℤ). IsUnderWay g.S.Source.stands (Some s) (g.S.Source.told c.args.src.now) (beginning_at c.args.config.now n c.args.offsets.now.offset way.0) c.opened.new.store.offset c.in_ok-work.work c.opened.new.report c.opened.new.src (g.S.Source.told c.opened.new.src)) (to_z-of_z c.ranges.now_ms) way.1 in
+    let u = subst (λ (n : ℤ). IsUnderWay g.S.Source.stands (Some s) (g.S.Source.told c.args.src.now) (beginning_at c.args.config.now n c.args.offsets.now.offset way.0) c.open_session.new.store.offset c.in_ok-work.work c.open_session.new.report c.open_session.new.src (g.S.Source.told c.open_session.new.src)) (to_z-of_z c.ranges.now_ms) way.1 in
     c.run.ensures.own false entry (Some s) (g.S.Source.told c.args.src.now) b in_session u s refl honest
 
 pub returns-in_err-work-clause-most : goal.returns-in_err-work-clause-most
-returns-in_err-work-clause-most g c s was honest had left may = none_most c.opened.new.store.offset c.opened.new.report.chunks s.history left.history (c.opened.ensures.unmarked s left was may)
+returns-in_err-work-clause-most g c s was honest had left may = none_most c.open_session.new.store.offset c.open_session.new.report.chunks s.history left.history (c.open_session.ensures.unmarked s left was may)
 
 pub returns-clause-most : goal.returns-clause-most
 returns-clause-most g c s was honest had left may =
@@ -366,9 +366,9 @@ returns-clause-most g c s was honest had left may =
     let in_session = c.in_ok-work.ensures.opened false entry refl (sym (to_z-of_z c.ranges.now_ms)) (source_found _ _ _ _ c.args.config.now c.args.now_ms s _ _ c.args.offsets.now was) (c.run.ensures.honest honest) had in
     let way = c.in_ok-work.ensures.under_way None (at_none g.S.Source.stands c.args.src.now) (refl, refl, refl) in
     let b = beginning_at c.args.config.now c.args.now_ms c.args.offsets.now.offset way.0 in
-    let u = subst (λ (n : ℤ). IsUnderWay g.S.Source.stands None (g.S.Source.told c.args.src.now) (beginning_at c.args.config.now n c.args.offsets.now.offset way.0) c.opened.new.store.offset c.in_ok-work.work c.opened.new.report c.opened.new.src (g.S.Source.told c.opened.new.src)) (to_z-of_z c.ranges.now_ms) way.1 in
+    let u = subst (λ (n : ℤ). IsUnderWay g.S.Source.stands None (g.S.Source.told c.args.src.now) (beginning_at c.args.config.now n c.args.offsets.now.offset way.0) c.open_session.new.store.offset c.in_ok-work.work c.open_session.new.report c.open_session.new.src (g.S.Source.told c.open_session.new.src)) (to_z-of_z c.ranges.now_ms) way.1 in
     let begins = c.in_ok-work.ensures.begun in
-    let own = c.run.ensures.stored (subst (λ (o : Offset). HasOwnStored o c.opened.new.store.offset) (sym begins.2.offset_is) (own_first begins.0 c.opened.new.store.offset begins.1)) in
+    let own = c.run.ensures.stored (subst (λ (o : Offset). HasOwnStored o c.open_session.new.store.offset) (sym begins.2.offset_is) (own_first begins.0 c.open_session.new.store.offset begins.1)) in
     stored_most c.in_ok-work.work.offset c.run.new.store.offset c.run.new.report.chunks s.history left.history own
     (either_most c.run.result _ _ (AddsNoMore c.run.new.report.chunks s.history left.history) (c.run.ensures.ran false entry in_session honest) (c.run.ensures.all None (g.S.Source.told c.args.src.now) b u) (c.run.ensures.most false entry None (g.S.Source.told c.args.src.now) b in_session u honest)
     (λ t e. others_leave_few_marks entry t.stage c.run.new.work left.history c.run.new.report.chunks c.run.new.report.chunks t.work_is t.going e.is.is.windows (same_most c.run.new.report.chunks)
@@ -380,14 +380,14 @@ run-requires-clause-some g c = c.requires.config.messages.0
 
 pub returns-in_err-work-clause-answered : goal.returns-in_err-work-clause-answered
 returns-in_err-work-clause-answered g c t is =
-    residual_as c.from_residual.result _ (λ x. MustHalt c.args.config.now c.args.offsets.now.offset c.opened.new.store.offset c.opened.new.report t x) c.from_residual.ensures.1
-    ((subst (λ (n : ℤ). Halts g.S.Source.stands None (g.S.Source.told c.args.src.now) c.args.config.now n c.args.offsets.now.offset c.opened.new.store.offset c.opened.new.report c.opened.new.src (g.S.Source.told c.opened.new.src) c.in_err-work.field-0.0) (to_z-of_z c.ranges.now_ms) (c.in_err-work.ensures.halted None (at_none g.S.Source.stands c.args.src.now) (refl, refl, refl))).ask t is)
+    residual_as c.from_residual.result _ (λ x. MustHalt c.args.config.now c.args.offsets.now.offset c.open_session.new.store.offset c.open_session.new.report t x) c.from_residual.ensures.1
+    ((subst (λ (n : ℤ). Halts g.S.Source.stands None (g.S.Source.told c.args.src.now) c.args.config.now n c.args.offsets.now.offset c.open_session.new.store.offset c.open_session.new.report c.open_session.new.src (g.S.Source.told c.open_session.new.src) c.in_err-work.field-0.0) (to_z-of_z c.ranges.now_ms) (c.in_err-work.ensures.halted None (at_none g.S.Source.stands c.args.src.now) (refl, refl, refl))).ask t is)
 
 pub returns-clause-answered : goal.returns-clause-answered
 returns-clause-answered g c t is =
     let way = c.in_ok-work.ensures.under_way None (at_none g.S.Source.stands c.args.src.now) (refl, refl, refl) in
     let b = beginning_at c.args.config.now c.args.now_ms c.args.offsets.now.offset way.0 in
-    let u = subst (λ (n : ℤ). IsUnderWay g.S.Source.stands None (g.S.Source.told c.args.src.now) (beginning_at c.args.config.now n c.args.offsets.now.offset way.0) c.opened.new.store.offset c.in_ok-work.work c.opened.new.report c.opened.new.src (g.S.Source.told c.opened.new.src)) (to_z-of_z c.ranges.now_ms) way.1 in
+    let u = subst (λ (n : ℤ). IsUnderWay g.S.Source.stands None (g.S.Source.told c.args.src.now) (beginning_at c.args.config.now n c.args.offsets.now.offset way.0) c.open_session.new.store.offset c.in_ok-work.work c.open_session.new.report c.open_session.new.src (g.S.Source.told c.open_session.new.src)) (to_z-of_z c.ranges.now_ms) way.1 in
     let all = c.run.ensures.all None (g.S.Source.told c.args.src.now) b u in
     let halted = c.run.ensures.halted None (g.S.Source.told c.args.src.now) b u in
     answer_as c.run.result _ _ (λ r. MustHalt c.args.config.now c.args.offsets.now.offset c.run.new.store.offset c.run.new.report t r) (ok_pair c.run.result _ _ all c.run.ensures.quiet) halted
@@ -396,7 +396,7 @@ returns-clause-answered g c t is =
 
 pub returns-in_err-work-clause-content : goal.returns-in_err-work-clause-content
 returns-in_err-work-clause-content g c entry asked f honest faithful =
-    residual_of c.from_residual.result _ (IsFaithfulHalt entry c.opened.new.store.offset c.opened.new.report (g.S.Source.stands c.opened.new.src) (g.K.Sink.holds c.args.sink.now)) c.from_residual.ensures.1
+    residual_of c.from_residual.result _ (IsFaithfulHalt entry c.open_session.new.store.offset c.open_session.new.report (g.S.Source.stands c.open_session.new.src) (g.K.Sink.holds c.args.sink.now)) c.from_residual.ensures.1
     (c.in_err-work.ensures.content entry asked.config_is (told_found f) honest faithful)
 
 pub returns-clause-content : goal.returns-clause-content
@@ -404,7 +404,7 @@ returns-clause-content g c entry asked f honest faithful =
     let in_session = c.in_ok-work.ensures.opened true entry asked.config_is (asked.now_is ∙ sym (to_z-of_z c.ranges.now_ms)) (told_found f) (c.run.ensures.honest honest) (had_of entry faithful) in
     let way = c.in_ok-work.ensures.under_way None (at_none g.S.Source.stands c.args.src.now) (refl, refl, refl) in
     let b = beginning_at c.args.config.now c.args.now_ms c.args.offsets.now.offset way.0 in
-    let u = subst (λ (n : ℤ). IsUnderWay g.S.Source.stands None (g.S.Source.told c.args.src.now) (beginning_at c.args.config.now n c.args.offsets.now.offset way.0) c.opened.new.store.offset c.in_ok-work.work c.opened.new.report c.opened.new.src (g.S.Source.told c.opened.new.src)) (to_z-of_z c.ranges.now_ms) way.1 in
+    let u = subst (λ (n : ℤ). IsUnderWay g.S.Source.stands None (g.S.Source.told c.args.src.now) (beginning_at c.args.config.now n c.args.offsets.now.offset way.0) c.open_session.new.store.offset c.in_ok-work.work c.open_session.new.report c.open_session.new.src (g.S.Source.told c.open_session.new.src)) (to_z-of_z c.ranges.now_ms) way.1 in
     c.run.ensures.content entry None (g.S.Source.told c.args.src.now) b in_session u faithful honest
 
 pub returns-in_err-work-clause-long : goal.returns-in_err-work-clause-long
@@ -413,25 +413,25 @@ returns-in_err-work-clause-long g c s was none still = residual_of c.from_residu
 pub returns-clause-long : goal.returns-clause-long
 returns-clause-long g c s was none still =
     let begun = c.in_ok-work.ensures.begun in
-    let own = c.run.ensures.stored (subst (λ (o : Offset). HasOwnStored o c.opened.new.store.offset) (sym begun.2.offset_is) (own_first begun.0 c.opened.new.store.offset begun.1)) in
+    let own = c.run.ensures.stored (subst (λ (o : Offset). HasOwnStored o c.open_session.new.store.offset) (sym begun.2.offset_is) (own_first begun.0 c.open_session.new.store.offset begun.1)) in
     let wrong : None ≡ Some own.offset = sym still ∙ own.is in
     absurd (none_some own.offset wrong)
 
 pub returns-in_err-work-clause-holds : goal.returns-in_err-work-clause-holds
-returns-in_err-work-clause-holds g c held other = c.opened.ensures.held held (λ is. other (residual_on c.opened.result c.from_residual.result _ halt.Offsets is c.in_err-work.was c.from_residual.ensures.1))
+returns-in_err-work-clause-holds g c held other = c.open_session.ensures.held held (λ is. other (residual_on c.open_session.result c.from_residual.result _ halt.Offsets is c.in_err-work.was c.from_residual.ensures.1))
 
 pub returns-clause-holds : goal.returns-clause-holds
-returns-clause-holds g c held = c.run.ensures.held (c.opened.ensures.held held (λ is. not_both c.opened.result _ halt.Offsets is c.in_ok-work.was))
+returns-clause-holds g c held = c.run.ensures.held (c.open_session.ensures.held held (λ is. not_both c.open_session.result _ halt.Offsets is c.in_ok-work.was))
 
 pub returns-in_err-work-clause-firsts : goal.returns-in_err-work-clause-firsts
-returns-in_err-work-clause-firsts g c s is = c.opened.ensures.firsts s is
+returns-in_err-work-clause-firsts g c s is = c.open_session.ensures.firsts s is
 
 pub returns-clause-firsts : goal.returns-clause-firsts
 returns-clause-firsts g c s is =
     let b = c.in_ok-work.ensures.begun in
     first_stored c.args.config.now s.history c.args.offsets.now.offset c.run.new.store.offset b.0
-    (first_of_stored c.args.config.now s.history c.args.offsets.now.offset c.opened.new.store.offset b.0 (c.opened.ensures.firsts s is) b.1)
-    (subst (λ (o : Offset). HasOwnStored o c.run.new.store.offset) b.2.offset_is (c.run.ensures.stored (subst (λ (o : Offset). HasOwnStored o c.opened.new.store.offset) (sym b.2.offset_is) (own_first b.0 c.opened.new.store.offset b.1))))
+    (first_of_stored c.args.config.now s.history c.args.offsets.now.offset c.open_session.new.store.offset b.0 (c.open_session.ensures.firsts s is) b.1)
+    (subst (λ (o : Offset). HasOwnStored o c.run.new.store.offset) b.2.offset_is (c.run.ensures.stored (subst (λ (o : Offset). HasOwnStored o c.open_session.new.store.offset) (sym b.2.offset_is) (own_first b.0 c.open_session.new.store.offset b.1))))
 
 pub returns-in_err-work-clause-gone_stood : goal.returns-in_err-work-clause-gone_stood
 returns-in_err-work-clause-gone_stood g c s was = residual_of c.from_residual.result _ (IsGoneBelow s.confirmed) c.from_residual.ensures.1 (c.in_err-work.ensures.gone_stood s was)
@@ -446,21 +446,21 @@ pub returns-clause-ungained : goal.returns-clause-ungained
 returns-clause-ungained g c groups left held may same =
     let b = c.in_ok-work.ensures.begun in
     absurd (stored_anew c.args.config.now c.args.offsets.now.offset c.run.new.store.offset
-    (has_stored c.args.config.now c.args.offsets.now.offset c.run.new.store.offset c.in_ok-work.work.offset (subst (IsOffsetFor c.args.config.now c.args.offsets.now.offset) (sym b.2.offset_is) b.3) (c.run.ensures.stored (subst (λ (o : Offset). HasOwnStored o c.opened.new.store.offset) (sym b.2.offset_is) (own_first b.0 c.opened.new.store.offset b.1)))) same)
+    (has_stored c.args.config.now c.args.offsets.now.offset c.run.new.store.offset c.in_ok-work.work.offset (subst (IsOffsetFor c.args.config.now c.args.offsets.now.offset) (sym b.2.offset_is) b.3) (c.run.ensures.stored (subst (λ (o : Offset). HasOwnStored o c.open_session.new.store.offset) (sym b.2.offset_is) (own_first b.0 c.open_session.new.store.offset b.1)))) same)
 
 pub returns-in_err-work-clause-halt_stood : goal.returns-in_err-work-clause-halt_stood
-returns-in_err-work-clause-halt_stood g c s was = residual_of c.from_residual.result _ (IsHaltStanding c.args.config.now c.args.now_ms c.args.offsets.now.offset c.opened.new.store.offset c.opened.new.report (g.S.Source.stands c.opened.new.src)) c.from_residual.ensures.1 ((subst (λ (n : ℤ). Halts g.S.Source.stands (Some s) (g.S.Source.told c.args.src.now) c.args.config.now n c.args.offsets.now.offset c.opened.new.store.offset c.opened.new.report c.opened.new.src (g.S.Source.told c.opened.new.src) c.in_err-work.field-0.0) (to_z-of_z c.ranges.now_ms) (c.in_err-work.ensures.halted (Some s) (at_some g.S.Source.stands c.args.src.now s was) (refl, refl, refl))).stood s refl)
+returns-in_err-work-clause-halt_stood g c s was = residual_of c.from_residual.result _ (IsHaltStanding c.args.config.now c.args.now_ms c.args.offsets.now.offset c.open_session.new.store.offset c.open_session.new.report (g.S.Source.stands c.open_session.new.src)) c.from_residual.ensures.1 ((subst (λ (n : ℤ). Halts g.S.Source.stands (Some s) (g.S.Source.told c.args.src.now) c.args.config.now n c.args.offsets.now.offset c.open_session.new.store.offset c.open_session.new.report c.open_session.new.src (g.S.Source.told c.open_session.new.src) c.in_err-work.field-0.0) (to_z-of_z c.ranges.now_ms) (c.in_err-work.ensures.halted (Some s) (at_some g.S.Source.stands c.args.src.now s was) (refl, refl, refl))).stood s refl)
 
 pub returns-clause-halt_stood : goal.returns-clause-halt_stood
 returns-clause-halt_stood g c s was =
     let way = c.in_ok-work.ensures.under_way (Some s) (at_some g.S.Source.stands c.args.src.now s was) (refl, refl, refl) in
     let b = beginning_at c.args.config.now c.args.now_ms c.args.offsets.now.offset way.0 in
-    let u = subst (λ (n : ℤ). IsUnderWay g.S.Source.stands (Some s) (g.S.Source.told c.args.src.now) (beginning_at c.args.config.now n c.args.offsets.now.offset way.0) c.opened.new.store.offset c.in_ok-work.work c.opened.new.report c.opened.new.src (g.S.Source.told c.opened.new.src)) (to_z-of_z c.ranges.now_ms) way.1 in
+    let u = subst (λ (n : ℤ). IsUnderWay g.S.Source.stands (Some s) (g.S.Source.told c.args.src.now) (beginning_at c.args.config.now n c.args.offsets.now.offset way.0) c.open_session.new.store.offset c.in_ok-work.work c.open_session.new.report c.open_session.new.src (g.S.Source.told c.open_session.new.src)) (to_z-of_z c.ranges.now_ms) way.1 in
     let halted = c.run.ensures.halted (Some s) (g.S.Source.told c.args.src.now) b u in
     err_then c.run.result _ _ halted (λ h x. x.stood s refl)
 
 pub returns-in_err-work-clause-captures : goal.returns-in_err-work-clause-captures
-returns-in_err-work-clause-captures g c s is = c.opened.ensures.captured s is
+returns-in_err-work-clause-captures g c s is = c.open_session.ensures.captured s is
 
 pub returns-clause-captures : goal.returns-clause-captures
 returns-clause-captures g c s is = captures_by c.args.config.now s.history c.args.offsets.now.offset c.run.new.store.offset (λ none. c.in_ok-work.ensures.captures s is none)
@@ -475,16 +475,16 @@ pub returns-clause-must_absent : goal.returns-clause-must_absent
 returns-clause-must_absent g c s is = must_captured c.args.config.now s.history c.args.offsets.now.offset c.run.result (λ none. c.in_ok-work.ensures.captures s is none)
 
 pub returns-in_err-work-clause-tallied : goal.returns-in_err-work-clause-tallied
-returns-in_err-work-clause-tallied g c groups held other = inl (c.opened.ensures.report.0, c.opened.ensures.report.1, held)
+returns-in_err-work-clause-tallied g c groups held other = inl (c.open_session.ensures.report.0, c.open_session.ensures.report.1, held)
 
 pub returns-in_err-work-clause-tallied_stood : goal.returns-in_err-work-clause-tallied_stood
-returns-in_err-work-clause-tallied_stood g c groups held other s t was now = inl (c.opened.ensures.report.0, c.opened.ensures.report.1, held)
+returns-in_err-work-clause-tallied_stood g c groups held other s t was now = inl (c.open_session.ensures.report.0, c.open_session.ensures.report.1, held)
 
 pub returns-clause-tallied : goal.returns-clause-tallied
 returns-clause-tallied g c groups held other =
     let way = c.in_ok-work.ensures.putting groups held None (at_none g.S.Source.stands c.args.src.now) (refl, refl, refl, refl, refl) in
     let b = beginning_at c.args.config.now c.args.now_ms c.args.offsets.now.offset way.0 in
-    let u = subst (λ (n : ℤ). IsPutting g.S.Source.stands g.K.Sink.holds groups None (g.S.Source.told c.args.src.now) (beginning_at c.args.config.now n c.args.offsets.now.offset way.0) c.opened.new.store.offset c.in_ok-work.work c.opened.new.report c.opened.new.src (g.S.Source.told c.opened.new.src) c.args.sink.now) (to_z-of_z c.ranges.now_ms) way.1 in
+    let u = subst (λ (n : ℤ). IsPutting g.S.Source.stands g.K.Sink.holds groups None (g.S.Source.told c.args.src.now) (beginning_at c.args.config.now n c.args.offsets.now.offset way.0) c.open_session.new.store.offset c.in_ok-work.work c.open_session.new.report c.open_session.new.src (g.S.Source.told c.open_session.new.src) c.args.sink.now) (to_z-of_z c.ranges.now_ms) way.1 in
     let on = c.run.ensures.putting groups None (g.S.Source.told c.args.src.now) b u in
     let put = c.run.ensures.put groups None (g.S.Source.told c.args.src.now) b u in
     answer_as c.run.result _ _ (λ r. (r ≡ Err halt.Sink → ⊥) → IsTallied g.K.Sink.holds groups c.args.config.now c.args.now_ms c.args.offsets.now.offset c.run.new.store.offset c.run.new.report (g.S.Source.told c.run.new.src) c.run.new.sink r) on put
@@ -495,7 +495,7 @@ pub returns-clause-tallied_stood : goal.returns-clause-tallied_stood
 returns-clause-tallied_stood g c groups held other s t was now =
     let way = c.in_ok-work.ensures.putting groups held (Some s) (at_some g.S.Source.stands c.args.src.now s was) (refl, refl, refl, refl, refl) in
     let b = beginning_at c.args.config.now c.args.now_ms c.args.offsets.now.offset way.0 in
-    let u = subst (λ (n : ℤ). IsPutting g.S.Source.stands g.K.Sink.holds groups (Some s) (g.S.Source.told c.args.src.now) (beginning_at c.args.config.now n c.args.offsets.now.offset way.0) c.opened.new.store.offset c.in_ok-work.work c.opened.new.report c.opened.new.src (g.S.Source.told c.opened.new.src) c.args.sink.now) (to_z-of_z c.ranges.now_ms) way.1 in
+    let u = subst (λ (n : ℤ). IsPutting g.S.Source.stands g.K.Sink.holds groups (Some s) (g.S.Source.told c.args.src.now) (beginning_at c.args.config.now n c.args.offsets.now.offset way.0) c.open_session.new.store.offset c.in_ok-work.work c.open_session.new.report c.open_session.new.src (g.S.Source.told c.open_session.new.src) c.args.sink.now) (to_z-of_z c.ranges.now_ms) way.1 in
     let on = c.run.ensures.putting groups (Some s) (g.S.Source.told c.args.src.now) b u in
     let put = c.run.ensures.put groups (Some s) (g.S.Source.told c.args.src.now) b u in
     answer_as c.run.result _ _ (λ r. (r ≡ Err halt.Sink → ⊥) → IsTalliedBehind g.K.Sink.holds groups c.args.config.now c.args.now_ms c.args.offsets.now.offset c.run.new.store.offset c.run.new.report t c.run.new.sink r) on put
@@ -503,13 +503,13 @@ returns-clause-tallied_stood g c groups held other s t was now =
     (λ h x ok. x.tallied_stood (λ is. ok (ap (λ (k : Halt). Err k) is)) s t refl now) other
 
 pub returns-in_err-work-clause-unclosed : goal.returns-in_err-work-clause-unclosed
-returns-in_err-work-clause-unclosed g c entry asked f honest faithful t now = residual_as c.from_residual.result _ (λ x. OnOk x (HasClosedRead c.opened.new.store.offset c.opened.new.report t)) c.from_residual.ensures.1 tt
+returns-in_err-work-clause-unclosed g c entry asked f honest faithful t now = residual_as c.from_residual.result _ (λ x. OnOk x (HasClosedRead c.open_session.new.store.offset c.open_session.new.report t)) c.from_residual.ensures.1 tt
 
 pub returns-clause-unclosed : goal.returns-clause-unclosed
 returns-clause-unclosed g c entry asked f honest faithful t now =
     let in_session = c.in_ok-work.ensures.opened true entry asked.config_is (asked.now_is ∙ sym (to_z-of_z c.ranges.now_ms)) (told_found f) (c.run.ensures.honest honest) (had_of entry faithful) in
     let way = c.in_ok-work.ensures.under_way None (at_none g.S.Source.stands c.args.src.now) (refl, refl, refl) in
     let b = beginning_at c.args.config.now c.args.now_ms c.args.offsets.now.offset way.0 in
-    let u = subst (λ (n : ℤ). IsUnderWay g.S.Source.stands None (g.S.Source.told c.args.src.now) (beginning_at c.args.config.now n c.args.offsets.now.offset way.0) c.opened.new.store.offset c.in_ok-work.work c.opened.new.report c.opened.new.src (g.S.Source.told c.opened.new.src)) (to_z-of_z c.ranges.now_ms) way.1 in
+    let u = subst (λ (n : ℤ). IsUnderWay g.S.Source.stands None (g.S.Source.told c.args.src.now) (beginning_at c.args.config.now n c.args.offsets.now.offset way.0) c.open_session.new.store.offset c.in_ok-work.work c.open_session.new.report c.open_session.new.src (g.S.Source.told c.open_session.new.src)) (to_z-of_z c.ranges.now_ms) way.1 in
     ok_then c.run.result _ _ (ok_pair c.run.result _ _ (c.run.ensures.ran true entry in_session honest) (c.run.ensures.all None (g.S.Source.told c.args.src.now) b u))
     (λ x. closed_read x.0 faithful c.run.new.store.offset c.run.new.report t x.1.stored_is (g.met.S.Source.one c.run.new.src t (standing_at x.0.stage) now x.0.source_is) x.1.is.is.windows)

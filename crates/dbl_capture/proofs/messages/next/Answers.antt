@@ -61,50 +61,50 @@ pub returns-in_err-closed-in-Some-2-clause-left : goal.returns-in_err-closed-in-
 returns-in_err-closed-in-Some-2-clause-left g c tell entry s honest =
     let T = some_read _ _ _ _ c.in-Some.is (c.in_ok-bytes.ensures.took (standing_at s.stage) s.source_is) in
     on_err _ _
-    (step_fails s T.0 T.2.standing T.2.holds (g.met.S.Source.fit _ _ (g.met.S.Source.may _ T.2.standing T.2.is) honest) (λ r at. g.met.S.Source.right _ T.2.standing r T.2.is honest at) c.in-Some.bytes T.1 c.taken.new.work (Some c.in-Some-2.commit) (subst (WasTaken s.stage.first.lsn s.stage.messages c.in-Some.bytes c.args.work.now c.taken.new.work) c.in-Some-2.is (c.in_ok-commit-in-Some.ensures.taken s.stage.first.lsn s.stage.messages s.work_is.is)) c.in-Some-2.commit refl c.requires.time c.requires.since _ _ c.read.new.self c.follow.new.sink
+    (step_fails s T.0 T.2.standing T.2.holds (g.met.S.Source.fit _ _ (g.met.S.Source.may _ T.2.standing T.2.is) honest) (λ r at. g.met.S.Source.right _ T.2.standing r T.2.is honest at) c.in-Some.bytes T.1 c.take_message.new.work (Some c.in-Some-2.commit) (subst (WasTaken s.stage.first.lsn s.stage.messages c.in-Some.bytes c.args.work.now c.take_message.new.work) c.in-Some-2.is (c.in_ok-commit-in-Some.ensures.taken s.stage.first.lsn s.stage.messages s.work_is.is)) c.in-Some-2.commit refl c.requires.time c.requires.since _ _ c.read.new.self c.follow.new.sink
     (λ left is. g.met.S.Source.only _ T.2.standing left T.2.is is) (λ left is. c.read.ensures.left (standing_at s.stage) left s.source_is is) (λ left is. g.met.S.Source.fit _ left is honest)
     (λ t groups is. c.follow.ensures.left s.stage.groups groups (s.sink_is t) is) (c.read.ensures.some (standing_at s.stage) s.source_is) (λ t. c.follow.ensures.some s.stage.groups (s.sink_is t)))
 
 pub returns-in-Some-2-clause-next : goal.returns-in-Some-2-clause-next
 returns-in-Some-2-clause-next g c tell entry s honest =
     let T = some_read _ _ _ _ c.in-Some.is (c.in_ok-bytes.ensures.took (standing_at s.stage) s.source_is) in
-    stepped_on s T.0 T.2.standing T.2.holds (g.met.S.Source.fit _ _ (g.met.S.Source.may _ T.2.standing T.2.is) honest) (λ r at. g.met.S.Source.right _ T.2.standing r T.2.is honest at) c.in-Some.bytes T.1 c.taken.new.work (Some c.in-Some-2.commit) (subst (WasTaken s.stage.first.lsn s.stage.messages c.in-Some.bytes c.args.work.now c.taken.new.work) c.in-Some-2.is (c.in_ok-commit-in-Some.ensures.taken s.stage.first.lsn s.stage.messages s.work_is.is)) c.in-Some-2.commit refl c.requires.time c.requires.since c.follow.new.work c.in_ok-closed-in-Some-2.ensures.stepped c.in_ok-closed-in-Some-2.ensures.long c.read.new.self c.follow.new.sink T.2.is
+    stepped_on s T.0 T.2.standing T.2.holds (g.met.S.Source.fit _ _ (g.met.S.Source.may _ T.2.standing T.2.is) honest) (λ r at. g.met.S.Source.right _ T.2.standing r T.2.is honest at) c.in-Some.bytes T.1 c.take_message.new.work (Some c.in-Some-2.commit) (subst (WasTaken s.stage.first.lsn s.stage.messages c.in-Some.bytes c.args.work.now c.take_message.new.work) c.in-Some-2.is (c.in_ok-commit-in-Some.ensures.taken s.stage.first.lsn s.stage.messages s.work_is.is)) c.in-Some-2.commit refl c.requires.time c.requires.since c.follow.new.work c.in_ok-closed-in-Some-2.ensures.stepped c.in_ok-closed-in-Some-2.ensures.long c.read.new.self c.follow.new.sink T.2.is
     (λ t. c.in_ok-closed-in-Some-2.ensures.put s.stage.groups (s.sink_is t))
 
 pub returns-in-Some-clause-next : goal.returns-in-Some-clause-next
 returns-in-Some-clause-next g c tell entry s honest =
     let T = some_read _ _ _ _ c.in-Some.is (c.in_ok-bytes.ensures.took (standing_at s.stage) s.source_is) in
-    taken_on s T.0 T.2.standing T.2.holds (g.met.S.Source.fit _ _ (g.met.S.Source.may _ T.2.standing T.2.is) honest) (λ r at. g.met.S.Source.right _ T.2.standing r T.2.is honest at) c.in-Some.bytes T.1 c.taken.new.work None (subst (WasTaken s.stage.first.lsn s.stage.messages c.in-Some.bytes c.args.work.now c.taken.new.work) c.in-None-2.is (c.in_ok-commit-in-Some.ensures.taken s.stage.first.lsn s.stage.messages s.work_is.is)) refl c.read.new.self T.2.is
+    taken_on s T.0 T.2.standing T.2.holds (g.met.S.Source.fit _ _ (g.met.S.Source.may _ T.2.standing T.2.is) honest) (λ r at. g.met.S.Source.right _ T.2.standing r T.2.is honest at) c.in-Some.bytes T.1 c.take_message.new.work None (subst (WasTaken s.stage.first.lsn s.stage.messages c.in-Some.bytes c.args.work.now c.take_message.new.work) c.in-None-2.is (c.in_ok-commit-in-Some.ensures.taken s.stage.first.lsn s.stage.messages s.work_is.is)) refl c.read.new.self T.2.is
 
 pub returns-in-Some-2-clause-ready : goal.returns-in-Some-2-clause-ready
-returns-in-Some-2-clause-ready g c = stepped_ready c.requires.ready.after c.requires.ready.messages c.in-Some.bytes c.in-Some-2.commit c.args.work.now c.taken.new.work c.follow.new.work c.requires.ready.is (subst (WasTaken c.requires.ready.after c.requires.ready.messages c.in-Some.bytes c.args.work.now c.taken.new.work) c.in-Some-2.is (c.in_ok-commit-in-Some.ensures.taken c.requires.ready.after c.requires.ready.messages c.requires.ready.is)) c.in_ok-closed-in-Some-2.ensures.stepped c.in_ok-closed-in-Some-2.ensures.long
+returns-in-Some-2-clause-ready g c = stepped_ready c.requires.ready.after c.requires.ready.messages c.in-Some.bytes c.in-Some-2.commit c.args.work.now c.take_message.new.work c.follow.new.work c.requires.ready.is (subst (WasTaken c.requires.ready.after c.requires.ready.messages c.in-Some.bytes c.args.work.now c.take_message.new.work) c.in-Some-2.is (c.in_ok-commit-in-Some.ensures.taken c.requires.ready.after c.requires.ready.messages c.requires.ready.is)) c.in_ok-closed-in-Some-2.ensures.stepped c.in_ok-closed-in-Some-2.ensures.long
 
 pub returns-in-Some-clause-ready : goal.returns-in-Some-clause-ready
-returns-in-Some-clause-ready g c = taken_ready c.requires.ready.after c.requires.ready.messages c.in-Some.bytes c.args.work.now c.taken.new.work c.requires.ready.is (subst (WasTaken c.requires.ready.after c.requires.ready.messages c.in-Some.bytes c.args.work.now c.taken.new.work) c.in-None-2.is (c.in_ok-commit-in-Some.ensures.taken c.requires.ready.after c.requires.ready.messages c.requires.ready.is))
+returns-in-Some-clause-ready g c = taken_ready c.requires.ready.after c.requires.ready.messages c.in-Some.bytes c.args.work.now c.take_message.new.work c.requires.ready.is (subst (WasTaken c.requires.ready.after c.requires.ready.messages c.in-Some.bytes c.args.work.now c.take_message.new.work) c.in-None-2.is (c.in_ok-commit-in-Some.ensures.taken c.requires.ready.after c.requires.ready.messages c.requires.ready.is))
 
 pub returns-clause-is_next : goal.returns-clause-is_next
 returns-clause-is_next g c = record { offset_is = refl; number_is = refl; every_is = refl; now_is = refl }
 
 pub returns-in-Some-clause-is_next : goal.returns-in-Some-clause-is_next
-returns-in-Some-clause-is_next g c = taken_next c.args.work.now c.taken.new.work c.taken.ensures.same
+returns-in-Some-clause-is_next g c = taken_next c.args.work.now c.take_message.new.work c.take_message.ensures.same
 
 pub returns-in-Some-2-clause-is_next : goal.returns-in-Some-2-clause-is_next
-returns-in-Some-2-clause-is_next g c = stepped_next c.in-Some-2.commit c.args.work.now c.taken.new.work c.follow.new.work c.taken.ensures.same c.in_ok-closed-in-Some-2.ensures.stepped
+returns-in-Some-2-clause-is_next g c = stepped_next c.in-Some-2.commit c.args.work.now c.take_message.new.work c.follow.new.work c.take_message.ensures.same c.in_ok-closed-in-Some-2.ensures.stepped
 
 pub returns-in-Some-2-clause-due : goal.returns-in-Some-2-clause-due
 returns-in-Some-2-clause-due g c = c.is_due.ensures.due
 
 pub returns-in-Some-clause-due : goal.returns-in-Some-clause-due
-returns-in-Some-clause-due g c = inl (refl, subst (λ (w : Work). w.since < w.every) (sym c.taken.ensures.same) c.requires.since)
+returns-in-Some-clause-due g c = inl (refl, subst (λ (w : Work). w.since < w.every) (sym c.take_message.ensures.same) c.requires.since)
 
 pub is_due-requires : goal.is_due-requires
-is_due-requires g c = stepped_since c.in-Some-2.commit c.args.work.now c.taken.new.work c.follow.new.work c.taken.ensures.same c.in_ok-closed-in-Some-2.ensures.stepped c.requires.since
+is_due-requires g c = stepped_since c.in-Some-2.commit c.args.work.now c.take_message.new.work c.follow.new.work c.take_message.ensures.same c.in_ok-closed-in-Some-2.ensures.stepped c.requires.since
 
 pub follow-requires-clause-since : goal.follow-requires-clause-since
-follow-requires-clause-since g c = subst (λ (w : Work). w.since < w.every) (sym c.taken.ensures.same) c.requires.since
+follow-requires-clause-since g c = subst (λ (w : Work). w.since < w.every) (sym c.take_message.ensures.same) c.requires.since
 
 pub follow-requires-clause-fits : goal.follow-requires-clause-fits
-follow-requires-clause-fits g c = subst (λ (o : Option Commit). IfSome o (λ x. All (FitsInfos c.taken.new.work.follower.infos) (changes_of x))) c.in-Some-2.is c.in_ok-commit-in-Some.ensures.fits
+follow-requires-clause-fits g c = subst (λ (o : Option Commit). IfSome o (λ x. All (FitsInfos c.take_message.new.work.follower.infos) (changes_of x))) c.in-Some-2.is c.in_ok-commit-in-Some.ensures.fits
 
 pub returns-in_err-bytes-clause-sink : goal.returns-in_err-bytes-clause-sink
 returns-in_err-bytes-clause-sink g c is = absurd (err_at c.from_residual.result _ OfSource (residual_of c.from_residual.result _ OfSource c.from_residual.ensures.1 (source_of c.in_err-bytes.field-0.0)) is)
@@ -163,11 +163,11 @@ returns-in_err-commit-in-Some-clause-counts g c =
 pub returns-in_err-closed-in-Some-2-clause-counts : goal.returns-in_err-closed-in-Some-2-clause-counts
 returns-in_err-closed-in-Some-2-clause-counts g c =
     let p = err_from_is_err_and c.from_residual-in_err-closed-in-Some-2.result c.from_residual-in_err-closed-in-Some-2.ensures.1 in
-    counted_torn c.from_residual-in_err-closed-in-Some-2.result p.0 c.in-Some-2.commit c.taken.new.work c.args.report.now c.follow.new.report p.1 c.in_err-closed-in-Some-2.ensures.noted
+    counted_torn c.from_residual-in_err-closed-in-Some-2.result p.0 c.in-Some-2.commit c.take_message.new.work c.args.report.now c.follow.new.report p.1 c.in_err-closed-in-Some-2.ensures.noted
 
 pub returns-in-Some-2-clause-counts : goal.returns-in-Some-2-clause-counts
 returns-in-Some-2-clause-counts g c =
-    let st = step_counts c.in-Some-2.commit c.taken.new.work (record c.args.report.now { messages = c.args.report.now.messages + 1 }) c.follow.new.report true c.in_ok-closed-in-Some-2.ensures.noted in
+    let st = step_counts c.in-Some-2.commit c.take_message.new.work (record c.args.report.now { messages = c.args.report.now.messages + 1 }) c.follow.new.report true c.in_ok-closed-in-Some-2.ensures.noted in
     (st.messages, omega (arith, st.commits), st.position)
 
 pub returns-in_err-bytes-clause-never : goal.returns-in_err-bytes-clause-never
@@ -216,26 +216,26 @@ returns-in_err-commit-in-Some-clause-halted g c at found b u =
 
 pub returns-in_err-closed-in-Some-2-clause-halted : goal.returns-in_err-closed-in-Some-2-clause-halted
 returns-in_err-closed-in-Some-2-clause-halted g c at found b u =
-    let counts = torn_counts c.in-Some-2.commit c.taken.new.work c.args.report.now c.follow.new.report c.in_err-closed-in-Some-2.ensures.noted in
+    let counts = torn_counts c.in-Some-2.commit c.take_message.new.work c.args.report.now c.follow.new.report c.in_err-closed-in-Some-2.ensures.noted in
     residual_of c.from_residual-in_err-closed-in-Some-2.result _ (Halts g.S.Source.stands at found b.config b.now b.held c.args.store.now.offset c.follow.new.report c.read.new.self (g.S.Source.told c.read.new.self)) c.from_residual-in_err-closed-in-Some-2.ensures.1
     (record {
       halted = halts_at g.S.Source.stands at found b c.args.store.now.offset c.args.work.now c.args.report.now c.follow.new.report c.args.src.now c.read.new.self (g.S.Source.told c.args.src.now) (g.S.Source.told c.read.new.self) c.in-Some.bytes _ u (some_read _ _ _ _ c.in-Some.is c.in_ok-bytes.ensures.taken) (λ s is. some_read _ _ _ _ c.in-Some.is (c.in_ok-bytes.ensures.took s is)) (g.met.S.Source.one c.read.new.self)
-          (follow_cause c.follow.new.report.messages b.first.lsn u.messages c.in-Some.bytes c.args.work.now c.taken.new.work c.in-Some-2.commit _ (subst (WasTaken b.first.lsn u.messages c.in-Some.bytes c.args.work.now c.taken.new.work) c.in-Some-2.is (c.in_ok-commit-in-Some.ensures.taken b.first.lsn u.messages u.is.is.is)) (λ is. c.in_err-closed-in-Some-2.ensures.sink (ap (λ (k : Halt). Err k) is)) c.in_err-closed-in-Some-2.ensures.halt) counts.messages counts.commits;
-      stood = λ s first. commits_stood g.S.Source.stands at found b c.args.store.now.offset c.args.work.now c.args.src.now c.read.new.self (g.S.Source.told c.args.src.now) c.args.report.now c.follow.new.report c.in-Some.bytes c.taken.new.work c.in-Some-2.commit _ u (λ s is. some_read _ _ _ _ c.in-Some.is (c.in_ok-bytes.ensures.took s is)) (subst (WasTaken b.first.lsn u.messages c.in-Some.bytes c.args.work.now c.taken.new.work) c.in-Some-2.is (c.in_ok-commit-in-Some.ensures.taken b.first.lsn u.messages u.is.is.is)) counts.messages c.in_err-closed-in-Some-2.ensures.counts c.in_err-closed-in-Some-2.ensures.halt s first;
-      cause = follow_caused b u.messages c.args.store.now.offset c.args.work.now c.args.report.now c.follow.new.report found (g.S.Source.told c.args.src.now) (g.S.Source.told c.read.new.self) c.in-Some.bytes c.taken.new.work c.in-Some-2.commit _ u.is u.tells (some_read _ _ _ _ c.in-Some.is c.in_ok-bytes.ensures.taken) (subst (WasTaken b.first.lsn u.messages c.in-Some.bytes c.args.work.now c.taken.new.work) c.in-Some-2.is (c.in_ok-commit-in-Some.ensures.taken b.first.lsn u.messages u.is.is.is)) counts.messages c.in_err-closed-in-Some-2.ensures.counts c.in_err-closed-in-Some-2.ensures.halt;
+          (follow_cause c.follow.new.report.messages b.first.lsn u.messages c.in-Some.bytes c.args.work.now c.take_message.new.work c.in-Some-2.commit _ (subst (WasTaken b.first.lsn u.messages c.in-Some.bytes c.args.work.now c.take_message.new.work) c.in-Some-2.is (c.in_ok-commit-in-Some.ensures.taken b.first.lsn u.messages u.is.is.is)) (λ is. c.in_err-closed-in-Some-2.ensures.sink (ap (λ (k : Halt). Err k) is)) c.in_err-closed-in-Some-2.ensures.halt) counts.messages counts.commits;
+      stood = λ s first. commits_stood g.S.Source.stands at found b c.args.store.now.offset c.args.work.now c.args.src.now c.read.new.self (g.S.Source.told c.args.src.now) c.args.report.now c.follow.new.report c.in-Some.bytes c.take_message.new.work c.in-Some-2.commit _ u (λ s is. some_read _ _ _ _ c.in-Some.is (c.in_ok-bytes.ensures.took s is)) (subst (WasTaken b.first.lsn u.messages c.in-Some.bytes c.args.work.now c.take_message.new.work) c.in-Some-2.is (c.in_ok-commit-in-Some.ensures.taken b.first.lsn u.messages u.is.is.is)) counts.messages c.in_err-closed-in-Some-2.ensures.counts c.in_err-closed-in-Some-2.ensures.halt s first;
+      cause = follow_caused b u.messages c.args.store.now.offset c.args.work.now c.args.report.now c.follow.new.report found (g.S.Source.told c.args.src.now) (g.S.Source.told c.read.new.self) c.in-Some.bytes c.take_message.new.work c.in-Some-2.commit _ u.is u.tells (some_read _ _ _ _ c.in-Some.is c.in_ok-bytes.ensures.taken) (subst (WasTaken b.first.lsn u.messages c.in-Some.bytes c.args.work.now c.take_message.new.work) c.in-Some-2.is (c.in_ok-commit-in-Some.ensures.taken b.first.lsn u.messages u.is.is.is)) counts.messages c.in_err-closed-in-Some-2.ensures.counts c.in_err-closed-in-Some-2.ensures.halt;
       ask = newest_asks b u.messages c.args.store.now.offset c.args.work.now c.args.report.now c.follow.new.report (g.S.Source.told c.args.src.now) (g.S.Source.told c.read.new.self) c.in-Some.bytes _ u.is.is (some_read _ _ _ _ c.in-Some.is c.in_ok-bytes.ensures.taken) (subst (λ (o : Option (List ℕ)). Tells (g.S.Source.told c.read.new.self) (Read o)) c.in-Some.is c.in_ok-bytes.ensures.told)
-          (follow_cause c.follow.new.report.messages b.first.lsn u.messages c.in-Some.bytes c.args.work.now c.taken.new.work c.in-Some-2.commit _ (subst (WasTaken b.first.lsn u.messages c.in-Some.bytes c.args.work.now c.taken.new.work) c.in-Some-2.is (c.in_ok-commit-in-Some.ensures.taken b.first.lsn u.messages u.is.is.is)) (λ is. c.in_err-closed-in-Some-2.ensures.sink (ap (λ (k : Halt). Err k) is)) c.in_err-closed-in-Some-2.ensures.halt);
+          (follow_cause c.follow.new.report.messages b.first.lsn u.messages c.in-Some.bytes c.args.work.now c.take_message.new.work c.in-Some-2.commit _ (subst (WasTaken b.first.lsn u.messages c.in-Some.bytes c.args.work.now c.take_message.new.work) c.in-Some-2.is (c.in_ok-commit-in-Some.ensures.taken b.first.lsn u.messages u.is.is.is)) (λ is. c.in_err-closed-in-Some-2.ensures.sink (ap (λ (k : Halt). Err k) is)) c.in_err-closed-in-Some-2.ensures.halt);
     })
 
 pub returns-in-Some-2-clause-under_way : goal.returns-in-Some-2-clause-under_way
 returns-in-Some-2-clause-under_way g c at found b u =
     goes_due g.S.Source.stands at found b c.args.store.now.offset c.follow.new.work c.follow.new.report c.read.new.self (g.S.Source.told c.read.new.self) c.is_due.result
-    (λ due. follows_on g.S.Source.stands at found b c.args.store.now.offset c.args.src.now c.read.new.self (g.S.Source.told c.args.src.now) (g.S.Source.told c.read.new.self) c.args.work.now c.taken.new.work c.follow.new.work c.args.report.now c.follow.new.report u c.in-Some.bytes c.in-Some-2.commit (subst (WasTaken b.first.lsn u.messages c.in-Some.bytes c.args.work.now c.taken.new.work) c.in-Some-2.is (c.in_ok-commit-in-Some.ensures.taken b.first.lsn u.messages u.is.is.is)) c.in_ok-closed-in-Some-2.ensures.stepped c.in_ok-closed-in-Some-2.ensures.long c.requires.number c.in_ok-closed-in-Some-2.ensures.noted (some_read _ _ _ _ c.in-Some.is c.in_ok-bytes.ensures.taken) (λ s is. some_read _ _ _ _ c.in-Some.is (c.in_ok-bytes.ensures.took s is)))
-    (λ due. follows_at_rest g.S.Source.stands at found b c.args.store.now.offset c.args.src.now c.read.new.self (g.S.Source.told c.args.src.now) (g.S.Source.told c.read.new.self) c.args.work.now c.taken.new.work c.follow.new.work c.args.report.now c.follow.new.report u c.in-Some.bytes c.in-Some-2.commit (subst (WasTaken b.first.lsn u.messages c.in-Some.bytes c.args.work.now c.taken.new.work) c.in-Some-2.is (c.in_ok-commit-in-Some.ensures.taken b.first.lsn u.messages u.is.is.is)) c.in_ok-closed-in-Some-2.ensures.stepped c.in_ok-closed-in-Some-2.ensures.long c.requires.number c.in_ok-closed-in-Some-2.ensures.noted (some_read _ _ _ _ c.in-Some.is c.in_ok-bytes.ensures.taken) (λ s is. some_read _ _ _ _ c.in-Some.is (c.in_ok-bytes.ensures.took s is)) (sym c.in_ok-closed-in-Some-2.ensures.closes ∙ c.is_due.ensures.open due))
+    (λ due. follows_on g.S.Source.stands at found b c.args.store.now.offset c.args.src.now c.read.new.self (g.S.Source.told c.args.src.now) (g.S.Source.told c.read.new.self) c.args.work.now c.take_message.new.work c.follow.new.work c.args.report.now c.follow.new.report u c.in-Some.bytes c.in-Some-2.commit (subst (WasTaken b.first.lsn u.messages c.in-Some.bytes c.args.work.now c.take_message.new.work) c.in-Some-2.is (c.in_ok-commit-in-Some.ensures.taken b.first.lsn u.messages u.is.is.is)) c.in_ok-closed-in-Some-2.ensures.stepped c.in_ok-closed-in-Some-2.ensures.long c.requires.number c.in_ok-closed-in-Some-2.ensures.noted (some_read _ _ _ _ c.in-Some.is c.in_ok-bytes.ensures.taken) (λ s is. some_read _ _ _ _ c.in-Some.is (c.in_ok-bytes.ensures.took s is)))
+    (λ due. follows_at_rest g.S.Source.stands at found b c.args.store.now.offset c.args.src.now c.read.new.self (g.S.Source.told c.args.src.now) (g.S.Source.told c.read.new.self) c.args.work.now c.take_message.new.work c.follow.new.work c.args.report.now c.follow.new.report u c.in-Some.bytes c.in-Some-2.commit (subst (WasTaken b.first.lsn u.messages c.in-Some.bytes c.args.work.now c.take_message.new.work) c.in-Some-2.is (c.in_ok-commit-in-Some.ensures.taken b.first.lsn u.messages u.is.is.is)) c.in_ok-closed-in-Some-2.ensures.stepped c.in_ok-closed-in-Some-2.ensures.long c.requires.number c.in_ok-closed-in-Some-2.ensures.noted (some_read _ _ _ _ c.in-Some.is c.in_ok-bytes.ensures.taken) (λ s is. some_read _ _ _ _ c.in-Some.is (c.in_ok-bytes.ensures.took s is)) (sym c.in_ok-closed-in-Some-2.ensures.closes ∙ c.is_due.ensures.open due))
 
 pub returns-in-Some-clause-under_way : goal.returns-in-Some-clause-under_way
 returns-in-Some-clause-under_way g c at found b u =
-    takes_on g.S.Source.stands at found b c.args.store.now.offset c.args.src.now c.read.new.self (g.S.Source.told c.args.src.now) (g.S.Source.told c.read.new.self) c.args.work.now c.taken.new.work c.args.report.now (record c.args.report.now { messages = c.args.report.now.messages + 1 }) u c.in-Some.bytes (subst (WasTaken b.first.lsn u.messages c.in-Some.bytes c.args.work.now c.taken.new.work) c.in-None-2.is (c.in_ok-commit-in-Some.ensures.taken b.first.lsn u.messages u.is.is.is)) refl (some_read _ _ _ _ c.in-Some.is c.in_ok-bytes.ensures.taken) (λ s is. some_read _ _ _ _ c.in-Some.is (c.in_ok-bytes.ensures.took s is))
+    takes_on g.S.Source.stands at found b c.args.store.now.offset c.args.src.now c.read.new.self (g.S.Source.told c.args.src.now) (g.S.Source.told c.read.new.self) c.args.work.now c.take_message.new.work c.args.report.now (record c.args.report.now { messages = c.args.report.now.messages + 1 }) u c.in-Some.bytes (subst (WasTaken b.first.lsn u.messages c.in-Some.bytes c.args.work.now c.take_message.new.work) c.in-None-2.is (c.in_ok-commit-in-Some.ensures.taken b.first.lsn u.messages u.is.is.is)) refl (some_read _ _ _ _ c.in-Some.is c.in_ok-bytes.ensures.taken) (λ s is. some_read _ _ _ _ c.in-Some.is (c.in_ok-bytes.ensures.took s is))
 
 pub returns-clause-under_way : goal.returns-clause-under_way
 returns-clause-under_way g c at found b u =
@@ -260,21 +260,21 @@ returns-in_err-commit-in-Some-clause-put g c groups at found b u =
 pub returns-in_err-closed-in-Some-2-clause-put : goal.returns-in_err-closed-in-Some-2-clause-put
 returns-in_err-closed-in-Some-2-clause-put g c groups at found b u =
     residual_of c.from_residual-in_err-closed-in-Some-2.result _ (HasHaltedPut g.S.Source.stands g.K.Sink.holds g.K.Sink.may_leave groups at b.config b.now b.held c.args.store.now.offset c.follow.new.report c.read.new.self (g.S.Source.told c.read.new.self) c.follow.new.sink) c.from_residual-in_err-closed-in-Some-2.ensures.1
-    (follow_puts g.S.Source.stands g.K.Sink.holds g.K.Sink.may_leave groups at found b c.args.store.now.offset c.args.src.now c.read.new.self (g.S.Source.told c.args.src.now) (g.S.Source.told c.read.new.self) c.args.sink.now c.follow.new.sink c.args.work.now c.taken.new.work c.args.report.now c.follow.new.report u c.in-Some.bytes c.in-Some-2.commit (subst (WasTaken b.first.lsn u.way.messages c.in-Some.bytes c.args.work.now c.taken.new.work) c.in-Some-2.is (c.in_ok-commit-in-Some.ensures.taken b.first.lsn u.way.messages u.way.is.is.is)) (few_taken (length u.way.messages) c.args.report.now.messages u.way.is.is.many c.requires.messages) c.requires.time c.in_err-closed-in-Some-2.field-0.0
+    (follow_puts g.S.Source.stands g.K.Sink.holds g.K.Sink.may_leave groups at found b c.args.store.now.offset c.args.src.now c.read.new.self (g.S.Source.told c.args.src.now) (g.S.Source.told c.read.new.self) c.args.sink.now c.follow.new.sink c.args.work.now c.take_message.new.work c.args.report.now c.follow.new.report u c.in-Some.bytes c.in-Some-2.commit (subst (WasTaken b.first.lsn u.way.messages c.in-Some.bytes c.args.work.now c.take_message.new.work) c.in-Some-2.is (c.in_ok-commit-in-Some.ensures.taken b.first.lsn u.way.messages u.way.is.is.is)) (few_taken (length u.way.messages) c.args.report.now.messages u.way.is.is.many c.requires.messages) c.requires.time c.in_err-closed-in-Some-2.field-0.0
     (λ left may. c.follow.ensures.left (groups ++ cut u.put.records) left u.put.held may) (g.met.K.Sink.may c.follow.new.sink)
     (λ other. c.in_err-closed-in-Some-2.ensures.kept (groups ++ cut u.put.records) u.put.held (λ is. let same : c.in_err-closed-in-Some-2.field-0.0 ≡ halt.Sink = cc in other same))
     (λ is. c.in_err-closed-in-Some-2.ensures.torn (groups ++ cut u.put.records) u.put.held (ap (λ (k : Halt). Err k) is)) (c.follow.ensures.some (groups ++ cut u.put.records) u.put.held)
-    (torn_counts c.in-Some-2.commit c.taken.new.work c.args.report.now c.follow.new.report c.in_err-closed-in-Some-2.ensures.noted) (λ is. c.in_err-closed-in-Some-2.ensures.sink (ap (λ (k : Halt). Err k) is)) (some_read _ _ _ _ c.in-Some.is c.in_ok-bytes.ensures.taken) (λ s is. some_read _ _ _ _ c.in-Some.is (c.in_ok-bytes.ensures.took s is)) (g.met.S.Source.one c.read.new.self) c.in_err-closed-in-Some-2.ensures.halt)
+    (torn_counts c.in-Some-2.commit c.take_message.new.work c.args.report.now c.follow.new.report c.in_err-closed-in-Some-2.ensures.noted) (λ is. c.in_err-closed-in-Some-2.ensures.sink (ap (λ (k : Halt). Err k) is)) (some_read _ _ _ _ c.in-Some.is c.in_ok-bytes.ensures.taken) (λ s is. some_read _ _ _ _ c.in-Some.is (c.in_ok-bytes.ensures.took s is)) (g.met.S.Source.one c.read.new.self) c.in_err-closed-in-Some-2.ensures.halt)
 
 pub returns-in-Some-2-clause-putting : goal.returns-in-Some-2-clause-putting
 returns-in-Some-2-clause-putting g c groups at found b u =
     puts_due g.S.Source.stands g.K.Sink.holds groups at found b c.args.store.now.offset c.follow.new.work c.follow.new.report c.read.new.self (g.S.Source.told c.read.new.self) c.follow.new.sink c.is_due.result
-    (λ due. commits_put g.S.Source.stands g.K.Sink.holds g.K.Sink.may_leave groups at found b c.args.store.now.offset c.args.src.now c.read.new.self (g.S.Source.told c.args.src.now) (g.S.Source.told c.read.new.self) c.args.sink.now c.follow.new.sink c.args.work.now c.taken.new.work c.follow.new.work c.args.report.now c.follow.new.report u c.in-Some.bytes c.in-Some-2.commit (subst (WasTaken b.first.lsn u.way.messages c.in-Some.bytes c.args.work.now c.taken.new.work) c.in-Some-2.is (c.in_ok-commit-in-Some.ensures.taken b.first.lsn u.way.messages u.way.is.is.is)) c.in_ok-closed-in-Some-2.ensures.stepped c.in_ok-closed-in-Some-2.ensures.long c.requires.number (few_taken (length u.way.messages) c.args.report.now.messages u.way.is.is.many c.requires.messages) c.requires.time c.in_ok-closed-in-Some-2.ensures.noted (c.in_ok-closed-in-Some-2.ensures.put (groups ++ cut u.put.records) u.put.held) (some_read _ _ _ _ c.in-Some.is c.in_ok-bytes.ensures.taken) (λ s is. some_read _ _ _ _ c.in-Some.is (c.in_ok-bytes.ensures.took s is)))
-    (λ due. commits_put_at_rest g.S.Source.stands g.K.Sink.holds g.K.Sink.may_leave groups at found b c.args.store.now.offset c.args.src.now c.read.new.self (g.S.Source.told c.args.src.now) (g.S.Source.told c.read.new.self) c.args.sink.now c.follow.new.sink c.args.work.now c.taken.new.work c.follow.new.work c.args.report.now c.follow.new.report u c.in-Some.bytes c.in-Some-2.commit (subst (WasTaken b.first.lsn u.way.messages c.in-Some.bytes c.args.work.now c.taken.new.work) c.in-Some-2.is (c.in_ok-commit-in-Some.ensures.taken b.first.lsn u.way.messages u.way.is.is.is)) c.in_ok-closed-in-Some-2.ensures.stepped c.in_ok-closed-in-Some-2.ensures.long c.requires.number (few_taken (length u.way.messages) c.args.report.now.messages u.way.is.is.many c.requires.messages) c.requires.time c.in_ok-closed-in-Some-2.ensures.noted (c.in_ok-closed-in-Some-2.ensures.put (groups ++ cut u.put.records) u.put.held) (some_read _ _ _ _ c.in-Some.is c.in_ok-bytes.ensures.taken) (λ s is. some_read _ _ _ _ c.in-Some.is (c.in_ok-bytes.ensures.took s is)) (sym c.in_ok-closed-in-Some-2.ensures.closes ∙ c.is_due.ensures.open due))
+    (λ due. commits_put g.S.Source.stands g.K.Sink.holds g.K.Sink.may_leave groups at found b c.args.store.now.offset c.args.src.now c.read.new.self (g.S.Source.told c.args.src.now) (g.S.Source.told c.read.new.self) c.args.sink.now c.follow.new.sink c.args.work.now c.take_message.new.work c.follow.new.work c.args.report.now c.follow.new.report u c.in-Some.bytes c.in-Some-2.commit (subst (WasTaken b.first.lsn u.way.messages c.in-Some.bytes c.args.work.now c.take_message.new.work) c.in-Some-2.is (c.in_ok-commit-in-Some.ensures.taken b.first.lsn u.way.messages u.way.is.is.is)) c.in_ok-closed-in-Some-2.ensures.stepped c.in_ok-closed-in-Some-2.ensures.long c.requires.number (few_taken (length u.way.messages) c.args.report.now.messages u.way.is.is.many c.requires.messages) c.requires.time c.in_ok-closed-in-Some-2.ensures.noted (c.in_ok-closed-in-Some-2.ensures.put (groups ++ cut u.put.records) u.put.held) (some_read _ _ _ _ c.in-Some.is c.in_ok-bytes.ensures.taken) (λ s is. some_read _ _ _ _ c.in-Some.is (c.in_ok-bytes.ensures.took s is)))
+    (λ due. commits_put_at_rest g.S.Source.stands g.K.Sink.holds g.K.Sink.may_leave groups at found b c.args.store.now.offset c.args.src.now c.read.new.self (g.S.Source.told c.args.src.now) (g.S.Source.told c.read.new.self) c.args.sink.now c.follow.new.sink c.args.work.now c.take_message.new.work c.follow.new.work c.args.report.now c.follow.new.report u c.in-Some.bytes c.in-Some-2.commit (subst (WasTaken b.first.lsn u.way.messages c.in-Some.bytes c.args.work.now c.take_message.new.work) c.in-Some-2.is (c.in_ok-commit-in-Some.ensures.taken b.first.lsn u.way.messages u.way.is.is.is)) c.in_ok-closed-in-Some-2.ensures.stepped c.in_ok-closed-in-Some-2.ensures.long c.requires.number (few_taken (length u.way.messages) c.args.report.now.messages u.way.is.is.many c.requires.messages) c.requires.time c.in_ok-closed-in-Some-2.ensures.noted (c.in_ok-closed-in-Some-2.ensures.put (groups ++ cut u.put.records) u.put.held) (some_read _ _ _ _ c.in-Some.is c.in_ok-bytes.ensures.taken) (λ s is. some_read _ _ _ _ c.in-Some.is (c.in_ok-bytes.ensures.took s is)) (sym c.in_ok-closed-in-Some-2.ensures.closes ∙ c.is_due.ensures.open due))
 
 pub returns-in-Some-clause-putting : goal.returns-in-Some-clause-putting
 returns-in-Some-clause-putting g c groups at found b u =
-    messages_put_nothing g.S.Source.stands g.K.Sink.holds g.K.Sink.may_leave groups at found b c.args.store.now.offset c.args.src.now c.read.new.self (g.S.Source.told c.args.src.now) (g.S.Source.told c.read.new.self) c.args.sink.now c.args.work.now c.taken.new.work c.args.report.now (record c.args.report.now { messages = c.args.report.now.messages + 1 }) u c.in-Some.bytes (subst (WasTaken b.first.lsn u.way.messages c.in-Some.bytes c.args.work.now c.taken.new.work) c.in-None-2.is (c.in_ok-commit-in-Some.ensures.taken b.first.lsn u.way.messages u.way.is.is.is)) refl (some_read _ _ _ _ c.in-Some.is c.in_ok-bytes.ensures.taken) (λ s is. some_read _ _ _ _ c.in-Some.is (c.in_ok-bytes.ensures.took s is))
+    messages_put_nothing g.S.Source.stands g.K.Sink.holds g.K.Sink.may_leave groups at found b c.args.store.now.offset c.args.src.now c.read.new.self (g.S.Source.told c.args.src.now) (g.S.Source.told c.read.new.self) c.args.sink.now c.args.work.now c.take_message.new.work c.args.report.now (record c.args.report.now { messages = c.args.report.now.messages + 1 }) u c.in-Some.bytes (subst (WasTaken b.first.lsn u.way.messages c.in-Some.bytes c.args.work.now c.take_message.new.work) c.in-None-2.is (c.in_ok-commit-in-Some.ensures.taken b.first.lsn u.way.messages u.way.is.is.is)) refl (some_read _ _ _ _ c.in-Some.is c.in_ok-bytes.ensures.taken) (λ s is. some_read _ _ _ _ c.in-Some.is (c.in_ok-bytes.ensures.took s is))
 
 pub returns-clause-putting : goal.returns-clause-putting
 returns-clause-putting g c groups at found b u =
@@ -325,7 +325,7 @@ pub returns-in_err-closed-in-Some-2-clause-most : goal.returns-in_err-closed-in-
 returns-in_err-closed-in-Some-2-clause-most g c tell entry s closed =
     let T = some_read _ _ _ _ c.in-Some.is (c.in_ok-bytes.ensures.took (standing_at s.stage) s.source_is) in
     leaves_most _ g.S.Source.may_leave c.read.new.self c.follow.new.report.chunks entry.history (λ left may. others_leave_few_marks entry s.stage c.args.work.now left.history c.args.report.now.chunks c.follow.new.report.chunks s.work_is s.going closed
-    (torn_more c.in-Some-2.commit c.args.work.now c.taken.new.work c.args.report.now c.follow.new.report closed c.requires.number c.in_err-closed-in-Some-2.ensures.noted)
+    (torn_more c.in-Some-2.commit c.args.work.now c.take_message.new.work c.args.report.now c.follow.new.report closed c.requires.number c.in_err-closed-in-Some-2.ensures.noted)
     (left_grows s.stage.history T.2.standing left T.2.holds.grows (g.met.S.Source.only c.read.new.self T.2.standing left T.2.is may)))
 
 pub returns-in-Some-2-clause-quiet : goal.returns-in-Some-2-clause-quiet
@@ -352,23 +352,23 @@ pub returns-in_err-closed-in-Some-2-clause-content : goal.returns-in_err-closed-
 returns-in_err-closed-in-Some-2-clause-content g c entry at found b s u faithful honest =
     let T = some_read _ _ _ _ c.in-Some.is (c.in_ok-bytes.ensures.took (standing_at s.stage) s.source_is) in
     residual_of c.from_residual-in_err-closed-in-Some-2.result _ (IsFaithfulHalt entry c.args.store.now.offset c.follow.new.report (g.S.Source.stands c.read.new.self) (g.K.Sink.holds c.follow.new.sink)) c.from_residual-in_err-closed-in-Some-2.ensures.1
-    (follow_own s faithful T.0 T.2.standing T.2.holds (g.met.S.Source.fit _ _ (g.met.S.Source.may _ T.2.standing T.2.is) honest) (λ r at. g.met.S.Source.right _ T.2.standing r T.2.is honest at) c.in-Some.bytes T.1 c.taken.new.work c.in-Some-2.commit (subst (WasTaken s.stage.first.lsn s.stage.messages c.in-Some.bytes c.args.work.now c.taken.new.work) c.in-Some-2.is (c.in_ok-commit-in-Some.ensures.taken s.stage.first.lsn s.stage.messages s.work_is.is))
+    (follow_own s faithful T.0 T.2.standing T.2.holds (g.met.S.Source.fit _ _ (g.met.S.Source.may _ T.2.standing T.2.is) honest) (λ r at. g.met.S.Source.right _ T.2.standing r T.2.is honest at) c.in-Some.bytes T.1 c.take_message.new.work c.in-Some-2.commit (subst (WasTaken s.stage.first.lsn s.stage.messages c.in-Some.bytes c.args.work.now c.take_message.new.work) c.in-Some-2.is (c.in_ok-commit-in-Some.ensures.taken s.stage.first.lsn s.stage.messages s.work_is.is))
     b u.messages c.args.store.now.offset c.args.report.now c.follow.new.report u.is c.in_err-closed-in-Some-2.ensures.counts c.read.new.self c.follow.new.sink T.2.is _ c.in_err-closed-in-Some-2.ensures.halt)
 
 pub returns-in-Some-2-clause-awaits : goal.returns-in-Some-2-clause-awaits
 returns-in-Some-2-clause-awaits g c at found b u s first honest a =
     let own = (work_at g.S.Source.stands at found b c.args.store.now.offset c.args.work.now c.args.report.now c.args.src.now (g.S.Source.told c.args.src.now) u (g.met.S.Source.one c.args.src.now) s first a) in
     let read = some_read _ _ _ _ c.in-Some.is (c.in_ok-bytes.ensures.took a.standing a.is) in
-    awaits_commit g.S.Source.stands c.args.work.now c.args.src.now c.read.new.self a c.in-Some.bytes read.0 read.2.standing read.1 read.2.is read.2.holds c.taken.new.work c.follow.new.work c.in-Some-2.commit
-    (subst (WasTaken a.reading.after a.reading.messages c.in-Some.bytes c.args.work.now c.taken.new.work) c.in-Some-2.is (c.in_ok-commit-in-Some.ensures.taken a.reading.after a.reading.messages own)) own.accepted
+    awaits_commit g.S.Source.stands c.args.work.now c.args.src.now c.read.new.self a c.in-Some.bytes read.0 read.2.standing read.1 read.2.is read.2.holds c.take_message.new.work c.follow.new.work c.in-Some-2.commit
+    (subst (WasTaken a.reading.after a.reading.messages c.in-Some.bytes c.args.work.now c.take_message.new.work) c.in-Some-2.is (c.in_ok-commit-in-Some.ensures.taken a.reading.after a.reading.messages own)) own.accepted
     c.in_ok-closed-in-Some-2.ensures.stepped (λ is. g.met.S.Source.right c.read.new.self read.2.standing _ read.2.is honest is)
 
 pub returns-in-Some-clause-awaits : goal.returns-in-Some-clause-awaits
 returns-in-Some-clause-awaits g c at found b u s first honest a =
     let own = (work_at g.S.Source.stands at found b c.args.store.now.offset c.args.work.now c.args.report.now c.args.src.now (g.S.Source.told c.args.src.now) u (g.met.S.Source.one c.args.src.now) s first a) in
     let read = some_read _ _ _ _ c.in-Some.is (c.in_ok-bytes.ensures.took a.standing a.is) in
-    awaits_message g.S.Source.stands c.args.work.now c.args.src.now c.read.new.self a c.in-Some.bytes read.0 read.2.standing read.1 read.2.is read.2.holds c.taken.new.work
-    (subst (WasTaken a.reading.after a.reading.messages c.in-Some.bytes c.args.work.now c.taken.new.work) c.in-None-2.is (c.in_ok-commit-in-Some.ensures.taken a.reading.after a.reading.messages own))
+    awaits_message g.S.Source.stands c.args.work.now c.args.src.now c.read.new.self a c.in-Some.bytes read.0 read.2.standing read.1 read.2.is read.2.holds c.take_message.new.work
+    (subst (WasTaken a.reading.after a.reading.messages c.in-Some.bytes c.args.work.now c.take_message.new.work) c.in-None-2.is (c.in_ok-commit-in-Some.ensures.taken a.reading.after a.reading.messages own))
 
 pub returns-clause-awaits : goal.returns-clause-awaits
 returns-clause-awaits g c at found b u s first honest a =

@@ -79,7 +79,7 @@ returns-then-is_some c tables past asked =
     let free = unblocked (other_than c.args.name.now (owner_at c.args.rows.now (key_in (raw_of c.args.rows.now.table) (row_given (raw_of c.args.rows.now.table) c.args.cells.now)))) tt
     (subst (λ (o : Option (List ℕ)). Blocks {A = Unit {0}} o (Ok tt)) holder c.in_ok-pass.ensures) in
     let seen : is_some (seen_at c.args.rows.now c.args.name.now (key_in (raw_of c.args.rows.now.table) (row_given (raw_of c.args.rows.now.table) c.args.cells.now))) ≡ c.is_some.result =
-    sym (ap (λ (k : Key). is_some (seen_at c.args.rows.now c.args.name.now k)) key) ∙ (sym (ap is_some c.seen.ensures) ∙ (row_found c.seen.result ∙ sym c.is_some.ensures)) in
+    sym (ap (λ (k : Key). is_some (seen_at c.args.rows.now c.args.name.now k)) key) ∙ (sym (ap is_some c.seen_row.ensures) ∙ (row_found c.seen_row.result ∙ sym c.is_some.ensures)) in
     inr (insert_exists tables past c.args.name.now here c.args.rows.now c.args.session.now asked c.args.cells.now (both_yes (are_readable (raw_of c.args.rows.now.table) c.args.cells.now) (has_key_texts (raw_of c.args.rows.now.table) c.args.cells.now) readable has)
     sized.0 free (seen ∙ c.if-is_some.true))
 
@@ -100,7 +100,7 @@ returns c tables past asked =
     let free = unblocked (other_than c.args.name.now (owner_at c.args.rows.now (key_in (raw_of c.args.rows.now.table) (row_given (raw_of c.args.rows.now.table) c.args.cells.now)))) tt
     (subst (λ (o : Option (List ℕ)). Blocks {A = Unit {0}} o (Ok tt)) holder c.in_ok-pass.ensures) in
     let seen : is_some (seen_at c.args.rows.now c.args.name.now (key_in (raw_of c.args.rows.now.table) (row_given (raw_of c.args.rows.now.table) c.args.cells.now))) ≡ c.is_some.result =
-    sym (ap (λ (k : Key). is_some (seen_at c.args.rows.now c.args.name.now k)) key) ∙ (sym (ap is_some c.seen.ensures) ∙ (row_found c.seen.result ∙ sym c.is_some.ensures)) in
+    sym (ap (λ (k : Key). is_some (seen_at c.args.rows.now c.args.name.now k)) key) ∙ (sym (ap is_some c.seen_row.ensures) ∙ (row_found c.seen_row.result ∙ sym c.is_some.ensures)) in
     let w = c.in_ok-write_of.field-0 in
     let written : IsWrite c.args.name.now (key_in (raw_of c.args.rows.now.table) (row_given (raw_of c.args.rows.now.table) c.args.cells.now)) (Some c.in_ok-row.row) w = record {
       key_is = c.in_ok-write_of.ensures.key ∙ key;

@@ -10,4 +10,4 @@ use Rattle.dbl_event_text.proofs.keys.cells_text.Goals as goal
 pub returns : goal.returns
 returns c =
     let d = object (members_at c.args.cells.now c.args.places.now) in
-    c.make.ensures ∙ c.written.ensures ∙ ap print (c.in_ok-write_cells.ensures.ok ∙ ap (λ ts. ts ++ json_tokens (outline d)) c.new-writer.ensures.tokens) ∙ print-outline d
+    c.make.ensures ∙ c.written_text.ensures ∙ ap print (c.in_ok-write_cells.ensures.ok ∙ ap (λ ts. ts ++ json_tokens (outline d)) c.new-writer.ensures.tokens) ∙ print-outline d

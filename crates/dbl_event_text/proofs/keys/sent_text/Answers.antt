@@ -11,4 +11,4 @@ use Rattle.dbl_event_text.proofs.keys.sent_text.Goals as goal
 pub returns : goal.returns
 returns c =
     let d = object (members_at (map (sent c.args.placeholder.now) c.args.cells.now) c.args.places.now) in
-    c.make.ensures ∙ c.written.ensures ∙ ap print (c.in_ok-write_sent.ensures.ok ∙ ap (λ ts. ts ++ json_tokens (outline d)) c.new-writer.ensures.tokens) ∙ print-outline d
+    c.make.ensures ∙ c.written_text.ensures ∙ ap print (c.in_ok-write_sent.ensures.ok ∙ ap (λ ts. ts ++ json_tokens (outline d)) c.new-writer.ensures.tokens) ∙ print-outline d

@@ -9,4 +9,4 @@ use Rattle.dbl_event_text.proofs.progress.key_text.Goals as goal
 pub returns : goal.returns
 returns c =
     let d = table_data c.args.table.now in
-    c.make.ensures ∙ c.written.ensures ∙ ap print (c.in_ok-write_key.ensures.ok ∙ ap (λ ts. ts ++ json_tokens (outline d)) c.new-writer.ensures.tokens) ∙ print-outline d
+    c.make.ensures ∙ c.written_text.ensures ∙ ap print (c.in_ok-write_key.ensures.ok ∙ ap (λ ts. ts ++ json_tokens (outline d)) c.new-writer.ensures.tokens) ∙ print-outline d

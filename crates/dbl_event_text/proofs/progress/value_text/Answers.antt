@@ -17,5 +17,5 @@ pub returns : goal.returns
 returns c =
     let frame = c.args.frame.now in
     let tokens = progress_tokens (boolean c.args.done) (json_tokens (outline (through_data frame.layout.now.key_cells c.args.through.now))) c.args.table.now in
-    c.make.ensures ∙ c.written.ensures ∙ ap print (c.in_ok-write_value.ensures.ok ∙ ap (λ ts. ts ++ tokens) c.new-writer.ensures.tokens)
+    c.make.ensures ∙ c.written_text.ensures ∙ ap print (c.in_ok-write_value.ensures.ok ∙ ap (λ ts. ts ++ tokens) c.new-writer.ensures.tokens)
     ∙ progress_is frame.identity.now frame.info.now frame.layout.now c.args.through.now c.args.done c.args.table.now c.requires.framed.layout c.requires.long c.requires.table

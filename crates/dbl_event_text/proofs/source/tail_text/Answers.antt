@@ -8,4 +8,4 @@ pub returns : goal.returns
 unfolding tail_text
 returns c =
     let tail = tail_tokens c.args.identity.now c.args.table.now c.args.commit.now c.args.snapshot.now c.args.now_ms.now in
-    c.make.ensures ∙ c.written.ensures ∙ ap print (c.in_ok-write_tail.ensures.ok ∙ ap (λ ts. ts ++ tail) c.new-writer.ensures.tokens)
+    c.make.ensures ∙ c.written_text.ensures ∙ ap print (c.in_ok-write_tail.ensures.ok ∙ ap (λ ts. ts ++ tail) c.new-writer.ensures.tokens)

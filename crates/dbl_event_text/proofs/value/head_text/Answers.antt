@@ -10,4 +10,4 @@ use Rattle.dbl_event_text.proofs.value.head_text.Goals as goal
 pub returns : goal.returns
 returns c =
     let part = λ (side : Side). json_tokens (outline (side_data c.args.placeholder.now c.args.columns.now side)) in
-    c.written.ensures ∙ ap print (c.in_ok-write_head.ensures.ok ∙ ap (λ ts. ts ++ head_tokens (part c.args.after.now) (part c.args.before.now) c.args.op.now) c.new-writer.ensures.tokens)
+    c.written_text.ensures ∙ ap print (c.in_ok-write_head.ensures.ok ∙ ap (λ ts. ts ++ head_tokens (part c.args.after.now) (part c.args.before.now) c.args.op.now) c.new-writer.ensures.tokens)

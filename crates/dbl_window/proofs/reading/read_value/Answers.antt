@@ -8,7 +8,7 @@ use Rattle.dbl_window.proofs.CellLemmas.{unread_is}
 use Rattle.dbl_window.proofs.reading.read_value.Goals as goal
 
 pub returns-in-Err-clause-read : goal.returns-in-Err-clause-read
-returns-in-Err-clause-read c = elim c.unread.ensures [
+returns-in-Err-clause-read c = elim c.unread_cell.ensures [
   | inl memory ↦ inl memory
   | inr told ↦ elim c.in-Err.ensures.fault [
     | inl memory ↦ absurd (told.0 memory)

@@ -40,7 +40,7 @@ returns-in_err-head-clause-left g c s l stands may =
 
 pub returns-in_err-head-clause-taken : goal.returns-in_err-head-clause-taken
 returns-in_err-head-clause-taken g c =
-    taken_on (g.S.Source.told c.args.src.now) (g.S.Source.told c.all_described.new.src) (g.S.Source.told c.head.new.self) c.all_described.ensures.taken c.head.ensures.taken
+    taken_on (g.S.Source.told c.args.src.now) (g.S.Source.told c.describe_tables.new.src) (g.S.Source.told c.head.new.self) c.describe_tables.ensures.taken c.head.ensures.taken
 
 pub returns-in_err-head-clause-failed : goal.returns-in_err-head-clause-failed
 returns-in_err-head-clause-failed g c is =
@@ -48,7 +48,7 @@ returns-in_err-head-clause-failed g c is =
     let both : Err p.0 ≡ Err halt.Source = sym p.1 ∙ is in
     let halted : p.0 ≡ halt.Source = cc in
     let failed = source_failed c.in_err-head.field-0.0 (sym p.2 ∙ halted) in
-    rose_behind (g.S.Source.faults c.args.src.now) (g.S.Source.faults c.all_described.new.src) (g.S.Source.faults c.head.new.self) c.all_described.ensures.later
+    rose_behind (g.S.Source.faults c.args.src.now) (g.S.Source.faults c.describe_tables.new.src) (g.S.Source.faults c.head.new.self) c.describe_tables.ensures.later
     (c.head.ensures.failed (c.in_err-head.was ∙ ap (λ (e : SourceError). Err e) failed))
 
 pub returns-in_err-offset_at-clause-left : goal.returns-in_err-offset_at-clause-left
@@ -58,7 +58,7 @@ returns-in_err-offset_at-clause-left g c s l stands may =
 
 pub returns-in_err-offset_at-clause-taken : goal.returns-in_err-offset_at-clause-taken
 returns-in_err-offset_at-clause-taken g c =
-    taken_on (g.S.Source.told c.args.src.now) (g.S.Source.told c.all_described.new.src) (g.S.Source.told c.head.new.self) c.all_described.ensures.taken c.head.ensures.taken
+    taken_on (g.S.Source.told c.args.src.now) (g.S.Source.told c.describe_tables.new.src) (g.S.Source.told c.head.new.self) c.describe_tables.ensures.taken c.head.ensures.taken
 
 pub returns-clause-first : goal.returns-clause-first
 returns-clause-first g c s stands =
@@ -100,7 +100,7 @@ returns-clause-left g c s l stands may =
 
 pub returns-clause-taken : goal.returns-clause-taken
 returns-clause-taken g c =
-    taken_on (g.S.Source.told c.args.src.now) (g.S.Source.told c.all_described.new.src) (g.S.Source.told c.head.new.self) c.all_described.ensures.taken c.head.ensures.taken
+    taken_on (g.S.Source.told c.args.src.now) (g.S.Source.told c.describe_tables.new.src) (g.S.Source.told c.head.new.self) c.describe_tables.ensures.taken c.head.ensures.taken
 
 pub returns-clause-still : goal.returns-clause-still
 returns-clause-still g c s t old new =

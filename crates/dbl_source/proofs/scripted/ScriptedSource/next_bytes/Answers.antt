@@ -36,6 +36,6 @@ returns-in-Err-clause-err c =
     let place = c.in-Some.place in
     let fault : Steps i.tables.items i.log.items place (Err c.in-Err.error) =
     subst (λ (r : Result Step SourceError). Steps i.tables.items i.log.items place r) c.in-Err.is (steps (goal.at.returns-in-Err-clause-err c).After-next_step-next) in
-    subst (FailsToRead c.args.self.now c.unread.new.self) (sym c.unread.ensures.same)
-    (fails_to_read c.args.self.now c.unread.new.self place c.in-Err.error (sym (ap (λ (p : Played). p.place) c.self.view_is) ∙ c.in-Some.is)
-    (subst (λ (p : Played). Steps p.tables p.log place (Err c.in-Err.error)) c.self.view_is fault) c.unread.ensures.failed c.unread.ensures.memory)
+    subst (FailsToRead c.args.self.now c.note_unread.new.self) (sym c.note_unread.ensures.same)
+    (fails_to_read c.args.self.now c.note_unread.new.self place c.in-Err.error (sym (ap (λ (p : Played). p.place) c.self.view_is) ∙ c.in-Some.is)
+    (subst (λ (p : Played). Steps p.tables p.log place (Err c.in-Err.error)) c.self.view_is fault) c.note_unread.ensures.failed c.note_unread.ensures.memory)

@@ -12,7 +12,7 @@ returns-clause-held g c s stands =
       is = stood.is;
       holds = (
         stood.holds.0,
-        λ honest. selects_so plan c.in_ok-rows.rows.items chunk s stood.standing stood.holds.0 c.answered.ensures.starts (stood.holds.1 honest) same read through done,
+        λ honest. selects_so plan c.in_ok-rows.rows.items chunk s stood.standing stood.holds.0 c.answered_rows.ensures.starts (stood.holds.1 honest) same read through done,
       );
     })
 
@@ -23,7 +23,7 @@ pub returns-clause-never : goal.returns-clause-never
 returns-clause-never g c s infos row stands honest captured is =
     let stood = c.in_ok-rows.ensures.selected s stands in
     never_so c.args.self c.in_ok-rows.rows.items c.holding.result s stood.standing infos row c.holding.ensures.read stood.holds.0
-    (g.met.S.Source.fit c.answered.new.src (left_of stood.standing) (g.met.S.Source.may c.answered.new.src stood.standing stood.is) honest) c.answered.ensures.starts (stood.holds.1 honest) captured is
+    (g.met.S.Source.fit c.answered_rows.new.src (left_of stood.standing) (g.met.S.Source.may c.answered_rows.new.src stood.standing stood.is) honest) c.answered_rows.ensures.starts (stood.holds.1 honest) captured is
 
 pub returns-clause-cell : goal.returns-clause-cell
 returns-clause-cell g c s infos column error stands honest captured is =
@@ -32,34 +32,34 @@ returns-clause-cell g c s infos column error stands honest captured is =
       standing = stood.standing;
       is = stood.is;
       holds = cell_so c.args.self c.in_ok-rows.rows.items c.holding.result s stood.standing infos column error c.holding.ensures.read stood.holds.0
-          (g.met.S.Source.fit c.answered.new.src (left_of stood.standing) (g.met.S.Source.may c.answered.new.src stood.standing stood.is) honest) c.answered.ensures.starts (stood.holds.1 honest) captured is;
+          (g.met.S.Source.fit c.answered_rows.new.src (left_of stood.standing) (g.met.S.Source.may c.answered_rows.new.src stood.standing stood.is) honest) c.answered_rows.ensures.starts (stood.holds.1 honest) captured is;
     }
 
 -- what the rows' call tells
 
 pub returns-clause-left : goal.returns-clause-left
-returns-clause-left g c = c.answered.ensures.left
+returns-clause-left g c = c.answered_rows.ensures.left
 
 pub returns-clause-some : goal.returns-clause-some
-returns-clause-some g c = c.answered.ensures.some
+returns-clause-some g c = c.answered_rows.ensures.some
 
 pub returns-clause-taken : goal.returns-clause-taken
-returns-clause-taken g c = c.answered.ensures.taken
+returns-clause-taken g c = c.answered_rows.ensures.taken
 
 pub returns-clause-still : goal.returns-clause-still
-returns-clause-still g c = c.answered.ensures.still
+returns-clause-still g c = c.answered_rows.ensures.still
 
 pub returns-clause-reading : goal.returns-clause-reading
-returns-clause-reading g c = c.answered.ensures.reading
+returns-clause-reading g c = c.answered_rows.ensures.reading
 
 pub returns-clause-honest : goal.returns-clause-honest
-returns-clause-honest g c = c.answered.ensures.honest
+returns-clause-honest g c = c.answered_rows.ensures.honest
 
 pub returns-clause-comes : goal.returns-clause-comes
-returns-clause-comes g c = c.answered.ensures.comes
+returns-clause-comes g c = c.answered_rows.ensures.comes
 
 pub returns-clause-later : goal.returns-clause-later
-returns-clause-later g c = c.answered.ensures.later
+returns-clause-later g c = c.answered_rows.ensures.later
 
 pub returns-clause-live : goal.returns-clause-live
 returns-clause-live g c = on_ok c.holding.result c.in_ok-rows.ensures.live

@@ -1,0 +1,28 @@
+use Rattle.std.proofs.Common.{Option, subst}
+use Rattle.dbl_table.specs.declared.row.Key.{Key}
+use Rattle.dbl_history.specs.Fit.{IsKeyOf}
+use Rattle.dbl_honest.specs.Standings.{Stood}
+use Rattle.dbl_honest.specs.Calls.{Moved}
+use Rattle.dbl_honest.specs.Selected.{Selects}
+use Rattle.std.specs.Prelude.{IfSome}
+use Rattle.dbl_window.specs.Plans.{Plan}
+use Rattle.dbl_window.proofs.SelectLemmas.{still_led, still_dead}
+use Rattle.dbl_window.proofs.states.Marked.answered_rows.Goals as goal
+
+pub returns-clause-selected : goal.returns-clause-selected
+returns-clause-selected g c s stands =
+    let src = c.select.new.self in
+    let frame = c.self.inside.frame in
+    let rows = c.in_ok-select.field-0.items in
+    subst (λ (p : Plan). Stood g.S.Source.stands src (λ t. Moved s t × (g.S.Source.honest src → Selects p.info.name p.above p.limit s.history t.history rows))) c.self.view_is
+    (subst (λ (above : Option Key). Stood g.S.Source.stands src (λ t. Moved s t × (g.S.Source.honest src → Selects frame.info.name above frame.limit s.history t.history rows))) c.bound.ensures
+    (c.in_ok-select.ensures.selected s stands))
+
+pub returns-clause-starts : goal.returns-clause-starts
+returns-clause-starts g c = subst (λ (p : Plan). IfSome p.above (IsKeyOf p.info)) c.self.view_is c.self.invariant.is.start
+
+pub returns-in_err-select-clause-still : goal.returns-in_err-select-clause-still
+returns-in_err-select-clause-still g c s t before after = still_dead g.S.Source.stands g.S.Source.is_live c.select.new.self s t (g.met.S.Source.lives c.select.new.self) c.in_err-select.ensures.dead after
+
+pub returns-clause-still : goal.returns-clause-still
+returns-clause-still g c s t before after = still_led g.S.Source.stands c.select.new.self _ s t (g.met.S.Source.one c.select.new.self) (c.in_ok-select.ensures.selected s before) (λ u selected. selected.0.reading) after

@@ -58,7 +58,7 @@ use Rattle.dbl_connector.proofs.Ran.{LogLeaves, Ran, SourceLeaves}
 
 -- ---- halts
 
--- a halt is told as a disk's fault or as want of memory, or as itself
+-- a halt is told as a disk's fault or as out of memory, or as itself
 pub own_or : (h : Halt) → IsOutside (halt_error h) ⊎ ((halt_error h ≡ Halted h) × IsOwnHalt h)
 own_or halt.Source = inl tt
 own_or halt.Sink = inl tt
@@ -182,7 +182,7 @@ module _ {W T F : Type 0} (seen_w : W → Option (List ℕ)) (may_w : W → List
   pub marks_of : (asked : Asked) → asks_in asked old ≡ Some config → AddsFew asked (may_w so.journal.disk) (may_w sn.journal.disk) w t f
   marks_of asked asks begun own bytes left leaves is =
       let same : begun.held ≡ old = disks_are_read_once w t f begun.held old begun.read read_here in
-      let few = ran.marks first first_stands (subst HasOwnTables same own) (left_in left.wal) (record { image = bytes; may = leaves; wal = left.wal; is = is; left = refl }) in
+      let few = ran.marks first first_stands (subst HasOwnTables same own) (left_in left.wal) (record { crashed = bytes; may = leaves; wal = left.wal; is = is; left = refl }) in
       inr (at_begun asked w t f (λ h c. AddsFewMarks c h left) begun old config read_here asks (few_of config now old left few))
 
   -- ---- where it ended as it should
@@ -231,7 +231,7 @@ module _ {W T F : Type 0} (seen_w : W → Option (List ℕ)) (may_w : W → List
       let stands = ended_wal seen_w may_w seen_t may_t seen_f may_f is_w is_t is_f w t f so lo fo src lg st config now sn ln fn report result ran ending is in
       record {
         begun = begun_of asked asks;
-        stays = (source_kept seen_w may_w seen_t may_t seen_f may_f is_w is_t is_f w t f so lo fo src lg st config now sn ln fn report result ran).images;
+        stays = (source_kept seen_w may_w seen_t may_t seen_f may_f is_w is_t is_f w t f so lo fo src lg st config now sn ln fn report result ran).crash;
         gained = gained_by (counted_ok ending is);
         raised = λ h exhausted. (let wrong : Ok ending ≡ Err h = sym is ∙ ran.exhausted h exhausted in cc);
         captured = λ none. ran.captures first first_stands none (settled_at ending is stands.0 stands.1).stored;
@@ -314,7 +314,7 @@ module _ {W T F : Type 0} (seen_w : W → Option (List ℕ)) (may_w : W → List
           report = told;
           marks = ok_is result ending (λ e. (l : Left) → SourceLeaves may_w sn l → AddsExactly report.chunks (marks_more e fn.offset) (standing_in src.wal so.place).history l.history)
               (ran.exactly first first_stands own) is (left_in stands.0)
-              (record { image = stands.1.running.lists.bytes; may = told_w; wal = stands.0; is = read_told.source; left = refl });
+              (record { crashed = stands.1.running.lists.bytes; may = told_w; wal = stands.0; is = read_told.source; left = refl });
           closed = closed_of;
         }
 
@@ -361,7 +361,7 @@ module _ {W T F : Type 0} (seen_w : W → Option (List ℕ)) (may_w : W → List
             let must = ran.must_absent first first_stands none name among cannot in
             subst (λ (x : Halt). IsOfTable x × IsAbsentHalt config.tables (history_at old) x) (err_one result must.0 h must.1 is) (must.2, must.3));
         gained = gained_by (counted_at h is own.1);
-        stays = (source_kept seen_w may_w seen_t may_t seen_f may_f is_w is_t is_f w t f so lo fo src lg st config now sn ln fn report result ran).images;
+        stays = (source_kept seen_w may_w seen_t may_t seen_f may_f is_w is_t is_f w t f so lo fo src lg st config now sn ln fn report result ran).crash;
         cause = λ bytes wal leaves read. cause_of config now old fn.offset report (StandsFor seen_w may_w sn) wal sn.place (one_left bytes wal leaves read) h (halt_over h is);
       }))
 

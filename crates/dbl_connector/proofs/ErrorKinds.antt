@@ -204,12 +204,12 @@ err_both (Err e) P Q R f p q = f e p q
 
 -- ---- one disk
 
-pub only_on : {D : Type 0} (seen : D → Option (List ℕ)) (may : D → List ℕ → Type 0) (old mid new : D) → seen mid ≡ seen old → ((image : List ℕ) → may mid image → may old image)
+pub only_on : {D : Type 0} (seen : D → Option (List ℕ)) (may : D → List ℕ → Type 0) (old mid new : D) → seen mid ≡ seen old → ((crashed : List ℕ) → may mid crashed → may old crashed)
     → OnlyRead seen may mid new → OnlyRead seen may old new
-only_on seen may old mid new same images read = record { same = read.same ∙ same; images = λ image leaves. images image (read.images image leaves) }
+only_on seen may old mid new same crash read = record { same = read.same ∙ same; crash = λ crashed leaves. crash crashed (read.crash crashed leaves) }
 
 pub only_same : {D : Type 0} (seen : D → Option (List ℕ)) (may : D → List ℕ → Type 0) (old new : D) → new ≡ old → OnlyRead seen may old new
-only_same seen may old new same = subst (OnlyRead seen may old) (sym same) (record { same = refl; images = λ image leaves. leaves })
+only_same seen may old new same = subst (OnlyRead seen may old) (sym same) (record { same = refl; crash = λ crashed leaves. leaves })
 
 pub counts_on : {D : Type 0} (faults : D → ℕ) (s : Store) (end : End) (old mid new : D) → faults old ≤ faults mid → Counts faults s end mid new → Counts faults s end old new
 counts_on faults s end old mid new later counts = record {
@@ -229,8 +229,8 @@ pub counts_by : {D : Type 0} (faults : D → ℕ) (s : Store) (e : ConnectError)
 counts_by faults s e old new later rose = record { later = later; cause = λ is. rose (let i = is in cc) }
 
 -- what a disk tells and leaves that was taken out of its store
-pub moved_images : {D : Type 0} (may : D → List ℕ → Type 0) (old new : D) → new ≡ old → (image : List ℕ) → may new image → may old image
-moved_images may old new same image leaves = subst (λ (d : _). may d image) same leaves
+pub moved_crash : {D : Type 0} (may : D → List ℕ → Type 0) (old new : D) → new ≡ old → (crashed : List ℕ) → may new crashed → may old crashed
+moved_crash may old new same crashed leaves = subst (λ (d : _). may d crashed) same leaves
 
 pub moved_to : {D : Type 0} (P : D → Type 0) (old new : D) → new ≡ old → P old → P new
 moved_to P old new same p = subst P (sym same) p
@@ -238,10 +238,10 @@ moved_to P old new same p = subst P (sym same) p
 pub bounded_on : {D : Type 0} (seen : D → Option (List ℕ)) (old mid new : D) → seen mid ≡ seen old → IsBounded (seen mid) (seen new) → IsBounded (seen old) (seen new)
 bounded_on seen old mid new same bounded = subst (λ (told : Option (List ℕ)). IsBounded told (seen new)) same bounded
 
-pub read_on : {D : Type 0} (seen : D → Option (List ℕ)) (may : D → List ℕ → Type 0) (end : End) (old mid new : D) → seen mid ≡ seen old → ((image : List ℕ) → may mid image → may old image)
+pub read_on : {D : Type 0} (seen : D → Option (List ℕ)) (may : D → List ℕ → Type 0) (end : End) (old mid new : D) → seen mid ≡ seen old → ((crashed : List ℕ) → may mid crashed → may old crashed)
     → IfErr end (λ e. IsRefusal e → OnlyRead seen may mid new) → IfErr end (λ e. IsRefusal e → OnlyRead seen may old new)
-read_on seen may end old mid new same images read =
-    err_as end (λ e. IsRefusal e → OnlyRead seen may mid new) (λ e. IsRefusal e → OnlyRead seen may old new) (λ e by refusal. only_on seen may old mid new same images (by refusal)) read
+read_on seen may end old mid new same crash read =
+    err_as end (λ e. IsRefusal e → OnlyRead seen may mid new) (λ e. IsRefusal e → OnlyRead seen may old new) (λ e by refusal. only_on seen may old mid new same crash (by refusal)) read
 
 -- where the end is a refusal the store is as it was, so that its disk was only read
 pub read_stayed : {D S : Type 0} (seen : D → Option (List ℕ)) (may : D → List ℕ → Type 0) (disk : S → D) (end : End) (old new : S) (out : D) → out ≡ disk new

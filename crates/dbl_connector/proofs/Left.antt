@@ -50,7 +50,7 @@ pub place_read : (wal : Wal) (place : Option Place) (reading : Reading) → opti
 place_read wal None reading is = cc
 place_read wal (Some p) reading is = (p, refl, (let i = is in cc))
 
--- what an image is read as, which went on from these contents
+-- what a crash leaves is read as contents, which went on from these contents
 pub record GoesOn (config : Config) (old : Contents) (w t f : List ℕ) : Type 0 where
   pub held : Contents
   pub read : ReadAs w t f held
@@ -93,10 +93,10 @@ module _ {W T F : Type 0} (seen_w : W → Option (List ℕ)) (may_w : W → List
     -- whatever a crash leaves of the three disks
     pub image_of : IsKept old → (w1 t1 f1 : List ℕ) → may_w sn.journal.disk w1 → may_t ln.disk t1 → may_f (disk_of fn) f1 → GoesOn config old w1 t1 f1
     image_of kept w1 t1 f1 mw mt mf =
-        let wal = source_kept.images w1 mw in
+        let wal = source_kept.crash w1 mw in
         let groups = log_kept.leaves t1 mt in
         let offset = (left_of kept).follows kept.faithful f1 mf in
-        let follows = offset.2 (left_in wal.0) groups.0 (record { image = w1; may = mw; wal = wal.0; is = wal.1; left = refl }) (t1, mt, groups.1) in
+        let follows = offset.2 (left_in wal.0) groups.0 (record { crashed = w1; may = mw; wal = wal.0; is = wal.1; left = refl }) (t1, mt, groups.1) in
         record {
           held = held_by wal.0 groups.0 offset.0;
           read = record { source = wal.1; log = groups.1; store = offset.1 };
@@ -134,7 +134,7 @@ module _ {W T F : Type 0} (seen_w : W → Option (List ℕ)) (may_w : W → List
         let place = place_read held.wal sn.place settled.reading settled.reading_is in
         let offset_is : held.offset ≡ Some settled.stored.offset = left_offset seen_f may_f fn fn.offset held.offset f1 (ended_store Complete is) mf read.store ∙ settled.stored.is in
         let whole = ran.complete entry (record { config_is = refl; now_is = refl }) (found_of seen_w may_w seen_t may_t seen_f may_f w t f so lo fo src lg st config now) (own_of kept) is kept.faithful f1 mf in
-        let complete = whole.2 (left_in held.wal) held.groups (record { image = w1; may = mw; wal = held.wal; is = read.source; left = refl }) (t1, mt, read.log) in
+        let complete = whole.2 (left_in held.wal) held.groups (record { crashed = w1; may = mw; wal = held.wal; is = read.source; left = refl }) (t1, mt, read.log) in
         let same : whole.0 ≡ Some settled.stored.offset = one_store f1 whole.0 held.offset whole.1 read.store ∙ offset_is in
         complete_runs_leave_tables_equal seen_w may_w config now old held settled.stored.offset sn place.0 kept kept1 goes demo (ran.ended is) place.1 offset_is
         (settled.last ∙ ap (λ (r : Reading). last_lsn r.after r.messages) (sym place.2))

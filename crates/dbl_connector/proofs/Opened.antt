@@ -38,8 +38,8 @@ held_by wal groups offset = record { wal = wal; groups = groups; offset = offset
 
 module _ {D : Type 0} (seen : D → Option (List ℕ)) (may : D → List ℕ → Type 0) where
   -- it leaves what it tells
-  pub only_told : (journal : OnDisk D) (entries : List (List ℕ)) (bytes image : List ℕ) → Lists seen may journal entries → seen journal.disk ≡ Some bytes → may journal.disk image → image ≡ bytes
-  only_told journal entries bytes image lists told leaves = lists.only image leaves ∙ same_some lists.bytes bytes (seen journal.disk) lists.told told
+  pub only_told : (journal : OnDisk D) (entries : List (List ℕ)) (bytes crashed : List ℕ) → Lists seen may journal entries → seen journal.disk ≡ Some bytes → may journal.disk crashed → crashed ≡ bytes
+  only_told journal entries bytes crashed lists told leaves = lists.only crashed leaves ∙ same_some lists.bytes bytes (seen journal.disk) lists.told told
 
   -- it has come so far
   pub come_of : (journal : OnDisk D) (entries : List (List ℕ)) (bytes : List ℕ) → Lists seen may journal entries → seen journal.disk ≡ Some bytes → HasCome seen may 0 (length bytes) journal
@@ -72,8 +72,8 @@ module _ {D : Type 0} (seen : D → Option (List ℕ)) (may : D → List ℕ →
 -- ---- the source
 
 module _ {W : Type 0} (seen : W → Option (List ℕ)) (may : W → List ℕ → Type 0) (w : List ℕ) (source : Demo W) (src : IsSourceOf seen may w source) where
-  pub wal_image : (image : List ℕ) → may source.journal.disk image → image ≡ w
-  wal_image image leaves = only_told seen may source.journal _ w image src.demo.running.lists src.told leaves
+  pub wal_crashed : (crashed : List ℕ) → may source.journal.disk crashed → crashed ≡ w
+  wal_crashed crashed leaves = only_told seen may source.journal _ w crashed src.demo.running.lists src.told leaves
 
   pub stood_first : StandsFor seen may source (standing_in src.wal source.place)
   stood_first = (src.wal, src.demo, refl)
@@ -82,21 +82,21 @@ module _ {W : Type 0} (seen : W → Option (List ℕ)) (may : W → List ℕ →
   kept_source = record {
     come = come_of seen may source.journal _ w src.demo.running.lists src.told;
     stands = λ live. (src.wal, src.demo, refl);
-    images = λ image leaves. (src.wal, subst (λ (b : List ℕ). IsWal b src.wal) (sym (wal_image image leaves)) src.is, refl);
+    crash = λ crashed leaves. (src.wal, subst (λ (b : List ℕ). IsWal b src.wal) (sym (wal_crashed crashed leaves)) src.is, refl);
   }
 
 -- what a source that stands leaves
-pub left_wal : {W : Type 0} (seen : W → Option (List ℕ)) (may : W → List ℕ → Type 0) (source : Demo W) (wal left : Wal) (image : List ℕ)
-    → IsDemo seen may wal source → may source.journal.disk image → IsWal image left → left ≡ wal
-left_wal seen may source wal left image demo leaves is =
-    let same : image ≡ demo.running.lists.bytes = demo.running.lists.only image leaves in
+pub left_wal : {W : Type 0} (seen : W → Option (List ℕ)) (may : W → List ℕ → Type 0) (source : Demo W) (wal left : Wal) (crashed : List ℕ)
+    → IsDemo seen may wal source → may source.journal.disk crashed → IsWal crashed left → left ≡ wal
+left_wal seen may source wal left crashed demo leaves is =
+    let same : crashed ≡ demo.running.lists.bytes = demo.running.lists.only crashed leaves in
     one_wal demo.running.lists.bytes left wal (subst (λ (b : List ℕ). IsWal b left) same is) (wal_of seen may source wal demo.running)
 
 -- ---- the topic log
 
 module _ {T : Type 0} (seen : T → Option (List ℕ)) (may : T → List ℕ → Type 0) (t : List ℕ) (log : OnDisk T) (lg : IsLogOf seen may t log) where
-  pub log_image : (image : List ℕ) → may log.disk image → image ≡ t
-  log_image image leaves = only_told seen may log _ t image lg.holds.lists lg.told leaves
+  pub log_crashed : (crashed : List ℕ) → may log.disk crashed → crashed ≡ t
+  log_crashed crashed leaves = only_told seen may log _ t crashed lg.holds.lists lg.told leaves
 
   pub kept_log : HasGroups seen may log
   kept_log = record { holds = λ live. (lg.groups, lg.holds); leaves = leaves_held seen may log lg.groups lg.holds }
@@ -107,17 +107,17 @@ module _ {T : Type 0} (seen : T → Option (List ℕ)) (may : T → List ℕ →
 -- ---- the offset store
 
 module _ {F : Type 0} (seen : F → Option (List ℕ)) (may : F → List ℕ → Type 0) (f : List ℕ) (store : StoreOn F) (st : IsStoreOf seen may f store) where
-  pub store_image : (image : List ℕ) → may (disk_of store) image → image ≡ f
-  store_image image leaves = only_told seen may store.journal _ f image st.holds.lists st.told leaves
+  pub store_crashed : (crashed : List ℕ) → may (disk_of store) crashed → crashed ≡ f
+  store_crashed crashed leaves = only_told seen may store.journal _ f crashed st.holds.lists st.told leaves
 
   pub store_come : HasCome seen may 0 (length f) store.journal
   store_come = come_of seen may store.journal _ f st.holds.lists st.told
 
 -- what a store that holds an offset leaves
-pub left_offset : {F : Type 0} (seen : F → Option (List ℕ)) (may : F → List ℕ → Type 0) (store : StoreOn F) (offset left : Option Offset) (image : List ℕ)
-    → Holds seen may store offset → may (disk_of store) image → IsStore image left → left ≡ offset
-left_offset seen may store offset left image holds leaves is =
-    let same : image ≡ holds.lists.bytes = holds.lists.only image leaves in
+pub left_offset : {F : Type 0} (seen : F → Option (List ℕ)) (may : F → List ℕ → Type 0) (store : StoreOn F) (offset left : Option Offset) (crashed : List ℕ)
+    → Holds seen may store offset → may (disk_of store) crashed → IsStore crashed left → left ≡ offset
+left_offset seen may store offset left crashed holds leaves is =
+    let same : crashed ≡ holds.lists.bytes = holds.lists.only crashed leaves in
     one_store holds.lists.bytes left offset (subst (λ (b : List ℕ). IsStore b left) same is)
     (record { entries = holds.entries; journal = holds.lists.spelled; each = holds.each; last = holds.last })
 

@@ -81,15 +81,15 @@ module _ {W T F : Type 0} (seen_w : W → Option (List ℕ)) (may_w : W → List
     (is_f : (disk : F) (bytes : List ℕ) → seen_f disk ≡ Some bytes → may_f disk bytes)
     (wal0 wal1 : W) (topics0 topics1 : T) (offsets0 offsets1 : F)
     (same_w : seen_w wal1 ≡ seen_w wal0) (same_t : seen_t topics1 ≡ seen_t topics0) (same_f : seen_f offsets1 ≡ seen_f offsets0)
-    (images_w : (image : List ℕ) → may_w wal1 image → may_w wal0 image)
-    (images_t : (image : List ℕ) → may_t topics1 image → may_t topics0 image)
-    (images_f : (image : List ℕ) → may_f offsets1 image → may_f offsets0 image) where
+    (crash_w : (crashed : List ℕ) → may_w wal1 crashed → may_w wal0 crashed)
+    (crash_t : (crashed : List ℕ) → may_t topics1 crashed → may_t topics0 crashed)
+    (crash_f : (crashed : List ℕ) → may_f offsets1 crashed → may_f offsets0 crashed) where
   pub answers_stay : (asked : Asked) (now : ℤ) (e : ConnectError) → IsUnhalted e
       → ((w t f : List ℕ) → seen_w wal0 ≡ Some w → seen_t topics0 ≡ Some t → seen_f offsets0 ≡ Some f → IsOutside e ⊎ IsRefused asked w t f e)
       → Answers seen_w may_w seen_t may_t seen_f may_f asked now wal0 wal1 topics0 topics1 offsets0 offsets1 (Err e)
   answers_stay asked now e own ends = record {
     headline = λ kept w t f mw mt mf. (
-        let here = kept.each w t f (images_w w mw) (images_t t mt) (images_f f mf) in
+        let here = kept.each w t f (crash_w w mw) (crash_t t mt) (crash_f f mf) in
         let all = same_promised here.0 here.2 in
         record {
           left = record {
@@ -100,9 +100,9 @@ module _ {W T F : Type 0} (seen_w : W → Option (List ℕ)) (may_w : W → List
               wal = w;
               topics = t;
               offsets = f;
-              may_wal = images_w w mw;
-              may_topics = images_t t mt;
-              may_offsets = images_f f mf;
+              may_wal = crash_w w mw;
+              may_topics = crash_t t mt;
+              may_offsets = crash_f f mf;
               old = here.0;
               read = here.1;
               goes = stays_so (asks_in asked here.0) here.0;
@@ -114,7 +114,7 @@ module _ {W T F : Type 0} (seen_w : W → Option (List ℕ)) (may_w : W → List
       wal = subst IsSome (sym same_w) kept.wal;
       topics = subst IsSome (sym same_t) kept.topics;
       offsets = subst IsSome (sym same_f) kept.offsets;
-      each = λ w t f mw mt mf. kept.each w t f (images_w w mw) (images_t t mt) (images_f f mf);
+      each = λ w t f mw mt mf. kept.each w t f (crash_w w mw) (crash_t t mt) (crash_f f mf);
     };
     report = λ kept w t f told_w told_t told_f. tt;
     never = λ kept w t f told_w told_t told_f. (
@@ -124,10 +124,10 @@ module _ {W T F : Type 0} (seen_w : W → Option (List ℕ)) (may_w : W → List
     gains = λ w t f told_w told_t told_f begun. record {
       stored = begun.held.offset;
       last = inl refl;
-      gains = λ bytes groups leaves is. inl (images_t bytes leaves);
-      ungained = λ same bytes groups leaves is. inl (images_t bytes leaves);
+      gains = λ bytes groups leaves is. inl (crash_t bytes leaves);
+      ungained = λ same bytes groups leaves is. inl (crash_t bytes leaves);
     };
-    marks = λ w t f told_w told_t told_f begun tables bytes left leaves is. inl (images_w bytes leaves);
+    marks = λ w t f told_w told_t told_f begun tables bytes left leaves is. inl (crash_w bytes leaves);
   }
 
   -- so it is behind an opening: what is said of what it left is said of what was there before
@@ -137,7 +137,7 @@ module _ {W T F : Type 0} (seen_w : W → Option (List ℕ)) (may_w : W → List
     wal = subst IsSome (sym same_w) kept.wal;
     topics = subst IsSome (sym same_t) kept.topics;
     offsets = subst IsSome (sym same_f) kept.offsets;
-    each = λ w t f mw mt mf. kept.each w t f (images_w w mw) (images_t t mt) (images_f f mf);
+    each = λ w t f mw mt mf. kept.each w t f (crash_w w mw) (crash_t t mt) (crash_f f mf);
   }
 
   pub answers_before : (asked : Asked) (now : ℤ) (wal2 : W) (topics2 : T) (offsets2 : F) (end : End)
@@ -155,9 +155,9 @@ module _ {W T F : Type 0} (seen_w : W → Option (List ℕ)) (may_w : W → List
               wal = here.left.came.wal;
               topics = here.left.came.topics;
               offsets = here.left.came.offsets;
-              may_wal = images_w here.left.came.wal here.left.came.may_wal;
-              may_topics = images_t here.left.came.topics here.left.came.may_topics;
-              may_offsets = images_f here.left.came.offsets here.left.came.may_offsets;
+              may_wal = crash_w here.left.came.wal here.left.came.may_wal;
+              may_topics = crash_t here.left.came.topics here.left.came.may_topics;
+              may_offsets = crash_f here.left.came.offsets here.left.came.may_offsets;
               old = here.left.came.old;
               read = here.left.came.read;
               goes = here.left.came.goes;
@@ -174,11 +174,11 @@ module _ {W T F : Type 0} (seen_w : W → Option (List ℕ)) (may_w : W → List
         record {
           stored = here.stored;
           last = here.last;
-          gains = λ bytes groups leaves is. either (images_t bytes) (here.gains bytes groups leaves is);
-          ungained = λ same bytes groups leaves is. either (images_t bytes) (here.ungained same bytes groups leaves is);
+          gains = λ bytes groups leaves is. either (crash_t bytes) (here.gains bytes groups leaves is);
+          ungained = λ same bytes groups leaves is. either (crash_t bytes) (here.ungained same bytes groups leaves is);
         });
     marks = λ w t f told_w told_t told_f begun tables bytes left leaves is.
-        either (images_w bytes) (by.marks w t f (same_w ∙ told_w) (same_t ∙ told_t) (same_f ∙ told_f) begun tables bytes left leaves is);
+        either (crash_w bytes) (by.marks w t f (same_w ∙ told_w) (same_t ∙ told_t) (same_f ∙ told_f) begun tables bytes left leaves is);
   }
     where
       either : {A B C : Type 0} → (A → B) → A ⊎ C → B ⊎ C

@@ -217,7 +217,7 @@ pub record Counts {D : Type 0} (faults : D → ℕ) (store : Store) (end : End) 
 -- a refused command has only read the disks: what a read gives is the same, and a crash leaves nothing that it couldn't leave before
 pub record OnlyRead {D : Type 0} (seen : D → Option (List ℕ)) (may_leave : D → List ℕ → Type 0) (old new : D) : Type 0 where
   pub same : seen new ≡ seen old
-  pub images : (image : List ℕ) → may_leave new image → may_leave old image
+  pub crash : (crashed : List ℕ) → may_leave new crashed → may_leave old crashed
 
 -- with its budget it has read so many messages, and with Complete fewer; and it has followed no more commits than it read messages
 pub record IsSpent (budget : ℕ) (summary : Summary) : Type 0 where

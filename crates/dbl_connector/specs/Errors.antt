@@ -38,7 +38,7 @@ offset_error (offset.BadOffset index) = BadEntry Offsets index
 offset_error (offset.TooLong len) = Memory
 offset_error offset.Memory = Memory
 
--- a device that failed is its disk, and want of memory is one, whatever ran out of it
+-- a device that failed is its disk, and out of memory is one, whatever ran out of it
 abbrev pub halt_error : Halt → ConnectError
 halt_error halt.Source = Failed Wal
 halt_error halt.Sink = Failed Topics

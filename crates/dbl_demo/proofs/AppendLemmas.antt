@@ -47,7 +47,7 @@ module _ {D : Type 0} (seen : D → Option (List ℕ)) (may_leave : D → List �
 
   -- where nothing was appended, what was there is left
   pub none_left : Lists seen may_leave new forms → LeavesEntries may_leave new.disk (λ left. (left ≡ forms) ⊎ (left ≡ forms ++ entry_form entry ∷ []))
-  none_left lists image may = (forms, subst (λ (bytes : List ℕ). IsJournal bytes forms) (sym (lists.only image may)) lists.spelled, inl refl)
+  none_left lists crashed may = (forms, subst (λ (bytes : List ℕ). IsJournal bytes forms) (sym (lists.only crashed may)) lists.spelled, inl refl)
 
 -- ---- what a call leaves of a journal
 

@@ -70,7 +70,7 @@ running_lists seen may_leave wal demo journal lists r = record {
 module _ {D : Type 0} (seen : D → Option (List ℕ)) (may_leave : D → List ℕ → Type 0) (faults : D → ℕ) {parts whole : Demo D} (is : parts ≡ whole) where
   -- ---- nothing was appended behind the group
 
-  -- a stop leaves the first ones of what the group adds
+  -- a crash leaves the first ones of what the group adds
   pub first_from : (new : Demo D) → Leaves seen may_leave faults parts (next_end parts) [] new → LeavesFirst seen may_leave (next_end whole) [] whole new
   first_from new left = subst (λ (s : Demo D). LeavesFirst seen may_leave (next_end s) [] s new) is (first_is seen may_leave faults parts (next_end parts) [] new left)
 

@@ -32,10 +32,10 @@ pub(crate) fn append<D: Disk>(journal: &mut Journal<D>, entry: Vec<u8>) -> Resul
     ensures left { (forms : List (List ℕ)) → Lists D.seen D.may_leave journal.old forms
         → LeavesEntries D.may_leave journal.new.disk
         (λ left. (left ≡ forms) ⊎ (left ≡ forms ++ drop 4 entry.items ∷ [])) }
-    // Where memory is wanting nothing was appended.
+    // Where memory runs out nothing was appended.
     ensures kept { (forms : List (List ℕ)) → Lists D.seen D.may_leave journal.old forms
         → result ≡ Err SourceError.Memory → Lists D.seen D.may_leave journal.new forms }
-    // A journal that failed can't be used any more; where memory was wanting it is what it was.
+    // A journal that failed can't be used any more; where memory ran out it is what it was.
     ensures stays { OnErr result (IsTrue journal.new.live → journal.new ≡ journal.old) }
     ensures live { OnOk result (IsTrue journal.new.live) }
     ensures count { OnOk result (count_of journal.new ≡ count_of journal.old + 1) }
@@ -64,8 +64,8 @@ pub(crate) fn entry<D: Disk>(
         → Lists D.seen D.may_leave journal.new forms }
     ensures same { journal.new ≡ record journal.old { disk = journal.new.disk } }
     ensures comes { ComesOf D.seen D.may_leave journal.old journal.new }
-    ensures images { (image : List ℕ) → D.may_leave journal.new.disk image
-        → D.may_leave journal.old.disk image }
+    ensures crash { (crashed : List ℕ) → D.may_leave journal.new.disk crashed
+        → D.may_leave journal.old.disk crashed }
     ensures failed { result ≡ Err SourceError.Failed
         → Rose (D.faults journal.old.disk) (D.faults journal.new.disk) }
     ensures later { D.faults journal.old.disk ≤ D.faults journal.new.disk }

@@ -59,7 +59,7 @@ impl<D: Disk> Source for DemoSource<D> {
 
     ghost only = { λ source s l a may. only_left D.seen D.may_leave source s l a may };
 
-    ghost may = { λ source s a. may_leave_so D.seen D.may_leave D.seen_is_image source s a };
+    ghost may = { λ source s a. may_leave_so D.seen D.may_leave D.seen_may_be_left source s a };
 
     ghost reads = { λ source s a. reads_so D.seen D.may_leave source s a };
 
@@ -75,7 +75,7 @@ impl<D: Disk> Source for DemoSource<D> {
         after script gate most (before script gate most kept) };
 
     // Of each call: what it promises as a call of any source; and what it adds to the wal: the commits of the group of steps that it
-    // runs first, and its own entry. Where it answers, all of that stands in the wal; whatever it answers, a stop leaves the first
+    // runs first, and its own entry. Where it answers, all of that stands in the wal; whatever it answers, a crash leaves the first
     // ones of it.
 
     fn describe(&mut self, name: &TableName) -> Result<Option<RawTable>, SourceError>

@@ -65,8 +65,8 @@ impl<D: Disk> DemoSource<D> {
         ensures same { IsHeld self.old self.new }
         ensures live { self.new.journal.live ≡ self.old.journal.live }
         ensures count { count_of self.new.journal ≡ count_of self.old.journal }
-        ensures images { (image : List ℕ) → D.may_leave self.new.journal.disk image
-            → D.may_leave self.old.journal.disk image }
+        ensures crash { (crashed : List ℕ) → D.may_leave self.new.journal.disk crashed
+            → D.may_leave self.old.journal.disk crashed }
         ensures comes { ComesOf D.seen D.may_leave self.old.journal self.new.journal }
         ensures failed { result ≡ Err SourceError.Failed
             → Rose (D.faults self.old.journal.disk) (D.faults self.new.journal.disk) }
@@ -84,7 +84,7 @@ impl<D: Disk> DemoSource<D> {
     }
 
     // The next message of the commit that is held. The reader stands behind it then. Each message of a wal has a spelling, and so has
-    // each Relation of its tables: nothing but memory is wanting.
+    // each Relation of its tables: only memory runs out.
     fn step_on(&mut self, place: Place, index: usize) -> Result<Option<Bytes>, SourceError>
         requires index { index ≡ index_of place }
         requires small { index < 2 ^ 40 }
@@ -141,8 +141,8 @@ impl<D: Disk> DemoSource<D> {
           held = self.new.held;
         } }
         ensures live { self.new.journal.live ≡ self.old.journal.live }
-        ensures images { (image : List ℕ) → D.may_leave self.new.journal.disk image
-            → D.may_leave self.old.journal.disk image }
+        ensures crash { (crashed : List ℕ) → D.may_leave self.new.journal.disk crashed
+            → D.may_leave self.old.journal.disk crashed }
         ensures comes { ComesOf D.seen D.may_leave self.old.journal self.new.journal }
         ensures failed { result ≡ Err SourceError.Failed
             → Rose (D.faults self.old.journal.disk) (D.faults self.new.journal.disk) }

@@ -57,7 +57,7 @@ impl<D: Disk> DemoSource<D> {
         requires left { self.old.done < length self.old.steps }
         ensures ran { (wal : Wal) → IsRunning D.seen D.may_leave wal self.old
             → OnOk result (Ran D.seen D.may_leave wal (self.old.done + 1) [] self.old self.new) }
-        ensures images { (wal : Wal) → IsRunning D.seen D.may_leave wal self.old
+        ensures crash { (wal : Wal) → IsRunning D.seen D.may_leave wal self.old
             → LeavesRun D.may_leave wal (self.old.done + 1) [] self.old self.new }
         ensures ends { IfOk result (λ ends. (step : Step)
             → slice_get self.old.steps self.old.done ≡ Some step → ends ≡ is_tick step) }
@@ -84,7 +84,7 @@ impl<D: Disk> DemoSource<D> {
         requires dead { self.old.live ≡ false }
         ensures ran { (wal : Wal) → IsRunning D.seen D.may_leave wal self.old
             → OnOk result (Ran D.seen D.may_leave wal (next_end self.old) [] self.old self.new) }
-        ensures images { (wal : Wal) → IsRunning D.seen D.may_leave wal self.old
+        ensures crash { (wal : Wal) → IsRunning D.seen D.may_leave wal self.old
             → LeavesRun D.may_leave wal (next_end self.old) [] self.old self.new }
         ensures end { OnOk result (self.new.done ≡ next_end self.old) }
         ensures live { OnOk result (IsTrue self.new.journal.live) }
@@ -119,7 +119,7 @@ impl<D: Disk> DemoSource<D> {
         ensures ran { (wal : Wal) (place : Place) → IsRunning D.seen D.may_leave wal self.old
             → self.old.place ≡ Some place
             → OnOk result (RanOn D.seen D.may_leave wal place self.old self.new) }
-        ensures images { (wal : Wal) (place : Place) → IsRunning D.seen D.may_leave wal self.old
+        ensures crash { (wal : Wal) (place : Place) → IsRunning D.seen D.may_leave wal self.old
             → self.old.place ≡ Some place
             → LeavesReadRun D.may_leave wal place self.old self.new }
         ensures end { OnOk result

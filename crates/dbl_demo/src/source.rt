@@ -27,7 +27,7 @@ use std::alloc::Global;
 use std::collections::BTreeSet;
 use std::marker::Model;
 
-/// A source that runs a workload. Its log is on a disk, and isn't held in memory: a stop loses nothing but what a call was adding.
+/// A source that runs a workload. Its log is on a disk, and isn't held in memory: a crash loses nothing but what a call was adding.
 ///
 /// Each call first runs the steps up to the next `tick`; a `select` then takes its rows and runs those up to the one after it; a
 /// `read` goes on until there is a commit to be read, or no step is left.
@@ -84,7 +84,7 @@ impl<D: Disk> Model for DemoSource<D> {
 
 impl<D: Disk> DemoSource<D> {
     /// A source that begins with a workload, on an empty disk. The workload's lines, its tables and its rows are looked at before the
-    /// first call of the disk, so that no byte is written of one that is refused; memory may be wanting later too.
+    /// first call of the disk, so that no byte is written of one that is refused; memory may run out later too.
     pub fn make(
         alloc: Global,
         disk: D,
@@ -133,9 +133,9 @@ impl<D: Disk> DemoSource<D> {
         Ok(first_source(alloc, journal, prepared, commits))
     }
 
-    /// The source on a disk, as a stop may have left it. It begins with a sync, and reads each entry once; the workload's steps are
+    /// The source on a disk, as a crash may have left it. It begins with a sync, and reads each entry once; the workload's steps are
     /// run again in memory as far as the log counts them, and each commit of the log is compared with what they give. Whatever it
-    /// answers but that the disk failed, a stop leaves what was read and nothing else.
+    /// answers but that the disk failed, a crash leaves what was read and nothing else.
     pub fn open(alloc: Global, disk: D) -> Result<DemoSource<D>, Refused<D, DemoError>>
         ensures opened { (bytes : List ℕ) → D.seen disk ≡ Some bytes
             → IfOk result (λ source. (wal : Wal) × IsWal bytes wal
@@ -157,9 +157,9 @@ impl<D: Disk> DemoSource<D> {
         ensures seen { MatchResult result
             (λ source. D.seen source.journal.disk ≡ D.seen disk)
             (λ refused. D.seen refused.disk ≡ D.seen disk) }
-        ensures images { (image : List ℕ) → MatchResult result
-            (λ source. D.may_leave source.journal.disk image → D.may_leave disk image)
-            (λ refused. D.may_leave refused.disk image → D.may_leave disk image) }
+        ensures crash { (crashed : List ℕ) → MatchResult result
+            (λ source. D.may_leave source.journal.disk crashed → D.may_leave disk crashed)
+            (λ refused. D.may_leave refused.disk crashed → D.may_leave disk crashed) }
         ensures stable { (bytes : List ℕ) → D.seen disk ≡ Some bytes → MatchResult result
             (λ source. IsOnly bytes (D.may_leave source.journal.disk))
             (λ refused. refused.error ≢ DemoError.Journal JournalError.Failed

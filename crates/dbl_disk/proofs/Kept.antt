@@ -42,7 +42,7 @@ pub kept_more : (stable current : List ℕ) (dirty : List Extent) (at : ℕ) (by
 kept_more stable current dirty at bytes room kept =
     let long = length-written current at bytes in
     record {
-      image = one_more stable dirty (record { at = at; length = length bytes }) current (written current at bytes) kept.image (torn_written current at bytes);
+      left = one_more stable dirty (record { at = at; length = length bytes }) current (written current at bytes) kept.left (torn_written current at bytes);
       within = All-push (λ (e : Extent). e.at + e.length ≤ length (written current at bytes)) dirty (record { at = at; length = length bytes })
           (All-weaker (λ (e : Extent). e.at + e.length ≤ length current) (λ (e : Extent). e.at + e.length ≤ length (written current at bytes)) (λ e within. omega (arith, long)) dirty kept.within)
           (omega (arith, long));
@@ -54,9 +54,9 @@ back n m below = omega arith
 
 copying_begins : (stable current : List ℕ) (dirty : List Extent) → IsKept stable current dirty → DiffersInside dirty (stable ++ drop (length stable) current) current
 copying_begins stable current dirty kept = record {
-  long = omega (arith, length-append stable (drop (length stable) current), length-drop (length stable) current, kept.image.no_shorter);
+  long = omega (arith, length-append stable (drop (length stable) current), length-drop (length stable) current, kept.left.no_shorter);
   same = λ place within outside. elim (cases_lt place (length stable)) [
-    | inl below ↦ get_or_append_left stable (drop (length stable) current) 0 place below ∙ sym (kept.image.kept place below outside)
+    | inl below ↦ get_or_append_left stable (drop (length stable) current) 0 place below ∙ sym (kept.left.kept place below outside)
     | inr above ↦
         get_or-append_right stable (drop (length stable) current) (length stable) place 0 refl above
         ∙ get_or-drop (length stable) current (place - length stable) 0
@@ -87,18 +87,18 @@ copying_goes_on stable next current extent rest differ long inside aside = recor
 pub copying_ends : (stable current : List ℕ) → DiffersInside [] stable current → stable ≡ current
 copying_ends stable current differ = ext_get_or 0 stable current differ.long (λ place within. differ.same place (omega (arith, differ.long)) (All-nil (λ (e : Extent). IsAside e place)))
 
-pub filling_begins : (byte : ℕ) (image : List ℕ) → AreFilled byte [] image image
-filling_begins byte image = record {
+pub filling_begins : (byte : ℕ) (crashed : List ℕ) → AreFilled byte [] crashed crashed
+filling_begins byte crashed = record {
   long = refl;
   clean = λ place outside. refl;
   filled = λ place within inside. absurd (inside (All-nil (λ (e : Extent). IsAside e place)));
 }
 
-pub filling_goes_on : (byte : ℕ) (first image next : List ℕ) (done : List Extent) (extent : Extent) → AreFilled byte done first image → length next ≡ length image
+pub filling_goes_on : (byte : ℕ) (first crashed next : List ℕ) (done : List Extent) (extent : Extent) → AreFilled byte done first crashed → length next ≡ length crashed
     → ((place : ℕ) → extent.at ≤ place → place < extent.at + extent.length → get_or next place 0 ≡ byte)
-    → ((place : ℕ) → IsAside extent place → get_or next place 0 ≡ get_or image place 0)
+    → ((place : ℕ) → IsAside extent place → get_or next place 0 ≡ get_or crashed place 0)
     → AreFilled byte (done ++ extent ∷ []) first next
-filling_goes_on byte first image next done extent filling long inside aside = record {
+filling_goes_on byte first crashed next done extent filling long inside aside = record {
   long = long ∙ filling.long;
   clean = λ place outside. aside place (outside_last done extent place outside) ∙ filling.clean place (outside_first done extent place outside);
   filled = λ place within inner.
@@ -113,10 +113,10 @@ filling_goes_on byte first image next done extent filling long inside aside = re
 }
 
 -- the current bytes, cut at the stable end, lengthened and filled
-pub filling_ends : (byte : ℕ) (stable current image : List ℕ) (dirty : List Extent) → length stable ≤ length current
-    → AreFilled byte dirty (take (length stable) current ++ replicate (length current - length stable) byte) image
-    → IsFilled byte stable current dirty image
-filling_ends byte stable current image dirty shorter filling =
+pub filling_ends : (byte : ℕ) (stable current crashed : List ℕ) (dirty : List Extent) → length stable ≤ length current
+    → AreFilled byte dirty (take (length stable) current ++ replicate (length current - length stable) byte) crashed
+    → IsFilled byte stable current dirty crashed
+filling_ends byte stable current crashed dirty shorter filling =
     let start : List ℕ = take (length stable) current ++ replicate (length current - length stable) byte in
     let head : length (take (length stable) current) ≡ length stable = length-take-le (length stable) current shorter in
     let long : length start ≡ length current = omega (arith, length-append (take (length stable) current) (replicate (length current - length stable) byte), head, length-replicate {A = ℕ} (length current - length stable) byte) in
@@ -127,10 +127,10 @@ filling_ends byte stable current image dirty shorter filling =
           ∙ get_or_append_left (take (length stable) current) (replicate (length current - length stable) byte) 0 place (omega (arith, head))
           ∙ get_or-take (length stable) current place 0 within;
       filled = λ place within not_clean.
-          let inner : ¬ IsOutside dirty place → get_or image place 0 ≡ byte = λ inside. filling.filled place (omega (arith, filling.long)) inside in
+          let inner : ¬ IsOutside dirty place → get_or crashed place 0 ≡ byte = λ inside. filling.filled place (omega (arith, filling.long)) inside in
           elim (cases_lt place (length stable)) [
             | inl below ↦ inner (λ outside. not_clean (below, outside))
-            | inr above ↦ elim (cases_eq (get_or image place 0) byte) [
+            | inr above ↦ elim (cases_eq (get_or crashed place 0) byte) [
               | inl is ↦ is
               | inr other ↦ inner (λ outside. other (
                   filling.clean place outside
@@ -140,22 +140,22 @@ filling_ends byte stable current image dirty shorter filling =
           ];
     }
 
--- what is filled is an image
-pub filled_leaves : (byte : ℕ) (stable current image : List ℕ) (dirty : List Extent) → IsKept stable current dirty → IsFilled byte stable current dirty image → MayLeave stable dirty image
-filled_leaves byte stable current image dirty kept filled = record {
-  kept = λ place within outside. filled.clean place within outside ∙ kept.image.kept place within outside;
-  no_shorter = omega (arith, filled.long, kept.image.no_shorter);
-  no_longer = omega (arith, filled.long, kept.image.no_longer);
+-- a crash may leave what is filled
+pub filled_leaves : (byte : ℕ) (stable current crashed : List ℕ) (dirty : List Extent) → IsKept stable current dirty → IsFilled byte stable current dirty crashed → MayLeave stable dirty crashed
+filled_leaves byte stable current crashed dirty kept filled = record {
+  kept = λ place within outside. filled.clean place within outside ∙ kept.left.kept place within outside;
+  no_shorter = omega (arith, filled.long, kept.left.no_shorter);
+  no_longer = omega (arith, filled.long, kept.left.no_longer);
 }
 
--- the stable bytes are an image
+-- a crash may leave the stable bytes
 pub stable_leaves : (stable : List ℕ) (dirty : List Extent) → MayLeave stable dirty stable
 stable_leaves stable dirty = record { kept = λ place within outside. refl; no_shorter = omega arith; no_longer = farthest_reaches dirty (length stable) }
 
 -- synced bytes are kept
 pub kept_synced : (bytes : List ℕ) → length bytes < 2 ^ 40 → IsKept bytes bytes []
 kept_synced bytes small = record {
-  image = stable_leaves bytes [];
+  left = stable_leaves bytes [];
   within = All-nil (λ (e : Extent). e.at + e.length ≤ length bytes);
   small = small;
 }

@@ -74,13 +74,13 @@ pub farthest_reaches : (extents : List Extent) (end : ℕ) → end ≤ farthest 
 farthest_reaches [] end = omega arith
 farthest_reaches (e ∷ extents) end = omega (arith, farthest_reaches extents (max end (e.at + e.length)))
 
--- the image before the last write: what stood in its extent is taken from the stable bytes
+-- what a crash might have left before the last write: what stood in its extent is taken from the stable bytes
 earlier_at : List ℕ → Extent → List ℕ → ℕ → ℕ
-earlier_at stable extent image place = elim (cases_lt place extent.at) [
-  | inl below ↦ get_or image place 0
+earlier_at stable extent crashed place = elim (cases_lt place extent.at) [
+  | inl below ↦ get_or crashed place 0
   | inr above ↦ elim (cases_lt place (extent.at + extent.length)) [
     | inl within ↦ get_or stable place 0
-    | inr behind ↦ get_or image place 0
+    | inr behind ↦ get_or crashed place 0
   ]
 ]
 
@@ -92,63 +92,63 @@ outside_last extents extent place outside = subst (λ (e : Extent). IsAside e pl
 
 module _ (stable : List ℕ) (extents : List Extent) (extent : Extent) where
   -- one write less
-  module _ (image : List ℕ) (leaves : MayLeave stable (extents ++ extent ∷ []) image) where
+  module _ (crashed : List ℕ) (leaves : MayLeave stable (extents ++ extent ∷ []) crashed) where
     count : ℕ
-    count = min (length image) (farthest (length stable) extents)
+    count = min (length crashed) (farthest (length stable) extents)
 
     earlier : List ℕ
-    earlier = map (earlier_at stable extent image) (range_with_len 0 count)
+    earlier = map (earlier_at stable extent crashed) (range_with_len 0 count)
 
     earlier_long : length earlier ≡ count
     unfolding earlier
-    earlier_long = length-map-range_with_len (earlier_at stable extent image) 0 count
+    earlier_long = length-map-range_with_len (earlier_at stable extent crashed) 0 count
 
-    get_or-earlier : (place : ℕ) → place < count → get_or earlier place 0 ≡ earlier_at stable extent image place
+    get_or-earlier : (place : ℕ) → place < count → get_or earlier place 0 ≡ earlier_at stable extent crashed place
     unfolding earlier
-    get_or-earlier place within = get_or-map-range_with_len (earlier_at stable extent image) 0 count place place 0 within (omega arith)
+    get_or-earlier place within = get_or-map-range_with_len (earlier_at stable extent crashed) 0 count place place 0 within (omega arith)
 
     outside_both : (place : ℕ) → IsOutside extents place → IsAside extent place → IsOutside (extents ++ extent ∷ []) place
     outside_both place outside is = All-push (λ (e : Extent). IsAside e place) extents extent outside is
 
-    was : (place : ℕ) → place < length stable → IsOutside extents place → earlier_at stable extent image place ≡ get_or stable place 0
+    was : (place : ℕ) → place < length stable → IsOutside extents place → earlier_at stable extent crashed place ≡ get_or stable place 0
     unfolding earlier_at
     was place within outside = elim (cases_lt place extent.at) as (λ (c : (place < extent.at) ⊎ (extent.at ≤ place)). elim c [
-      | inl below ↦ get_or image place 0
+      | inl below ↦ get_or crashed place 0
       | inr above ↦ elim (cases_lt place (extent.at + extent.length)) [
         | inl within ↦ get_or stable place 0
-        | inr behind ↦ get_or image place 0
+        | inr behind ↦ get_or crashed place 0
       ]
     ] ≡ get_or stable place 0) [
       | inl below ↦ leaves.kept place within (outside_both place outside (inl below))
       | inr above ↦ elim (cases_lt place (extent.at + extent.length)) as (λ (c : (place < extent.at + extent.length) ⊎ (extent.at + extent.length ≤ place)). elim c [
         | inl within ↦ get_or stable place 0
-        | inr behind ↦ get_or image place 0
+        | inr behind ↦ get_or crashed place 0
       ] ≡ get_or stable place 0) [
         | inl in_it ↦ refl
         | inr behind ↦ leaves.kept place within (outside_both place outside (inr behind))
       ]
     ]
 
-    is_now : (place : ℕ) → IsAside extent place → earlier_at stable extent image place ≡ get_or image place 0
+    is_now : (place : ℕ) → IsAside extent place → earlier_at stable extent crashed place ≡ get_or crashed place 0
     unfolding earlier_at
     is_now place is = elim (cases_lt place extent.at) as (λ (c : (place < extent.at) ⊎ (extent.at ≤ place)). elim c [
-      | inl below ↦ get_or image place 0
+      | inl below ↦ get_or crashed place 0
       | inr above ↦ elim (cases_lt place (extent.at + extent.length)) [
         | inl within ↦ get_or stable place 0
-        | inr behind ↦ get_or image place 0
+        | inr behind ↦ get_or crashed place 0
       ]
-    ] ≡ get_or image place 0) [
+    ] ≡ get_or crashed place 0) [
       | inl below ↦ refl
       | inr above ↦ elim (cases_lt place (extent.at + extent.length)) as (λ (c : (place < extent.at + extent.length) ⊎ (extent.at + extent.length ≤ place)). elim c [
         | inl within ↦ get_or stable place 0
-        | inr behind ↦ get_or image place 0
-      ] ≡ get_or image place 0) [
+        | inr behind ↦ get_or crashed place 0
+      ] ≡ get_or crashed place 0) [
         | inl in_it ↦ absurd (elim is [ inl below ↦ (omega arith) | inr behind ↦ (omega arith) ])
         | inr behind ↦ refl
       ]
     ]
 
-    pub one_less : (before : List ℕ) × MayLeave stable extents before × MayLeave before (extent ∷ []) image
+    pub one_less : (before : List ℕ) × MayLeave stable extents before × MayLeave before (extent ∷ []) crashed
     unfolding count
     one_less = (
       earlier,
@@ -165,8 +165,8 @@ module _ (stable : List ℕ) (extents : List Extent) (extent : Extent) where
     )
 
   -- one write more
-  pub one_more : (before image : List ℕ) → MayLeave stable extents before → MayLeave before (extent ∷ []) image → MayLeave stable (extents ++ extent ∷ []) image
-  one_more before image first last = record {
+  pub one_more : (before crashed : List ℕ) → MayLeave stable extents before → MayLeave before (extent ∷ []) crashed → MayLeave stable (extents ++ extent ∷ []) crashed
+  one_more before crashed first last = record {
     kept = λ place within outside.
         last.kept place (omega (arith, first.no_shorter)) (outside_one extent place (outside_last extents extent place outside))
         ∙ first.kept place within (outside_first extents extent place outside);
@@ -175,9 +175,9 @@ module _ (stable : List ℕ) (extents : List Extent) (extent : Extent) where
   }
 
 -- without a write
-pub only_stable : (stable image : List ℕ) → MayLeave stable [] image → image ≡ stable
-only_stable stable image leaves =
-    ext_get_or 0 image stable (omega (arith, leaves.no_shorter, leaves.no_longer)) (λ place within. leaves.kept place (omega (arith, leaves.no_longer)) (All-nil (λ (e : Extent). IsAside e place)))
+pub only_stable : (stable crashed : List ℕ) → MayLeave stable [] crashed → crashed ≡ stable
+only_stable stable crashed leaves =
+    ext_get_or 0 crashed stable (omega (arith, leaves.no_shorter, leaves.no_longer)) (λ place within. leaves.kept place (omega (arith, leaves.no_longer)) (All-nil (λ (e : Extent). IsAside e place)))
 
-pub stable_only : (stable image : List ℕ) → image ≡ stable → MayLeave stable [] image
-stable_only stable image is = subst (λ (l : List ℕ). MayLeave stable [] l) (sym is) (record { kept = λ place within outside. refl; no_shorter = omega arith; no_longer = omega arith })
+pub stable_only : (stable crashed : List ℕ) → crashed ≡ stable → MayLeave stable [] crashed
+stable_only stable crashed is = subst (λ (l : List ℕ). MayLeave stable [] l) (sym is) (record { kept = λ place within outside. refl; no_shorter = omega arith; no_longer = omega arith })

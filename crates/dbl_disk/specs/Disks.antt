@@ -21,10 +21,10 @@ farthest end (extent ∷ extents) = farthest (max end (extent.at + extent.length
 -- What a crash may leave of these stable bytes, where the extents were written, or tried to be, since they were synced: the
 -- extents and what lies past the old end may hold any bytes, bytes elsewhere stay, and the end lies anywhere from the old
 -- end to the greatest end that was written or tried.
-pub record MayLeave (stable : List ℕ) (extents : List Extent) (image : List ℕ) : Type 0 where
-  pub kept : (place : ℕ) → place < length stable → IsOutside extents place → slice_index image place ≡ slice_index stable place
-  pub no_shorter : length stable ≤ length image
-  pub no_longer : length image ≤ farthest (length stable) extents
+pub record MayLeave (stable : List ℕ) (extents : List Extent) (crashed : List ℕ) : Type 0 where
+  pub kept : (place : ℕ) → place < length stable → IsOutside extents place → slice_index crashed place ≡ slice_index stable place
+  pub no_shorter : length stable ≤ length crashed
+  pub no_longer : length crashed ≤ farthest (length stable) extents
 
 -- what one write of so many bytes at the place may leave of bytes, whether it was done or cut short
 abbrev pub Torn : ℕ → ℕ → List ℕ → List ℕ → Type 0
@@ -34,14 +34,14 @@ Torn at count = λ old new. MayLeave old (record { at = at; length = count } ∷
 abbrev pub written : List ℕ → ℕ → List ℕ → List ℕ
 written old at bytes = take at (old ++ replicate (at - length old) 0) ++ bytes ++ drop (at + length bytes) old
 
--- each of the new images is one of the old images after the step
+-- what a crash may leave now is what it might have left before, after the step
 abbrev pub Follows : (List ℕ → List ℕ → Type 0) → (List ℕ → Type 0) → (List ℕ → Type 0) → Type 0
-Follows step old new = (image : List ℕ) → new image → (before : List ℕ) × old before × step before image
+Follows step old new = (crashed : List ℕ) → new crashed → (before : List ℕ) × old before × step before crashed
 
 -- a count of calls, where it is told, is one higher
 abbrev pub IsCalled : Option ℕ → Option ℕ → Type 0
 IsCalled old new = (count : ℕ) → old ≡ Some count → new ≡ Some (raised count)
 
--- there is no image but these bytes
+-- a crash leaves these bytes and nothing else
 abbrev pub IsOnly : List ℕ → (List ℕ → Type 0) → Type 0
-IsOnly bytes images = (image : List ℕ) → images image → image ≡ bytes
+IsOnly bytes may_leave = (crashed : List ℕ) → may_leave crashed → crashed ≡ bytes

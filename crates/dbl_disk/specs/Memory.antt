@@ -18,8 +18,8 @@ abbrev pub synced : List ℕ → Platter
 synced bytes = record { stable = bytes; current = bytes; dirty = []; plan = new_plan [] }
 
 -- a crash may leave these bytes
-abbrev pub IsImage : Platter → List ℕ → Type 0
-IsImage disk image = (image ≡ disk.current) ⊎ MayLeave disk.stable disk.dirty image
+abbrev pub MayRemain : Platter → List ℕ → Type 0
+MayRemain disk crashed = (crashed ≡ disk.current) ⊎ MayLeave disk.stable disk.dirty crashed
 
 -- two lists of bytes, as long as each other, differ in these extents alone
 pub record DiffersInside (extents : List Extent) (left right : List ℕ) : Type 0 where
@@ -33,16 +33,16 @@ pub record AreFilled (byte : ℕ) (extents : List Extent) (old new : List ℕ) :
   pub filled : (place : ℕ) → place < length old → ¬ IsOutside extents place → slice_index new place ≡ byte
 
 -- the bytes that a read gives, with this byte in the dirty extents and past the old end
-pub record IsFilled (byte : ℕ) (stable current : List ℕ) (dirty : List Extent) (image : List ℕ) : Type 0 where
-  pub long : length image ≡ length current
-  pub clean : (place : ℕ) → place < length stable → IsOutside dirty place → slice_index image place ≡ slice_index current place
-  pub filled : (place : ℕ) → place < length image → ¬ ((place < length stable) × IsOutside dirty place) → slice_index image place ≡ byte
+pub record IsFilled (byte : ℕ) (stable current : List ℕ) (dirty : List Extent) (crashed : List ℕ) : Type 0 where
+  pub long : length crashed ≡ length current
+  pub clean : (place : ℕ) → place < length stable → IsOutside dirty place → slice_index crashed place ≡ slice_index current place
+  pub filled : (place : ℕ) → place < length crashed → ¬ ((place < length stable) × IsOutside dirty place) → slice_index crashed place ≡ byte
 
--- what holds of each disk in memory: its bytes are one of the images, and have each dirty extent
+-- what holds of each disk in memory: a crash may leave its bytes, and they have each dirty extent
 pub record IsKept (stable current : List ℕ) (dirty : List Extent) : Type 0 where
-  pub image : MayLeave stable dirty current
+  pub left : MayLeave stable dirty current
   pub within : All (λ extent. extent.at + extent.length ≤ length current) dirty
   pub small : length current < 2 ^ 40
 
-pub told_is_image : (disk : Platter) (bytes : List ℕ) → Some disk.current ≡ Some bytes → IsImage disk bytes
-told_is_image disk bytes told = inl (cc)
+pub told_may_be_left : (disk : Platter) (bytes : List ℕ) → Some disk.current ≡ Some bytes → MayRemain disk bytes
+told_may_be_left disk bytes told = inl (cc)

@@ -29,7 +29,8 @@ pub trait Disk {
         ensures told { (bytes : List ℕ) → seen self.old ≡ Some bytes →
             IfOk result (λ n. n ≡ length bytes) }
         ensures seen { seen self.new ≡ seen self.old }
-        ensures images { (image : List ℕ) → may_leave self.new image ↔ may_leave self.old image }
+        ensures crash { (crashed : List ℕ) →
+            may_leave self.new crashed ↔ may_leave self.old crashed }
         ensures later { faults self.old ≤ faults self.new }
         ensures cause { OnErr result (Rose (faults self.old) (faults self.new)) }
         ensures steady { (bytes : List ℕ) → seen self.old ≡ Some bytes →
@@ -45,7 +46,8 @@ pub trait Disk {
         ensures moved { (bytes : List ℕ) → seen self.old ≡ Some bytes →
             IfOk result (λ n. take n buffer.new ≡ take n (drop at bytes)) }
         ensures seen { seen self.new ≡ seen self.old }
-        ensures images { (image : List ℕ) → may_leave self.new image ↔ may_leave self.old image }
+        ensures crash { (crashed : List ℕ) →
+            may_leave self.new crashed ↔ may_leave self.old crashed }
         ensures later { faults self.old ≤ faults self.new }
         ensures cause { OnErr result (Rose (faults self.old) (faults self.new)) }
         ensures steady { (bytes : List ℕ) → seen self.old ≡ Some bytes →
@@ -64,12 +66,12 @@ pub trait Disk {
             OnOk result (seen self.new ≡ Some (written old at bytes.now)) }
         ensures torn { (old : List ℕ) → seen self.old ≡ Some old → OnErr result
             ((new : List ℕ) × (seen self.new ≡ Some new) × Torn at (length bytes.now) old new) }
-        ensures images { Follows (Torn at (length bytes.now)) (may_leave self.old)
+        ensures crash { Follows (Torn at (length bytes.now)) (may_leave self.old)
             (may_leave self.new) }
         ensures beyond { 2 ^ 40 ≤ at + length bytes.now → seen self.new ≡ seen self.old }
         ensures silent { seen self.old ≡ None → seen self.new ≡ None }
-        ensures untried { 2 ^ 40 ≤ at + length bytes.now → (image : List ℕ) →
-            may_leave self.new image ↔ may_leave self.old image }
+        ensures untried { 2 ^ 40 ≤ at + length bytes.now → (crashed : List ℕ) →
+            may_leave self.new crashed ↔ may_leave self.old crashed }
         ensures later { faults self.old ≤ faults self.new }
         ensures cause { OnErr result (Rose (faults self.old) (faults self.new)) }
         ensures steady { (bytes : List ℕ) → seen self.old ≡ Some bytes →
@@ -81,13 +83,14 @@ pub trait Disk {
         ensures stable { (bytes : List ℕ) → seen self.old ≡ Some bytes →
             OnOk result (IsOnly bytes (may_leave self.new)) }
         ensures seen { seen self.new ≡ seen self.old }
-        ensures images { (image : List ℕ) → may_leave self.new image → may_leave self.old image }
+        ensures crash { (crashed : List ℕ) →
+            may_leave self.new crashed → may_leave self.old crashed }
         ensures later { faults self.old ≤ faults self.new }
         ensures cause { OnErr result (Rose (faults self.old) (faults self.new)) }
         ensures steady { (bytes : List ℕ) → seen self.old ≡ Some bytes →
             OnOk result (faults self.new ≡ faults self.old) }
         ensures called { IsCalled (calls self.old) (calls self.new) };
 
-    /// What a read gives is one of the images.
-    ghost seen_is_image: { (disk : Self) (bytes : List ℕ) → seen disk ≡ Some bytes → may_leave disk bytes };
+    /// A crash may leave what a read gives.
+    ghost seen_may_be_left: { (disk : Self) (bytes : List ℕ) → seen disk ≡ Some bytes → may_leave disk bytes };
 }

@@ -142,7 +142,7 @@ impl<'a, R: Files> Disk for FileDisk<'a, R> {
 
     ghost calls = { λ _. None };
 
-    ghost seen_is_image = { λ d bytes told. tt };
+    ghost seen_may_be_left = { λ d bytes told. tt };
 
     fn len(&mut self) -> Result<u64, Failed> {
         let file = self.take_file()?;

@@ -69,21 +69,21 @@ impl<D: Disk> Disk for FuseDisk<D> {
 
     ghost seen = { λ f. D.seen f.inner };
 
-    ghost may_leave = { λ f image. D.may_leave f.inner image };
+    ghost may_leave = { λ f crashed. D.may_leave f.inner crashed };
 
     ghost faults = { λ f. fuse_faults D.faults f };
 
     ghost calls = { λ f. fuse_calls D.calls f };
 
-    ghost seen_is_image = { λ f bytes told. D.seen_is_image f.inner bytes told };
+    ghost seen_may_be_left = { λ f bytes told. D.seen_may_be_left f.inner bytes told };
 
     fn len(&mut self) -> Result<u64, Failed>
         ensures below { IfOk result (λ n. n < 2 ^ 40) }
         ensures told { (bytes : List ℕ) → D.seen self.old.inner ≡ Some bytes →
             IfOk result (λ n. n ≡ length bytes) }
         ensures seen { D.seen self.new.inner ≡ D.seen self.old.inner }
-        ensures images { (image : List ℕ) → D.may_leave self.new.inner image ↔
-            D.may_leave self.old.inner image }
+        ensures crash { (crashed : List ℕ) → D.may_leave self.new.inner crashed ↔
+            D.may_leave self.old.inner crashed }
         ensures later { fuse_faults D.faults self.old ≤ fuse_faults D.faults self.new }
         ensures cause { OnErr result
             (Rose (fuse_faults D.faults self.old) (fuse_faults D.faults self.new)) }
@@ -103,8 +103,8 @@ impl<D: Disk> Disk for FuseDisk<D> {
         ensures moved { (bytes : List ℕ) → D.seen self.old.inner ≡ Some bytes →
             IfOk result (λ n. take n buffer.new ≡ take n (drop at bytes)) }
         ensures seen { D.seen self.new.inner ≡ D.seen self.old.inner }
-        ensures images { (image : List ℕ) → D.may_leave self.new.inner image ↔
-            D.may_leave self.old.inner image }
+        ensures crash { (crashed : List ℕ) → D.may_leave self.new.inner crashed ↔
+            D.may_leave self.old.inner crashed }
         ensures later { fuse_faults D.faults self.old ≤ fuse_faults D.faults self.new }
         ensures cause { OnErr result
             (Rose (fuse_faults D.faults self.old) (fuse_faults D.faults self.new)) }
@@ -126,13 +126,13 @@ impl<D: Disk> Disk for FuseDisk<D> {
         ensures torn { (old : List ℕ) → D.seen self.old.inner ≡ Some old →
             OnErr result ((new : List ℕ) × (D.seen self.new.inner ≡ Some new) ×
             Torn at (length bytes.now) old new) }
-        ensures images { Follows (Torn at (length bytes.now)) (D.may_leave self.old.inner)
+        ensures crash { Follows (Torn at (length bytes.now)) (D.may_leave self.old.inner)
             (D.may_leave self.new.inner) }
         ensures beyond { 2 ^ 40 ≤ at + length bytes.now →
             D.seen self.new.inner ≡ D.seen self.old.inner }
         ensures silent { D.seen self.old.inner ≡ None → D.seen self.new.inner ≡ None }
-        ensures untried { 2 ^ 40 ≤ at + length bytes.now → (image : List ℕ) →
-            D.may_leave self.new.inner image ↔ D.may_leave self.old.inner image }
+        ensures untried { 2 ^ 40 ≤ at + length bytes.now → (crashed : List ℕ) →
+            D.may_leave self.new.inner crashed ↔ D.may_leave self.old.inner crashed }
         ensures later { fuse_faults D.faults self.old ≤ fuse_faults D.faults self.new }
         ensures cause { OnErr result
             (Rose (fuse_faults D.faults self.old) (fuse_faults D.faults self.new)) }
@@ -149,8 +149,8 @@ impl<D: Disk> Disk for FuseDisk<D> {
         ensures stable { (bytes : List ℕ) → D.seen self.old.inner ≡ Some bytes →
             OnOk result (IsOnly bytes (D.may_leave self.new.inner)) }
         ensures seen { D.seen self.new.inner ≡ D.seen self.old.inner }
-        ensures images { (image : List ℕ) → D.may_leave self.new.inner image →
-            D.may_leave self.old.inner image }
+        ensures crash { (crashed : List ℕ) → D.may_leave self.new.inner crashed →
+            D.may_leave self.old.inner crashed }
         ensures later { fuse_faults D.faults self.old ≤ fuse_faults D.faults self.new }
         ensures cause { OnErr result
             (Rose (fuse_faults D.faults self.old) (fuse_faults D.faults self.new)) }

@@ -3,7 +3,7 @@ ghost use Rattle.std.specs.List.{All};
 ghost use Rattle.dbl_base.specs.Streams.{Rose, raised};
 ghost use Rattle.dbl_base.specs.Memory.{new_plan};
 ghost use Rattle.dbl_disk.specs.Disks.{Follows, IsAside, IsCalled, IsOnly, MayLeave, Torn, written};
-ghost use Rattle.dbl_disk.specs.Memory.{AreFilled, DiffersInside, IsImage, IsFilled, IsKept, synced};
+ghost use Rattle.dbl_disk.specs.Memory.{AreFilled, DiffersInside, MayRemain, IsFilled, IsKept, synced};
 
 use crate::{DISK_LIMIT, Disk, Extent};
 use dbl_base::{Failed, FaultPlan};
@@ -92,15 +92,15 @@ fn put(
 }
 
 // Sets the bytes of the extent.
-fn fill(image: &mut [u8], extent: Extent, byte: u8)
-    requires { extent.at + extent.length ≤ length image.old }
+fn fill(crashed: &mut [u8], extent: Extent, byte: u8)
+    requires { extent.at + extent.length ≤ length crashed.old }
     ensures inside { (place : ℕ) → extent.at ≤ place → place < extent.at + extent.length →
-        slice_index image.new place ≡ byte }
+        slice_index crashed.new place ≡ byte }
     ensures aside { (place : ℕ) → IsAside extent place →
-        slice_index image.new place ≡ slice_index image.old place }
+        slice_index crashed.new place ≡ slice_index crashed.old place }
 {
     let at = extent.at as usize;
-    image[at..at + extent.length as usize].fill(byte);
+    crashed[at..at + extent.length as usize].fill(byte);
 }
 
 // Copies the bytes of the extent.
@@ -141,12 +141,12 @@ fn settle(stable: &mut Vec<u8>, current: &[u8], dirty: &[Extent]) -> Result<(), 
 }
 
 // Sets the bytes of the extents.
-fn fill_extents(image: &mut [u8], dirty: &[Extent], byte: u8)
-    requires { All (λ extent. extent.at + extent.length ≤ length image.old) dirty.now }
-    ensures { AreFilled byte dirty.now image.old image.new }
+fn fill_extents(crashed: &mut [u8], dirty: &[Extent], byte: u8)
+    requires { All (λ extent. extent.at + extent.length ≤ length crashed.old) dirty.now }
+    ensures { AreFilled byte dirty.now crashed.old crashed.new }
 {
     'extents: for extent in dirty {
-        fill(image, *extent, byte);
+        fill(crashed, *extent, byte);
     }
 }
 
@@ -159,12 +159,13 @@ fn filled_bytes(
     byte: u8,
 ) -> Result<Vec<u8>, AllocError>
     requires { IsKept stable.now current.now dirty.now }
-    ensures { IfOk result (λ image. IsFilled byte stable.now current.now dirty.now image.items) }
+    ensures { IfOk result
+        (λ crashed. IsFilled byte stable.now current.now dirty.now crashed.items) }
 {
-    let mut image = Vec::from_slice(alloc, &current[..stable.len()])?;
-    image.resize(current.len(), byte)?;
-    fill_extents(&mut image, dirty, byte);
-    Ok(image)
+    let mut crashed = Vec::from_slice(alloc, &current[..stable.len()])?;
+    crashed.resize(current.len(), byte)?;
+    fill_extents(&mut crashed, dirty, byte);
+    Ok(crashed)
 }
 
 // The bytes that the choice leaves.
@@ -176,13 +177,13 @@ fn chosen_bytes(
     choice: Choice,
 ) -> Result<Vec<u8>, AllocError>
     requires { IsKept stable.now.items current.now.items dirty.now }
-    ensures old { choice ≡ Choice.Old → IfOk result (λ image. image.items ≡ stable.now.items) }
-    ensures new { choice ≡ Choice.New → IfOk result (λ image. image.items ≡ current.now.items) }
+    ensures old { choice ≡ Choice.Old → IfOk result (λ crashed. crashed.items ≡ stable.now.items) }
+    ensures new { choice ≡ Choice.New → IfOk result (λ crashed. crashed.items ≡ current.now.items) }
     ensures fill { (byte : ℕ) → choice ≡ Choice.Fill byte → IfOk result
-        (λ image. IsFilled byte stable.now.items current.now.items dirty.now image.items) }
-    ensures allowed { IfOk result (λ image. (image.items ≡ current.now.items) ⊎
-        MayLeave stable.now.items dirty.now image.items) }
-    ensures small { IfOk result (λ image. length image.items < 2 ^ 40) }
+        (λ crashed. IsFilled byte stable.now.items current.now.items dirty.now crashed.items) }
+    ensures allowed { IfOk result (λ crashed. (crashed.items ≡ current.now.items) ⊎
+        MayLeave stable.now.items dirty.now crashed.items) }
+    ensures small { IfOk result (λ crashed. length crashed.items < 2 ^ 40) }
 {
     match choice {
         Choice::Old => stable.clone(),
@@ -214,7 +215,7 @@ impl MemDisk {
 
     /// The disk as it is found after a crash: with no dirty extent, no fault and no call that is to fail.
     pub fn crash(&self, choice: Choice) -> Result<MemDisk, AllocError>
-        ensures allowed { IfOk result (λ disk. IsImage self.now disk.current) }
+        ensures allowed { IfOk result (λ disk. MayRemain self.now disk.current) }
         ensures synced { IfOk result (λ disk. disk ≡ synced disk.current) }
         ensures old { choice ≡ Choice.Old → IfOk result (λ disk. disk.current ≡ self.now.stable) }
         ensures new { choice ≡ Choice.New → IfOk result (λ disk. disk.current ≡ self.now.current) }
@@ -234,24 +235,25 @@ impl MemDisk {
 
 impl Disk for MemDisk {
     ghost use Rattle.std.specs.Prelude.{Some};
-    ghost use Rattle.dbl_disk.specs.Memory.{IsImage, told_is_image};
+    ghost use Rattle.dbl_disk.specs.Memory.{MayRemain, told_may_be_left};
 
     ghost seen = { λ d. Some d.current };
 
-    ghost may_leave = { IsImage };
+    ghost may_leave = { MayRemain };
 
     ghost faults = { λ d. d.plan.faults };
 
     ghost calls = { λ d. Some d.plan.calls };
 
-    ghost seen_is_image = { λ d bytes told. told_is_image d bytes told };
+    ghost seen_may_be_left = { λ d bytes told. told_may_be_left d bytes told };
 
     fn len(&mut self) -> Result<u64, Failed>
         ensures below { IfOk result (λ n. n < 2 ^ 40) }
         ensures told { (bytes : List ℕ) → Some self.old.current ≡ Some bytes →
             IfOk result (λ n. n ≡ length bytes) }
         ensures seen { Some self.new.current ≡ Some self.old.current }
-        ensures images { (image : List ℕ) → IsImage self.new image ↔ IsImage self.old image }
+        ensures crash { (crashed : List ℕ) →
+            MayRemain self.new crashed ↔ MayRemain self.old crashed }
         ensures later { self.old.plan.faults ≤ self.new.plan.faults }
         ensures cause { OnErr result (Rose self.old.plan.faults self.new.plan.faults) }
         ensures steady { (bytes : List ℕ) → Some self.old.current ≡ Some bytes →
@@ -282,7 +284,8 @@ impl Disk for MemDisk {
         ensures moved { (bytes : List ℕ) → Some self.old.current ≡ Some bytes →
             IfOk result (λ n. take n buffer.new ≡ take n (drop at bytes)) }
         ensures seen { Some self.new.current ≡ Some self.old.current }
-        ensures images { (image : List ℕ) → IsImage self.new image ↔ IsImage self.old image }
+        ensures crash { (crashed : List ℕ) →
+            MayRemain self.new crashed ↔ MayRemain self.old crashed }
         ensures later { self.old.plan.faults ≤ self.new.plan.faults }
         ensures cause { OnErr result (Rose self.old.plan.faults self.new.plan.faults) }
         ensures steady { (bytes : List ℕ) → Some self.old.current ≡ Some bytes →
@@ -320,13 +323,13 @@ impl Disk for MemDisk {
         ensures torn { (old : List ℕ) → Some self.old.current ≡ Some old →
             OnErr result ((new : List ℕ) × (Some self.new.current ≡ Some new) ×
             Torn at (length bytes.now) old new) }
-        ensures images { Follows (Torn at (length bytes.now)) (IsImage self.old)
-            (IsImage self.new) }
+        ensures crash { Follows (Torn at (length bytes.now)) (MayRemain self.old)
+            (MayRemain self.new) }
         ensures beyond { 2 ^ 40 ≤ at + length bytes.now →
             Some self.new.current ≡ Some self.old.current }
         ensures silent { Some self.old.current ≡ None → Some self.new.current ≡ None }
-        ensures untried { 2 ^ 40 ≤ at + length bytes.now → (image : List ℕ) →
-            IsImage self.new image ↔ IsImage self.old image }
+        ensures untried { 2 ^ 40 ≤ at + length bytes.now → (crashed : List ℕ) →
+            MayRemain self.new crashed ↔ MayRemain self.old crashed }
         ensures later { self.old.plan.faults ≤ self.new.plan.faults }
         ensures cause { OnErr result (Rose self.old.plan.faults self.new.plan.faults) }
         ensures steady { (bytes : List ℕ) → Some self.old.current ≡ Some bytes →
@@ -357,9 +360,10 @@ impl Disk for MemDisk {
 
     fn sync(&mut self) -> Result<(), Failed>
         ensures stable { (bytes : List ℕ) → Some self.old.current ≡ Some bytes →
-            OnOk result (IsOnly bytes (IsImage self.new)) }
+            OnOk result (IsOnly bytes (MayRemain self.new)) }
         ensures seen { Some self.new.current ≡ Some self.old.current }
-        ensures images { (image : List ℕ) → IsImage self.new image → IsImage self.old image }
+        ensures crash { (crashed : List ℕ) →
+            MayRemain self.new crashed → MayRemain self.old crashed }
         ensures later { self.old.plan.faults ≤ self.new.plan.faults }
         ensures cause { OnErr result (Rose self.old.plan.faults self.new.plan.faults) }
         ensures steady { (bytes : List ℕ) → Some self.old.current ≡ Some bytes →

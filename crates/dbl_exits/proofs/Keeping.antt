@@ -57,14 +57,14 @@ on_err (Err e) P p = p
 
 -- a store that holds an offset leaves it
 pub held_left : {D : Type 0} (seen : D → Option (List ℕ)) (may_leave : D → List ℕ → Type 0) (store : StoreOn D) (offset : Option Offset) → Holds seen may_leave store offset → LeavesOffset may_leave (disk_of store) (λ left. left ≡ offset)
-held_left seen may_leave store offset held image may = (
+held_left seen may_leave store offset held crashed may = (
   offset,
-  subst (λ (i : List ℕ). IsStore i offset) (sym (held.lists.only image may)) (record { entries = held.entries; journal = held.lists.spelled; each = held.each; last = held.last }),
+  subst (λ (i : List ℕ). IsStore i offset) (sym (held.lists.only crashed may)) (record { entries = held.entries; journal = held.lists.spelled; each = held.each; last = held.last }),
   refl,
 )
 
 pub left_weaker : {D : Type 0} (may_leave : D → List ℕ → Type 0) (disk : D) (P Q : Option Offset → Type 0) → LeavesOffset may_leave disk P → ((offset : Option Offset) → P offset → Q offset) → LeavesOffset may_leave disk Q
-left_weaker may_leave disk P Q leaves weaker image may = let found = leaves image may in (found.0, found.1, weaker found.0 found.2)
+left_weaker may_leave disk P Q leaves weaker crashed may = let found = leaves crashed may in (found.0, found.1, weaker found.0 found.2)
 
 -- ---- what a call of the source may leave
 

@@ -14,7 +14,7 @@ module _ {D : Type 0} (seen : D → Option (List ℕ)) (may_leave : D → List �
   pub asked_same : (end : End) (disk : D) → (fails store end → ⊥) → IsAsked seen may_leave faults store end disk disk
   asked_same end disk other = record {
     same = refl;
-    images = λ image may. may;
+    crash = λ crashed may. may;
     later = omega arith;
     cause = λ is. absurd (other is);
     steady = λ none bytes is. refl;
@@ -24,7 +24,7 @@ module _ {D : Type 0} (seen : D → Option (List ℕ)) (may_leave : D → List �
   pub asked_as : (first end : End) (old new : D) → (fails store first → ⊥) → (fails store end → ⊥) → IsAsked seen may_leave faults store first old new → IsAsked seen may_leave faults store end old new
   asked_as first end old new before other asked = record {
     same = asked.same;
-    images = asked.images;
+    crash = asked.crash;
     later = asked.later;
     cause = λ is. absurd (other is);
     steady = λ none. asked.steady before;

@@ -1,4 +1,4 @@
--- Why a workload is refused is never that memory was wanting.
+-- Why a workload is refused is never that memory ran out.
 use Rattle.std.proofs.Common.{◌≡◌, ◌≢◌, ℕ, Bool, true, false, Option, None, Some, List, [], ◌∷◌, refl, sym, subst}
 use Rattle.std.specs.Prelude.{if◌then◌else◌, option_map}
 use Rattle.dbl_table.specs.declared.error.ModelError.{ModelError}

@@ -42,7 +42,7 @@ pub data Answers (given : Given) (end : End) : Type 0 where
   offsets_hold : given.wal ≡ [] → given.topics ≡ [] → given.offsets ≢ [] → end ≡ Err (NotEmpty Offsets) → Answers given end
   all_empty : AreEmpty given → AnswersInput given.input end → Answers given end
 
--- a disk or the input failed, or memory was wanting
+-- a disk or the input failed, or memory ran out
 abbrev pub IsOutside : End → Type 0
 IsOutside (Err (Failed store)) = Unit {0}
 IsOutside (Err InputFailed) = Unit {0}
@@ -59,7 +59,7 @@ TellsInput (Err InputTooLong) = ⊥
 TellsInput (Err Memory) = ⊥
 TellsInput (Err e) = Unit {0}
 
--- an error that wraps another is never that one's want of memory
+-- an error that wraps another is never that one's out of memory
 abbrev pub IsInitFault : InitError → Type 0
 IsInitFault (Script script.Memory) = ⊥
 IsInitFault (Model model.Memory) = ⊥

@@ -14,7 +14,7 @@ use Rattle.dbl_init.specs.Fresh.{IsEmptyLog}
 -- a disk that was asked for its length at the most
 pub record IsAsked {D : Type 0} (seen : D → Option (List ℕ)) (may_leave : D → List ℕ → Type 0) (faults : D → ℕ) (store : Store) (end : End) (old new : D) : Type 0 where
   pub same : seen new ≡ seen old
-  pub images : (image : List ℕ) → may_leave new image → may_leave old image
+  pub crash : (crashed : List ℕ) → may_leave new crashed → may_leave old crashed
   pub later : faults old ≤ faults new
   pub cause : end ≡ Err (Failed store) → Rose (faults old) (faults new)
   pub steady : end ≢ Err (Failed store) → IsSteady seen faults old new

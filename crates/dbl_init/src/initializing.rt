@@ -167,7 +167,7 @@ pub fn init<I: Input, W: Disk, T: Disk, F: Disk>(
     mut topics: T,
     mut offsets: F,
 ) -> Begun<W, T, F>
-    // What it answers is what the disks and the input tell, unless one of them failed, or memory was wanting.
+    // What it answers is what the disks and the input tell, unless one of them failed, or memory ran out.
     ensures told { (given : Given) → I.left input.old ≡ Some given.input
         → W.seen wal ≡ Some given.wal → T.seen topics ≡ Some given.topics
         → F.seen offsets ≡ Some given.offsets → Answers given result.end ⊎ IsOutside result.end }

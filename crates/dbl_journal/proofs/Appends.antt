@@ -87,13 +87,13 @@ module _ (entries : List (List ℕ)) (gate : ℕ) (gate_is : gate ≡ length (fr
       omega (arith, long h.gate h.tail bytes h.spelled)
 
   -- the closed gate stands in each outcome of the first write
-  pub behind : (n : ℕ) (bytes image : List ℕ) → IsJournal bytes entries → Torn (gate + 1) n bytes image → IsJournal image entries
-  behind n bytes image journal torn =
+  pub behind : (n : ℕ) (bytes crashed : List ℕ) → IsJournal bytes entries → Torn (gate + 1) n bytes crashed → IsJournal crashed entries
+  behind n bytes crashed journal torn =
       let h = has_gate bytes entries journal.rest journal.spelled journal.closed in
-      let same : take (gate + 1) image ≡ front entries ++ h.gate ∷ [] = torn_front (gate + 1) n bytes image torn (omega (arith, long h.gate h.tail bytes h.spelled)) ∙ to_gate h.gate h.tail bytes h.spelled in
+      let same : take (gate + 1) crashed ≡ front entries ++ h.gate ∷ [] = torn_front (gate + 1) n bytes crashed torn (omega (arith, long h.gate h.tail bytes h.spelled)) ∙ to_gate h.gate h.tail bytes h.spelled in
       record {
-        rest = h.gate ∷ drop (gate + 1) image;
-        spelled = sym (take-append-drop (gate + 1) image) ∙ ap (λ (l : List ℕ). l ++ drop (gate + 1) image) same ∙ append_assoc (front entries) (h.gate ∷ []) (drop (gate + 1) image);
+        rest = h.gate ∷ drop (gate + 1) crashed;
+        spelled = sym (take-append-drop (gate + 1) crashed) ∙ ap (λ (l : List ℕ). l ++ drop (gate + 1) crashed) same ∙ append_assoc (front entries) (h.gate ∷ []) (drop (gate + 1) crashed);
         closed = h.closed;
         each = journal.each;
       }
@@ -131,23 +131,23 @@ module _ (entries : List (List ℕ)) (gate : ℕ) (gate_is : gate ≡ length (fr
           each = All-push IsEntry entries entry each short;
         }
 
-    pub torn_gate : (bytes image : List ℕ) → IsStaged bytes entries entry → Torn gate 1 bytes image → IsJournal image entries ⊎ IsJournal image (entries ++ entry ∷ [])
-    torn_gate bytes image s torn =
+    pub torn_gate : (bytes crashed : List ℕ) → IsStaged bytes entries entry → Torn gate 1 bytes crashed → IsJournal crashed entries ⊎ IsJournal crashed (entries ++ entry ∷ [])
+    torn_gate bytes crashed s torn =
         let tail : List ℕ = body entry ++ 0 ∷ s.tail in
         let enough : length bytes ≡ gate + 1 + length tail = long s.gate tail bytes s.spelled in
         let inside : gate + 1 ≤ length bytes = omega (arith, enough) in
-        let head : take gate image ≡ front entries = torn_front gate 1 bytes image torn (omega (arith, enough)) ∙ ap (λ (l : List ℕ). take gate l) s.spelled ∙ take_at (front entries) (s.gate ∷ tail) gate (sym gate_is) in
+        let head : take gate crashed ≡ front entries = torn_front gate 1 bytes crashed torn (omega (arith, enough)) ∙ ap (λ (l : List ℕ). take gate l) s.spelled ∙ take_at (front entries) (s.gate ∷ tail) gate (sym gate_is) in
         let back : drop (gate + 1) bytes ≡ tail =
         ap (λ (l : List ℕ). drop (gate + 1) l) (s.spelled ∙ sym (append_assoc (front entries) (s.gate ∷ []) tail))
         ∙ drop_at (front entries ++ s.gate ∷ []) tail (gate + 1) (omega (arith, length-append (front entries) (s.gate ∷ []))) in
-        let rest : drop (gate + 1) image ≡ tail = torn_back gate 1 bytes image torn inside ∙ back in
-        let here : gate < length image = omega (arith, torn_long gate 1 bytes image torn inside, enough) in
-        let whole : image ≡ front entries ++ get_or image gate 0 ∷ tail =
-        sym (take-append-drop gate image) ∙ ap (λ (l : List ℕ). l ++ drop gate image) head
-        ∙ ap (λ (l : List ℕ). front entries ++ l) (drop_more image gate 0 here ∙ ap (λ (l : List ℕ). get_or image gate 0 ∷ l) rest) in
-        elim (cases_eq (get_or image gate 0) 1) [
-          | inl opened ↦ inr (with_gate s.tail image (get_or image gate 0) s.each whole opened)
-          | inr shut ↦ inl (record { rest = get_or image gate 0 ∷ tail; spelled = whole; closed = shut; each = s.each })
+        let rest : drop (gate + 1) crashed ≡ tail = torn_back gate 1 bytes crashed torn inside ∙ back in
+        let here : gate < length crashed = omega (arith, torn_long gate 1 bytes crashed torn inside, enough) in
+        let whole : crashed ≡ front entries ++ get_or crashed gate 0 ∷ tail =
+        sym (take-append-drop gate crashed) ∙ ap (λ (l : List ℕ). l ++ drop gate crashed) head
+        ∙ ap (λ (l : List ℕ). front entries ++ l) (drop_more crashed gate 0 here ∙ ap (λ (l : List ℕ). get_or crashed gate 0 ∷ l) rest) in
+        elim (cases_eq (get_or crashed gate 0) 1) [
+          | inl opened ↦ inr (with_gate s.tail crashed (get_or crashed gate 0) s.each whole opened)
+          | inr shut ↦ inl (record { rest = get_or crashed gate 0 ∷ tail; spelled = whole; closed = shut; each = s.each })
         ]
 
     pub gate_written : (bytes : List ℕ) → IsStaged bytes entries entry → IsJournal (written bytes gate (1 ∷ [])) (entries ++ entry ∷ [])

@@ -34,7 +34,7 @@ module _ {D : Type 0} (seen : D → Option (List ℕ)) (may_leave : D → List �
       → ((entries : List (List ℕ)) (before after : List ℕ) → Lists seen may_leave old entries → seen old.disk ≡ Some before → seen new.disk ≡ Some after → length after ≤ max (length before) (size (entries ++ entry ∷ [])))
       → ((before : List ℕ) → seen old.disk ≡ Some before → (after : List ℕ) × (seen new.disk ≡ Some after))
       → ComesOf seen may_leave old new
-  comes_by_append is_image old new entry short live added left grows told_on gate most has =
+  comes_by_append may_be_left old new entry short live added left grows told_on gate most has =
       let listed = has.lists live in
       let entries = listed.0 in
       let lists = listed.1 in
@@ -44,7 +44,7 @@ module _ {D : Type 0} (seen : D → Option (List ℕ)) (may_leave : D → List �
         lists = λ now. (entries ++ entry ∷ [], added entries lists now);
         told = told_on lists.bytes lists.told;
         reaches = λ bytes told.
-            let here = left entries lists bytes (is_image new.disk bytes told) in
+            let here = left entries lists bytes (may_be_left new.disk bytes told) in
             let far = no_more gate most before.entries entries here.0 entry lists.bytes bytes short same before.on before.short (grows entries lists.bytes bytes lists lists.told told) here.2 in
             record { entries = here.0; journal = here.1; on = far.0; short = far.1 };
       }

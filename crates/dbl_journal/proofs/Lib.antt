@@ -1,6 +1,6 @@
 pub mod Appends
 pub mod Growth
-pub mod Images
+pub mod Crashes
 pub mod Reading
 pub mod Scans
 pub mod Tears

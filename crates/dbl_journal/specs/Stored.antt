@@ -41,11 +41,11 @@ IsSteady seen faults old new = (bytes : List ℕ) → seen old ≡ Some bytes �
 
 -- a crash may leave a journal of these entries
 abbrev pub MayLeaveEntries : {D : Type 0} → (D → List ℕ → Type 0) → D → List (List ℕ) → Type 0
-MayLeaveEntries may_leave disk entries = (image : List ℕ) × may_leave disk image × IsJournal image entries
+MayLeaveEntries may_leave disk entries = (crashed : List ℕ) × may_leave disk crashed × IsJournal crashed entries
 
 -- whatever a crash leaves is a journal, of entries of which this holds
 abbrev pub LeavesEntries : {D : Type 0} → (D → List ℕ → Type 0) → D → (List (List ℕ) → Type 0) → Type 0
-LeavesEntries may_leave disk P = (image : List ℕ) → may_leave disk image → (entries : List (List ℕ)) × IsJournal image entries × P entries
+LeavesEntries may_leave disk P = (crashed : List ℕ) → may_leave disk crashed → (entries : List (List ℕ)) × IsJournal crashed entries × P entries
 
 -- what holds of the parts of each journal: the place of the last gate is small, and where the journal can be used, it has no
 -- more entries than bytes before that gate, which is among the bytes that the disk tells, where it tells them

@@ -106,7 +106,7 @@ pub(crate) fn start<D: Disk>(disk: &mut D, bytes: &[u8]) -> Result<(), Failed>
     requires { bytes.now ≡ front [] ++ 0 ∷ [] }
     ensures stored { D.seen disk.old ≡ Some [] → OnOk result ((new : List ℕ) ×
         (D.seen disk.new ≡ Some new) × IsOnly new (D.may_leave disk.new) × IsJournal new []) }
-    ensures images { Follows (Torn 0 9) (D.may_leave disk.old) (D.may_leave disk.new) }
+    ensures crash { Follows (Torn 0 9) (D.may_leave disk.old) (D.may_leave disk.new) }
     ensures reaches { (new : List ℕ) → D.seen disk.new ≡ Some new → OnOk result (9 ≤ length new) }
     ensures longest { (new : List ℕ) → D.seen disk.old ≡ Some [] → D.seen disk.new ≡ Some new →
         length new ≤ 9 }

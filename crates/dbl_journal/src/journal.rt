@@ -102,9 +102,9 @@ impl<D: Disk> Journal<D> {
             Rose (D.faults disk) (D.faults refused.disk)) }
         ensures seen { MatchResult result (λ journal. D.seen journal.disk ≡ D.seen disk)
             (λ refused. D.seen refused.disk ≡ D.seen disk) }
-        ensures images { (image : List ℕ) → MatchResult result
-            (λ journal. D.may_leave journal.disk image → D.may_leave disk image)
-            (λ refused. D.may_leave refused.disk image → D.may_leave disk image) }
+        ensures crash { (crashed : List ℕ) → MatchResult result
+            (λ journal. D.may_leave journal.disk crashed → D.may_leave disk crashed)
+            (λ refused. D.may_leave refused.disk crashed → D.may_leave disk crashed) }
         ensures later { MatchResult result (λ journal. D.faults disk ≤ D.faults journal.disk)
             (λ refused. D.faults disk ≤ D.faults refused.disk) }
         ensures steady { (bytes : List ℕ) → D.seen disk ≡ Some bytes →
@@ -218,8 +218,8 @@ impl<D: Disk> Journal<D> {
             Lists D.seen D.may_leave self.new entries }
         ensures same { self.new ≡ record self.old { disk = self.new.disk } }
         ensures seen { D.seen self.new.disk ≡ D.seen self.old.disk }
-        ensures images { (image : List ℕ) → D.may_leave self.new.disk image ↔
-            D.may_leave self.old.disk image }
+        ensures crash { (crashed : List ℕ) → D.may_leave self.new.disk crashed ↔
+            D.may_leave self.old.disk crashed }
         ensures failed { result ≡ Err JournalError.Failed →
             Rose (D.faults self.old.disk) (D.faults self.new.disk) }
         ensures journal { (at : ℕ) → result ≢ Err (JournalError.NotAJournal at) }

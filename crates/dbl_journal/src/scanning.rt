@@ -57,7 +57,8 @@ fn next_place<D: Disk>(disk: &mut D, gate: u64, total: u64) -> Result<Option<Ext
     ensures forward { IfOk result
         (λ place. IfSome place (λ p. (p.at ≡ gate + 5) × (p.at + p.length ≤ total))) }
     ensures seen { D.seen disk.new ≡ D.seen disk.old }
-    ensures images { (image : List ℕ) → D.may_leave disk.new image ↔ D.may_leave disk.old image }
+    ensures crash { (crashed : List ℕ) →
+        D.may_leave disk.new crashed ↔ D.may_leave disk.old crashed }
     ensures failed { result ≡ Err JournalError.Failed →
         Rose (D.faults disk.old) (D.faults disk.new) }
     ensures short { (len : ℕ) → result ≢ Err (JournalError.EntryTooLong len) }
@@ -90,7 +91,8 @@ fn read_magic<D: Disk>(disk: &mut D) -> Result<(), JournalError>
     ensures wrong { (bytes : List ℕ) (at : ℕ) → D.seen disk.old ≡ Some bytes →
         result ≡ Err (JournalError.NotAJournal at) → IsFaultAt bytes at }
     ensures seen { D.seen disk.new ≡ D.seen disk.old }
-    ensures images { (image : List ℕ) → D.may_leave disk.new image ↔ D.may_leave disk.old image }
+    ensures crash { (crashed : List ℕ) →
+        D.may_leave disk.new crashed ↔ D.may_leave disk.old crashed }
     ensures failed { result ≡ Err JournalError.Failed →
         Rose (D.faults disk.old) (D.faults disk.new) }
     ensures short { (len : ℕ) → result ≢ Err (JournalError.EntryTooLong len) }
@@ -120,7 +122,8 @@ fn read_places<D: Disk>(alloc: Global, disk: &mut D, total: u64) -> Result<Found
     ensures inside { IfOk result (λ found. found.gate ≤ total) }
     ensures few { IfOk result (λ found. length found.places.items ≤ found.gate) }
     ensures seen { D.seen disk.new ≡ D.seen disk.old }
-    ensures images { (image : List ℕ) → D.may_leave disk.new image ↔ D.may_leave disk.old image }
+    ensures crash { (crashed : List ℕ) →
+        D.may_leave disk.new crashed ↔ D.may_leave disk.old crashed }
     ensures failed { result ≡ Err JournalError.Failed →
         Rose (D.faults disk.old) (D.faults disk.new) }
     ensures short { (len : ℕ) → result ≢ Err (JournalError.EntryTooLong len) }
@@ -156,7 +159,8 @@ pub(crate) fn scan<D: Disk>(alloc: Global, disk: &mut D) -> Result<Found, Journa
     ensures small { IfOk result (λ found. found.gate < 2 ^ 40) }
     ensures few { IfOk result (λ found. length found.places.items ≤ found.gate) }
     ensures seen { D.seen disk.new ≡ D.seen disk.old }
-    ensures images { (image : List ℕ) → D.may_leave disk.new image → D.may_leave disk.old image }
+    ensures crash { (crashed : List ℕ) →
+        D.may_leave disk.new crashed → D.may_leave disk.old crashed }
     ensures failed { result ≡ Err JournalError.Failed →
         Rose (D.faults disk.old) (D.faults disk.new) }
     ensures short { (len : ℕ) → result ≢ Err (JournalError.EntryTooLong len) }

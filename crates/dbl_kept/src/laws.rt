@@ -25,7 +25,7 @@ pub fn sessions_go_on()
     ensures { SessionsGoOn }
 {}
 
-/// A run over kept disks keeps the promise of which any number of sessions and stops make faithful stores.
+/// A run over kept disks keeps the promise of which any number of sessions and crashes make faithful stores.
 pub fn runs_are_promised()
     ensures { RunsArePromised }
 {}

@@ -10,8 +10,8 @@ one_left may_leave disk bytes wal l is may only = (forth, back)
   where
     forth : MayLeaveWal may_leave disk l → l ≡ left_in wal
     forth left =
-        let same : left.image ≡ bytes = only left.image left.may in
+        let same : left.crashed ≡ bytes = only left.crashed left.may in
         left.left ∙ ap left_in (one_wal bytes left.wal wal (subst (λ (b : List ℕ). IsWal b left.wal) same left.is) is)
 
     back : l ≡ left_in wal → MayLeaveWal may_leave disk l
-    back same = record { image = bytes; may = may; wal = wal; is = is; left = same }
+    back same = record { crashed = bytes; may = may; wal = wal; is = is; left = same }

@@ -20,7 +20,7 @@ ReadsEndOnce = (w : Workload) (entries : List Entry) (place : Place) (done : ℕ
 abbrev pub ReadingsAreSent : Type 0
 ReadingsAreSent = (wal : Wal) (place : Place) → (rest : List Message) × (sent wal place.after ≡ reverse (reading_in wal place).messages ++ rest)
 
--- where a stop leaves the bytes of one wal alone, it leaves what that stands for, and nothing else
+-- where a crash leaves the bytes of one wal alone, it leaves what that stands for, and nothing else
 abbrev pub LeavesOneWal : {D : Type 0} → (D → List ℕ → Type 0) → Type 0
 LeavesOneWal {D} may_leave = (disk : D) (bytes : List ℕ) (wal : Wal) (l : Left) → IsWal bytes wal → may_leave disk bytes → IsOnly bytes (may_leave disk) → MayLeaveWal may_leave disk l ↔ (l ≡ left_in wal)
 

@@ -19,7 +19,7 @@ pub fn a_wal_stands()
     ensures { AWalStands }
 {}
 
-/// Where a stop leaves the bytes of one log alone, it leaves what that stands for, and nothing else.
+/// Where a crash leaves the bytes of one log alone, it leaves what that stands for, and nothing else.
 pub fn one_wal_is_left<D: Disk>()
     ensures { LeavesOneWal D.may_leave }
 {}

@@ -1,4 +1,4 @@
-//! Laws of the logs of workloads: one stands; a read of one ends, and reads what is sent; and a stop that leaves one alone leaves what
+//! Laws of the logs of workloads: one stands; a read of one ends, and reads what is sent; and a crash that leaves one alone leaves what
 //! it stands for.
 #![tactic(auto)]
 

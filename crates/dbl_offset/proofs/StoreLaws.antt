@@ -85,15 +85,15 @@ one_bad_offset bytes m n first second =
 
 pub leaves : {D : Type 0} (may_leave : D → List ℕ → Type 0) (disk : D) (entries : List (List ℕ)) (entry : List ℕ) (old : Option Offset) (offset : Offset) → All IsEntry entries → IsLastOf entries old → Spells entry offset
     → LeavesEntries may_leave disk (λ left. (left ≡ entries) ⊎ (left ≡ entries ++ entry ∷ [])) → LeavesOffset may_leave disk (λ left. (left ≡ old) ⊎ (left ≡ Some offset))
-leaves may_leave disk entries entry old offset each last spells left image may =
-    let found = left image may in
+leaves may_leave disk entries entry old offset each last spells left crashed may =
+    let found = left crashed may in
     elim found.2 [
-      | inl same ↦ (old, record { entries = entries; journal = subst (λ (l : List (List ℕ)). IsJournal image l) same found.1; each = each; last = last }, inl refl)
+      | inl same ↦ (old, record { entries = entries; journal = subst (λ (l : List (List ℕ)). IsJournal crashed l) same found.1; each = each; last = last }, inl refl)
       | inr same ↦ (
         Some offset,
         record {
           entries = entries ++ entry ∷ [];
-          journal = subst (λ (l : List (List ℕ)). IsJournal image l) same found.1;
+          journal = subst (λ (l : List (List ℕ)). IsJournal crashed l) same found.1;
           each = All-push IsEntry entries entry each (offset, spells);
           last = record { before = entries; entry = entry; last = refl; spelled = spells };
         },

@@ -93,11 +93,11 @@ pub record Holds {D : Type 0} (seen : D → Option (List ℕ)) (may_leave : D �
 
 -- a crash may leave a store of this offset
 abbrev pub MayLeaveOffset : {D : Type 0} → (D → List ℕ → Type 0) → D → Option Offset → Type 0
-MayLeaveOffset may_leave disk offset = (image : List ℕ) × may_leave disk image × IsStore image offset
+MayLeaveOffset may_leave disk offset = (crashed : List ℕ) × may_leave disk crashed × IsStore crashed offset
 
 -- whatever a crash leaves is a store, of an offset of which this holds
 abbrev pub LeavesOffset : {D : Type 0} → (D → List ℕ → Type 0) → D → (Option Offset → Type 0) → Type 0
-LeavesOffset may_leave disk P = (image : List ℕ) → may_leave disk image → (offset : Option Offset) × IsStore image offset × P offset
+LeavesOffset may_leave disk P = (crashed : List ℕ) → may_leave disk crashed → (offset : Option Offset) × IsStore crashed offset × P offset
 
 -- a journal's error, as the store tells it
 abbrev pub as_offset_error : JournalError → OffsetError

@@ -72,8 +72,8 @@ fn read_last<D: Disk>(
     ensures asked { IfOk result (λ last. IfSome last IsOffset) }
     ensures same { journal.new ≡ record journal.old { disk = journal.new.disk } }
     ensures seen { D.seen journal.new.disk ≡ D.seen journal.old.disk }
-    ensures images { (image : List ℕ) → D.may_leave journal.new.disk image ↔
-        D.may_leave journal.old.disk image }
+    ensures crash { (crashed : List ℕ) → D.may_leave journal.new.disk crashed ↔
+        D.may_leave journal.old.disk crashed }
     ensures failed { result ≡ Err OffsetError.Failed →
         Rose (D.faults journal.old.disk) (D.faults journal.new.disk) }
     ensures store { (at : ℕ) → result ≢ Err (OffsetError.NotAStore at) }
@@ -141,9 +141,9 @@ impl<D: Disk> OffsetStore<D> {
             Rose (D.faults disk) (D.faults refused.disk)) }
         ensures seen { MatchResult result (λ store. D.seen (disk_of store) ≡ D.seen disk)
             (λ refused. D.seen refused.disk ≡ D.seen disk) }
-        ensures images { (image : List ℕ) → MatchResult result
-            (λ store. D.may_leave (disk_of store) image → D.may_leave disk image)
-            (λ refused. D.may_leave refused.disk image → D.may_leave disk image) }
+        ensures crash { (crashed : List ℕ) → MatchResult result
+            (λ store. D.may_leave (disk_of store) crashed → D.may_leave disk crashed)
+            (λ refused. D.may_leave refused.disk crashed → D.may_leave disk crashed) }
         ensures stable { (bytes : List ℕ) → D.seen disk ≡ Some bytes →
             MatchResult result (λ store. IsOnly bytes (D.may_leave (disk_of store)))
             (λ refused. refused.error ≢ OffsetError.Failed →

@@ -17,14 +17,14 @@ module _ {D : Type 0} (seen : D → Option (List ℕ)) (may_leave : D → List �
   pub only_read : (failed : Type 0) (fault status : ℕ) (old new : D) → (status ≡ fault → failed) → (failed → (status ≡ fault) ⊎ IsCutShort status) → Keeps seen may_leave faults failed old new → IsOnlyRead seen may_leave faults fault status old new
   only_read failed fault status old new back forth k = record {
     same = k.same;
-    images = k.images;
+    crash = k.crash;
     later = k.later;
     cause = λ is. k.cause (back is);
     steady = λ other whole. k.steady (λ f. elim (forth f) [ inl is ↦ other is | inr cut ↦ whole cut ]);
   }
 
   same_disk : (fault status : ℕ) (disk : D) → (status ≡ fault → ⊥) → IsOnlyRead seen may_leave faults fault status disk disk
-  same_disk fault status disk none = record { same = refl; images = λ image may. may; later = omega arith; cause = λ is. absurd (none is); steady = λ other whole bytes told. refl }
+  same_disk fault status disk none = record { same = refl; crash = λ crashed may. may; later = omega arith; cause = λ is. absurd (none is); steady = λ other whole bytes told. refl }
 
   pub not_read : (fault status : ℕ) (old new : D) → (status ≡ fault → ⊥) → new ≡ old → IsOnlyRead seen may_leave faults fault status old new
   not_read fault status old new none is = subst (λ (d : D). IsOnlyRead seen may_leave faults fault status old d) (sym is) (same_disk fault status old none)

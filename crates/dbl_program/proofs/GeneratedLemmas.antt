@@ -79,6 +79,6 @@ same_short told before now was is =
 -- a disk that wasn't touched is still empty, which is no store
 pub unmade : {W T F : Type 0} (seen_wal : W → Option (List ℕ)) (wals : W → List ℕ → Type 0) (seen_topics : T → Option (List ℕ)) (logs : T → List ℕ → Type 0) (seen_offsets : F → Option (List ℕ)) (stores : F → List ℕ → Type 0)
     (wal : W) (topics : T) (offsets : F) → ((bytes : List ℕ) → seen_offsets offsets ≡ Some bytes → stores offsets bytes) → HasMade seen_wal wals seen_topics logs seen_offsets stores wal topics offsets offsets → ⊥
-unmade seen_wal wals seen_topics logs seen_offsets stores wal topics offsets image made =
-    let nothing = made.made [] (image [] made.offsets_empty.told) in
+unmade seen_wal wals seen_topics logs seen_offsets stores wal topics offsets crashed made =
+    let nothing = made.made [] (crashed [] made.offsets_empty.told) in
     nothing_is_no_store nothing.0 nothing.1

@@ -175,8 +175,8 @@ module _ (end : inits.End) (status : ℕ) (before after : Option (List ℕ)) (fi
       steady = λ other whole. leaves.steady (λ is. elim (fails_so made is) [ inl same ↦ other same | inr cut ↦ whole cut ]);
       short = leaves.short;
       same = λ unwritten. (asked (unwritten_of made end (own_end (IsUnwritten made) (unwritten_whole made status) unwritten))).same;
-      images = λ unwritten. (asked (unwritten_of made end (own_end (IsUnwritten made) (unwritten_whole made status) unwritten))).images;
+      crash = λ unwritten. (asked (unwritten_of made end (own_end (IsUnwritten made) (unwritten_whole made status) unwritten))).crash;
     }
 
 pub untouched : {D : Type 0} (seen : D → Option (List ℕ)) (may_leave : D → List ℕ → Type 0) (faults : D → ℕ) (made : Store) (end : inits.End) (old new : D) → IsAsked seen may_leave faults made end old new → IsUntouched seen may_leave old new
-untouched seen may_leave faults made end old new asked = record { same = asked.same; images = asked.images }
+untouched seen may_leave faults made end old new asked = record { same = asked.same; crash = asked.crash }

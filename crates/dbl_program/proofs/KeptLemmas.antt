@@ -57,13 +57,13 @@ module _ {W T F : Type 0} (seen_wal : W → Option (List ℕ)) (wals : W → Lis
     wal = subst IsSome (sym same.0.same) kept.wal;
     topics = subst IsSome (sym same.1.0.same) kept.topics;
     offsets = subst IsSome (sym same.1.1.same) kept.offsets;
-    each = λ wal log store may_wal may_log may_store. kept.each wal log store (same.0.images wal may_wal) (same.1.0.images log may_log) (same.1.1.images store may_store);
+    each = λ wal log store may_wal may_log may_store. kept.each wal log store (same.0.crash wal may_wal) (same.1.0.crash log may_log) (same.1.1.crash store may_store);
   }
 
   pub stays_promised : (complete : Type 0) (asks : Contents → Option Config) (w w1 : W) (t t1 : T) (f f1 : F) → (complete → ⊥) → Untouched w w1 t t1 f f1 → Kept w t f
       → (wal log store : List ℕ) → wals w1 wal → logs t1 log → stores f1 store → IsPromisedOf complete asks (wals w) (logs t) (stores f) wal log store
   stays_promised complete asks w w1 t t1 f f1 none same kept wal log store may_wal may_log may_store =
-      let found = kept.each wal log store (same.0.images wal may_wal) (same.1.0.images log may_log) (same.1.1.images store may_store) in
+      let found = kept.each wal log store (same.0.crash wal may_wal) (same.1.0.crash log may_log) (same.1.1.crash store may_store) in
       record {
         left = record {
           held = found.0;
@@ -73,9 +73,9 @@ module _ {W T F : Type 0} (seen_wal : W → Option (List ℕ)) (wals : W → Lis
             wal = wal;
             topics = log;
             offsets = store;
-            may_wal = same.0.images wal may_wal;
-            may_topics = same.1.0.images log may_log;
-            may_offsets = same.1.1.images store may_store;
+            may_wal = same.0.crash wal may_wal;
+            may_topics = same.1.0.crash log may_log;
+            may_offsets = same.1.1.crash store may_store;
             old = found.0;
             read = found.1;
             goes = stays_gone (asks found.0) found.0;
@@ -109,7 +109,7 @@ none_asked asked is = cc
 
 module _ {D : Type 0} (seen : D → Option (List ℕ)) (may_leave : D → List ℕ → Type 0) where
   pub same_untouched : (old new : D) → new ≡ old → IsUntouched seen may_leave old new
-  same_untouched old new is = subst (λ (d : D). IsUntouched seen may_leave old d) (sym is) (record { same = refl; images = λ image may. may })
+  same_untouched old new is = subst (λ (d : D). IsUntouched seen may_leave old d) (sym is) (record { same = refl; crash = λ crashed may. may })
 
   -- of a disk that a command neither makes nor runs a session over
   pub wal_untouched : (c : Command) (old new : D) → asked_by c ≡ None → (makes c ≡ true → IsUntouched seen may_leave old new) → (writes c ≡ false → new ≡ old) → IsUntouched seen may_leave old new
@@ -129,7 +129,7 @@ module _ {D : Type 0} (seen : D → Option (List ℕ)) (may_leave : D → List �
 
 module _ {D : Type 0} (seen : D → Option (List ℕ)) (may_leave : D → List ℕ → Type 0) (faults : D → ℕ) where
   read_untouched : (fault status : ℕ) (old new : D) → IsOnlyRead seen may_leave faults fault status old new → IsUntouched seen may_leave old new
-  read_untouched fault status old new reads = record { same = reads.same; images = reads.images }
+  read_untouched fault status old new reads = record { same = reads.same; crash = reads.crash }
 
   pub topics_untouched : (c : Command) (fault status : ℕ) (old new : D) → asked_by c ≡ None → (makes c ≡ true → IsUntouched seen may_leave old new) → (opens_topics c ≡ true → IsOnlyRead seen may_leave faults fault status old new)
       → (uses_topics c ≡ false → new ≡ old) → IsUntouched seen may_leave old new

@@ -69,7 +69,7 @@ pub record IsOnlyRead
     (fault status : ℕ)
     (old new : D) : Type 0 where
   pub same : seen new ≡ seen old
-  pub images : (image : List ℕ) → may_leave new image → may_leave old image
+  pub crash : (crashed : List ℕ) → may_leave new crashed → may_leave old crashed
   pub later : faults old ≤ faults new
   pub cause : status ≡ fault → Rose (faults old) (faults new)
   pub steady : status ≢ fault → ¬ IsCutShort status → IsSteady seen faults old new

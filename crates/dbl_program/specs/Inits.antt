@@ -63,12 +63,12 @@ pub record IsInitLeft
   pub steady : status ≢ store_status made → ¬ IsCutShort status → IsSteady seen faults old new
   pub short : (before after : List ℕ) → seen old ≡ Some before → seen new ≡ Some after → length after ≤ max (length before) (2 ^ 30)
   pub same : IsUnwritten made status → seen new ≡ seen old
-  pub images : IsUnwritten made status → (image : List ℕ) → may_leave new image → may_leave old image
+  pub crash : IsUnwritten made status → (crashed : List ℕ) → may_leave new crashed → may_leave old crashed
 
 -- a disk of which no byte was written: what a read gives is the same, and a crash leaves nothing that it couldn't leave before
 pub record IsUntouched {D : Type 0} (seen : D → Option (List ℕ)) (may_leave : D → List ℕ → Type 0) (old new : D) : Type 0 where
   pub same : seen new ≡ seen old
-  pub images : (image : List ℕ) → may_leave new image → may_leave old image
+  pub crash : (crashed : List ℕ) → may_leave new crashed → may_leave old crashed
 
 -- for private clauses: an `init` that ended so was finished with this status
 abbrev pub FinishesInit : inits.End → ℕ → Option (List ℕ) → Option (List ℕ) → Type 0

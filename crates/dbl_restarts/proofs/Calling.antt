@@ -17,8 +17,8 @@ module _ {S K D : Type 0} (honest : S → Type 0) (may_source : S → Left → T
       → Follows (entry_at config by.now old) (source_of new) new.groups new.offset
   follows_by config old new by right =
       let known = faithful_entries_are_known (entry_at config by.now old) right.faithful in
-      let left = (by.leaves known.0).follows right.faithful by.image by.may_disk_leave in
-      subst (λ (o : Option Offset). Follows (entry_at config by.now old) (source_of new) new.groups o) (one_store by.image left.0 new.offset left.1 by.is_store)
+      let left = (by.leaves known.0).follows right.faithful by.crashed by.may_disk_leave in
+      subst (λ (o : Option Offset). Follows (entry_at config by.now old) (source_of new) new.groups o) (one_store by.crashed left.0 new.offset left.1 by.is_store)
       (left.2 (source_of new) new.groups by.may_source_leave by.may_sink_leave)
 
   promised : (config : Config) (old new : Found) → ByCall honest may_source may_sink may_leave config old new → ByPromise config old new

@@ -1,4 +1,4 @@
--- Any number of sessions and stops.
+-- Any number of sessions and crashes.
 use Rattle.std.proofs.Common.{◌∙◌, ℤ, max, Option, List, [], ◌∷◌, refl, sym, ap, subst, append-nil}
 use Rattle.dbl_record.specs.Cuts.{cut, joined}
 use Rattle.dbl_table.specs.declared.config.Config.{Config}

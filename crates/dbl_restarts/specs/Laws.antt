@@ -1,4 +1,4 @@
--- What holds across sessions and stops.
+-- What holds across sessions and crashes.
 use Rattle.std.specs.Prelude.{◌≡◌, ◌≢◌, ℕ, ℤ, ◌+◌, ◌<◌, ◌≤◌, ◌^◌, Option, Some, List, [], length, filter, nat_le, slice_get}
 use Rattle.dbl_record.specs.declared.record.Record.{Record}
 use Rattle.dbl_record.specs.Cuts.{joined}
@@ -83,7 +83,7 @@ OldMarksDoNothing = (entry : Entry) (history : History) (first : Offset) (place 
     → slice_get history.commits place ≡ Some raw → raw.body ≡ Mark value → mark_of commit ≡ Some value → IsOwnWindow first.incarnation number old.window → Steps old commit new
     → (new ≡ old) × (records_by old commit entry.now ≡ [])
 
--- ---- any number of sessions and stops
+-- ---- any number of sessions and crashes
 
 -- Sessions that go by the rules keep their promise, any number of them.
 abbrev pub RulesKeepPromises : Type 0

@@ -1,4 +1,4 @@
--- Any number of sessions and stops, one behind the other. Source: own.
+-- Any number of sessions and crashes, one behind the other. Source: own.
 use Rattle.std.specs.Prelude.{◌≡◌, ℕ, ℤ, max, Option, None, List, [], ◌∷◌}
 use Rattle.std.specs.List.{AllByRecursion}
 use Rattle.dbl_base.specs.declared.lsn.Lsn.{Lsn}
@@ -52,7 +52,7 @@ pub record IsRight (found : Found) : Type 0 where
   pub fit : IsFitHistory found.history
   pub faithful : AreFaithful (stores_of found)
 
--- ---- one session and a stop
+-- ---- one session and a crash
 
 -- By the rules of a session, which was asked for this: what it found, and what it may leave where it stops.
 pub record ByRules (config : Config) (old new : Found) : Type 0 where

@@ -36,7 +36,7 @@ pub record TellsTheSource (history : History) (records : List Record) (offset : 
   pub repeats : (place : ℕ) (item : Record) → slice_get records place ≡ Some item → is_change item ≡ true
       → (IsFresh records place → ⊥) → Repeats offset.identity records place item
 
--- So it does behind any number of sessions that go by the rules, and of stops, from stores that nobody used.
+-- So it does behind any number of sessions that go by the rules, and of crashes, from stores that nobody used.
 abbrev pub LogsTellTheSource : Type 0
 LogsTellTheSource = (first last : Found) (sessions : List Config) (offset : Offset)
     → IsUnused first → After ByRules first sessions last → last.offset ≡ Some offset

@@ -1,4 +1,4 @@
-//! Any number of sessions and stops. The functions do nothing: their contracts are the laws.
+//! Any number of sessions and crashes. The functions do nothing: their contracts are the laws.
 
 ghost use Rattle.dbl_restarts.specs.Example.{ThreeSessionsStand};
 ghost use Rattle.dbl_restarts.specs.Laws.{RulesKeepPromises, RestartsStayFaithful, FirstSessionsAreFaithful, RestartsGoOn, CompletedRestartsAreImages};
@@ -34,7 +34,7 @@ pub fn completed_restarts_are_images()
     ensures { CompletedRestartsAreImages }
 {}
 
-/// There are such sessions and stops.
+/// There are such sessions and crashes.
 pub fn three_sessions_stand()
     ensures { ThreeSessionsStand }
 {}

@@ -1,4 +1,4 @@
-//! Any number of sessions and stops, one behind the other: definitions and laws over lists. None names a source, a sink or a store,
+//! Any number of sessions and crashes, one behind the other: definitions and laws over lists. None names a source, a sink or a store,
 //! but for the law that calls of a session over these keep the promise that the others ask for.
 #![tactic(auto)]
 

@@ -64,7 +64,7 @@ module _ {D : Type 0} (seen : D → Option (List ℕ)) (may_leave : D → List �
         leads old new wal (with_entries wal (confirming more upto)) s (IsConfirmed upto) of_old of_new stands
         (subst (λ (p : Option Place). IsConfirmed upto (standing_in wal old.place) (standing_in (with_entries wal (confirming more upto)) p)) (sym same) (standing_confirms wal more are upto old.place le of_old.running.reader.placed))
 
-  -- ---- what a stop leaves behind a call
+  -- ---- what a crash leaves behind a call
 
   module _ (old new : Demo D) (wal : Wal) (more : List Entry) (are : AreCommits more) (of_old : IsDemo seen may_leave wal old) (s : Standing) (stands : StandsFor seen may_leave old s) (l : Left) (may : MayLeaveWal may_leave new.journal.disk l) where
     pub left_moved : LeavesWal may_leave new.journal.disk (IsLeftOf wal more) → MayFollow s l

@@ -1,4 +1,4 @@
--- What no call undoes: the workload, the wals that a stop leaves, and how far the journal has come.
+-- What no call undoes: the workload, the wals that a crash leaves, and how far the journal has come.
 use Rattle.std.proofs.Common.{◌≡◌, ◌∙◌, ℕ, Option, Some, List, [], refl, ap}
 use Rattle.std.specs.Prelude.{IsTrue}
 use Rattle.dbl_journal.specs.Growth as journals
@@ -11,24 +11,24 @@ use Rattle.dbl_running.specs.Calls.{LeavesFirst, LeavesRead, ReadsOnTo, Releases
 use Rattle.dbl_running.specs.Demo.{ComesOf, Demo, IsDemo}
 
 leaves_as : {D : Type 0} (may_leave : D → List ℕ → Type 0) (disk : D) (P Q : Wal → Type 0) → ((wal : Wal) → P wal → Q wal) → LeavesWal may_leave disk P → LeavesWal may_leave disk Q
-leaves_as may_leave disk P Q by leaves image may = let here = leaves image may in (here.0, here.1, by here.0 here.2)
+leaves_as may_leave disk P Q by leaves crashed may = let here = leaves crashed may in (here.0, here.1, by here.0 here.2)
 
 abbrev HasScript : List ℕ → Wal → Type 0
 HasScript script wal = wal.script ≡ script
 
--- what a stop in a read leaves
+-- what a crash in a read leaves
 abbrev pub LeftByRead : Wal → Place → ℕ → Wal → Type 0
 LeftByRead wal place done left = (upto : ℕ) × ReadsOn wal.workload wal.entries place done upto done × IsLeftOf wal (added_by wal done upto []) left
 
 module _ {D : Type 0} (seen : D → Option (List ℕ)) (may_leave : D → List ℕ → Type 0) (old new : Demo D) (come : journals.ComesOf seen may_leave old.journal new.journal) (was : IsTrue old.live) where
   comes_by : ((wal : Wal) → IsDemo seen may_leave wal old → LeavesWal may_leave new.journal.disk (HasScript wal.script))
       → (IsTrue new.live → (wal : Wal) → IsDemo seen may_leave wal old → (now : Wal) × IsDemo seen may_leave now new × (now.script ≡ wal.script)) → ComesOf seen may_leave old new
-  comes_by images stands script gate most kept =
+  comes_by crash stands script gate most kept =
       let here = kept.stands was in
       record {
         come = come gate most kept.come;
         stands = λ live. (let now = stands live here.0 here.1 in (now.0, now.1, now.2 ∙ here.2));
-        images = leaves_as may_leave new.journal.disk (HasScript here.0.script) (HasScript script) (λ wal is. is ∙ here.2) (images here.0 here.1);
+        crash = leaves_as may_leave new.journal.disk (HasScript here.0.script) (HasScript script) (λ wal is. is ∙ here.2) (crash here.0 here.1);
       }
 
   left_script : (wal : Wal) (added : List Entry) (left : Wal) → IsLeftOf wal added left → left.script ≡ wal.script

@@ -47,7 +47,7 @@ added_more wal done mid upto own first second =
     ∙ ap (λ (l : List Entry). l ++ (released wal.workload mid upto ++ own)) (sym (append-nil (released wal.workload done mid)))
 
 pub leaves_as : {D : Type 0} (may_leave : D → List ℕ → Type 0) (disk : D) (P Q : Wal → Type 0) → ((wal : Wal) → P wal → Q wal) → LeavesWal may_leave disk P → LeavesWal may_leave disk Q
-leaves_as may_leave disk P Q by leaves image may = let here = leaves image may in (here.0, here.1, by here.0 here.2)
+leaves_as may_leave disk P Q by leaves crashed may = let here = leaves crashed may in (here.0, here.1, by here.0 here.2)
 
 module _ {D : Type 0} (seen : D → Option (List ℕ)) (may_leave : D → List ℕ → Type 0) (faults : D → ℕ) (old : Demo D) where
   -- a run of steps leaves the reader as it was, and the source as one in a call
@@ -81,7 +81,7 @@ module _ {D : Type 0} (seen : D → Option (List ℕ)) (may_leave : D → List �
         done = ran.done;
       }
 
-  -- a stop in an earlier part of the call leaves the first ones of it
+  -- a crash in an earlier part of the call leaves the first ones of it
   pub first_more : (mid upto : ℕ) (own : List Entry) (new : Demo D) → old.done ≤ mid → mid ≤ upto → Leaves mid [] new → Leaves upto own new
   first_more mid upto own new first second leaves wal is =
       leaves_as may_leave new.journal.disk (IsLeftOf wal (added_by wal old.done mid [])) (IsLeftOf wal (added_by wal old.done upto own))

@@ -133,7 +133,7 @@ module _ {D : Type 0} (seen : D → Option (List ℕ)) (may_leave : D → List �
   pub lead_confirm : (upto : ℕ) (lsn : Lsn) (s : Standing) → StandsFor seen may_leave old s → Released seen may_leave wal upto (confirm_of old.confirmed lsn) old new → new.place ≡ old.place → Stood (StandsFor seen may_leave) new (IsConfirmed lsn s)
   lead_confirm upto lsn s stands done place = lead_confirm_at upto lsn s stands (nat_lt old.confirmed.0 lsn.0) refl done place
 
--- ---- what a stop leaves behind a mark and behind a confirmed position
+-- ---- what a crash leaves behind a mark and behind a confirmed position
 
 module _ {D : Type 0} (seen : D → Option (List ℕ)) (may_leave : D → List ℕ → Type 0) (old new : Demo D) where
   pub left_mark : (upto : ℕ) (value : List ℕ) → LeavesFirst seen may_leave upto (mark_of value upto) old new → Leaves (StandsFor seen may_leave) (λ source l. MayLeaveWal may_leave source.journal.disk l) old new (MayFollowMark value)

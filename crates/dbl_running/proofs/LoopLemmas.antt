@@ -69,10 +69,10 @@ module _ {D : Type 0} (seen : D → Option (List ℕ)) (may_leave : D → List �
       with_plus wal (added_by wal old.done between []) (added_by wal between upto []) ∙ ap (with_entries wal) (added_plus wal.workload old.done between upto first second) in
       record { running = subst (λ (x : Wal). IsRunning seen may_leave x new) (here ∙ whole) more.running; done = more.done }
 
-  -- what a stop leaves in the second run has the first ones of all
+  -- what a crash leaves in the second run has the first ones of all
   pub left_all : (new : Demo D) (upto end : ℕ) → between ≤ upto → upto ≤ end → LeavesRun may_leave wal_between upto [] mid new → LeavesRun may_leave wal end [] old new
-  left_all new upto end second last leaves image may =
-      let here = leaves image may in
+  left_all new upto end second last leaves crashed may =
+      let here = leaves crashed may in
       let added : added_by wal mid.done upto [] ≡ added_by wal between upto [] = ap (λ (n : ℕ). added_by wal n upto []) ran.done in
       let is : IsLeftOf wal_between (added_by wal between upto []) here.0 = subst (λ (l : List Entry). IsLeftOf wal_between l here.0) added here.2 in
       let behind = released wal.workload upto end ++ [] in
@@ -162,12 +162,12 @@ take_whole [] = refl
 take_whole {A = A} (x ∷ xs) = ap (λ (l : List A). x ∷ l) (take_whole xs)
 
 module _ {D : Type 0} (seen : D → Option (List ℕ)) (may_leave : D → List ℕ → Type 0) (faults : D → ℕ) where
-  -- where all of a run stands, a stop leaves all of it
+  -- where all of a run stands, a crash leaves all of it
   pub left_whole : (wal : Wal) (upto : ℕ) (old new : Demo D) → Ran seen may_leave wal upto [] old new → LeavesRun may_leave wal upto [] old new
-  left_whole wal upto old new ran image may =
+  left_whole wal upto old new ran crashed may =
       let added = added_by wal old.done upto [] in
       let running = ran.running in
-      let is : image ≡ running.lists.bytes = running.lists.only image may in
+      let is : crashed ≡ running.lists.bytes = running.lists.only crashed may in
       let here : IsWal running.lists.bytes (with_entries wal added) = record { forms = forms_of (with_entries wal added); journal = running.lists.spelled; are = running.is; few = running.few } in
       (with_entries wal added, subst (λ (bytes : List ℕ). IsWal bytes (with_entries wal added)) (sym is) here, record { count = length added; is = ap (with_entries wal) (sym (take_whole added)) })
 
@@ -222,7 +222,7 @@ module _ {D : Type 0} (seen : D → Option (List ℕ)) (may_leave : D → List �
         let end : next_end old ≡ now.done = so.ends ∙ end_none now.steps now.done none in
         subst (λ (n : ℕ). Ran seen may_leave wal n [] old now) (sym end) (so.ran wal running)
 
-    -- what a stop leaves while a step is run
+    -- what a crash leaves while a step is run
     pub release_left : (new : Demo D) → now.done < length now.steps → ((wal : Wal) → IsRunning seen may_leave wal now → LeavesRun may_leave wal (now.done + 1) [] now new) → (wal : Wal) → IsRunning seen may_leave wal old → LeavesRun may_leave wal (next_end old) [] old new
     release_left new left leaves wal running =
         let first = so.ran wal running in
@@ -312,10 +312,10 @@ module _ {D : Type 0} (seen : D → Option (List ℕ)) (may_leave : D → List �
         counted = omega (arith, so.counted, counted);
       }
 
-  -- what a stop leaves while so many steps are run is left while more are
+  -- what a crash leaves while so many steps are run is left while more are
   left_more : (wal : Wal) (upto end : ℕ) (old new : Demo D) → old.done ≤ upto → upto ≤ end → LeavesRun may_leave wal upto [] old new → LeavesRun may_leave wal end [] old new
-  left_more wal upto end old new first second leaves image may =
-      let here = leaves image may in
+  left_more wal upto end old new first second leaves crashed may =
+      let here = leaves crashed may in
       let behind = released wal.workload upto end ++ [] in
       let n = take_in here.2.count (added_by wal old.done upto []) behind in
       let whole : added_by wal old.done upto [] ++ behind ≡ added_by wal old.done end [] = added_plus wal.workload old.done upto end first second in
@@ -324,9 +324,9 @@ module _ {D : Type 0} (seen : D → Option (List ℕ)) (may_leave : D → List �
   -- wherever the read ends, it adds what was being added first
   left_by_end : (wal : Wal) (place : Place) (upto : ℕ) (old new : Demo D) → IsRunning seen may_leave wal old → old.done ≤ upto → upto ≤ length (steps_of wal.workload) → IsReadingOn wal.workload wal.entries place old.done upto → LeavesRun may_leave wal upto [] old new
       → LeavesReadRun may_leave wal place old new
-  left_by_end wal place upto old new running first within reading leaves image may =
+  left_by_end wal place upto old new running first within reading leaves crashed may =
       let end = reading_finishes wal.workload wal.entries place old.done (length (steps_of wal.workload)) upto within (omega arith) reading in
-      let here = left_more wal upto end.upto old new first end.later leaves image may in
+      let here = left_more wal upto end.upto old new first end.later leaves crashed may in
       (here.0, here.1, (end.upto, end.on, here.2))
 
   -- in the first group
@@ -351,6 +351,6 @@ module _ {D : Type 0} (seen : D → Option (List ℕ)) (may_leave : D → List �
 
   -- where it answered
   pub ran_left : (old new : Demo D) (wal : Wal) (place : Place) → old.done ≤ new.done → RanOn seen may_leave wal place old new → LeavesReadRun may_leave wal place old new
-  ran_left old new wal place later run image may =
-      let whole = left_whole seen may_leave faults wal new.done old new (record { running = run.running; done = refl }) image may in
+  ran_left old new wal place later run crashed may =
+      let whole = left_whole seen may_leave faults wal new.done old new (record { running = run.running; done = refl }) crashed may in
       (whole.0, whole.1, (new.done, run.on, whole.2))

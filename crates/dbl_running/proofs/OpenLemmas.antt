@@ -105,7 +105,7 @@ module _ {D : Type 0} (seen : D → Option (List ℕ)) (may_leave : D → List �
   pub disk_read : {A : Type 0} (a : A) → IsReadOnly seen may_leave faults (Fails (Ok a)) old new → IsDiskRead seen may_leave faults ⊥ old.disk new.disk
   disk_read a read = record {
     same = read.disk.same;
-    images = read.disk.images;
+    crash = read.disk.crash;
     later = read.disk.later;
     cause = λ never. absurd never;
     steady = λ no. read.disk.steady (λ fails. absurd (let wrong : Ok a ≡ Err (fault.Journal broken.Failed) = fails in cc));
@@ -114,7 +114,7 @@ module _ {D : Type 0} (seen : D → Option (List ℕ)) (may_leave : D → List �
   pub disk_failed : {A : Type 0} (e : DemoError) → IsReadOnly seen may_leave faults (Fails {T = A} (Err e)) old new → IsDiskRead seen may_leave faults (IsFailed e) old.disk new.disk
   disk_failed e read = record {
     same = read.disk.same;
-    images = read.disk.images;
+    crash = read.disk.crash;
     later = read.disk.later;
     cause = λ failed. read.disk.cause (ap Err failed);
     steady = λ no. read.disk.steady (λ fails. no (let inside : Err e ≡ Err (fault.Journal broken.Failed) = fails in cc));
@@ -135,5 +135,5 @@ module _ {D : Type 0} (seen : D → Option (List ℕ)) (may_leave : D → List �
   bad_of_bytes index bad = record { forms = entries; journal = is; bad = bad }
 
 -- what was read stays the only thing that is left
-pub only_on : {D : Type 0} (may_leave : D → List ℕ → Type 0) (bytes : List ℕ) (old new : D) → ((image : List ℕ) → may_leave new image → may_leave old image) → IsOnly bytes (may_leave old) → IsOnly bytes (may_leave new)
-only_on may_leave bytes old new images only image may = only image (images image may)
+pub only_on : {D : Type 0} (may_leave : D → List ℕ → Type 0) (bytes : List ℕ) (old new : D) → ((crashed : List ℕ) → may_leave new crashed → may_leave old crashed) → IsOnly bytes (may_leave old) → IsOnly bytes (may_leave new)
+only_on may_leave bytes old new crash only crashed may = only crashed (crash crashed may)

@@ -37,10 +37,10 @@ module _ {D : Type 0} (seen : D → Option (List ℕ)) (may_leave : D → List �
   silent = subst (λ (n : ℕ). IsSilent behind.workload behind.entries n) ran.done ran.running.silent
 
   module _ (entry : Entry) (fits : FitsEntry entry) (next : IsNext behind.workload behind.entries entry) where
-    -- while it is appended a stop leaves the first ones of what the call adds
+    -- while it is appended a crash leaves the first ones of what the call adds
     pub own_left : (disk : D) → LeavesEntries may_leave disk (λ left. (left ≡ forms_of behind) ⊎ (left ≡ forms_of behind ++ entry_form entry ∷ [])) → LeavesWal may_leave disk (IsLeftOf wal (added_by wal old.done upto (entry ∷ [])))
-    own_left disk leaves image may =
-        let here = leaves_push may_leave disk behind entry (entry_form entry) refl ran.running.is few_more fits next leaves image may in
+    own_left disk leaves crashed may =
+        let here = leaves_push may_leave disk behind entry (entry_form entry) refl ran.running.is few_more fits next leaves crashed may in
         let left = left_on wal (added_by wal old.done upto []) (entry ∷ []) [] here.0 here.2 in
         let added : added_by wal old.done upto [] ++ ((entry ∷ []) ++ []) ≡ added_by wal old.done upto (entry ∷ []) =
         ap (λ (l : List Entry). l ++ entry ∷ []) (append-nil (released wal.workload old.done upto)) in

@@ -99,11 +99,11 @@ module _ {D : Type 0} (seen : D → Option (List ℕ)) (may_leave : D → List �
   pub still_told : journals.ComesOf seen may_leave old.journal new.journal → (wal : Wal) → IsDemo seen may_leave wal old → (bytes : List ℕ) × (seen new.journal.disk ≡ Some bytes)
   still_told come wal is = let lists = is.running.lists in (come 0 (length lists.bytes) (come_here old.journal (forms_of wal) lists)).told
 
-  module _ (is_image : (disk : D) (bytes : List ℕ) → seen disk ≡ Some bytes → may_leave disk bytes) (come : journals.ComesOf seen may_leave old.journal new.journal) where
+  module _ (may_be_left : (disk : D) (bytes : List ℕ) → seen disk ≡ Some bytes → may_leave disk bytes) (come : journals.ComesOf seen may_leave old.journal new.journal) where
     pub leaves_some : (P : Wal → Wal → Type 0) → ((wal : Wal) → IsDemo seen may_leave wal old → LeavesWal may_leave new.journal.disk (P wal)) → LeavesSome (StandsFor seen may_leave) May old new
     leaves_some P leaves s stands =
         let told = still_told come stands.0 stands.1 in
-        some_left may_leave new.journal.disk (P stands.0) seen is_image told.0 told.1 (leaves stands.0 stands.1)
+        some_left may_leave new.journal.disk (P stands.0) seen may_be_left told.0 told.1 (leaves stands.0 stands.1)
 
     pub some_held : (upto : ℕ) (own : List Entry) → LeavesFirst seen may_leave upto own old new → LeavesSome (StandsFor seen may_leave) May old new
     some_held upto own first = leaves_some (λ wal. IsLeftOf wal (added_by wal old.done upto own)) first

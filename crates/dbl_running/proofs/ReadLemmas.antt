@@ -181,7 +181,7 @@ module _ {D : Type 0} (seen : D → Option (List ℕ)) (may_leave : D → List �
       subst (λ (x : Left). MayFollow s x) (sym here.2) (subst (λ (x : Standing). MayFollow x (left_in here.0)) (sym was) follow)
 
   pub read_some : ((disk : D) (bytes : List ℕ) → seen disk ≡ Some bytes → may_leave disk bytes) → LeavesSome (StandsFor seen may_leave) (λ source l. MayLeaveWal may_leave source.journal.disk l) old new
-  read_some is_image = leaves_some seen may_leave old new is_image adds.come (λ wal. LeftByRead wal at.0 old.done) (λ wal is. adds.first wal at.0 is at.1)
+  read_some may_be_left = leaves_some seen may_leave old new may_be_left adds.come (λ wal. LeftByRead wal at.0 old.done) (λ wal is. adds.first wal at.0 is at.1)
 
   pub read_comes : IsTrue old.live → ComesOf seen may_leave old new
   read_comes was = comes_read seen may_leave old new adds.come was at.0 at.1 adds.first (λ live. live_or seen may_leave old new (ReadsOnTo seen may_leave old new) result read_released adds.dead live)

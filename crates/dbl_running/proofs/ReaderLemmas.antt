@@ -170,10 +170,10 @@ IsReadOf old new = new ≡ record old { journal = new.journal; place = new.place
 module _ {D : Type 0} (seen : D → Option (List ℕ)) (may_leave : D → List ℕ → Type 0) (faults : D → ℕ) {parts whole : Demo D} (is : parts ≡ whole) (mid new : Demo D) (same : IsRunOf (within parts) mid)
     (left : (wal : Wal) (place : Place) → IsRunning seen may_leave wal (within parts) → parts.place ≡ Some place → LeavesReadRun may_leave wal place (within parts) mid)
     (come : journals.ComesOf seen may_leave parts.journal mid.journal) (later : faults parts.journal.disk ≤ faults mid.journal.disk)
-    (read_of : IsReadOf mid new) (images : (image : List ℕ) → may_leave new.journal.disk image → may_leave mid.journal.disk image) (read_come : journals.ComesOf seen may_leave mid.journal new.journal)
+    (read_of : IsReadOf mid new) (crash : (crashed : List ℕ) → may_leave new.journal.disk crashed → may_leave mid.journal.disk crashed) (read_come : journals.ComesOf seen may_leave mid.journal new.journal)
     (read_later : faults mid.journal.disk ≤ faults new.journal.disk) (reading : is_some new.place ≡ is_some mid.place) where
   left_read : (wal : Wal) (place : Place) → IsRunning seen may_leave wal (within parts) → parts.place ≡ Some place → LeavesReadRun may_leave wal place (within parts) new
-  left_read wal place r there image may = left wal place r there image (images image may)
+  left_read wal place r there crashed may = left wal place r there crashed (crash crashed may)
 
   come_read : journals.ComesOf seen may_leave parts.journal new.journal
   come_read gate most h = read_come gate most (come gate most h)

@@ -74,15 +74,15 @@ lists_push seen may_leave journal wal entry form is lists =
 -- and what is left while it is appended is the wal, or the wal with it
 pub leaves_push : {D : Type 0} (may_leave : D → List ℕ → Type 0) (disk : D) (wal : Wal) (entry : Entry) (form : List ℕ) → form ≡ entry_form entry → IsWalOf (forms_of wal) wal → length wal.entries + 1 < 2 ^ 40 → FitsEntry entry
     → IsNext wal.workload wal.entries entry → LeavesEntries may_leave disk (λ left. (left ≡ forms_of wal) ⊎ (left ≡ forms_of wal ++ form ∷ [])) → LeavesWal may_leave disk (IsLeftOf wal (entry ∷ []))
-leaves_push may_leave disk wal entry form is sound few fits next leaves image may =
-    let here = leaves image may in
+leaves_push may_leave disk wal entry form is sound few fits next leaves crashed may =
+    let here = leaves crashed may in
     elim here.2 [
       | inl same ↦ (
           let none : with_entries wal [] ≡ wal = ap (λ (l : List Entry). let x : Wal = record wal { entries = l } in x) (append-nil wal.entries) in
-          (wal, record { forms = forms_of wal; journal = subst (IsJournal image) same here.1; are = sound; few = omega (arith, few) }, record { count = 0; is = sym none }))
+          (wal, record { forms = forms_of wal; journal = subst (IsJournal crashed) same here.1; are = sound; few = omega (arith, few) }, record { count = 0; is = sym none }))
       | inr same ↦ (
           let whole : here.0 ≡ forms_of (one_more wal entry) = same ∙ ap (λ (w : List ℕ). forms_of wal ++ w ∷ []) is ∙ sym (forms_push wal entry) in
-          (one_more wal entry, record { forms = forms_of (one_more wal entry); journal = subst (IsJournal image) whole here.1; are = go_on wal entry sound fits next; few = omega (arith, few, length-push wal.entries entry) }, record { count = 1; is = refl }))
+          (one_more wal entry, record { forms = forms_of (one_more wal entry); journal = subst (IsJournal crashed) whole here.1; are = go_on wal entry sound fits next; few = omega (arith, few, length-push wal.entries entry) }, record { count = 1; is = refl }))
     ]
   where
     length-push : (entries : List Entry) (entry : Entry) → length (entries ++ entry ∷ []) ≡ length entries + 1
@@ -175,9 +175,9 @@ module _ {D : Type 0} (seen : D → Option (List ℕ)) (may_leave : D → List �
 
     -- the disk is as it was: it holds the wal, and nothing of what the step adds
     pub left_alone : (new : Demo D) (upto : ℕ) → new.journal ≡ old.journal → LeavesRun may_leave wal upto [] old new
-    left_alone new upto same image may =
-        let there : may_leave old.journal.disk image = subst (λ (j : OnDisk D). may_leave j.disk image) same may in
-        let is : image ≡ running.lists.bytes = running.lists.only image there in
+    left_alone new upto same crashed may =
+        let there : may_leave old.journal.disk crashed = subst (λ (j : OnDisk D). may_leave j.disk crashed) same may in
+        let is : crashed ≡ running.lists.bytes = running.lists.only crashed there in
         (wal, subst (λ (bytes : List ℕ). IsWal bytes wal) (sym is) (record { forms = forms_of wal; journal = running.lists.spelled; are = running.is; few = running.few }), record { count = 0; is = sym with_none })
 
     module _ (messages : List Message) (next : IsNextRun wal.workload old.done (Some messages) store) (fits : FitsEntry (Commits (old.done + 1) messages)) (small : count_of old.journal < 2 ^ 40) where

@@ -33,7 +33,7 @@ pub record Released {D : Type 0} (seen : D → Option (List ℕ)) (may_leave : D
   pub done : new.done ≡ upto
 
 -- Of a call that runs steps up to the first so many, and writes these entries of its own: where it answers, all of it stands, and
--- whatever it answers, a stop leaves the first ones of it.
+-- whatever it answers, a crash leaves the first ones of it.
 abbrev pub Releases : {D : Type 0} → (D → Option (List ℕ)) → (D → List ℕ → Type 0) → ℕ → List Entry → Demo D → Demo D → Type 0
 Releases seen may_leave upto own old new = (wal : Wal) → IsDemo seen may_leave wal old → Released seen may_leave wal upto own old new
 
@@ -51,7 +51,7 @@ pub record ReadOn {D : Type 0} (seen : D → Option (List ℕ)) (may_leave : D �
 abbrev pub ReadsOnTo : {D : Type 0} → (D → Option (List ℕ)) → (D → List ℕ → Type 0) → Demo D → Demo D → Type 0
 ReadsOnTo seen may_leave old new = (wal : Wal) → IsDemo seen may_leave wal old → ReadOn seen may_leave wal old new
 
--- Whatever a read answers, a stop leaves the first ones of what it adds by its end.
+-- Whatever a read answers, a crash leaves the first ones of what it adds by its end.
 abbrev pub LeavesRead : {D : Type 0} → (D → Option (List ℕ)) → (D → List ℕ → Type 0) → Demo D → Demo D → Type 0
 LeavesRead seen may_leave old new = (wal : Wal) (place : Place) → IsDemo seen may_leave wal old → old.place ≡ Some place
     → LeavesWal may_leave new.journal.disk (λ left. (upto : ℕ) × ReadsOn wal.workload wal.entries place old.done upto old.done × IsLeftOf wal (added_by wal old.done upto []) left)

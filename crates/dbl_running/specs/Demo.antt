@@ -87,13 +87,13 @@ StandsFor seen may_leave demo s = (wal : Wal) × IsDemo seen may_leave wal demo 
 
 -- ---- what no call undoes
 
--- Its wal is of this workload, and whatever a stop leaves is a wal of it; and its journal has come so far.
+-- Its wal is of this workload, and whatever a crash leaves is a wal of it; and its journal has come so far.
 pub record HasKept {D : Type 0} (seen : D → Option (List ℕ)) (may_leave : D → List ℕ → Type 0) (script : List ℕ) (gate most : ℕ) (demo : Demo D) : Type 0 where
   pub come : HasCome seen may_leave gate most demo.journal
   pub stands : IsTrue demo.live → (wal : Wal) × IsDemo seen may_leave wal demo × (wal.script ≡ script)
-  pub images : LeavesWal may_leave demo.journal.disk (λ wal. wal.script ≡ script)
+  pub crash : LeavesWal may_leave demo.journal.disk (λ wal. wal.script ≡ script)
 
--- The new source comes of the old one: of the same workload, with wals in all that a stop leaves, and a disk that is no longer than
+-- The new source comes of the old one: of the same workload, with wals in all that a crash leaves, and a disk that is no longer than
 -- it was, or than 2^30 bytes past the closed gate, which never falls.
 abbrev pub ComesOf : {D : Type 0} → (D → Option (List ℕ)) → (D → List ℕ → Type 0) → Demo D → Demo D → Type 0
 ComesOf seen may_leave old new = (script : List ℕ) (gate most : ℕ) → HasKept seen may_leave script gate most old → HasKept seen may_leave script gate most new

@@ -26,7 +26,7 @@ use Rattle.dbl_running.specs.Demo.{ComesOf, Demo, IsDemo, StandsFor}
 
 -- ---- what it stands for
 
--- one standing at most, whose history rises and of which it has read right; and what a stop leaves is what it stands for
+-- one standing at most, whose history rises and of which it has read right; and what a crash leaves is what it stands for
 pub record StandsWell {D : Type 0} (seen : D → Option (List ℕ)) (may_leave : D → List ℕ → Type 0) (demo : Demo D) (s : Standing) : Type 0 where
   pub one : (t : Standing) → StandsFor seen may_leave demo t → s ≡ t
   pub rising : IsRising s.history
@@ -73,7 +73,7 @@ ReadsAnswerAsPromised {D} seen may_leave =
     (old new : Demo D) (wal : Wal) (place : Place) (s : Standing) (read : Option (List ℕ)) → IsDemo seen may_leave wal old → old.place ≡ Some place → StandsFor seen may_leave old s → IsTrue new.live → new.ended ≡ is_none read
     → ReadBehind seen may_leave wal place old new read → IsReadAsPromised seen may_leave new s read
 
--- ---- what a stop leaves, and what no call undoes
+-- ---- what a crash leaves, and what no call undoes
 
 abbrev pub MayBeLeft : {D : Type 0} → (D → List ℕ → Type 0) → Demo D → Left → Type 0
 MayBeLeft may_leave source l = MayLeaveWal may_leave source.journal.disk l
@@ -83,8 +83,8 @@ pub record StopsWell {D : Type 0} (seen : D → Option (List ℕ)) (may_leave : 
   pub marked : (value : List ℕ) → LeavesFirst seen may_leave upto (mark_of value upto) old new → Leaves (StandsFor seen may_leave) (MayBeLeft may_leave) old new (MayFollowMark value)
   pub confirmed : (lsn : Lsn) → LeavesFirst seen may_leave upto (confirm_of old.confirmed lsn) old new → Leaves (StandsFor seen may_leave) (MayBeLeft may_leave) old new (MayFollowConfirm lsn)
 
-abbrev pub StopsLeaveWhatFollows : {D : Type 0} → (D → Option (List ℕ)) → (D → List ℕ → Type 0) → Type 0
-StopsLeaveWhatFollows {D} seen may_leave = (old new : Demo D) (upto : ℕ) → StopsWell seen may_leave old new upto
+abbrev pub CrashesLeaveWhatFollows : {D : Type 0} → (D → Option (List ℕ)) → (D → List ℕ → Type 0) → Type 0
+CrashesLeaveWhatFollows {D} seen may_leave = (old new : Demo D) (upto : ℕ) → StopsWell seen may_leave old new upto
 
 abbrev pub CallsUndoNothing : {D : Type 0} → (D → Option (List ℕ)) → (D → List ℕ → Type 0) → Type 0
 CallsUndoNothing {D} seen may_leave =

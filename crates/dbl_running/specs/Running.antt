@@ -18,7 +18,7 @@ pub record Ran {D : Type 0} (seen : D → Option (List ℕ)) (may_leave : D → 
 abbrev pub IsRunOf : {D : Type 0} → Demo D → Demo D → Type 0
 IsRunOf old new = new ≡ record old { journal = new.journal; store = new.store; done = new.done; commits = new.commits }
 
--- whatever a stop leaves has the first ones of what the call adds
+-- whatever a crash leaves has the first ones of what the call adds
 abbrev pub LeavesRun : {D : Type 0} → (D → List ℕ → Type 0) → Wal → ℕ → List Entry → Demo D → Demo D → Type 0
 LeavesRun may_leave wal upto own old new = LeavesWal may_leave new.journal.disk (IsLeftOf wal (added_by wal old.done upto own))
 

@@ -34,14 +34,14 @@ module _ {D : Type 0} (seen : D → Option (List ℕ)) (may_leave : D → List �
   pub only_left : (demo : Demo D) (s : Standing) (l : Left) → StandsFor seen may_leave demo s → MayLeaveWal may_leave demo.journal.disk l → l ≡ left_of s
   only_left demo s l a may =
       let running = a.1.running in
-      let same : may.image ≡ running.lists.bytes = running.lists.only may.image may.may in
+      let same : may.crashed ≡ running.lists.bytes = running.lists.only may.crashed may.may in
       let wals : may.wal ≡ a.0 = one_wal running.lists.bytes may.wal a.0 (subst (λ (bytes : List ℕ). IsWal bytes may.wal) same may.is) (wal_of demo a.0 running) in
       may.left ∙ ap left_in wals ∙ ap left_of (sym a.2)
 
   pub may_leave_so : ((disk : D) (bytes : List ℕ) → seen disk ≡ Some bytes → may_leave disk bytes) → (demo : Demo D) (s : Standing) → StandsFor seen may_leave demo s → MayLeaveWal may_leave demo.journal.disk (left_of s)
-  may_leave_so is_image demo s a =
+  may_leave_so may_be_left demo s a =
       let lists = a.1.running.lists in
-      record { image = lists.bytes; may = is_image demo.journal.disk lists.bytes lists.told; wal = a.0; is = wal_of demo a.0 a.1.running; left = ap left_of a.2 }
+      record { crashed = lists.bytes; may = may_be_left demo.journal.disk lists.bytes lists.told; wal = a.0; is = wal_of demo a.0 a.1.running; left = ap left_of a.2 }
 
   same_some : {A B : Type 0} (f : A → B) (o : Option A) → is_some (option_map f o) ≡ is_some o
   same_some f None = refl
@@ -66,4 +66,4 @@ module _ {D : Type 0} (seen : D → Option (List ℕ)) (may_leave : D → List �
       (right_at a.0 running.lists.bytes demo.place r (wal_of demo a.0 running) (ap (λ (t : Standing). t.reading) (sym a.2) ∙ reads))
 
 pub fit_so : {D : Type 0} (may_leave : D → List ℕ → Type 0) (disk : D) (l : Left) → MayLeaveWal may_leave disk l → IsFitHistory l.history
-fit_so may_leave disk l may = subst (λ (x : Left). IsFitHistory x.history) (sym may.left) (wal_has_fit_history may.image may.wal may.is)
+fit_so may_leave disk l may = subst (λ (x : Left). IsFitHistory x.history) (sym may.left) (wal_has_fit_history may.crashed may.wal may.is)

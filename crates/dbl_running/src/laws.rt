@@ -1,10 +1,10 @@
 //! The functions do nothing: their contracts are the laws.
 
-ghost use Rattle.dbl_running.specs.Laws.{CallsUndoNothing, EntriesAreWrittenAsPromised, GroupsAnswerAsPromised, ReadsAnswerAsPromised, SelectsAnswerAsPromised, SourcesStandWell, StopsLeaveWhatFollows};
+ghost use Rattle.dbl_running.specs.Laws.{CallsUndoNothing, EntriesAreWrittenAsPromised, GroupsAnswerAsPromised, ReadsAnswerAsPromised, SelectsAnswerAsPromised, SourcesStandWell, CrashesLeaveWhatFollows};
 
 use dbl_disk::Disk;
 
-/// A source stands for one standing at most, whose history rises; what it has read is right; and what a stop leaves is what it
+/// A source stands for one standing at most, whose history rises; what it has read is right; and what a crash leaves is what it
 /// stands for.
 pub fn sources_stand_well<D: Disk>()
     ensures { SourcesStandWell D.seen D.may_leave }
@@ -30,9 +30,9 @@ pub fn reads_answer_as_promised<D: Disk>()
     ensures { ReadsAnswerAsPromised D.seen D.may_leave }
 {}
 
-/// Where a stop leaves first ones of what a call adds, it leaves what may follow the source.
-pub fn stops_leave_what_follows<D: Disk>()
-    ensures { StopsLeaveWhatFollows D.seen D.may_leave }
+/// Where a crash leaves first ones of what a call adds, it leaves what may follow the source.
+pub fn crashes_leave_what_follows<D: Disk>()
+    ensures { CrashesLeaveWhatFollows D.seen D.may_leave }
 {}
 
 /// No call undoes its workload, its log, or how far its journal has come.

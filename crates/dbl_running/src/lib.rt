@@ -6,5 +6,5 @@ mod laws;
 pub use laws::{
     calls_undo_nothing, entries_are_written_as_promised, groups_answer_as_promised,
     reads_answer_as_promised, selects_answer_as_promised, sources_stand_well,
-    stops_leave_what_follows,
+    crashes_leave_what_follows,
 };

@@ -16,7 +16,7 @@ module _ {D : Type 0} (seen : D → Option (List ℕ)) (may_leave : D → List �
   pub keeps_itself : (failed : Type 0) (disk : D) → ¬ failed → Keeps seen may_leave faults failed disk disk
   keeps_itself failed disk none = record {
     same = refl;
-    images = λ image may. may;
+    crash = λ crashed may. may;
     later = omega arith;
     cause = λ f. absurd (none f);
     steady = λ n bytes told. refl;
@@ -26,7 +26,7 @@ module _ {D : Type 0} (seen : D → Option (List ℕ)) (may_leave : D → List �
   pub keeps_then : (failed : Type 0) (first second third : D) → Keeps seen may_leave faults ⊥ first second → Keeps seen may_leave faults failed second third → Keeps seen may_leave faults failed first third
   keeps_then failed first second third a b = record {
     same = b.same ∙ a.same;
-    images = λ image may. a.images image (b.images image may);
+    crash = λ crashed may. a.crash crashed (b.crash crashed may);
     later = omega (arith, a.later, b.later);
     cause = λ f. omega (arith, a.later, b.cause f);
     steady = λ n bytes told. b.steady n bytes (a.same ∙ told) ∙ a.steady (λ f. f) bytes told;
@@ -36,7 +36,7 @@ module _ {D : Type 0} (seen : D → Option (List ℕ)) (may_leave : D → List �
   pub keeps_as : (failed other : Type 0) (first second : D) → (other → failed) → (failed → other) → Keeps seen may_leave faults failed first second → Keeps seen may_leave faults other first second
   keeps_as failed other first second back forth k = record {
     same = k.same;
-    images = k.images;
+    crash = k.crash;
     later = k.later;
     cause = λ f. k.cause (back f);
     steady = λ n. k.steady (λ f. n (forth f));
@@ -50,18 +50,18 @@ module _ {D : Type 0} (seen : D → Option (List ℕ)) (may_leave : D → List �
   keeps_told wanted told first second k = keeps_as (told ≡ wanted) _ first second (λ f. err_one told wanted f) (λ e. ap failed_with e) k
 
   -- a call that only reads
-  pub keeps_read : (first second : D) → seen second ≡ seen first → ((image : List ℕ) → may_leave second image ↔ may_leave first image) → faults first ≤ faults second → IsSteady seen faults first second → Keeps seen may_leave faults ⊥ first second
-  keeps_read first second same images later steady = record {
+  pub keeps_read : (first second : D) → seen second ≡ seen first → ((crashed : List ℕ) → may_leave second crashed ↔ may_leave first crashed) → faults first ≤ faults second → IsSteady seen faults first second → Keeps seen may_leave faults ⊥ first second
+  keeps_read first second same crash later steady = record {
     same = same;
-    images = λ image may. (images image).0 may;
+    crash = λ crashed may. (crash crashed).0 may;
     later = later;
     cause = λ f. absurd f;
     steady = λ n. steady;
   }
 
-  pub keeps_failed : (failed : Type 0) (first second : D) → seen second ≡ seen first → ((image : List ℕ) → may_leave second image → may_leave first image) → faults first ≤ faults second
+  pub keeps_failed : (failed : Type 0) (first second : D) → seen second ≡ seen first → ((crashed : List ℕ) → may_leave second crashed → may_leave first crashed) → faults first ≤ faults second
       → (failed → Rose (faults first) (faults second)) → (¬ failed → IsSteady seen faults first second) → Keeps seen may_leave faults failed first second
-  keeps_failed failed first second same images later cause steady = record { same = same; images = images; later = later; cause = cause; steady = steady }
+  keeps_failed failed first second same crash later cause steady = record { same = same; crash = crash; later = later; cause = cause; steady = steady }
 
   -- a step that told another thing than the failure
   pub keeps_ok : (failed : Type 0) (first second : D) → ¬ failed → Keeps seen may_leave faults failed first second → Keeps seen may_leave faults ⊥ first second

@@ -69,7 +69,7 @@ opened_running error opened e = subst (λ (x : RunError). HasOpenedOffset (Err x
 module _ {D : Type 0} (seen : D → Option (List ℕ)) (may_leave : D → List ℕ → Type 0) (faults : D → ℕ) where
   -- a disk that was synced stays so where it is only read
   pub synced_then : (failed : Type 0) (first second third : D) → IsSynced seen may_leave first second → Keeps seen may_leave faults failed second third → IsSynced seen may_leave first third
-  synced_then failed first second third synced k = λ bytes told image may. synced bytes told image (k.images image may)
+  synced_then failed first second third synced k = λ bytes told crashed may. synced bytes told crashed (k.crash crashed may)
 
 -- ---- lines that were to be written
 

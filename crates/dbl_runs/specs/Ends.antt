@@ -93,7 +93,7 @@ pub record Keeps
     (failed : Type 0)
     (old new : D) : Type 0 where
   pub same : seen new ≡ seen old
-  pub images : (image : List ℕ) → may_leave new image → may_leave old image
+  pub crash : (crashed : List ℕ) → may_leave new crashed → may_leave old crashed
   pub later : faults old ≤ faults new
   pub cause : failed → Rose (faults old) (faults new)
   pub steady : ¬ failed → IsSteady seen faults old new

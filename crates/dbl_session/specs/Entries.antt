@@ -28,7 +28,7 @@ stores_at entry = record {
   offset = entry.offset;
 }
 
--- what a stop leaves of the three
+-- what a crash leaves of the three
 abbrev pub stores_left : Left → List (List Record) → Option Offset → Stores
 stores_left left groups offset = record {
   history = left.history;

@@ -1,6 +1,6 @@
-//! What each image of the disk is that a stop may leave, beside the sink's records.
+//! What a crash may leave of the disk, beside the sink's records.
 
-use crate::run::image;
+use crate::run::crashed_offset;
 use anyhow::Result;
 use dbl_case_items::words;
 use dbl_disk::{Choice, MemDisk};
@@ -20,7 +20,7 @@ fn is_same(one: Option<&Offset>, other: Option<&Offset>) -> bool {
 }
 
 /// Adds what an offset is beside the records.
-pub fn image_text(
+pub fn crash_text(
     alloc: Global,
     asked: &str,
     script: &str,
@@ -51,7 +51,7 @@ pub fn each(
     before: usize,
     answers: &mut String,
 ) -> Result<()> {
-    match image(alloc, disk, Choice::New)? {
+    match crashed_offset(alloc, disk, Choice::New)? {
         Some(offset) => look::each(
             alloc, asked, script, entry, &offset, records, before, answers,
         ),
@@ -59,39 +59,39 @@ pub fn each(
     }
 }
 
-// The offsets of the images that a stop may leave.
+// The offsets of what a crash may leave.
 #[derive(Drop)]
-struct ImageOffsets {
+struct CrashedOffsets {
     old: Option<Offset>,
     new: Option<Offset>,
     filled: Option<Offset>,
 }
 
-fn all_images(alloc: Global, disk: &MemDisk) -> Result<ImageOffsets> {
-    Ok(ImageOffsets {
-        old: image(alloc, disk, Choice::Old)?,
-        new: image(alloc, disk, Choice::New)?,
-        filled: image(alloc, disk, Choice::Fill(255))?,
+fn crashed_offsets(alloc: Global, disk: &MemDisk) -> Result<CrashedOffsets> {
+    Ok(CrashedOffsets {
+        old: crashed_offset(alloc, disk, Choice::Old)?,
+        new: crashed_offset(alloc, disk, Choice::New)?,
+        filled: crashed_offset(alloc, disk, Choice::Fill(255))?,
     })
 }
 
-fn are_same(images: &ImageOffsets) -> bool {
-    let new = images.new.as_ref();
-    is_same(images.old.as_ref(), new) && is_same(images.filled.as_ref(), new)
+fn are_same(crashed: &CrashedOffsets) -> bool {
+    let new = crashed.new.as_ref();
+    is_same(crashed.old.as_ref(), new) && is_same(crashed.filled.as_ref(), new)
 }
 
-fn image_texts(
+fn crash_texts(
     alloc: Global,
     asked: &str,
     script: &str,
-    images: &ImageOffsets,
+    crashed: &CrashedOffsets,
     records: &Vec<Record>,
     answers: &mut String,
 ) -> Result<()> {
-    let (old, new, filled) = (&images.old, &images.new, &images.filled);
-    image_text(alloc, asked, script, "old", old.as_ref(), records, answers)?;
-    image_text(alloc, asked, script, "new", new.as_ref(), records, answers)?;
-    image_text(
+    let (old, new, filled) = (&crashed.old, &crashed.new, &crashed.filled);
+    crash_text(alloc, asked, script, "old", old.as_ref(), records, answers)?;
+    crash_text(alloc, asked, script, "new", new.as_ref(), records, answers)?;
+    crash_text(
         alloc,
         asked,
         script,
@@ -102,8 +102,8 @@ fn image_texts(
     )
 }
 
-/// Adds what each image comes to, or all of them at once where they are the same.
-pub fn images(
+/// Adds what each of these comes to, or all of them at once where they are the same.
+pub fn add_crashes(
     alloc: Global,
     asked: &str,
     script: &str,
@@ -111,10 +111,10 @@ pub fn images(
     records: &Vec<Record>,
     answers: &mut String,
 ) -> Result<()> {
-    let images = all_images(alloc, disk)?;
-    if are_same(&images) {
-        let new = images.new.as_ref();
-        return image_text(alloc, asked, script, "each image", new, records, answers);
+    let crashed = crashed_offsets(alloc, disk)?;
+    if are_same(&crashed) {
+        let new = crashed.new.as_ref();
+        return crash_text(alloc, asked, script, "each image", new, records, answers);
     }
-    image_texts(alloc, asked, script, &images, records, answers)
+    crash_texts(alloc, asked, script, &crashed, records, answers)
 }

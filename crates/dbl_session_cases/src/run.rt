@@ -170,8 +170,8 @@ pub fn first(
     )
 }
 
-/// The offset of an image that a stop may leave of the disk.
-pub fn image(alloc: Global, disk: &MemDisk, choice: Choice) -> Result<Option<Offset>>
+/// The offset of what a crash may leave of the disk.
+pub fn crashed_offset(alloc: Global, disk: &MemDisk, choice: Choice) -> Result<Option<Offset>>
     ensures { IfOk result (λ offset. IfSome offset IsOffset) }
 {
     match OffsetStore::open(alloc, disk.crash(choice)?) {
@@ -196,7 +196,7 @@ pub fn answer(alloc: Global, asked: &str, script: &str, answers: &mut String) ->
         Vec::new(alloc),
         Vec::new(alloc),
     )?;
-    let offset = image(alloc, &ran.disk, Choice::New)?;
+    let offset = crashed_offset(alloc, &ran.disk, Choice::New)?;
     shown::ending(answers, &ran)?;
     shown::offset(alloc, answers, offset.as_ref())?;
     shown::records(alloc, answers, ran.sink.records())?;

@@ -6,7 +6,7 @@ ghost use Rattle.dbl_offset.specs.Offsets.{IsOffset};
 ghost use Rattle.dbl_offset.specs.Stores.{IsLive};
 ghost use Rattle.dbl_exits.specs.Found.{IsAsked};
 
-use crate::run::{Ran, image, made_store, run, unset_report, word};
+use crate::run::{Ran, crashed_offset, made_store, run, unset_report, word};
 use crate::{asked, left, shown};
 use anyhow::{Result, bail};
 use dbl_capture::{Ending, Report, session};
@@ -66,7 +66,7 @@ fn found(alloc: Global, asked: &str) -> Result<Option<Offset>>
     ensures { IfOk result (λ offset. IfSome offset IsOffset) }
 {
     match items::first_of(asked, "found/") {
-        Some(digits) => image(alloc, &disk_of(alloc, digits)?, Choice::New),
+        Some(digits) => crashed_offset(alloc, &disk_of(alloc, digits)?, Choice::New),
         None => Ok(None),
     }
 }
@@ -229,7 +229,7 @@ fn show(
     write!(answers, "\n  {}; ", ran.ending)?;
     shown::show_reported(answers, ran)?;
     write!(answers, "; {count} records")?;
-    left::images(alloc, asked, script, &ran.disk, records, answers)?;
+    left::add_crashes(alloc, asked, script, &ran.disk, records, answers)?;
     if has(asked, "each/") {
         left::each(
             alloc, asked, script, entry, &ran.disk, records, before, answers,
@@ -261,7 +261,7 @@ fn one_more(
     let before = past.records.len();
     gather(alloc, &mut past.records, ran.sink.records())?;
     show(alloc, asked, script, &ran, past, before, answers)?;
-    past.offset = image(alloc, &ran.disk, choice(script, stops)?)?;
+    past.offset = crashed_offset(alloc, &ran.disk, choice(script, stops)?)?;
     Ok(())
 }
 
@@ -321,7 +321,7 @@ fn tell(
     write!(answers, "\n  {word}; ")?;
     shown::report(answers, report)?;
     write!(answers, "; {count} records")?;
-    left::image_text(
+    left::crash_text(
         alloc,
         asked,
         script,

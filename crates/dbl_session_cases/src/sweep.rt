@@ -104,7 +104,7 @@ pub fn answer(
         write!(answers, "\n  {kind} {number}: {}; ", ran.ending)?;
         shown::show_reported(answers, &ran)?;
         write!(answers, "; {count} records")?;
-        left::images(alloc, asked, script, &ran.disk, records, answers)?;
+        left::add_crashes(alloc, asked, script, &ran.disk, records, answers)?;
         if !goes_on(kind, ran.ending.as_str()) {
             return Ok(());
         }

@@ -83,7 +83,7 @@ module _ {W T F : Type 0} (seen_wal : W → Option (List ℕ)) (wals : W → Lis
 
   module _ (e : InitError) (says : SaysInit e status before after)
       (wal_left : Leaves seen_wal faults_wal store.Wal (Err e) wal mid_wal) (topics_left : Leaves seen_topics faults_topics store.Topics (Err e) topics mid_topics) (offsets_left : Leaves seen_offsets faults_offsets store.Offsets (Err e) offsets mid_offsets)
-      (image : (bytes : List ℕ) → seen_offsets mid_offsets ≡ Some bytes → stores mid_offsets bytes)
+      (crashed : (bytes : List ℕ) → seen_offsets mid_offsets ≡ Some bytes → stores mid_offsets bytes)
       (asked : IsUnwritten store.Offsets (Err e) → IsAsked seen_offsets stores faults_offsets store.Offsets (Err e) offsets mid_offsets)
       (torn : seen_wal wal ≡ Some [] → seen_topics topics ≡ Some [] → e ≡ init.Failed store.Offsets
       → IsAsked seen_offsets stores faults_offsets store.Offsets (Err e) offsets mid_offsets ⊎ EndsTorn seen_wal wals seen_topics logs stores workload mid_wal mid_topics offsets mid_offsets) where
@@ -96,7 +96,7 @@ module _ {W T F : Type 0} (seen_wal : W → Option (List ℕ)) (wals : W → Lis
     -- a disk that was only asked still tells no bytes, which is no store
     not_asked : Made → IsAsked seen_offsets stores faults_offsets store.Offsets (Err e) offsets mid_offsets → ⊥
     not_asked made only_asked =
-        let nothing = made.made [] (image [] (only_asked.same ∙ made.offsets_empty.told)) in
+        let nothing = made.made [] (crashed [] (only_asked.same ∙ made.offsets_empty.told)) in
         nothing_is_no_store nothing.0 nothing.1
 
     torn_promised : Made → EndsTorn seen_wal wals seen_topics logs stores workload mid_wal mid_topics offsets mid_offsets → (w t f : List ℕ) → wals mid_wal w → logs mid_topics t → stores mid_offsets f → Promise w t f
@@ -188,7 +188,7 @@ no_memory made end memory failed = let t = memory in let u = failed in cc
 
 module _ {D : Type 0} (seen : D → Option (List ℕ)) (may_leave : D → List ℕ → Type 0) (faults : D → ℕ) (made : Store) (disk : D) where
   pub asked_none : IsAsked seen may_leave faults made (Err init.Memory) disk disk
-  asked_none = record { same = refl; images = λ image may. may; later = omega arith; cause = λ is. absurd (no_memory made (Err init.Memory) refl is); steady = λ no bytes told. refl }
+  asked_none = record { same = refl; crash = λ crashed may. may; later = omega arith; cause = λ is. absurd (no_memory made (Err init.Memory) refl is); steady = λ no bytes told. refl }
 
   pub leaves_none : Leaves seen faults made (Err init.Memory) disk disk
   leaves_none = record {

@@ -252,7 +252,7 @@ pub refused_end : {W T F : Type 0} (seen_wal : W → Option (List ℕ)) (wals : 
     → IfErr end (λ e. IsRefusal e → WroteNothing (wals w) (logs t) (stores f) (wals w1) (logs t1) (stores f1))
 refused_end seen_wal wals seen_topics logs seen_offsets stores w w1 t t1 f f1 (Ok summary) wal topics offsets = tt
 refused_end seen_wal wals seen_topics logs seen_offsets stores w w1 t t1 f f1 (Err e) wal topics offsets =
-    λ refusal. record { wal = (wal refusal).images; topics = (topics refusal).images; offsets = (offsets refusal).images }
+    λ refusal. record { wal = (wal refusal).crash; topics = (topics refusal).crash; offsets = (offsets refusal).crash }
 
 -- ---- promises
 

@@ -53,7 +53,7 @@ pub record HasMade {W T F : Type 0} (seen_wal : W → Option (List ℕ)) (wals :
   pub wal_empty : IsEmptyDisk seen_wal wals wal
   pub topics_empty : IsEmptyDisk seen_topics logs topics
   pub offsets_empty : IsEmptyDisk seen_offsets stores offsets
-  pub made : (image : List ℕ) → stores new_offsets image → (offset : Option Offset) × IsStore image offset
+  pub made : (crashed : List ℕ) → stores new_offsets crashed → (offset : Option Offset) × IsStore crashed offset
 
 -- ---- how it ended
 

@@ -26,9 +26,9 @@ pub record AnswersKept (asked : Asked) (now : ℤ) (new_wals new_logs new_stores
 
 -- Nothing was written: a crash leaves nothing of the disks that it couldn't leave before.
 pub record WroteNothing (wals logs stores new_wals new_logs new_stores : List ℕ → Type 0) : Type 0 where
-  pub wal : (image : List ℕ) → new_wals image → wals image
-  pub topics : (image : List ℕ) → new_logs image → logs image
-  pub offsets : (image : List ℕ) → new_stores image → stores image
+  pub wal : (crashed : List ℕ) → new_wals crashed → wals crashed
+  pub topics : (crashed : List ℕ) → new_logs crashed → logs crashed
+  pub offsets : (crashed : List ℕ) → new_stores crashed → stores crashed
 
 -- The session ended so, and that was told. What the disks told and may leave before it, and what they may leave now.
 pub record RunsSession (asked : Asked) (now : ℤ) (told_wal told_topics told_offsets : Option (List ℕ)) (wals logs stores new_wals new_logs new_stores : List ℕ → Type 0)

@@ -1,4 +1,4 @@
--- What a stop leaves of a wal follows what the source stood for.
+-- What a crash leaves of a wal follows what the source stood for.
 use Rattle.std.proofs.Common.{◌≡◌, ◌∙◌, ℕ, ◌≤◌, max, Option, Some, List, take, refl, sym, ap, subst, arith, inl, inr}
 use Rattle.dbl_base.specs.declared.lsn.Lsn.{Lsn}
 use Rattle.dbl_honest.specs.Standings.{Left}
@@ -19,14 +19,14 @@ use Rattle.dbl_sound.proofs.GrowsLemmas.{left_follows, marked, history_marks, co
 module _ {D : Type 0} (may_leave : D → List ℕ → Type 0) (disk : D) (P : Wal → Type 0) where
   pub left_as : (l : Left) → LeavesWal may_leave disk P → MayLeaveWal may_leave disk l → (wal : Wal) × P wal × (l ≡ left_in wal)
   left_as l leaves may =
-      let here = leaves may.image may.may in
-      (here.0, here.2, may.left ∙ ap left_in (one_wal may.image may.wal here.0 may.is here.1))
+      let here = leaves may.crashed may.may in
+      (here.0, here.2, may.left ∙ ap left_in (one_wal may.crashed may.wal here.0 may.is here.1))
 
   pub some_left : (seen : D → Option (List ℕ)) → ((disk : D) (bytes : List ℕ) → seen disk ≡ Some bytes → may_leave disk bytes) → (bytes : List ℕ) → seen disk ≡ Some bytes → LeavesWal may_leave disk P → (l : Left) × MayLeaveWal may_leave disk l
-  some_left seen is_image bytes told leaves =
-      let may = is_image disk bytes told in
+  some_left seen may_be_left bytes told leaves =
+      let may = may_be_left disk bytes told in
       let here = leaves bytes may in
-      (left_in here.0, record { image = bytes; may = may; wal = here.0; is = here.1; left = refl })
+      (left_in here.0, record { crashed = bytes; may = may; wal = here.0; is = here.1; left = refl })
 
 -- ---- commits, with a mark or a confirmed position behind them
 

@@ -1,4 +1,4 @@
--- What a stop leaves of a wal, whatever its source was doing. Source: own.
+-- What a crash leaves of a wal, whatever its source was doing. Source: own.
 use Rattle.std.specs.Prelude.{◌≡◌, ℕ, List, ◌++◌, take}
 use Rattle.dbl_wal.specs.declared.entry.Entry.{Entry}
 use Rattle.dbl_sound.specs.Wals.{Wal, IsWal}
@@ -17,6 +17,6 @@ pub record IsLeftOf (wal : Wal) (added : List Entry) (left : Wal) : Type 0 where
   pub count : ℕ
   pub is : left ≡ with_entries wal (take count added)
 
--- Whatever a stop leaves is a wal, with the first ones of what the call adds: none or more.
+-- Whatever a crash leaves is a wal, with the first ones of what the call adds: none or more.
 abbrev pub LeavesWal : {D : Type 0} → (D → List ℕ → Type 0) → D → (Wal → Type 0) → Type 0
-LeavesWal may_leave disk P = (image : List ℕ) → may_leave disk image → (wal : Wal) × IsWal image wal × P wal
+LeavesWal may_leave disk P = (crashed : List ℕ) → may_leave disk crashed → (wal : Wal) × IsWal crashed wal × P wal

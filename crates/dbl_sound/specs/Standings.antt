@@ -35,10 +35,10 @@ standing_in wal place = record { history = history_in wal; confirmed = confirmed
 abbrev pub left_in : Wal → Left
 left_in wal = record { history = history_in wal; confirmed = confirmed_of wal }
 
--- a stop may leave the bytes of a wal that stands for this
+-- a crash may leave the bytes of a wal that stands for this
 pub record MayLeaveWal {D : Type 0} (may_leave : D → List ℕ → Type 0) (disk : D) (l : Left) : Type 0 where
-  pub image : List ℕ
-  pub may : may_leave disk image
+  pub crashed : List ℕ
+  pub may : may_leave disk crashed
   pub wal : Wal
-  pub is : IsWal image wal
+  pub is : IsWal crashed wal
   pub left : l ≡ left_in wal

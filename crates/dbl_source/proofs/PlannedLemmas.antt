@@ -43,7 +43,7 @@ no_listed x is = cc
 pub two_errs : {T : Type 0} (r : Result T SourceError) → r ≡ Err Memory → r ≡ Err Failed → ⊥
 two_errs r memory failed = cc
 
--- where the call went on, and then memory was wanting or nothing was
+-- where the call went on, and then memory ran out or nothing was
 pub planned_on : {T U : Type 0} (own : ℕ) (old mid new : Played) (u : U) (r : Result T SourceError) → FailsAsPlanned own ⊥ old mid (answer_is u) → (r ≡ Err Failed → ⊥) → FailsAsPlanned own ⊥ old new r
 planned_on own old mid new u r planned never = record {
   full = λ full. absurd (no_err u Failed (planned.full full));

@@ -1,4 +1,4 @@
--- How a call of a played source ends that began: memory is wanting, or it answers. The other ends are found by the search.
+-- How a call of a played source ends that began: memory runs out, or it answers. The other ends are found by the search.
 use Rattle.std.proofs.Common.{◌≡◌, ◌≤◌, ℕ, List, refl, ap}
 use Rattle.dbl_pgmsg.specs.declared.messages.Message.{Message}
 use Rattle.dbl_reading.specs.declared.error.SourceError.{SourceError}
@@ -8,7 +8,7 @@ use Rattle.dbl_source.specs.Steps.{IsKept, AddedFirst}
 use Rattle.dbl_source.specs.Exits.{Plays}
 use Rattle.dbl_source.proofs.PlannedLemmas.{no_err, answer_is, error_is, no_listed, two_errs}
 
--- it began, and then memory was wanting
+-- it began, and then memory ran out
 pub wanted : {T U : Type 0} (own : ℕ) (more : Type 0) (commits : List (List Message)) (done : T → Played → Type 0) (old mid new : Played) (e : SourceError) (u : U) → e ≡ Memory → IsKept old → old.plan.faults ≤ new.plan.faults
     → FailsAsPlanned own ⊥ old mid (answer_is u) → AddedFirst commits (past_move old) new → Plays own more commits done old new (error_is T e)
 wanted {T = T} own more commits done old mid new e u is kept later planned added = record {

@@ -31,8 +31,8 @@ module _ {D : Type 0} (seen : D → Option (List ℕ)) (may_leave : D → List �
   -- what a journal leaves while the entry of a group is appended
   pub leaves_put : (disk : D) (entries : List (List ℕ)) (groups : List (List Record)) (entry : List ℕ) (group : List Record) → AreLogEntries entries groups → IsLogEntry entry group
       → LeavesEntries may_leave disk (λ left. (left ≡ entries) ⊎ (left ≡ entries ++ entry ∷ [])) → LeavesGroups may_leave disk (IsLeftByWhole groups group)
-  leaves_put disk entries groups entry group are is leaves image may =
-      let here = leaves image may in
+  leaves_put disk entries groups entry group are is leaves crashed may =
+      let here = leaves crashed may in
       elim here.2 [
         | inl e ↦ (groups, record { entries = here.0; journal = here.1; are = subst (λ (es : List (List ℕ)). AreLogEntries es groups) (sym e) are }, inl refl)
         | inr e ↦ (groups ++ group ∷ [], record { entries = here.0; journal = here.1; are = subst (λ (es : List (List ℕ)). AreLogEntries es (groups ++ group ∷ [])) (sym e) (entries-push entries groups entry group are is) }, inr refl)
@@ -61,13 +61,13 @@ module _ {D : Type 0} (may_leave : D → List ℕ → Type 0) (disk : D) (groups
       part_of_whole groups group left some (subst (λ (x : List (List Record)). IsLeftByWhole groups group x) (one_log may.0 here.0 left here.1 may.2) here.2)
 
   pub leaves_any : LeavesGroups may_leave disk (IsLeftByWhole groups group) → LeavesGroups may_leave disk (λ left. Unit {0})
-  leaves_any leaves image may = let here = leaves image may in (here.0, here.1, tt)
+  leaves_any leaves crashed may = let here = leaves crashed may in (here.0, here.1, tt)
 
 -- where what is left is a log of some groups, and the disk tells its bytes, some groups may be left
 pub some_left : {D : Type 0} (seen : D → Option (List ℕ)) (may_leave : D → List ℕ → Type 0) → ((disk : D) (bytes : List ℕ) → seen disk ≡ Some bytes → may_leave disk bytes) → (disk : D) (bytes : List ℕ) → seen disk ≡ Some bytes
     → (P : List (List Record) → Type 0) → LeavesGroups may_leave disk P → (left : List (List Record)) × MayLeaveGroups may_leave disk left
-some_left seen may_leave is_image disk bytes told P leaves =
-    let may = is_image disk bytes told in
+some_left seen may_leave may_be_left disk bytes told P leaves =
+    let may = may_be_left disk bytes told in
     let here = leaves bytes may in
     (here.0, (bytes, may, here.1))
 

@@ -30,13 +30,13 @@ module _ {D : Type 0} (seen : D → Option (List ℕ)) (may_leave : D → List �
 
   pub only_held : (log : OnDisk D) (groups left : List (List Record)) → HoldsGroups seen may_leave log groups → MayLeaveGroups may_leave log.disk left → left ≡ groups
   only_held log groups left held may =
-      one_log held.lists.bytes left groups (subst (λ (image : List ℕ). IsLog image left) (held.lists.only may.0 may.1) may.2) (log_of log groups held)
+      one_log held.lists.bytes left groups (subst (λ (crashed : List ℕ). IsLog crashed left) (held.lists.only may.0 may.1) may.2) (log_of log groups held)
 
   pub may_leave_held : ((disk : D) (bytes : List ℕ) → seen disk ≡ Some bytes → may_leave disk bytes) → (log : OnDisk D) (groups : List (List Record)) → HoldsGroups seen may_leave log groups → MayLeaveGroups may_leave log.disk groups
-  may_leave_held is_image log groups held = (held.lists.bytes, is_image log.disk held.lists.bytes held.lists.told, log_of log groups held)
+  may_leave_held may_be_left log groups held = (held.lists.bytes, may_be_left log.disk held.lists.bytes held.lists.told, log_of log groups held)
 
   pub leaves_held : (log : OnDisk D) (groups : List (List Record)) → HoldsGroups seen may_leave log groups → LeavesGroups may_leave log.disk (λ groups. Unit {0})
-  leaves_held log groups held image may = (groups, subst (λ (i : List ℕ). IsLog i groups) (sym (held.lists.only image may)) (log_of log groups held), tt)
+  leaves_held log groups held crashed may = (groups, subst (λ (i : List ℕ). IsLog i groups) (sym (held.lists.only crashed may)) (log_of log groups held), tt)
 
 pub one_gathered : (sink : Gathered) (groups left : List (List Record)) → IsTrue sink.live × (sink.groups ≡ groups) → sink.groups ≡ left → left ≡ groups
 one_gathered sink groups left held may = sym may ∙ held.1

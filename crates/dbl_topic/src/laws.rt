@@ -31,7 +31,7 @@ pub fn logs_or_faults()
 {}
 
 /// A topic log holds one list of groups at most, of which it has the count, which is what its bytes are a log of, and what a
-/// stop may leave of it, and nothing else. What may be left while a group is put is the list or the one with the group.
+/// crash may leave of it, and nothing else. What may be left while a group is put is the list or the one with the group.
 pub fn held_groups_are_one<D: Disk>()
     ensures one { (log : OnDisk D) (first second : List (List Record)) →
         HoldsGroups D.seen D.may_leave log first → HoldsGroups D.seen D.may_leave log second →

@@ -96,8 +96,8 @@ fn read_entry<D: Disk>(
         Lists D.seen D.may_leave journal.new entries }
     ensures same { journal.new ≡ record journal.old { disk = journal.new.disk } }
     ensures seen { D.seen journal.new.disk ≡ D.seen journal.old.disk }
-    ensures images { (image : List ℕ) → D.may_leave journal.new.disk image ↔
-        D.may_leave journal.old.disk image }
+    ensures crash { (crashed : List ℕ) → D.may_leave journal.new.disk crashed ↔
+        D.may_leave journal.old.disk crashed }
     ensures failed { result ≡ Err (TopicError.Journal JournalError.Failed) →
         Rose (D.faults journal.old.disk) (D.faults journal.new.disk) }
     ensures later { D.faults journal.old.disk ≤ D.faults journal.new.disk }
@@ -124,8 +124,8 @@ fn check_entries<D: Disk>(alloc: Global, journal: &mut Journal<D>) -> Result<(),
         Lists D.seen D.may_leave journal.new entries }
     ensures live { journal.new.live ≡ journal.old.live }
     ensures seen { D.seen journal.new.disk ≡ D.seen journal.old.disk }
-    ensures images { (image : List ℕ) → D.may_leave journal.new.disk image →
-        D.may_leave journal.old.disk image }
+    ensures crash { (crashed : List ℕ) → D.may_leave journal.new.disk crashed →
+        D.may_leave journal.old.disk crashed }
     ensures failed { result ≡ Err (TopicError.Journal JournalError.Failed) →
         Rose (D.faults journal.old.disk) (D.faults journal.new.disk) }
     ensures later { D.faults journal.old.disk ≤ D.faults journal.new.disk }
@@ -188,9 +188,10 @@ impl<D: Disk> TopicLog<D> {
             Rose (D.faults disk) (D.faults refused.disk)) }
         ensures seen { MatchResult result (λ log. D.seen log.disk ≡ D.seen disk)
             (λ refused. D.seen refused.disk ≡ D.seen disk) }
-        ensures images { (image : List ℕ) → MatchResult result (λ log. D.may_leave log.disk image →
-            D.may_leave disk image) (λ refused. D.may_leave refused.disk image →
-            D.may_leave disk image) }
+        ensures crash { (crashed : List ℕ) →
+            MatchResult result (λ log. D.may_leave log.disk crashed →
+            D.may_leave disk crashed) (λ refused. D.may_leave refused.disk crashed →
+            D.may_leave disk crashed) }
         ensures stable { (bytes : List ℕ) → D.seen disk ≡ Some bytes →
             MatchResult result (λ log. IsOnly bytes (D.may_leave log.disk))
             (λ refused. refused.error ≢ TopicError.Journal JournalError.Failed →
@@ -230,8 +231,8 @@ impl<D: Disk> TopicLog<D> {
             HoldsGroups D.seen D.may_leave self.new groups }
         ensures same { self.new ≡ record self.old { disk = self.new.disk } }
         ensures seen { D.seen self.new.disk ≡ D.seen self.old.disk }
-        ensures images { (image : List ℕ) → D.may_leave self.new.disk image ↔
-            D.may_leave self.old.disk image }
+        ensures crash { (crashed : List ℕ) → D.may_leave self.new.disk crashed ↔
+            D.may_leave self.old.disk crashed }
         ensures failed { result ≡ Err (TopicError.Journal JournalError.Failed) →
             Rose (D.faults self.old.disk) (D.faults self.new.disk) }
         ensures later { D.faults self.old.disk ≤ D.faults self.new.disk }
@@ -277,9 +278,9 @@ fn check_log<D: Disk>(
     ensures live { IfOk result (λ log. IsTrue log.live) }
     ensures seen { MatchResult result (λ log. D.seen log.disk ≡ D.seen journal.disk)
         (λ refused. D.seen refused.disk ≡ D.seen journal.disk) }
-    ensures images { (image : List ℕ) → MatchResult result (λ log. D.may_leave log.disk image →
-        D.may_leave journal.disk image) (λ refused. D.may_leave refused.disk image →
-        D.may_leave journal.disk image) }
+    ensures crash { (crashed : List ℕ) → MatchResult result (λ log. D.may_leave log.disk crashed →
+        D.may_leave journal.disk crashed) (λ refused. D.may_leave refused.disk crashed →
+        D.may_leave journal.disk crashed) }
     ensures stable { (bytes : List ℕ) → IsOnly bytes (D.may_leave journal.disk) →
         MatchResult result (λ log. IsOnly bytes (D.may_leave log.disk))
         (λ refused. IsOnly bytes (D.may_leave refused.disk)) }
@@ -319,7 +320,7 @@ impl<D: Disk> Sink for TopicLog<D> {
 
     ghost only = { λ log groups left held may. only_held D.seen D.may_leave log groups left held may };
 
-    ghost may = { λ log groups held. may_leave_held D.seen D.may_leave D.seen_is_image log groups held };
+    ghost may = { λ log groups held. may_leave_held D.seen D.may_leave D.seen_may_be_left log groups held };
 
     ghost whole = { λ log groups held. leaves_held D.seen D.may_leave log groups held };
 

@@ -53,7 +53,7 @@ absent_here history name (Some raw) h is fault =
 
 -- ---- an entry that can't be captured
 
--- want of memory is no fault of it
+-- out of memory is no fault of it
 fault_is : (raw : RawTable) (e : ModelError) → (e ≡ model.Memory → ⊥) → (e ≡ model.Memory) ⊎ (table_fault raw ≡ Some e) → table_fault raw ≡ Some e
 fault_is raw e never (inl memory) = absurd (never memory)
 fault_is raw e never (inr fault) = fault

@@ -206,7 +206,7 @@ module _ (old now : Checked) (number : ℕ) (run : IsRunTo old now number) (step
   pub within_here : (last : ℕ) → last ≤ length old.prepared.steps.items → last ≤ length now.prepared.steps.items
   within_here last le = omega (arith, le, ap (λ (x : Checked). length x.prepared.steps.items) run.same)
 
--- memory was wanting: the store stands where it stood
+-- memory ran out: the store stands where it stood
 module _ (old now : Checked) (number : ℕ) (run : IsRunTo old now number) (store : Tables) where
   abbrev pub left_with : Checked
   left_with = record now { prepared = record now.prepared { store = store } }

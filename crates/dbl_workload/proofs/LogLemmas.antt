@@ -114,7 +114,7 @@ module _ (forms : List (List ℕ)) (checked : Checked) (o : IsOpened forms check
 module _ {D : Type 0} (seen : D → Option (List ℕ)) (may_leave : D → List ℕ → Type 0) (faults : D → ℕ) where
   pub not_read : (F : Type 0) (journal : OnDisk D) → (F → ⊥) → IsReadOnly seen may_leave faults F journal journal
   not_read F journal none = record {
-    disk = record { same = refl; images = λ image may. may; later = omega arith; cause = λ failed. absurd (none failed); steady = λ fine bytes told. refl };
+    disk = record { same = refl; crash = λ crashed may. may; later = omega arith; cause = λ failed. absurd (none failed); steady = λ fine bytes told. refl };
     same = refl;
     lists = λ forms lists. lists;
   }
@@ -123,7 +123,7 @@ module _ {D : Type 0} (seen : D → Option (List ℕ)) (may_leave : D → List �
   read_on F first second third a b = record {
     disk = record {
       same = b.disk.same ∙ a.disk.same;
-      images = λ image may. a.disk.images image (b.disk.images image may);
+      crash = λ crashed may. a.disk.crash crashed (b.disk.crash crashed may);
       later = omega (arith, a.disk.later, b.disk.later);
       cause = λ failed. omega (arith, b.disk.cause failed, a.disk.later);
       steady = λ fine bytes told. b.disk.steady fine bytes (a.disk.same ∙ told) ∙ a.disk.steady (λ no. no) bytes told;
@@ -135,7 +135,7 @@ module _ {D : Type 0} (seen : D → Option (List ℕ)) (may_leave : D → List �
   -- two answers that both tell that the disk failed, or both don't
   pub read_moved : (F G : Type 0) (old new : OnDisk D) → (G → F) → (F → G) → IsReadOnly seen may_leave faults F old new → IsReadOnly seen may_leave faults G old new
   read_moved F G old new to from a = record {
-    disk = record { same = a.disk.same; images = a.disk.images; later = a.disk.later; cause = λ g. a.disk.cause (to g); steady = λ none. a.disk.steady (λ f. none (from f)) };
+    disk = record { same = a.disk.same; crash = a.disk.crash; later = a.disk.later; cause = λ g. a.disk.cause (to g); steady = λ none. a.disk.steady (λ f. none (from f)) };
     same = a.same;
     lists = a.lists;
   }
@@ -185,7 +185,7 @@ module _ {D : Type 0} (seen : D → Option (List ℕ)) (may_leave : D → List �
           subst (λ (fs : List (List ℕ)). IsOpened fs new) (sym (ap (λ (n : ℕ). take n forms) more ∙ take_next forms number bytes here)) (opened_on (take number forms) is new bytes o taken));
     }
 
-    -- the entry is the first bad one, or memory was wanting
+    -- the entry is the first bad one, or memory ran out
     pub check_stops : (new : Checked) (e : DemoError) → Checks number bytes is new (Err e) → (forms : List (List ℕ)) → Lists seen may_leave old forms → ChecksAll forms was new (Err e)
     check_stops new e checks forms lists first others are opened =
         let o = to.so forms lists first others are opened in

@@ -95,7 +95,7 @@ one_read lines names tables log line name info so is none named =
       good = all_on (λ (other : ScriptTable). table_fault other.raw ≡ None) lines line so.good none;
     }
 
--- want of memory, or the fault of the table
+-- out of memory, or the fault of the table
 told_model : (e : ModelError) → (model_error e ≡ demo.Memory) ⊎ (model_error e ≡ demo.Model e)
 told_model model.Memory = inl refl
 told_model (model.BadName name) = inr refl
@@ -129,7 +129,7 @@ module _ (tables : List DemoTable) (past : List Accepted) (call : SessionStep) (
     | inr why ↦ (let contra : false ≡ true = subst (λ (r : Result Accepted StepError). is_ok r ≡ true) why ok in cc)
   ]
 
--- want of memory, or the line
+-- out of memory, or the line
 told_row : (e : StepError) (line : ℕ) → (row_error e line ≡ demo.Memory) ⊎ ((row_error e line ≡ demo.Script (script.BadLine line)) × (e ≢ errors.Memory))
 told_row errors.Memory line = inl refl
 told_row errors.AlreadyOpen line = inr (refl, λ same. cc)
@@ -281,7 +281,7 @@ module _ (bytes : List ℕ) (good : HasGoodLines bytes) (s : Script) (is : s ≡
         line = refl;
       }) bad.is
 
--- the lines can't be read, or memory was wanting
+-- the lines can't be read, or memory ran out
 pub lines_refused : (bytes : List ℕ) (e : ScriptError) (f : DemoError) → ((n : ℕ) → e ≡ script.BadLine n → first_bad (lines_of bytes) ≡ Some n) → (e ≡ script.TooManyLines) ↔ (1000000 < length (lines_of bytes)) → f ≡ script_error e → (f ≡ demo.Memory) ⊎ IsRefused bytes f
 lines_refused bytes script.Memory f bad many told = inl told
 lines_refused bytes script.TooManyLines f bad many told = inr (refused.lines script.TooManyLines (too_many (many.0 refl) refl) told)

@@ -178,12 +178,12 @@ failed_of (journal.EntryTooLong len) same = cc
 failed_of journal.Memory same = cc
 
 module _ {D : Type 0} (seen : D → Option (List ℕ)) (may_leave : D → List ℕ → Type 0) (faults : D → ℕ) (old new : OnDisk D) (r : Result (List ℕ) JournalError)
-    (same : new ≡ record old { disk = new.disk }) (told : seen new.disk ≡ seen old.disk) (images : (image : List ℕ) → may_leave new.disk image ↔ may_leave old.disk image)
+    (same : new ≡ record old { disk = new.disk }) (told : seen new.disk ≡ seen old.disk) (crash : (crashed : List ℕ) → may_leave new.disk crashed ↔ may_leave old.disk crashed)
     (lists : (forms : List (List ℕ)) → Lists seen may_leave old forms → Lists seen may_leave new forms) (later : faults old.disk ≤ faults new.disk)
     (failed : r ≡ Err journal.Failed → Rose (faults old.disk) (faults new.disk)) (steady : r ≢ Err journal.Failed → IsSteady seen faults old.disk new.disk) where
   pub entry_read : (F : Type 0) → (F → r ≡ Err journal.Failed) → ((F → ⊥) → r ≢ Err journal.Failed) → IsReadOnly seen may_leave faults F old new
   entry_read F to from = record {
-    disk = record { same = told; images = λ image may. (images image).0 may; later = later; cause = λ f. failed (to f); steady = λ none. steady (from none) };
+    disk = record { same = told; crash = λ crashed may. (crash crashed).0 may; later = later; cause = λ f. failed (to f); steady = λ none. steady (from none) };
     same = same;
     lists = lists;
   }

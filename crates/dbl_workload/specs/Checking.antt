@@ -54,7 +54,7 @@ pub record CanGoOn (checked : Checked) : Type 0 where
   pub rows : IfSome checked.prepared.rows FitAnEntry
   pub named : AreTableNames checked.prepared.names.items
 
--- one more was checked: it is an entry that may stand there; or it spells none that may; or memory was wanting
+-- one more was checked: it is an entry that may stand there; or it spells none that may; or memory ran out
 pub record IsTaken (w : Workload) (entries : List Entry) (bytes : List ℕ) (new : Checked) : Type 0 where
   pub entry : Entry
   pub spells : Spells bytes entry

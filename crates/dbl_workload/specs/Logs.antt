@@ -40,7 +40,7 @@ IsReadFault e = (e ≡ demo.Memory) ⊎ (IsFailed e ⊎ ((index : ℕ) × (e ≡
 -- what is left of a disk that was only read, in a call that tells that it failed, or doesn't
 pub record IsDiskRead {D : Type 0} (seen : D → Option (List ℕ)) (may_leave : D → List ℕ → Type 0) (faults : D → ℕ) (failed : Type 0) (old new : D) : Type 0 where
   pub same : seen new ≡ seen old
-  pub images : (image : List ℕ) → may_leave new image → may_leave old image
+  pub crash : (crashed : List ℕ) → may_leave new crashed → may_leave old crashed
   pub later : faults old ≤ faults new
   pub cause : failed → Rose (faults old) (faults new)
   pub steady : ¬ failed → IsSteady seen faults old new

@@ -44,7 +44,7 @@ pub record HasBadTableIn (lines : List ScriptTable) (e : DemoError) : Type 0 whe
   pub is_fault : table_fault table.raw ≡ Some fault
   pub is : e ≡ demo.Model fault
 
--- want of memory, or the line is bad
+-- out of memory, or the line is bad
 abbrev pub row_error : StepError → ℕ → DemoError
 row_error errors.Memory line = demo.Memory
 row_error e line = demo.Script (script.BadLine line)

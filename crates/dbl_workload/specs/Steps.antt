@@ -20,7 +20,7 @@ abbrev pub is_tick : Step → Bool
 is_tick step.Tick = true
 is_tick s = false
 
--- want of memory alone is passed on
+-- out of memory alone is passed on
 abbrev pub IsPassed : {E : Type 0} → Result Unit StepError → Result (Option (List Message)) E → Type 0
 IsPassed answer (Ok committed) = (answer ≢ Err errors.Memory) × (committed ≡ None)
 IsPassed answer (Err e) = answer ≡ Err errors.Memory

@@ -14,49 +14,49 @@ use Rattle.dbl_connector.proofs.connecting.connect.Goals as goal
 
 pub returns-in-Err-clause-headline : goal.returns-in-Err-clause-headline
 returns-in-Err-clause-headline g c =
-    (answers_stay g.W.Disk.seen g.W.Disk.may_leave g.T.Disk.seen g.T.Disk.may_leave g.F.Disk.seen g.F.Disk.may_leave g.met.W.Disk.seen_is_image g.met.T.Disk.seen_is_image g.met.F.Disk.seen_is_image c.args.wal c.in-Err.field-0.disk c.args.topics c.args.topics c.args.offsets c.args.offsets c.in-Err.ensures.seen refl refl c.in-Err.ensures.images (λ i m. m) (λ i m. m)
+    (answers_stay g.W.Disk.seen g.W.Disk.may_leave g.T.Disk.seen g.T.Disk.may_leave g.F.Disk.seen g.F.Disk.may_leave g.met.W.Disk.seen_may_be_left g.met.T.Disk.seen_may_be_left g.met.F.Disk.seen_may_be_left c.args.wal c.in-Err.field-0.disk c.args.topics c.args.topics c.args.offsets c.args.offsets c.in-Err.ensures.seen refl refl c.in-Err.ensures.crash (λ i m. m) (λ i m. m)
     c.args.asked c.args.now_ms c.from.result (subst IsUnhalted (sym c.from.ensures) (demo_kind c.in-Err.field-0.error).1)
     (λ w t f told_w told_t told_f. subst (λ (x : ConnectError). IsOutside x ⊎ IsRefused c.args.asked w t f x) (sym c.from.ensures)
     (demo_ends c.args.asked w t f c.in-Err.field-0.error (λ index is. c.in-Err.ensures.bad w index told_w is) (λ at is. c.in-Err.ensures.not_a_journal w at told_w is)))).headline
 
 pub returns-in-Err-clause-kept : goal.returns-in-Err-clause-kept
 returns-in-Err-clause-kept g c =
-    (answers_stay g.W.Disk.seen g.W.Disk.may_leave g.T.Disk.seen g.T.Disk.may_leave g.F.Disk.seen g.F.Disk.may_leave g.met.W.Disk.seen_is_image g.met.T.Disk.seen_is_image g.met.F.Disk.seen_is_image c.args.wal c.in-Err.field-0.disk c.args.topics c.args.topics c.args.offsets c.args.offsets c.in-Err.ensures.seen refl refl c.in-Err.ensures.images (λ i m. m) (λ i m. m)
+    (answers_stay g.W.Disk.seen g.W.Disk.may_leave g.T.Disk.seen g.T.Disk.may_leave g.F.Disk.seen g.F.Disk.may_leave g.met.W.Disk.seen_may_be_left g.met.T.Disk.seen_may_be_left g.met.F.Disk.seen_may_be_left c.args.wal c.in-Err.field-0.disk c.args.topics c.args.topics c.args.offsets c.args.offsets c.in-Err.ensures.seen refl refl c.in-Err.ensures.crash (λ i m. m) (λ i m. m)
     c.args.asked c.args.now_ms c.from.result (subst IsUnhalted (sym c.from.ensures) (demo_kind c.in-Err.field-0.error).1)
     (λ w t f told_w told_t told_f. subst (λ (x : ConnectError). IsOutside x ⊎ IsRefused c.args.asked w t f x) (sym c.from.ensures)
     (demo_ends c.args.asked w t f c.in-Err.field-0.error (λ index is. c.in-Err.ensures.bad w index told_w is) (λ at is. c.in-Err.ensures.not_a_journal w at told_w is)))).kept
 
 pub returns-in-Err-clause-report : goal.returns-in-Err-clause-report
 returns-in-Err-clause-report g c =
-    (answers_stay g.W.Disk.seen g.W.Disk.may_leave g.T.Disk.seen g.T.Disk.may_leave g.F.Disk.seen g.F.Disk.may_leave g.met.W.Disk.seen_is_image g.met.T.Disk.seen_is_image g.met.F.Disk.seen_is_image c.args.wal c.in-Err.field-0.disk c.args.topics c.args.topics c.args.offsets c.args.offsets c.in-Err.ensures.seen refl refl c.in-Err.ensures.images (λ i m. m) (λ i m. m)
+    (answers_stay g.W.Disk.seen g.W.Disk.may_leave g.T.Disk.seen g.T.Disk.may_leave g.F.Disk.seen g.F.Disk.may_leave g.met.W.Disk.seen_may_be_left g.met.T.Disk.seen_may_be_left g.met.F.Disk.seen_may_be_left c.args.wal c.in-Err.field-0.disk c.args.topics c.args.topics c.args.offsets c.args.offsets c.in-Err.ensures.seen refl refl c.in-Err.ensures.crash (λ i m. m) (λ i m. m)
     c.args.asked c.args.now_ms c.from.result (subst IsUnhalted (sym c.from.ensures) (demo_kind c.in-Err.field-0.error).1)
     (λ w t f told_w told_t told_f. subst (λ (x : ConnectError). IsOutside x ⊎ IsRefused c.args.asked w t f x) (sym c.from.ensures)
     (demo_ends c.args.asked w t f c.in-Err.field-0.error (λ index is. c.in-Err.ensures.bad w index told_w is) (λ at is. c.in-Err.ensures.not_a_journal w at told_w is)))).report
 
 pub returns-in-Err-clause-never : goal.returns-in-Err-clause-never
 returns-in-Err-clause-never g c =
-    (answers_stay g.W.Disk.seen g.W.Disk.may_leave g.T.Disk.seen g.T.Disk.may_leave g.F.Disk.seen g.F.Disk.may_leave g.met.W.Disk.seen_is_image g.met.T.Disk.seen_is_image g.met.F.Disk.seen_is_image c.args.wal c.in-Err.field-0.disk c.args.topics c.args.topics c.args.offsets c.args.offsets c.in-Err.ensures.seen refl refl c.in-Err.ensures.images (λ i m. m) (λ i m. m)
+    (answers_stay g.W.Disk.seen g.W.Disk.may_leave g.T.Disk.seen g.T.Disk.may_leave g.F.Disk.seen g.F.Disk.may_leave g.met.W.Disk.seen_may_be_left g.met.T.Disk.seen_may_be_left g.met.F.Disk.seen_may_be_left c.args.wal c.in-Err.field-0.disk c.args.topics c.args.topics c.args.offsets c.args.offsets c.in-Err.ensures.seen refl refl c.in-Err.ensures.crash (λ i m. m) (λ i m. m)
     c.args.asked c.args.now_ms c.from.result (subst IsUnhalted (sym c.from.ensures) (demo_kind c.in-Err.field-0.error).1)
     (λ w t f told_w told_t told_f. subst (λ (x : ConnectError). IsOutside x ⊎ IsRefused c.args.asked w t f x) (sym c.from.ensures)
     (demo_ends c.args.asked w t f c.in-Err.field-0.error (λ index is. c.in-Err.ensures.bad w index told_w is) (λ at is. c.in-Err.ensures.not_a_journal w at told_w is)))).never
 
 pub returns-in-Err-clause-told : goal.returns-in-Err-clause-told
 returns-in-Err-clause-told g c =
-    (answers_stay g.W.Disk.seen g.W.Disk.may_leave g.T.Disk.seen g.T.Disk.may_leave g.F.Disk.seen g.F.Disk.may_leave g.met.W.Disk.seen_is_image g.met.T.Disk.seen_is_image g.met.F.Disk.seen_is_image c.args.wal c.in-Err.field-0.disk c.args.topics c.args.topics c.args.offsets c.args.offsets c.in-Err.ensures.seen refl refl c.in-Err.ensures.images (λ i m. m) (λ i m. m)
+    (answers_stay g.W.Disk.seen g.W.Disk.may_leave g.T.Disk.seen g.T.Disk.may_leave g.F.Disk.seen g.F.Disk.may_leave g.met.W.Disk.seen_may_be_left g.met.T.Disk.seen_may_be_left g.met.F.Disk.seen_may_be_left c.args.wal c.in-Err.field-0.disk c.args.topics c.args.topics c.args.offsets c.args.offsets c.in-Err.ensures.seen refl refl c.in-Err.ensures.crash (λ i m. m) (λ i m. m)
     c.args.asked c.args.now_ms c.from.result (subst IsUnhalted (sym c.from.ensures) (demo_kind c.in-Err.field-0.error).1)
     (λ w t f told_w told_t told_f. subst (λ (x : ConnectError). IsOutside x ⊎ IsRefused c.args.asked w t f x) (sym c.from.ensures)
     (demo_ends c.args.asked w t f c.in-Err.field-0.error (λ index is. c.in-Err.ensures.bad w index told_w is) (λ at is. c.in-Err.ensures.not_a_journal w at told_w is)))).told
 
 pub returns-in-Err-clause-gains : goal.returns-in-Err-clause-gains
 returns-in-Err-clause-gains g c =
-    (answers_stay g.W.Disk.seen g.W.Disk.may_leave g.T.Disk.seen g.T.Disk.may_leave g.F.Disk.seen g.F.Disk.may_leave g.met.W.Disk.seen_is_image g.met.T.Disk.seen_is_image g.met.F.Disk.seen_is_image c.args.wal c.in-Err.field-0.disk c.args.topics c.args.topics c.args.offsets c.args.offsets c.in-Err.ensures.seen refl refl c.in-Err.ensures.images (λ i m. m) (λ i m. m)
+    (answers_stay g.W.Disk.seen g.W.Disk.may_leave g.T.Disk.seen g.T.Disk.may_leave g.F.Disk.seen g.F.Disk.may_leave g.met.W.Disk.seen_may_be_left g.met.T.Disk.seen_may_be_left g.met.F.Disk.seen_may_be_left c.args.wal c.in-Err.field-0.disk c.args.topics c.args.topics c.args.offsets c.args.offsets c.in-Err.ensures.seen refl refl c.in-Err.ensures.crash (λ i m. m) (λ i m. m)
     c.args.asked c.args.now_ms c.from.result (subst IsUnhalted (sym c.from.ensures) (demo_kind c.in-Err.field-0.error).1)
     (λ w t f told_w told_t told_f. subst (λ (x : ConnectError). IsOutside x ⊎ IsRefused c.args.asked w t f x) (sym c.from.ensures)
     (demo_ends c.args.asked w t f c.in-Err.field-0.error (λ index is. c.in-Err.ensures.bad w index told_w is) (λ at is. c.in-Err.ensures.not_a_journal w at told_w is)))).gains
 
 pub returns-in-Err-clause-marks : goal.returns-in-Err-clause-marks
 returns-in-Err-clause-marks g c =
-    (answers_stay g.W.Disk.seen g.W.Disk.may_leave g.T.Disk.seen g.T.Disk.may_leave g.F.Disk.seen g.F.Disk.may_leave g.met.W.Disk.seen_is_image g.met.T.Disk.seen_is_image g.met.F.Disk.seen_is_image c.args.wal c.in-Err.field-0.disk c.args.topics c.args.topics c.args.offsets c.args.offsets c.in-Err.ensures.seen refl refl c.in-Err.ensures.images (λ i m. m) (λ i m. m)
+    (answers_stay g.W.Disk.seen g.W.Disk.may_leave g.T.Disk.seen g.T.Disk.may_leave g.F.Disk.seen g.F.Disk.may_leave g.met.W.Disk.seen_may_be_left g.met.T.Disk.seen_may_be_left g.met.F.Disk.seen_may_be_left c.args.wal c.in-Err.field-0.disk c.args.topics c.args.topics c.args.offsets c.args.offsets c.in-Err.ensures.seen refl refl c.in-Err.ensures.crash (λ i m. m) (λ i m. m)
     c.args.asked c.args.now_ms c.from.result (subst IsUnhalted (sym c.from.ensures) (demo_kind c.in-Err.field-0.error).1)
     (λ w t f told_w told_t told_f. subst (λ (x : ConnectError). IsOutside x ⊎ IsRefused c.args.asked w t f x) (sym c.from.ensures)
     (demo_ends c.args.asked w t f c.in-Err.field-0.error (λ index is. c.in-Err.ensures.bad w index told_w is) (λ at is. c.in-Err.ensures.not_a_journal w at told_w is)))).marks
@@ -71,7 +71,7 @@ pub returns-in-Err-clause-offsets_stay : goal.returns-in-Err-clause-offsets_stay
 returns-in-Err-clause-offsets_stay g c = λ before. refl
 
 pub returns-in-Err-clause-wal_read : goal.returns-in-Err-clause-wal_read
-returns-in-Err-clause-wal_read g c = λ refusal. record { same = c.in-Err.ensures.seen; images = c.in-Err.ensures.images }
+returns-in-Err-clause-wal_read g c = λ refusal. record { same = c.in-Err.ensures.seen; crash = c.in-Err.ensures.crash }
 
 pub returns-in-Err-clause-topics_read : goal.returns-in-Err-clause-topics_read
 returns-in-Err-clause-topics_read g c = λ refusal. only_same g.T.Disk.seen g.T.Disk.may_leave c.args.topics c.args.topics refl
@@ -104,43 +104,43 @@ connect_source-requires-clause-opened g c = λ bytes told. (let here = c.in-Ok.e
 
 pub returns-in-Ok-clause-headline : goal.returns-in-Ok-clause-headline
 returns-in-Ok-clause-headline g c =
-    (answers_before g.W.Disk.seen g.W.Disk.may_leave g.T.Disk.seen g.T.Disk.may_leave g.F.Disk.seen g.F.Disk.may_leave g.met.W.Disk.seen_is_image g.met.T.Disk.seen_is_image g.met.F.Disk.seen_is_image c.args.wal c.in-Ok.source.journal.disk c.args.topics c.args.topics c.args.offsets c.args.offsets c.in-Ok.ensures.seen refl refl c.in-Ok.ensures.images (λ i m. m) (λ i m. m)
+    (answers_before g.W.Disk.seen g.W.Disk.may_leave g.T.Disk.seen g.T.Disk.may_leave g.F.Disk.seen g.F.Disk.may_leave g.met.W.Disk.seen_may_be_left g.met.T.Disk.seen_may_be_left g.met.F.Disk.seen_may_be_left c.args.wal c.in-Ok.source.journal.disk c.args.topics c.args.topics c.args.offsets c.args.offsets c.in-Ok.ensures.seen refl refl c.in-Ok.ensures.crash (λ i m. m) (λ i m. m)
     c.args.asked c.args.now_ms c.connect_source.result.wal c.connect_source.result.topics c.connect_source.result.offsets c.connect_source.result.end
     (subst (λ (n : ℤ). Answers g.W.Disk.seen g.W.Disk.may_leave g.T.Disk.seen g.T.Disk.may_leave g.F.Disk.seen g.F.Disk.may_leave c.args.asked n c.in-Ok.source.journal.disk c.connect_source.result.wal c.args.topics c.connect_source.result.topics c.args.offsets c.connect_source.result.offsets c.connect_source.result.end) (to_z-of_z c.ranges.now_ms) c.connect_source.ensures.answers)).headline
 
 pub returns-in-Ok-clause-kept : goal.returns-in-Ok-clause-kept
 returns-in-Ok-clause-kept g c =
-    (answers_before g.W.Disk.seen g.W.Disk.may_leave g.T.Disk.seen g.T.Disk.may_leave g.F.Disk.seen g.F.Disk.may_leave g.met.W.Disk.seen_is_image g.met.T.Disk.seen_is_image g.met.F.Disk.seen_is_image c.args.wal c.in-Ok.source.journal.disk c.args.topics c.args.topics c.args.offsets c.args.offsets c.in-Ok.ensures.seen refl refl c.in-Ok.ensures.images (λ i m. m) (λ i m. m)
+    (answers_before g.W.Disk.seen g.W.Disk.may_leave g.T.Disk.seen g.T.Disk.may_leave g.F.Disk.seen g.F.Disk.may_leave g.met.W.Disk.seen_may_be_left g.met.T.Disk.seen_may_be_left g.met.F.Disk.seen_may_be_left c.args.wal c.in-Ok.source.journal.disk c.args.topics c.args.topics c.args.offsets c.args.offsets c.in-Ok.ensures.seen refl refl c.in-Ok.ensures.crash (λ i m. m) (λ i m. m)
     c.args.asked c.args.now_ms c.connect_source.result.wal c.connect_source.result.topics c.connect_source.result.offsets c.connect_source.result.end
     (subst (λ (n : ℤ). Answers g.W.Disk.seen g.W.Disk.may_leave g.T.Disk.seen g.T.Disk.may_leave g.F.Disk.seen g.F.Disk.may_leave c.args.asked n c.in-Ok.source.journal.disk c.connect_source.result.wal c.args.topics c.connect_source.result.topics c.args.offsets c.connect_source.result.offsets c.connect_source.result.end) (to_z-of_z c.ranges.now_ms) c.connect_source.ensures.answers)).kept
 
 pub returns-in-Ok-clause-report : goal.returns-in-Ok-clause-report
 returns-in-Ok-clause-report g c =
-    (answers_before g.W.Disk.seen g.W.Disk.may_leave g.T.Disk.seen g.T.Disk.may_leave g.F.Disk.seen g.F.Disk.may_leave g.met.W.Disk.seen_is_image g.met.T.Disk.seen_is_image g.met.F.Disk.seen_is_image c.args.wal c.in-Ok.source.journal.disk c.args.topics c.args.topics c.args.offsets c.args.offsets c.in-Ok.ensures.seen refl refl c.in-Ok.ensures.images (λ i m. m) (λ i m. m)
+    (answers_before g.W.Disk.seen g.W.Disk.may_leave g.T.Disk.seen g.T.Disk.may_leave g.F.Disk.seen g.F.Disk.may_leave g.met.W.Disk.seen_may_be_left g.met.T.Disk.seen_may_be_left g.met.F.Disk.seen_may_be_left c.args.wal c.in-Ok.source.journal.disk c.args.topics c.args.topics c.args.offsets c.args.offsets c.in-Ok.ensures.seen refl refl c.in-Ok.ensures.crash (λ i m. m) (λ i m. m)
     c.args.asked c.args.now_ms c.connect_source.result.wal c.connect_source.result.topics c.connect_source.result.offsets c.connect_source.result.end
     (subst (λ (n : ℤ). Answers g.W.Disk.seen g.W.Disk.may_leave g.T.Disk.seen g.T.Disk.may_leave g.F.Disk.seen g.F.Disk.may_leave c.args.asked n c.in-Ok.source.journal.disk c.connect_source.result.wal c.args.topics c.connect_source.result.topics c.args.offsets c.connect_source.result.offsets c.connect_source.result.end) (to_z-of_z c.ranges.now_ms) c.connect_source.ensures.answers)).report
 
 pub returns-in-Ok-clause-never : goal.returns-in-Ok-clause-never
 returns-in-Ok-clause-never g c =
-    (answers_before g.W.Disk.seen g.W.Disk.may_leave g.T.Disk.seen g.T.Disk.may_leave g.F.Disk.seen g.F.Disk.may_leave g.met.W.Disk.seen_is_image g.met.T.Disk.seen_is_image g.met.F.Disk.seen_is_image c.args.wal c.in-Ok.source.journal.disk c.args.topics c.args.topics c.args.offsets c.args.offsets c.in-Ok.ensures.seen refl refl c.in-Ok.ensures.images (λ i m. m) (λ i m. m)
+    (answers_before g.W.Disk.seen g.W.Disk.may_leave g.T.Disk.seen g.T.Disk.may_leave g.F.Disk.seen g.F.Disk.may_leave g.met.W.Disk.seen_may_be_left g.met.T.Disk.seen_may_be_left g.met.F.Disk.seen_may_be_left c.args.wal c.in-Ok.source.journal.disk c.args.topics c.args.topics c.args.offsets c.args.offsets c.in-Ok.ensures.seen refl refl c.in-Ok.ensures.crash (λ i m. m) (λ i m. m)
     c.args.asked c.args.now_ms c.connect_source.result.wal c.connect_source.result.topics c.connect_source.result.offsets c.connect_source.result.end
     (subst (λ (n : ℤ). Answers g.W.Disk.seen g.W.Disk.may_leave g.T.Disk.seen g.T.Disk.may_leave g.F.Disk.seen g.F.Disk.may_leave c.args.asked n c.in-Ok.source.journal.disk c.connect_source.result.wal c.args.topics c.connect_source.result.topics c.args.offsets c.connect_source.result.offsets c.connect_source.result.end) (to_z-of_z c.ranges.now_ms) c.connect_source.ensures.answers)).never
 
 pub returns-in-Ok-clause-told : goal.returns-in-Ok-clause-told
 returns-in-Ok-clause-told g c =
-    (answers_before g.W.Disk.seen g.W.Disk.may_leave g.T.Disk.seen g.T.Disk.may_leave g.F.Disk.seen g.F.Disk.may_leave g.met.W.Disk.seen_is_image g.met.T.Disk.seen_is_image g.met.F.Disk.seen_is_image c.args.wal c.in-Ok.source.journal.disk c.args.topics c.args.topics c.args.offsets c.args.offsets c.in-Ok.ensures.seen refl refl c.in-Ok.ensures.images (λ i m. m) (λ i m. m)
+    (answers_before g.W.Disk.seen g.W.Disk.may_leave g.T.Disk.seen g.T.Disk.may_leave g.F.Disk.seen g.F.Disk.may_leave g.met.W.Disk.seen_may_be_left g.met.T.Disk.seen_may_be_left g.met.F.Disk.seen_may_be_left c.args.wal c.in-Ok.source.journal.disk c.args.topics c.args.topics c.args.offsets c.args.offsets c.in-Ok.ensures.seen refl refl c.in-Ok.ensures.crash (λ i m. m) (λ i m. m)
     c.args.asked c.args.now_ms c.connect_source.result.wal c.connect_source.result.topics c.connect_source.result.offsets c.connect_source.result.end
     (subst (λ (n : ℤ). Answers g.W.Disk.seen g.W.Disk.may_leave g.T.Disk.seen g.T.Disk.may_leave g.F.Disk.seen g.F.Disk.may_leave c.args.asked n c.in-Ok.source.journal.disk c.connect_source.result.wal c.args.topics c.connect_source.result.topics c.args.offsets c.connect_source.result.offsets c.connect_source.result.end) (to_z-of_z c.ranges.now_ms) c.connect_source.ensures.answers)).told
 
 pub returns-in-Ok-clause-gains : goal.returns-in-Ok-clause-gains
 returns-in-Ok-clause-gains g c =
-    (answers_before g.W.Disk.seen g.W.Disk.may_leave g.T.Disk.seen g.T.Disk.may_leave g.F.Disk.seen g.F.Disk.may_leave g.met.W.Disk.seen_is_image g.met.T.Disk.seen_is_image g.met.F.Disk.seen_is_image c.args.wal c.in-Ok.source.journal.disk c.args.topics c.args.topics c.args.offsets c.args.offsets c.in-Ok.ensures.seen refl refl c.in-Ok.ensures.images (λ i m. m) (λ i m. m)
+    (answers_before g.W.Disk.seen g.W.Disk.may_leave g.T.Disk.seen g.T.Disk.may_leave g.F.Disk.seen g.F.Disk.may_leave g.met.W.Disk.seen_may_be_left g.met.T.Disk.seen_may_be_left g.met.F.Disk.seen_may_be_left c.args.wal c.in-Ok.source.journal.disk c.args.topics c.args.topics c.args.offsets c.args.offsets c.in-Ok.ensures.seen refl refl c.in-Ok.ensures.crash (λ i m. m) (λ i m. m)
     c.args.asked c.args.now_ms c.connect_source.result.wal c.connect_source.result.topics c.connect_source.result.offsets c.connect_source.result.end
     (subst (λ (n : ℤ). Answers g.W.Disk.seen g.W.Disk.may_leave g.T.Disk.seen g.T.Disk.may_leave g.F.Disk.seen g.F.Disk.may_leave c.args.asked n c.in-Ok.source.journal.disk c.connect_source.result.wal c.args.topics c.connect_source.result.topics c.args.offsets c.connect_source.result.offsets c.connect_source.result.end) (to_z-of_z c.ranges.now_ms) c.connect_source.ensures.answers)).gains
 
 pub returns-in-Ok-clause-marks : goal.returns-in-Ok-clause-marks
 returns-in-Ok-clause-marks g c =
-    (answers_before g.W.Disk.seen g.W.Disk.may_leave g.T.Disk.seen g.T.Disk.may_leave g.F.Disk.seen g.F.Disk.may_leave g.met.W.Disk.seen_is_image g.met.T.Disk.seen_is_image g.met.F.Disk.seen_is_image c.args.wal c.in-Ok.source.journal.disk c.args.topics c.args.topics c.args.offsets c.args.offsets c.in-Ok.ensures.seen refl refl c.in-Ok.ensures.images (λ i m. m) (λ i m. m)
+    (answers_before g.W.Disk.seen g.W.Disk.may_leave g.T.Disk.seen g.T.Disk.may_leave g.F.Disk.seen g.F.Disk.may_leave g.met.W.Disk.seen_may_be_left g.met.T.Disk.seen_may_be_left g.met.F.Disk.seen_may_be_left c.args.wal c.in-Ok.source.journal.disk c.args.topics c.args.topics c.args.offsets c.args.offsets c.in-Ok.ensures.seen refl refl c.in-Ok.ensures.crash (λ i m. m) (λ i m. m)
     c.args.asked c.args.now_ms c.connect_source.result.wal c.connect_source.result.topics c.connect_source.result.offsets c.connect_source.result.end
     (subst (λ (n : ℤ). Answers g.W.Disk.seen g.W.Disk.may_leave g.T.Disk.seen g.T.Disk.may_leave g.F.Disk.seen g.F.Disk.may_leave c.args.asked n c.in-Ok.source.journal.disk c.connect_source.result.wal c.args.topics c.connect_source.result.topics c.args.offsets c.connect_source.result.offsets c.connect_source.result.end) (to_z-of_z c.ranges.now_ms) c.connect_source.ensures.answers)).marks
 
@@ -149,7 +149,7 @@ returns-in-Ok-clause-topics_stay g c =
     err_as c.connect_source.result.end (IsBehindOpening store.Wal) (λ e. IsBefore store.Topics e → c.connect_source.result.topics ≡ c.args.topics) (λ e behind before. absurd (not_before_topics e behind before)) c.connect_source.ensures.behind
 
 pub returns-in-Ok-clause-wal_read : goal.returns-in-Ok-clause-wal_read
-returns-in-Ok-clause-wal_read g c = read_on g.W.Disk.seen g.W.Disk.may_leave c.connect_source.result.end c.args.wal c.in-Ok.source.journal.disk c.connect_source.result.wal c.in-Ok.ensures.seen c.in-Ok.ensures.images c.connect_source.ensures.wal_read
+returns-in-Ok-clause-wal_read g c = read_on g.W.Disk.seen g.W.Disk.may_leave c.connect_source.result.end c.args.wal c.in-Ok.source.journal.disk c.connect_source.result.wal c.in-Ok.ensures.seen c.in-Ok.ensures.crash c.connect_source.ensures.wal_read
 
 pub returns-in-Ok-clause-wal_counts : goal.returns-in-Ok-clause-wal_counts
 returns-in-Ok-clause-wal_counts g c = counts_on g.W.Disk.faults store.Wal c.connect_source.result.end c.args.wal c.in-Ok.source.journal.disk c.connect_source.result.wal c.in-Ok.ensures.later c.connect_source.ensures.wal_counts

@@ -7,7 +7,7 @@ use Rattle.dbl_connector.specs.declared.error.ConnectError.{ConnectError}
 use Rattle.dbl_connector.specs.Ends.{Counts, IsRefused}
 use Rattle.dbl_connector.specs.Errors.{IsBehindOpening, IsConnectError, IsOutside}
 use Rattle.dbl_connector.specs.Steps.{Answers}
-use Rattle.dbl_connector.proofs.ErrorKinds.{behind_topics, counts_by, counts_same, counts_on, err_as, moved_images, moved_to, offset_ends, offset_fails, offset_kind, only_same, read_on, read_stayed, bounded_on}
+use Rattle.dbl_connector.proofs.ErrorKinds.{behind_topics, counts_by, counts_same, counts_on, err_as, moved_crash, moved_to, offset_ends, offset_fails, offset_kind, only_same, read_on, read_stayed, bounded_on}
 use Rattle.dbl_connector.proofs.Opened.{bounded_same}
 use Rattle.dbl_connector.proofs.Stays.{IsUnhalted, answers_before, answers_moved, answers_stay}
 use Rattle.dbl_connector.proofs.connecting.connect_log.Goals as goal
@@ -16,7 +16,7 @@ use Rattle.dbl_connector.proofs.connecting.connect_log.Goals as goal
 
 pub returns-in-Err-clause-answers : goal.returns-in-Err-clause-answers
 returns-in-Err-clause-answers g c =
-    answers_stay g.W.Disk.seen g.W.Disk.may_leave g.T.Disk.seen g.T.Disk.may_leave g.F.Disk.seen g.F.Disk.may_leave g.met.W.Disk.seen_is_image g.met.T.Disk.seen_is_image g.met.F.Disk.seen_is_image c.args.source.journal.disk c.into_disk-in-Err.result c.args.log.disk c.into_disk-in-Err-2.result c.args.offsets c.in-Err.field-0.disk (ap g.W.Disk.seen c.into_disk-in-Err.ensures) (ap g.T.Disk.seen c.into_disk-in-Err-2.ensures) c.in-Err.ensures.seen (moved_images g.W.Disk.may_leave c.args.source.journal.disk c.into_disk-in-Err.result c.into_disk-in-Err.ensures) (moved_images g.T.Disk.may_leave c.args.log.disk c.into_disk-in-Err-2.result c.into_disk-in-Err-2.ensures) c.in-Err.ensures.images
+    answers_stay g.W.Disk.seen g.W.Disk.may_leave g.T.Disk.seen g.T.Disk.may_leave g.F.Disk.seen g.F.Disk.may_leave g.met.W.Disk.seen_may_be_left g.met.T.Disk.seen_may_be_left g.met.F.Disk.seen_may_be_left c.args.source.journal.disk c.into_disk-in-Err.result c.args.log.disk c.into_disk-in-Err-2.result c.args.offsets c.in-Err.field-0.disk (ap g.W.Disk.seen c.into_disk-in-Err.ensures) (ap g.T.Disk.seen c.into_disk-in-Err-2.ensures) c.in-Err.ensures.seen (moved_crash g.W.Disk.may_leave c.args.source.journal.disk c.into_disk-in-Err.result c.into_disk-in-Err.ensures) (moved_crash g.T.Disk.may_leave c.args.log.disk c.into_disk-in-Err-2.result c.into_disk-in-Err-2.ensures) c.in-Err.ensures.crash
     c.args.asked c.args.now_ms c.from.result (subst IsUnhalted (sym c.from.ensures) (offset_kind c.in-Err.field-0.error).1)
     (λ w t f told_w told_t told_f. subst (λ (x : ConnectError). IsOutside x ⊎ IsRefused c.args.asked w t f x) (sym c.from.ensures)
     (offset_ends c.args.asked w t f (c.requires.source_opened w told_w).wal (c.requires.log_opened t told_t).groups (c.requires.source_opened w told_w).is (c.requires.log_opened t told_t).is c.in-Err.field-0.error (λ index is. c.in-Err.ensures.bad_offset f index told_f is) (λ at is. c.in-Err.ensures.not_a_store f at told_f is)))
@@ -34,7 +34,7 @@ pub returns-in-Err-clause-topics_read : goal.returns-in-Err-clause-topics_read
 returns-in-Err-clause-topics_read g c = λ refusal. only_same g.T.Disk.seen g.T.Disk.may_leave c.args.log.disk c.into_disk-in-Err-2.result c.into_disk-in-Err-2.ensures
 
 pub returns-in-Err-clause-offsets_read : goal.returns-in-Err-clause-offsets_read
-returns-in-Err-clause-offsets_read g c = λ refusal. record { same = c.in-Err.ensures.seen; images = c.in-Err.ensures.images }
+returns-in-Err-clause-offsets_read g c = λ refusal. record { same = c.in-Err.ensures.seen; crash = c.in-Err.ensures.crash }
 
 pub returns-in-Err-clause-wal_counts : goal.returns-in-Err-clause-wal_counts
 returns-in-Err-clause-wal_counts g c = counts_same g.W.Disk.faults store.Wal _ c.args.source.journal.disk c.into_disk-in-Err.result c.into_disk-in-Err.ensures (λ is. (let wrong = (offset_fails c.in-Err.field-0.error store.Wal (sym c.from.ensures ∙ (let i = is in cc))).0 in cc))
@@ -61,7 +61,7 @@ run_session-end-requires-clause-store_opened g c = λ bytes told. record { told 
 
 pub returns-in-Ok-clause-answers : goal.returns-in-Ok-clause-answers
 returns-in-Ok-clause-answers g c =
-    answers_before g.W.Disk.seen g.W.Disk.may_leave g.T.Disk.seen g.T.Disk.may_leave g.F.Disk.seen g.F.Disk.may_leave g.met.W.Disk.seen_is_image g.met.T.Disk.seen_is_image g.met.F.Disk.seen_is_image c.args.source.journal.disk c.args.source.journal.disk c.args.log.disk c.args.log.disk c.args.offsets (disk_of c.in-Ok.store) refl refl c.in-Ok.ensures.seen (λ i m. m) (λ i m. m) c.in-Ok.ensures.images
+    answers_before g.W.Disk.seen g.W.Disk.may_leave g.T.Disk.seen g.T.Disk.may_leave g.F.Disk.seen g.F.Disk.may_leave g.met.W.Disk.seen_may_be_left g.met.T.Disk.seen_may_be_left g.met.F.Disk.seen_may_be_left c.args.source.journal.disk c.args.source.journal.disk c.args.log.disk c.args.log.disk c.args.offsets (disk_of c.in-Ok.store) refl refl c.in-Ok.ensures.seen (λ i m. m) (λ i m. m) c.in-Ok.ensures.crash
     c.args.asked c.args.now_ms c.into_disk.result c.into_disk-in-Ok.result c.into_disk-in-Ok-2.result c.run_session-end.result
     (answers_moved g.W.Disk.seen g.W.Disk.may_leave g.T.Disk.seen g.T.Disk.may_leave g.F.Disk.seen g.F.Disk.may_leave c.args.asked c.args.now_ms c.args.source.journal.disk c.run_session-end.new.source.journal.disk c.into_disk.result c.args.log.disk c.run_session-end.new.log.disk c.into_disk-in-Ok.result (disk_of c.in-Ok.store) (disk_of c.run_session-end.new.store) c.into_disk-in-Ok-2.result c.run_session-end.result
     c.into_disk.ensures c.into_disk-in-Ok.ensures c.into_disk-in-Ok-2.ensures
@@ -78,7 +78,7 @@ returns-in-Ok-clause-topics_read g c = read_stayed g.T.Disk.seen g.T.Disk.may_le
 
 pub returns-in-Ok-clause-offsets_read : goal.returns-in-Ok-clause-offsets_read
 returns-in-Ok-clause-offsets_read g c =
-    read_on g.F.Disk.seen g.F.Disk.may_leave c.run_session-end.result c.args.offsets (disk_of c.in-Ok.store) c.into_disk-in-Ok-2.result c.in-Ok.ensures.seen c.in-Ok.ensures.images
+    read_on g.F.Disk.seen g.F.Disk.may_leave c.run_session-end.result c.args.offsets (disk_of c.in-Ok.store) c.into_disk-in-Ok-2.result c.in-Ok.ensures.seen c.in-Ok.ensures.crash
     (read_stayed g.F.Disk.seen g.F.Disk.may_leave disk_of c.run_session-end.result c.in-Ok.store c.run_session-end.new.store c.into_disk-in-Ok-2.result c.into_disk-in-Ok-2.ensures c.run_session-end.ensures.store_stays)
 
 pub returns-in-Ok-clause-wal_counts : goal.returns-in-Ok-clause-wal_counts

@@ -5,7 +5,7 @@ use Rattle.dbl_connector.specs.declared.error.ConnectError.{ConnectError}
 use Rattle.dbl_connector.specs.Ends.{IsRefused}
 use Rattle.dbl_connector.specs.Errors.{IsBefore, IsBehindOpening, IsConnectError, IsOutside}
 use Rattle.dbl_connector.specs.Steps.{Answers}
-use Rattle.dbl_connector.proofs.ErrorKinds.{behind_wal, bounded_on, counts_by, counts_on, counts_same, err_as, moved_images, not_before_offsets, only_same, read_on, topic_ends, topic_fails, topic_kind}
+use Rattle.dbl_connector.proofs.ErrorKinds.{behind_wal, bounded_on, counts_by, counts_on, counts_same, err_as, moved_crash, not_before_offsets, only_same, read_on, topic_ends, topic_fails, topic_kind}
 use Rattle.dbl_connector.proofs.Opened.{bounded_same}
 use Rattle.dbl_connector.proofs.Stays.{IsUnhalted, answers_before, answers_stay}
 use Rattle.dbl_connector.proofs.connecting.connect_source.Goals as goal
@@ -14,7 +14,7 @@ use Rattle.dbl_connector.proofs.connecting.connect_source.Goals as goal
 
 pub returns-in-Err-clause-answers : goal.returns-in-Err-clause-answers
 returns-in-Err-clause-answers g c =
-    answers_stay g.W.Disk.seen g.W.Disk.may_leave g.T.Disk.seen g.T.Disk.may_leave g.F.Disk.seen g.F.Disk.may_leave g.met.W.Disk.seen_is_image g.met.T.Disk.seen_is_image g.met.F.Disk.seen_is_image c.args.source.journal.disk c.into_disk.result c.args.topics c.in-Err.field-0.disk c.args.offsets c.args.offsets (ap g.W.Disk.seen c.into_disk.ensures) c.in-Err.ensures.seen refl (moved_images g.W.Disk.may_leave c.args.source.journal.disk c.into_disk.result c.into_disk.ensures) c.in-Err.ensures.images (λ i m. m)
+    answers_stay g.W.Disk.seen g.W.Disk.may_leave g.T.Disk.seen g.T.Disk.may_leave g.F.Disk.seen g.F.Disk.may_leave g.met.W.Disk.seen_may_be_left g.met.T.Disk.seen_may_be_left g.met.F.Disk.seen_may_be_left c.args.source.journal.disk c.into_disk.result c.args.topics c.in-Err.field-0.disk c.args.offsets c.args.offsets (ap g.W.Disk.seen c.into_disk.ensures) c.in-Err.ensures.seen refl (moved_crash g.W.Disk.may_leave c.args.source.journal.disk c.into_disk.result c.into_disk.ensures) c.in-Err.ensures.crash (λ i m. m)
     c.args.asked c.args.now_ms c.from.result (subst IsUnhalted (sym c.from.ensures) (topic_kind c.in-Err.field-0.error).1)
     (λ w t f told_w told_t told_f. subst (λ (x : ConnectError). IsOutside x ⊎ IsRefused c.args.asked w t f x) (sym c.from.ensures)
     (topic_ends c.args.asked w t f (c.requires.opened w told_w).wal (c.requires.opened w told_w).is c.in-Err.field-0.error (λ index is. c.in-Err.ensures.bad t told_t index is) (λ at is. c.in-Err.ensures.refused t told_t at is)))
@@ -32,7 +32,7 @@ pub returns-in-Err-clause-wal_read : goal.returns-in-Err-clause-wal_read
 returns-in-Err-clause-wal_read g c = λ refusal. only_same g.W.Disk.seen g.W.Disk.may_leave c.args.source.journal.disk c.into_disk.result c.into_disk.ensures
 
 pub returns-in-Err-clause-topics_read : goal.returns-in-Err-clause-topics_read
-returns-in-Err-clause-topics_read g c = λ refusal. record { same = c.in-Err.ensures.seen; images = c.in-Err.ensures.images }
+returns-in-Err-clause-topics_read g c = λ refusal. record { same = c.in-Err.ensures.seen; crash = c.in-Err.ensures.crash }
 
 pub returns-in-Err-clause-offsets_read : goal.returns-in-Err-clause-offsets_read
 returns-in-Err-clause-offsets_read g c = λ refusal. only_same g.F.Disk.seen g.F.Disk.may_leave c.args.offsets c.args.offsets refl
@@ -62,7 +62,7 @@ connect_log-requires-clause-log_opened g c = λ bytes told. (let here = c.in-Ok.
 
 pub returns-in-Ok-clause-answers : goal.returns-in-Ok-clause-answers
 returns-in-Ok-clause-answers g c =
-    answers_before g.W.Disk.seen g.W.Disk.may_leave g.T.Disk.seen g.T.Disk.may_leave g.F.Disk.seen g.F.Disk.may_leave g.met.W.Disk.seen_is_image g.met.T.Disk.seen_is_image g.met.F.Disk.seen_is_image c.args.source.journal.disk c.args.source.journal.disk c.args.topics c.in-Ok.log.disk c.args.offsets c.args.offsets refl c.in-Ok.ensures.seen refl (λ i m. m) c.in-Ok.ensures.images (λ i m. m)
+    answers_before g.W.Disk.seen g.W.Disk.may_leave g.T.Disk.seen g.T.Disk.may_leave g.F.Disk.seen g.F.Disk.may_leave g.met.W.Disk.seen_may_be_left g.met.T.Disk.seen_may_be_left g.met.F.Disk.seen_may_be_left c.args.source.journal.disk c.args.source.journal.disk c.args.topics c.in-Ok.log.disk c.args.offsets c.args.offsets refl c.in-Ok.ensures.seen refl (λ i m. m) c.in-Ok.ensures.crash (λ i m. m)
     c.args.asked c.args.now_ms c.connect_log.result.wal c.connect_log.result.topics c.connect_log.result.offsets c.connect_log.result.end
     (subst (λ (n : ℤ). Answers g.W.Disk.seen g.W.Disk.may_leave g.T.Disk.seen g.T.Disk.may_leave g.F.Disk.seen g.F.Disk.may_leave c.args.asked n c.args.source.journal.disk c.connect_log.result.wal c.in-Ok.log.disk c.connect_log.result.topics c.args.offsets c.connect_log.result.offsets c.connect_log.result.end) (to_z-of_z c.ranges.now_ms) c.connect_log.ensures.answers)
 
@@ -74,7 +74,7 @@ returns-in-Ok-clause-offsets_stay g c =
     err_as c.connect_log.result.end (IsBehindOpening store.Topics) (λ e. IsBefore store.Offsets e → c.connect_log.result.offsets ≡ c.args.offsets) (λ e behind before. absurd (not_before_offsets e behind before)) c.connect_log.ensures.behind
 
 pub returns-in-Ok-clause-topics_read : goal.returns-in-Ok-clause-topics_read
-returns-in-Ok-clause-topics_read g c = read_on g.T.Disk.seen g.T.Disk.may_leave c.connect_log.result.end c.args.topics c.in-Ok.log.disk c.connect_log.result.topics c.in-Ok.ensures.seen c.in-Ok.ensures.images c.connect_log.ensures.topics_read
+returns-in-Ok-clause-topics_read g c = read_on g.T.Disk.seen g.T.Disk.may_leave c.connect_log.result.end c.args.topics c.in-Ok.log.disk c.connect_log.result.topics c.in-Ok.ensures.seen c.in-Ok.ensures.crash c.connect_log.ensures.topics_read
 
 pub returns-in-Ok-clause-topics_count : goal.returns-in-Ok-clause-topics_count
 returns-in-Ok-clause-topics_count g c = counts_on g.T.Disk.faults store.Topics c.connect_log.result.end c.args.topics c.in-Ok.log.disk c.connect_log.result.topics c.in-Ok.ensures.later c.connect_log.ensures.topics_count

@@ -33,7 +33,7 @@ session-requires-clause-asked g c =
 pub returns-in_err-config-clause-answers : goal.returns-in_err-config-clause-answers
 returns-in_err-config-clause-answers g c =
     residual c.from_residual.result _ (λ (r : End). Answers g.W.Disk.seen g.W.Disk.may_leave g.T.Disk.seen g.T.Disk.may_leave g.F.Disk.seen g.F.Disk.may_leave c.args.asked c.args.now_ms c.args.source.now.journal.disk c.args.source.now.journal.disk c.args.log.now.disk c.args.log.now.disk (disk_of c.args.store.now) (disk_of c.args.store.now) r) c.from_residual.ensures.1
-    (answers_stay g.W.Disk.seen g.W.Disk.may_leave g.T.Disk.seen g.T.Disk.may_leave g.F.Disk.seen g.F.Disk.may_leave g.met.W.Disk.seen_is_image g.met.T.Disk.seen_is_image g.met.F.Disk.seen_is_image c.args.source.now.journal.disk c.args.source.now.journal.disk c.args.log.now.disk c.args.log.now.disk (disk_of c.args.store.now) (disk_of c.args.store.now) refl refl refl (λ i m. m) (λ i m. m) (λ i m. m)
+    (answers_stay g.W.Disk.seen g.W.Disk.may_leave g.T.Disk.seen g.T.Disk.may_leave g.F.Disk.seen g.F.Disk.may_leave g.met.W.Disk.seen_may_be_left g.met.T.Disk.seen_may_be_left g.met.F.Disk.seen_may_be_left c.args.source.now.journal.disk c.args.source.now.journal.disk c.args.log.now.disk c.args.log.now.disk (disk_of c.args.store.now) (disk_of c.args.store.now) refl refl refl (λ i m. m) (λ i m. m) (λ i m. m)
     c.args.asked c.args.now_ms _ (refused_unhalted c.args.asked _ _ c.in_err-config.ensures.refused)
     (refused_ends g.W.Disk.seen g.W.Disk.may_leave g.T.Disk.seen g.T.Disk.may_leave g.F.Disk.seen g.F.Disk.may_leave c.args.source.now c.args.log.now c.args.store.now c.requires.source_opened c.requires.log_opened c.requires.store_opened c.args.asked _ _ c.load.ensures.offset c.in_err-config.ensures.refused))
 
@@ -84,7 +84,7 @@ returns-in_err-config-clause-store_bounded g c = bounded_same g.F.Disk.seen g.F.
 pub returns-in_err-ending-clause-answers : goal.returns-in_err-ending-clause-answers
 returns-in_err-ending-clause-answers g c =
     residual c.from_residual-in_err-ending.result _ (λ (r : End). Answers g.W.Disk.seen g.W.Disk.may_leave g.T.Disk.seen g.T.Disk.may_leave g.F.Disk.seen g.F.Disk.may_leave c.args.asked c.args.now_ms c.args.source.now.journal.disk c.session.new.src.journal.disk c.args.log.now.disk c.session.new.sink.disk (disk_of c.args.store.now) (disk_of c.session.new.offsets) r) c.from_residual-in_err-ending.ensures.1
-    (answers_err g.W.Disk.seen g.W.Disk.may_leave g.T.Disk.seen g.T.Disk.may_leave g.F.Disk.seen g.F.Disk.may_leave g.met.W.Disk.seen_is_image g.met.T.Disk.seen_is_image g.met.F.Disk.seen_is_image c.args.source.now c.args.log.now c.args.store.now c.requires.source_opened c.requires.log_opened c.requires.store_opened c.args.asked c.in_ok-config.config c.args.now_ms c.session.new.src c.session.new.sink c.session.new.offsets c.session.new.report c.session.result
+    (answers_err g.W.Disk.seen g.W.Disk.may_leave g.T.Disk.seen g.T.Disk.may_leave g.F.Disk.seen g.F.Disk.may_leave g.met.W.Disk.seen_may_be_left g.met.T.Disk.seen_may_be_left g.met.F.Disk.seen_may_be_left c.args.source.now c.args.log.now c.args.store.now c.requires.source_opened c.requires.log_opened c.requires.store_opened c.args.asked c.in_ok-config.config c.args.now_ms c.session.new.src c.session.new.sink c.session.new.offsets c.session.new.report c.session.result
     (renow g.W.Disk.seen g.W.Disk.may_leave g.T.Disk.seen g.T.Disk.may_leave g.F.Disk.seen g.F.Disk.may_leave c.in_ok-config.config _ c.args.now_ms c.args.source.now c.session.new.src c.args.log.now c.session.new.sink c.args.store.now c.session.new.offsets c.session.new.report c.session.result (to_z-of_z c.ranges.now_ms) (record {
       faithful = λ entry is found had. c.session.ensures.faithful entry is found tt had;
       complete = λ entry is found had. c.session.ensures.complete entry is found tt had;
@@ -176,7 +176,7 @@ returns-in_err-ending-clause-store_bounded g c = store_bounded g.W.Disk.seen g.W
 
 pub returns-clause-answers : goal.returns-clause-answers
 returns-clause-answers g c =
-    answers_ok g.W.Disk.seen g.W.Disk.may_leave g.T.Disk.seen g.T.Disk.may_leave g.F.Disk.seen g.F.Disk.may_leave g.met.W.Disk.seen_is_image g.met.T.Disk.seen_is_image g.met.F.Disk.seen_is_image c.args.source.now c.args.log.now c.args.store.now c.requires.source_opened c.requires.log_opened c.requires.store_opened c.args.asked c.in_ok-config.config c.args.now_ms c.session.new.src c.session.new.sink c.session.new.offsets c.session.new.report c.session.result
+    answers_ok g.W.Disk.seen g.W.Disk.may_leave g.T.Disk.seen g.T.Disk.may_leave g.F.Disk.seen g.F.Disk.may_leave g.met.W.Disk.seen_may_be_left g.met.T.Disk.seen_may_be_left g.met.F.Disk.seen_may_be_left c.args.source.now c.args.log.now c.args.store.now c.requires.source_opened c.requires.log_opened c.requires.store_opened c.args.asked c.in_ok-config.config c.args.now_ms c.session.new.src c.session.new.sink c.session.new.offsets c.session.new.report c.session.result
     (renow g.W.Disk.seen g.W.Disk.may_leave g.T.Disk.seen g.T.Disk.may_leave g.F.Disk.seen g.F.Disk.may_leave c.in_ok-config.config _ c.args.now_ms c.args.source.now c.session.new.src c.args.log.now c.session.new.sink c.args.store.now c.session.new.offsets c.session.new.report c.session.result (to_z-of_z c.ranges.now_ms) (record {
       faithful = λ entry is found had. c.session.ensures.faithful entry is found tt had;
       complete = λ entry is found had. c.session.ensures.complete entry is found tt had;

@@ -3,4 +3,4 @@ use Rattle.dbl_disk.specs.Memory.{AreFilled}
 use Rattle.dbl_disk.proofs.memory.fill_extents.Given as goal
 
 abbrev pub invariant-extents : goal.invariant-extents
-invariant-extents l = AreFilled l.byte (take l.extent-index l.dirty) l.fn.image l.image
+invariant-extents l = AreFilled l.byte (take l.extent-index l.dirty) l.fn.crashed l.crashed

@@ -8,7 +8,7 @@ returns-in-Ok-eq0-clause-asks g c = record {
   holds = λ bytes told is. absurd (let t = is in cc);
   asked = record {
     same = c.len.ensures.seen;
-    images = λ image may. (c.len.ensures.images image).0 may;
+    crash = λ crashed may. (c.len.ensures.crash crashed).0 may;
     later = c.len.ensures.later;
     cause = λ is. absurd (let t = is in cc);
     steady = λ no bytes told. c.in-Ok-eq0.ensures.steady bytes told;
@@ -21,7 +21,7 @@ returns-in-Ok-clause-asks g c = record {
   holds = λ bytes told is. some_of bytes _ (c.in-Ok.ensures.told bytes told) c.in-Ok.field-0-test.1;
   asked = record {
     same = c.len.ensures.seen;
-    images = λ image may. (c.len.ensures.images image).0 may;
+    crash = λ crashed may. (c.len.ensures.crash crashed).0 may;
     later = c.len.ensures.later;
     cause = λ is. absurd (let t = is in cc);
     steady = λ no bytes told. c.in-Ok.ensures.steady bytes told;
@@ -34,7 +34,7 @@ returns-in-Err-clause-asks g c = record {
   holds = λ bytes told is. absurd (let t = is in cc);
   asked = record {
     same = c.len.ensures.seen;
-    images = λ image may. (c.len.ensures.images image).0 may;
+    crash = λ crashed may. (c.len.ensures.crash crashed).0 may;
     later = c.len.ensures.later;
     cause = λ is. c.in-Err.ensures.cause;
     steady = λ no. absurd (no refl);

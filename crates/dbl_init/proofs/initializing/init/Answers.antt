@@ -212,5 +212,5 @@ returns-in-Ok-read_all-clause-torn g c = λ bytes told w t is.
     inr (record {
       wal_made = subst (λ (l : List _). HasStored g.W.Disk.seen g.W.Disk.may_leave (IsFreshWal l) c.make_all.result.wal) same torn.wal_made;
       topics_made = torn.topics_made;
-      offsets_torn = λ image may. (let before = torn.offsets_torn image may in (before.0, c.in-Ok.ensures.offsets.asked.images before.0 before.1, before.2));
+      offsets_torn = λ crashed may. (let before = torn.offsets_torn crashed may in (before.0, c.in-Ok.ensures.offsets.asked.crash before.0 before.1, before.2));
     })

@@ -2,16 +2,16 @@ use Rattle.std.proofs.Common.{◌∷◌, [], ◌∙◌, ℕ, List, sym}
 use Rattle.std.proofs.lemmas.Result.{on_ok_weaker}
 use Rattle.dbl_disk.specs.Disks.{written}
 use Rattle.dbl_journal.proofs.Appends.{gate_written}
-use Rattle.dbl_journal.proofs.Images.{gate_images, longest_done, longest_torn, on_ok, reaches_old}
+use Rattle.dbl_journal.proofs.Crashes.{gate_crash, longest_done, longest_torn, on_ok, reaches_old}
 use Rattle.dbl_journal.proofs.appending.open_gate.Goals as goal
 
 pub returns-in_err-write_at-clause-one_of : goal.returns-in_err-write_at-clause-one_of
 returns-in_err-write_at-clause-one_of g c entries entry s gate_is short =
-    gate_images entries entry c.args.gate s.bytes _ _ gate_is short s.staged s.only c.write_at.ensures.images
+    gate_crash entries entry c.args.gate s.bytes _ _ gate_is short s.staged s.only c.write_at.ensures.crash
 
 pub returns-clause-one_of : goal.returns-clause-one_of
-returns-clause-one_of g c entries entry s gate_is short image left =
-    gate_images entries entry c.args.gate s.bytes _ _ gate_is short s.staged s.only c.write_at.ensures.images image (c.sync.ensures.images image left)
+returns-clause-one_of g c entries entry s gate_is short crashed left =
+    gate_crash entries entry c.args.gate s.bytes _ _ gate_is short s.staged s.only c.write_at.ensures.crash crashed (c.sync.ensures.crash crashed left)
 
 pub returns-clause-opened : goal.returns-clause-opened
 returns-clause-opened g c entries entry s gate_is short =

@@ -5,7 +5,7 @@ use Rattle.std.proofs.lemmas.Result.{on_ok_weaker}
 use Rattle.dbl_disk.specs.Disks.{Torn, written}
 use Rattle.dbl_journal.specs.Form.{IsEntry, IsJournal, front, magic}
 use Rattle.dbl_journal.proofs.Appends.{front-nil, length-magic}
-use Rattle.dbl_journal.proofs.Images.{longest_done, longest_torn, on_ok, reaches}
+use Rattle.dbl_journal.proofs.Crashes.{longest_done, longest_torn, on_ok, reaches}
 use Rattle.dbl_journal.proofs.appending.start.Goals as goal
 
 nine : (bytes : List ℕ) → bytes ≡ front [] ++ 0 ∷ [] → length bytes ≡ 9
@@ -14,15 +14,15 @@ nine bytes is = ap length (is ∙ ap (λ (l : List ℕ). l ++ 0 ∷ []) front-ni
 pub write_at-requires : goal.write_at-requires
 write_at-requires g c old told beyond = let long = nine c.args.bytes.now c.requires in omega (arith, long)
 
-pub returns-in_err-write_at-clause-images : goal.returns-in_err-write_at-clause-images
-returns-in_err-write_at-clause-images g c image left =
-    let from = c.write_at.ensures.images image left in
-    (from.0, from.1, subst (λ (n : ℕ). Torn 0 n from.0 image) (nine c.args.bytes.now c.requires) from.2)
+pub returns-in_err-write_at-clause-crash : goal.returns-in_err-write_at-clause-crash
+returns-in_err-write_at-clause-crash g c crashed left =
+    let from = c.write_at.ensures.crash crashed left in
+    (from.0, from.1, subst (λ (n : ℕ). Torn 0 n from.0 crashed) (nine c.args.bytes.now c.requires) from.2)
 
-pub returns-clause-images : goal.returns-clause-images
-returns-clause-images g c image left =
-    let from = c.write_at.ensures.images image (c.sync.ensures.images image left) in
-    (from.0, from.1, subst (λ (n : ℕ). Torn 0 n from.0 image) (nine c.args.bytes.now c.requires) from.2)
+pub returns-clause-crash : goal.returns-clause-crash
+returns-clause-crash g c crashed left =
+    let from = c.write_at.ensures.crash crashed (c.sync.ensures.crash crashed left) in
+    (from.0, from.1, subst (λ (n : ℕ). Torn 0 n from.0 crashed) (nine c.args.bytes.now c.requires) from.2)
 
 pub returns-clause-stored : goal.returns-clause-stored
 returns-clause-stored g c told =

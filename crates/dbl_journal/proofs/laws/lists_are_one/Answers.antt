@@ -17,7 +17,7 @@ returns-clause-left g c journal entries left lists may =
     one_journal lists.bytes left entries (subst (λ (l : List ℕ). IsJournal l left) (lists.only may.0 may.1) may.2) lists.spelled
 
 pub returns-clause-listed : goal.returns-clause-listed
-returns-clause-listed g c journal entries lists = (lists.bytes, g.met.D.Disk.seen_is_image journal.disk lists.bytes lists.told, lists.spelled)
+returns-clause-listed g c journal entries lists = (lists.bytes, g.met.D.Disk.seen_may_be_left journal.disk lists.bytes lists.told, lists.spelled)
 
 pub returns-clause-one_of : goal.returns-clause-one_of
 returns-clause-one_of g c disk entries left entry leaves may =

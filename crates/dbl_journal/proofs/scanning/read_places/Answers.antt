@@ -15,7 +15,7 @@ pub entries-init : goal.entries-init
 entries-init g c = record {
   read = λ bytes told total is. subst (λ (l : List Extent). AreRead bytes 8 l) (sym c.new-places.ensures.items) (reading_begins bytes is);
   seen = refl;
-  images = λ image. ((λ left. left), (λ left. left));
+  crash = λ crashed. ((λ left. left), (λ left. left));
   inside = omega (arith, c.if-total-lt8.false);
   small = c.requires;
   few = omega (arith, ap length c.new-places.ensures.items);
@@ -39,9 +39,9 @@ entries-preserved g c =
           subst (λ (l : List Extent). AreRead bytes (c.in-Some.place.at + c.in-Some.place.length) l) (sym c.in_ok-push.ensures.items)
           (reading_goes_on bytes c.entries.gate c.entries.places.items c.in-Some.place (c.entries.invariant.read bytes told total is) step));
       seen = c.next_place.ensures.seen ∙ c.entries.invariant.seen;
-      images = λ image. (
-        (λ left. (c.entries.invariant.images image).0 ((c.next_place.ensures.images image).0 left)),
-        (λ left. (c.next_place.ensures.images image).1 ((c.entries.invariant.images image).1 left)),
+      crash = λ crashed. (
+        (λ left. (c.entries.invariant.crash crashed).0 ((c.next_place.ensures.crash crashed).0 left)),
+        (λ left. (c.next_place.ensures.crash crashed).1 ((c.entries.invariant.crash crashed).1 left)),
       );
       inside = omega (arith, forward.1);
       small = c.entries.invariant.small;

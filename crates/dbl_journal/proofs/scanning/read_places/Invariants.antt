@@ -7,7 +7,7 @@ abbrev pub invariant-entries : goal.invariant-entries
 invariant-entries g l = record {
   read : (bytes : List ℕ) → g.D.Disk.seen l.fn.disk ≡ Some bytes → l.total ≡ length bytes → bytes ≡ magic ++ drop 8 bytes → AreRead bytes l.gate l.places.items;
   seen : g.D.Disk.seen l.disk ≡ g.D.Disk.seen l.fn.disk;
-  images : (image : List ℕ) → g.D.Disk.may_leave l.disk image ↔ g.D.Disk.may_leave l.fn.disk image;
+  crash : (crashed : List ℕ) → g.D.Disk.may_leave l.disk crashed ↔ g.D.Disk.may_leave l.fn.disk crashed;
   inside : l.gate ≤ l.total;
   small : l.total < 2 ^ 40;
   few : length l.places.items ≤ l.gate;

@@ -6,7 +6,7 @@ use Rattle.dbl_offset.proofs.laws.stores_hold_one_offset.Goals as goal
 
 pub returns-clause-left : goal.returns-clause-left
 returns-clause-left g c store offset left holds may =
-    let image : List ℕ = may.0 in
+    let crashed : List ℕ = may.0 in
     let here : IsStore holds.lists.bytes left = subst (λ (b : List ℕ). IsStore b left) (holds.lists.only may.0 may.1) may.2 in
     one_store holds.lists.bytes left offset here (record { entries = holds.entries; journal = holds.lists.spelled; each = holds.each; last = holds.last })
 

@@ -28,7 +28,7 @@ loop-index-preserved g c =
       asked = spells.asked;
       count = c.loop-index.invariant.count;
       seen = c.entry.ensures.seen ∙ c.loop-index.invariant.seen;
-      images = λ image. (λ h. (c.loop-index.invariant.images image).0 ((c.entry.ensures.images image).0 h), λ h. (c.entry.ensures.images image).1 ((c.loop-index.invariant.images image).1 h));
+      crash = λ crashed. (λ h. (c.loop-index.invariant.crash crashed).0 ((c.entry.ensures.crash crashed).0 h), λ h. (c.entry.ensures.crash crashed).1 ((c.loop-index.invariant.crash crashed).1 h));
       steady = λ bytes told. c.in_ok-bytes.ensures.steady (λ ok. cc) bytes (c.loop-index.invariant.seen ∙ told) ∙ c.loop-index.invariant.steady bytes told;
       later = omega (arith, c.entry.ensures.later, c.loop-index.invariant.later);
     }

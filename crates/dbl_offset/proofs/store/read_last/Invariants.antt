@@ -15,7 +15,7 @@ invariant-loop-index g l = record {
   asked : IfSome l.last IsOffset;
   count : l.index-end ≡ count_of l.fn.journal;
   seen : g.D.Disk.seen l.journal.disk ≡ g.D.Disk.seen l.fn.journal.disk;
-  images : (image : List ℕ) → g.D.Disk.may_leave l.journal.disk image ↔ g.D.Disk.may_leave l.fn.journal.disk image;
+  crash : (crashed : List ℕ) → g.D.Disk.may_leave l.journal.disk crashed ↔ g.D.Disk.may_leave l.fn.journal.disk crashed;
   steady : (bytes : List ℕ) → g.D.Disk.seen l.fn.journal.disk ≡ Some bytes → g.D.Disk.faults l.journal.disk ≡ g.D.Disk.faults l.fn.journal.disk;
   later : g.D.Disk.faults l.fn.journal.disk ≤ g.D.Disk.faults l.journal.disk;
 }

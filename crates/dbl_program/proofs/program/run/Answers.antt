@@ -243,11 +243,11 @@ returns-in-Err-Usage-clause-offsets_short g c = λ some. absurd (c.in-Err-Usage.
 -- memory ran out before a disk was touched
 pub returns-in-Err-Memory-clause-generated : goal.returns-in-Err-Memory-clause-generated
 returns-in-Err-Memory-clause-generated g c = λ number rows groups spells made.
-    absurd (unmade g.W.Disk.seen g.W.Disk.may_leave g.T.Disk.seen g.T.Disk.may_leave g.F.Disk.seen g.F.Disk.may_leave c.args.wal c.args.topics c.args.offsets (g.met.F.Disk.seen_is_image c.args.offsets) made)
+    absurd (unmade g.W.Disk.seen g.W.Disk.may_leave g.T.Disk.seen g.T.Disk.may_leave g.F.Disk.seen g.F.Disk.may_leave c.args.wal c.args.topics c.args.offsets (g.met.F.Disk.seen_may_be_left c.args.offsets) made)
 
 pub returns-in-Err-Memory-clause-generated_kept : goal.returns-in-Err-Memory-clause-generated_kept
 returns-in-Err-Memory-clause-generated_kept g c = λ number rows groups spells made.
-    absurd (unmade g.W.Disk.seen g.W.Disk.may_leave g.T.Disk.seen g.T.Disk.may_leave g.F.Disk.seen g.F.Disk.may_leave c.args.wal c.args.topics c.args.offsets (g.met.F.Disk.seen_is_image c.args.offsets) made)
+    absurd (unmade g.W.Disk.seen g.W.Disk.may_leave g.T.Disk.seen g.T.Disk.may_leave g.F.Disk.seen g.F.Disk.may_leave c.args.wal c.args.topics c.args.offsets (g.met.F.Disk.seen_may_be_left c.args.offsets) made)
 
 pub returns-in-Err-Memory-clause-generating : goal.returns-in-Err-Memory-clause-generating
 returns-in-Err-Memory-clause-generating g c = λ number rows groups spells.
@@ -303,7 +303,7 @@ returns-in-Ok-clause-kept g c =
     let k = c.in-Ok.command in
     run_kept g.W.Disk.seen g.W.Disk.may_leave g.T.Disk.seen g.T.Disk.may_leave g.F.Disk.seen g.F.Disk.may_leave g.T.Disk.faults g.F.Disk.faults c.args.wal left.wal c.args.topics left.topics c.args.offsets left.offsets k left.status (λ asked is. (told.connected asked is).kept)
     (run_stays g.W.Disk.seen g.W.Disk.may_leave g.T.Disk.seen g.T.Disk.may_leave g.F.Disk.seen g.F.Disk.may_leave g.T.Disk.faults g.F.Disk.faults c.args.wal left.wal c.args.topics left.topics c.args.offsets left.offsets k left.status
-    (g.met.W.Disk.seen_is_image c.args.wal) (g.met.T.Disk.seen_is_image c.args.topics) (g.met.F.Disk.seen_is_image c.args.offsets) (full_by g.W.Disk.seen g.W.Disk.may_leave g.W.Disk.faults g.T.Disk.seen g.T.Disk.may_leave g.T.Disk.faults g.F.Disk.seen g.F.Disk.may_leave g.F.Disk.faults c.args.wal left.wal c.args.topics left.topics c.args.offsets left.offsets k
+    (g.met.W.Disk.seen_may_be_left c.args.wal) (g.met.T.Disk.seen_may_be_left c.args.topics) (g.met.F.Disk.seen_may_be_left c.args.offsets) (full_by g.W.Disk.seen g.W.Disk.may_leave g.W.Disk.faults g.T.Disk.seen g.T.Disk.may_leave g.T.Disk.faults g.F.Disk.seen g.F.Disk.may_leave g.F.Disk.faults c.args.wal left.wal c.args.topics left.topics c.args.offsets left.offsets k
     told.full_stay (λ number rows groups same. (_, (told.generated number rows groups same).full))) told.wal_stays told.topics_stay told.offsets_stay told.topics_read told.offsets_read)
 
 pub returns-in-Ok-clause-headline : goal.returns-in-Ok-clause-headline
@@ -314,7 +314,7 @@ returns-in-Ok-clause-headline g c = λ command spells kept w t f may_w may_t may
     as_spelled _ (λ (d : Command). IsPromisedOf (IsCompleteRun d left.status) (asks_by d) (g.W.Disk.may_leave c.args.wal) (g.T.Disk.may_leave c.args.topics) (g.F.Disk.may_leave c.args.offsets) w t f) k command c.in-Ok.ensures.spelled spells
     (run_promised g.W.Disk.seen g.W.Disk.may_leave g.T.Disk.seen g.T.Disk.may_leave g.F.Disk.seen g.F.Disk.may_leave g.T.Disk.faults g.F.Disk.faults c.args.wal left.wal c.args.topics left.topics c.args.offsets left.offsets k left.status (λ asked is. (told.connected asked is).headline)
     (run_stays g.W.Disk.seen g.W.Disk.may_leave g.T.Disk.seen g.T.Disk.may_leave g.F.Disk.seen g.F.Disk.may_leave g.T.Disk.faults g.F.Disk.faults c.args.wal left.wal c.args.topics left.topics c.args.offsets left.offsets k left.status
-    (g.met.W.Disk.seen_is_image c.args.wal) (g.met.T.Disk.seen_is_image c.args.topics) (g.met.F.Disk.seen_is_image c.args.offsets) (full_by g.W.Disk.seen g.W.Disk.may_leave g.W.Disk.faults g.T.Disk.seen g.T.Disk.may_leave g.T.Disk.faults g.F.Disk.seen g.F.Disk.may_leave g.F.Disk.faults c.args.wal left.wal c.args.topics left.topics c.args.offsets left.offsets k
+    (g.met.W.Disk.seen_may_be_left c.args.wal) (g.met.T.Disk.seen_may_be_left c.args.topics) (g.met.F.Disk.seen_may_be_left c.args.offsets) (full_by g.W.Disk.seen g.W.Disk.may_leave g.W.Disk.faults g.T.Disk.seen g.T.Disk.may_leave g.T.Disk.faults g.F.Disk.seen g.F.Disk.may_leave g.F.Disk.faults c.args.wal left.wal c.args.topics left.topics c.args.offsets left.offsets k
     told.full_stay (λ number rows groups same. (_, (told.generated number rows groups same).full))) told.wal_stays told.topics_stay told.offsets_stay told.topics_read told.offsets_read)
     kept w t f may_w may_t may_f)
 

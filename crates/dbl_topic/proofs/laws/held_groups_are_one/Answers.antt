@@ -19,11 +19,11 @@ pub returns-clause-left : goal.returns-clause-left
 returns-clause-left g c = only_held g.D.Disk.seen g.D.Disk.may_leave
 
 pub returns-clause-held : goal.returns-clause-held
-returns-clause-held g c = may_leave_held g.D.Disk.seen g.D.Disk.may_leave g.met.D.Disk.seen_is_image
+returns-clause-held g c = may_leave_held g.D.Disk.seen g.D.Disk.may_leave g.met.D.Disk.seen_may_be_left
 
 pub returns-clause-whole : goal.returns-clause-whole
-returns-clause-whole g c log groups held image may =
-    (groups, subst (λ (i : List ℕ). IsLog i groups) (sym (held.lists.only image may)) (log_of g.D.Disk.seen g.D.Disk.may_leave log groups held), refl)
+returns-clause-whole g c log groups held crashed may =
+    (groups, subst (λ (i : List ℕ). IsLog i groups) (sym (held.lists.only crashed may)) (log_of g.D.Disk.seen g.D.Disk.may_leave log groups held), refl)
 
 pub returns-clause-one_of : goal.returns-clause-one_of
 returns-clause-one_of g c disk groups left group leaves may =

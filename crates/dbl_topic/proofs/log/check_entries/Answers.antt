@@ -34,7 +34,7 @@ entries-preserved g c = record {
       let read = c.in_ok-_group.ensures.read entries (c.entries.invariant.lists entries lists) in
       (_, entries_more entries before.0 c.entries.number read.0 c.in_ok-_group._group.items before.1 read.1 read.2);
   seen = c.in_ok-_group.ensures.seen ∙ c.entries.invariant.seen;
-  images = λ image may. c.entries.invariant.images image ((c.in_ok-_group.ensures.images image).0 may);
+  crash = λ crashed may. c.entries.invariant.crash crashed ((c.in_ok-_group.ensures.crash crashed).0 may);
   steady = λ bytes told. c.in_ok-_group.ensures.steady (λ ok. cc) bytes (c.entries.invariant.seen ∙ told) ∙ c.entries.invariant.steady bytes told;
   later = omega (arith, c.entries.invariant.later, c.in_ok-_group.ensures.later);
 }

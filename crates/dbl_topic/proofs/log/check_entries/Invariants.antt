@@ -11,7 +11,7 @@ invariant-entries g l = record {
   lists : (entries : List (List ℕ)) → Lists g.D.Disk.seen g.D.Disk.may_leave l.fn.journal entries → Lists g.D.Disk.seen g.D.Disk.may_leave l.journal entries;
   good : (entries : List (List ℕ)) → Lists g.D.Disk.seen g.D.Disk.may_leave l.fn.journal entries → (groups : List (List Record)) × AreLogEntries (take l.number entries) groups;
   seen : g.D.Disk.seen l.journal.disk ≡ g.D.Disk.seen l.fn.journal.disk;
-  images : (image : List ℕ) → g.D.Disk.may_leave l.journal.disk image → g.D.Disk.may_leave l.fn.journal.disk image;
+  crash : (crashed : List ℕ) → g.D.Disk.may_leave l.journal.disk crashed → g.D.Disk.may_leave l.fn.journal.disk crashed;
   steady : (bytes : List ℕ) → g.D.Disk.seen l.fn.journal.disk ≡ Some bytes → g.D.Disk.faults l.journal.disk ≡ g.D.Disk.faults l.fn.journal.disk;
   later : g.D.Disk.faults l.fn.journal.disk ≤ g.D.Disk.faults l.journal.disk;
 }

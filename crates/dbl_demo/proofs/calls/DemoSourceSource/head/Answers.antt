@@ -13,7 +13,7 @@ returns g c =
     record {
       headed = leads_held g.D.Disk.seen g.D.Disk.may_leave c.args.self.now c.answer_head.new.self _ _ (λ x. AnswersHead c.args.self.now c.answer_head.new.self x) IsHeaded c.answer_head.result adds.released adds.answers (λ x says wal of_old done s stands. lead_head g.D.Disk.seen g.D.Disk.may_leave c.args.self.now c.answer_head.new.self wal of_old _ s stands done x says);
       left = left_held g.D.Disk.seen g.D.Disk.may_leave c.args.self.now c.answer_head.new.self _ adds.first;
-      some = some_held g.D.Disk.seen g.D.Disk.may_leave c.args.self.now c.answer_head.new.self g.met.D.Disk.seen_is_image adds.come _ _ adds.first;
+      some = some_held g.D.Disk.seen g.D.Disk.may_leave c.args.self.now c.answer_head.new.self g.met.D.Disk.seen_may_be_left adds.come _ _ adds.first;
       last = IfOk-weaker c.answer_head.result _ _ (λ x says. says.is) adds.answers;
       told = tells_of c.answer_head.result Head;
       taken = tt;

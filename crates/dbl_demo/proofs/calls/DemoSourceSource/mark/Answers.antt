@@ -12,7 +12,7 @@ returns g c =
     record {
       marked = leads_held g.D.Disk.seen g.D.Disk.may_leave c.args.self.now c.answer_mark.new.self _ _ (λ x. AnswersNothing c.args.self.now c.answer_mark.new.self x) (λ x. IsMarked c.args.value.now) c.answer_mark.result adds.released adds.answers (λ x says wal of_old done s stands. lead_mark g.D.Disk.seen g.D.Disk.may_leave c.args.self.now c.answer_mark.new.self wal of_old _ c.args.value.now s stands done says.reader.place);
       left = left_mark g.D.Disk.seen g.D.Disk.may_leave c.args.self.now c.answer_mark.new.self _ c.args.value.now adds.first;
-      some = some_held g.D.Disk.seen g.D.Disk.may_leave c.args.self.now c.answer_mark.new.self g.met.D.Disk.seen_is_image adds.come _ _ adds.first;
+      some = some_held g.D.Disk.seen g.D.Disk.may_leave c.args.self.now c.answer_mark.new.self g.met.D.Disk.seen_may_be_left adds.come _ _ adds.first;
       unmarked = λ is. left_held g.D.Disk.seen g.D.Disk.may_leave c.args.self.now c.answer_mark.new.self _ (c.answer_mark.ensures.starved is);
       told = told_of c.answer_mark.result Done;
       taken = tt;

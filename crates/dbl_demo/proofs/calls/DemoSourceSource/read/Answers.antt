@@ -10,7 +10,7 @@ returns g c =
     record {
       took = read_took g.D.Disk.seen g.D.Disk.may_leave g.D.Disk.faults c.args.self.now c.answer_read.new.self c.answer_read.result adds c.requires.reading;
       left = read_left g.D.Disk.seen g.D.Disk.may_leave g.D.Disk.faults c.args.self.now c.answer_read.new.self c.answer_read.result adds c.requires.reading;
-      some = read_some g.D.Disk.seen g.D.Disk.may_leave g.D.Disk.faults c.args.self.now c.answer_read.new.self c.answer_read.result adds c.requires.reading g.met.D.Disk.seen_is_image;
+      some = read_some g.D.Disk.seen g.D.Disk.may_leave g.D.Disk.faults c.args.self.now c.answer_read.new.self c.answer_read.result adds c.requires.reading g.met.D.Disk.seen_may_be_left;
       told = tells_of c.answer_read.result Read;
       taken = read_taken c.answer_read.result;
       untaken = on_err (IsTakenBy [] None None) c.answer_read.result tt;

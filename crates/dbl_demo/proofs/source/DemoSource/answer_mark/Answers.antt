@@ -31,19 +31,19 @@ invariant_of-self g c = record {
 pub returns-in_err-release-clause-added : goal.returns-in_err-release-clause-added
 returns-in_err-release-clause-added g c =
     let p = err_from_is_err_and c.from_residual.result c.from_residual.ensures.1 in
-    fails_from g.D.Disk.seen g.D.Disk.may_leave g.D.Disk.faults c.self.view_is c.release.new.self c.release.ensures.same c.release.ensures.images c.release.ensures.comes c.release.ensures.later next_end (λ s. mark_of c.args.value.now (next_end s)) AnswersNothing c.from_residual.result p.0 p.1 (omega arith) (λ is. c.release.ensures.failed (c.in_err-release.was ∙ ap Err (sym p.2 ∙ is)))
+    fails_from g.D.Disk.seen g.D.Disk.may_leave g.D.Disk.faults c.self.view_is c.release.new.self c.release.ensures.same c.release.ensures.crash c.release.ensures.comes c.release.ensures.later next_end (λ s. mark_of c.args.value.now (next_end s)) AnswersNothing c.from_residual.result p.0 p.1 (omega arith) (λ is. c.release.ensures.failed (c.in_err-release.was ∙ ap Err (sym p.2 ∙ is)))
 
 pub returns-in_err-release-clause-starved : goal.returns-in_err-release-clause-starved
-returns-in_err-release-clause-starved g c = λ is. first_from g.D.Disk.seen g.D.Disk.may_leave g.D.Disk.faults c.self.view_is c.release.new.self c.release.ensures.images
+returns-in_err-release-clause-starved g c = λ is. first_from g.D.Disk.seen g.D.Disk.may_leave g.D.Disk.faults c.self.view_is c.release.new.self c.release.ensures.crash
 
--- memory was wanting for the mark's entry
+-- memory ran out for the mark's entry
 pub returns-in_err-entry-clause-added : goal.returns-in_err-entry-clause-added
 returns-in_err-entry-clause-added g c =
     let p = err_from_is_err_and c.from_residual-in_err-entry.result c.from_residual-in_err-entry.ensures.1 in
-    fails_from g.D.Disk.seen g.D.Disk.may_leave g.D.Disk.faults c.self.view_is c.release.new.self c.release.ensures.same c.release.ensures.images c.release.ensures.comes c.release.ensures.later next_end (λ s. mark_of c.args.value.now (next_end s)) AnswersNothing c.from_residual-in_err-entry.result p.0 p.1 (omega arith) (λ is. absurd (let wrong : Memory ≡ Failed = sym p.2 ∙ is in cc))
+    fails_from g.D.Disk.seen g.D.Disk.may_leave g.D.Disk.faults c.self.view_is c.release.new.self c.release.ensures.same c.release.ensures.crash c.release.ensures.comes c.release.ensures.later next_end (λ s. mark_of c.args.value.now (next_end s)) AnswersNothing c.from_residual-in_err-entry.result p.0 p.1 (omega arith) (λ is. absurd (let wrong : Memory ≡ Failed = sym p.2 ∙ is in cc))
 
 pub returns-in_err-entry-clause-starved : goal.returns-in_err-entry-clause-starved
-returns-in_err-entry-clause-starved g c = λ is. first_from g.D.Disk.seen g.D.Disk.may_leave g.D.Disk.faults c.self.view_is c.release.new.self c.release.ensures.images
+returns-in_err-entry-clause-starved g c = λ is. first_from g.D.Disk.seen g.D.Disk.may_leave g.D.Disk.faults c.self.view_is c.release.new.self c.release.ensures.crash
 
 pub log_mark-requires-clause-live : goal.log_mark-requires-clause-live
 log_mark-requires-clause-live g c =

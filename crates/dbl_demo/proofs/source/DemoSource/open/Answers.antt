@@ -33,16 +33,16 @@ pub returns-in-Ok-clause-seen : goal.returns-in-Ok-clause-seen
 returns-in-Ok-clause-seen g c =
     MatchResult-weaker c.open_journal.result c.open_journal.ensures.read (λ source read. read.same ∙ c.in-Ok.ensures.seen) (λ refused read. read.same ∙ c.in-Ok.ensures.seen)
 
-pub returns-in-Ok-clause-images : goal.returns-in-Ok-clause-images
-returns-in-Ok-clause-images g c = λ image.
-    MatchResult-weaker c.open_journal.result c.open_journal.ensures.read (λ source read may. c.in-Ok.ensures.images image (read.images image may)) (λ refused read may. c.in-Ok.ensures.images image (read.images image may))
+pub returns-in-Ok-clause-crash : goal.returns-in-Ok-clause-crash
+returns-in-Ok-clause-crash g c = λ crashed.
+    MatchResult-weaker c.open_journal.result c.open_journal.ensures.read (λ source read may. c.in-Ok.ensures.crash crashed (read.crash crashed may)) (λ refused read may. c.in-Ok.ensures.crash crashed (read.crash crashed may))
 
 pub returns-in-Ok-clause-stable : goal.returns-in-Ok-clause-stable
 returns-in-Ok-clause-stable g c = λ bytes told.
     let opened = c.in-Ok.ensures.opened bytes told in
     let is : Some opened.2.bytes ≡ Some bytes = sym opened.2.told ∙ c.in-Ok.ensures.seen ∙ told in
     let same : opened.2.bytes ≡ bytes = cc in
-    MatchResult-weaker c.open_journal.result c.open_journal.ensures.read (λ source read image may. opened.2.only image (read.images image may) ∙ same) (λ refused read no image may. opened.2.only image (read.images image may) ∙ same)
+    MatchResult-weaker c.open_journal.result c.open_journal.ensures.read (λ source read crashed may. opened.2.only crashed (read.crash crashed may) ∙ same) (λ refused read no crashed may. opened.2.only crashed (read.crash crashed may) ∙ same)
 
 pub returns-in-Ok-clause-later : goal.returns-in-Ok-clause-later
 returns-in-Ok-clause-later g c =

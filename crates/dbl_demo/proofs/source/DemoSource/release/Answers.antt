@@ -4,11 +4,11 @@ use Rattle.dbl_demo.proofs.GroupLemmas.{group_comes, group_end_is, group_goes, g
 use Rattle.dbl_demo.proofs.source.DemoSource.release.Goals as goal
 
 -- the step failed
-pub returns-in_err-run_one-clause-images : goal.returns-in_err-run_one-clause-images
-returns-in_err-run_one-clause-images g c =
+pub returns-in_err-run_one-clause-crash : goal.returns-in_err-run_one-clause-crash
+returns-in_err-run_one-clause-crash g c =
     let steps : length c.self.inside.steps.items ≡ length c.steps.self.steps = ap (λ (s : Demo _). length s.steps) c.self.view_is in
     let left : c.steps.self.done < length c.steps.self.steps = omega (arith, steps, ap (λ (s : Demo _). s.done) c.self.view_is) in
-    group_left g.D.Disk.seen g.D.Disk.may_leave g.D.Disk.faults c.args.self.now refl c.steps.invariant c.run_one.new.self left c.run_one.ensures.images
+    group_left g.D.Disk.seen g.D.Disk.may_leave g.D.Disk.faults c.args.self.now refl c.steps.invariant c.run_one.new.self left c.run_one.ensures.crash
 
 pub returns-in_err-run_one-clause-comes : goal.returns-in_err-run_one-clause-comes
 returns-in_err-run_one-clause-comes g c = group_comes g.D.Disk.seen g.D.Disk.may_leave g.D.Disk.faults c.args.self.now refl c.steps.invariant c.run_one.new.self c.run_one.ensures.comes
@@ -20,11 +20,11 @@ returns-then-branch-clause-ran g c =
     let left : c.steps.self.done < length c.steps.self.steps = omega (arith, steps, ap (λ (s : Demo _). s.done) c.self.view_is) in
     group_ran g.D.Disk.seen g.D.Disk.may_leave g.D.Disk.faults c.args.self.now refl c.steps.invariant c.run_one.new.self left c.in_ok-run_one.ensures.ran c.in_ok-run_one.field-0 c.in_ok-run_one.ensures.ends c.if-branch.true
 
-pub returns-then-branch-clause-images : goal.returns-then-branch-clause-images
-returns-then-branch-clause-images g c =
+pub returns-then-branch-clause-crash : goal.returns-then-branch-clause-crash
+returns-then-branch-clause-crash g c =
     let steps : length c.self.inside.steps.items ≡ length c.steps.self.steps = ap (λ (s : Demo _). length s.steps) c.self.view_is in
     let left : c.steps.self.done < length c.steps.self.steps = omega (arith, steps, ap (λ (s : Demo _). s.done) c.self.view_is) in
-    group_left g.D.Disk.seen g.D.Disk.may_leave g.D.Disk.faults c.args.self.now refl c.steps.invariant c.run_one.new.self left c.run_one.ensures.images
+    group_left g.D.Disk.seen g.D.Disk.may_leave g.D.Disk.faults c.args.self.now refl c.steps.invariant c.run_one.new.self left c.run_one.ensures.crash
 
 pub returns-then-branch-clause-end : goal.returns-then-branch-clause-end
 returns-then-branch-clause-end g c =
@@ -49,8 +49,8 @@ returns-clause-ran g c =
     let none : length c.steps.self.steps ≤ c.steps.self.done = omega (arith, steps, ap (λ (s : Demo _). s.done) c.self.view_is) in
     group_over g.D.Disk.seen g.D.Disk.may_leave g.D.Disk.faults c.args.self.now c.steps.self c.steps.invariant none
 
-pub returns-clause-images : goal.returns-clause-images
-returns-clause-images g c =
+pub returns-clause-crash : goal.returns-clause-crash
+returns-clause-crash g c =
     let steps : length c.self.inside.steps.items ≡ length c.steps.self.steps = ap (λ (s : Demo _). length s.steps) c.self.view_is in
     let none : length c.steps.self.steps ≤ c.steps.self.done = omega (arith, steps, ap (λ (s : Demo _). s.done) c.self.view_is) in
     group_over_left g.D.Disk.seen g.D.Disk.may_leave g.D.Disk.faults c.args.self.now c.steps.self c.steps.invariant none

@@ -6,8 +6,8 @@ use Rattle.dbl_running.proofs.LoopLemmas.{first_left, ran_left, reads_all, reads
 use Rattle.dbl_demo.proofs.source.DemoSource.release_unread.Goals as goal
 
 -- the first group failed
-pub returns-in_err-release-clause-images : goal.returns-in_err-release-clause-images
-returns-in_err-release-clause-images g c = λ wal place running at. first_left g.D.Disk.seen g.D.Disk.may_leave g.D.Disk.faults c.args.self.now c.release.new.self c.release.ensures.images wal place running
+pub returns-in_err-release-clause-crash : goal.returns-in_err-release-clause-crash
+returns-in_err-release-clause-crash g c = λ wal place running at. first_left g.D.Disk.seen g.D.Disk.may_leave g.D.Disk.faults c.args.self.now c.release.new.self c.release.ensures.crash wal place running
 
 pub groups-init : goal.groups-init
 groups-init g c = let r = c.in_ok-release.ensures in reads_first g.D.Disk.seen g.D.Disk.may_leave g.D.Disk.faults c.args.self.now c.release.new.self r.ran r.end r.live r.same r.comes r.later
@@ -16,16 +16,16 @@ groups-init g c = let r = c.in_ok-release.ensures in reads_first g.D.Disk.seen g
 pub returns-then-has_unread-clause-ran : goal.returns-then-has_unread-clause-ran
 returns-then-has_unread-clause-ran g c = reads_end g.D.Disk.seen g.D.Disk.may_leave g.D.Disk.faults c.args.self.now c.groups.self c.groups.invariant (sym c.has_unread.ensures ∙ c.if-has_unread.true)
 
-pub returns-then-has_unread-clause-images : goal.returns-then-has_unread-clause-images
-returns-then-has_unread-clause-images g c = λ wal place running at.
+pub returns-then-has_unread-clause-crash : goal.returns-then-has_unread-clause-crash
+returns-then-has_unread-clause-crash g c = λ wal place running at.
     ran_left g.D.Disk.seen g.D.Disk.may_leave g.D.Disk.faults c.args.self.now c.groups.self wal place c.groups.invariant.later (reads_end g.D.Disk.seen g.D.Disk.may_leave g.D.Disk.faults c.args.self.now c.groups.self c.groups.invariant (sym c.has_unread.ensures ∙ c.if-has_unread.true) wal place running at)
 
 pub returns-then-has_unread-clause-end : goal.returns-then-has_unread-clause-end
 returns-then-has_unread-clause-end g c = inl (sym c.has_unread.ensures ∙ c.if-has_unread.true)
 
 -- a later one failed
-pub returns-in_err-release-2-clause-images : goal.returns-in_err-release-2-clause-images
-returns-in_err-release-2-clause-images g c = reads_left g.D.Disk.seen g.D.Disk.may_leave g.D.Disk.faults c.args.self.now c.groups.self c.release-in-groups.new.self c.groups.invariant (sym c.has_unread.ensures ∙ c.if-has_unread.false) c.release-in-groups.ensures.images
+pub returns-in_err-release-2-clause-crash : goal.returns-in_err-release-2-clause-crash
+returns-in_err-release-2-clause-crash g c = reads_left g.D.Disk.seen g.D.Disk.may_leave g.D.Disk.faults c.args.self.now c.groups.self c.release-in-groups.new.self c.groups.invariant (sym c.has_unread.ensures ∙ c.if-has_unread.false) c.release-in-groups.ensures.crash
 
 pub returns-in_err-release-2-clause-comes : goal.returns-in_err-release-2-clause-comes
 returns-in_err-release-2-clause-comes g c = comes_on g.D.Disk.seen g.D.Disk.may_leave c.args.self.now.journal c.groups.self.journal c.release-in-groups.new.self.journal c.groups.invariant.comes c.release-in-groups.ensures.comes
@@ -42,8 +42,8 @@ returns-clause-ran g c =
     let none : length c.groups.self.steps ≤ c.groups.self.done = omega (arith, steps, ap (λ (s : Demo _). s.done) c.self.view_is) in
     reads_all g.D.Disk.seen g.D.Disk.may_leave g.D.Disk.faults c.args.self.now c.groups.self c.groups.invariant none
 
-pub returns-clause-images : goal.returns-clause-images
-returns-clause-images g c = λ wal place running at.
+pub returns-clause-crash : goal.returns-clause-crash
+returns-clause-crash g c = λ wal place running at.
     let steps : length c.self.inside.steps.items ≡ length c.groups.self.steps = ap (λ (s : Demo _). length s.steps) c.self.view_is in
     let none : length c.groups.self.steps ≤ c.groups.self.done = omega (arith, steps, ap (λ (s : Demo _). s.done) c.self.view_is) in
     ran_left g.D.Disk.seen g.D.Disk.may_leave g.D.Disk.faults c.args.self.now c.groups.self wal place c.groups.invariant.later (reads_all g.D.Disk.seen g.D.Disk.may_leave g.D.Disk.faults c.args.self.now c.groups.self c.groups.invariant none wal place running at)

@@ -4,13 +4,13 @@ use Rattle.dbl_running.specs.Demo.{Demo}
 use Rattle.dbl_demo.proofs.OneLemmas.{one_alone, one_ends, one_left, one_logged, one_silent}
 use Rattle.dbl_demo.proofs.source.DemoSource.run_one.Goals as goal
 
--- memory was wanting
-pub returns-in_err-committed-clause-images : goal.returns-in_err-committed-clause-images
-returns-in_err-committed-clause-images g c = λ wal running. one_alone g.D.Disk.seen g.D.Disk.may_leave c.self.view_is c.requires.left wal running
+-- memory ran out
+pub returns-in_err-committed-clause-crash : goal.returns-in_err-committed-clause-crash
+returns-in_err-committed-clause-crash g c = λ wal running. one_alone g.D.Disk.seen g.D.Disk.may_leave c.self.view_is c.requires.left wal running
 
 -- its commit was being appended
-pub returns-in_err-log_commit-clause-images : goal.returns-in_err-log_commit-clause-images
-returns-in_err-log_commit-clause-images g c = λ wal running. one_left g.D.Disk.seen g.D.Disk.may_leave c.self.view_is c.requires.left c.as_slice.result.now c.as_slice.ensures.value c.run_next.new.store c.in_ok-committed.committed c.in_ok-committed.ensures.ran wal running c.in-Some.messages c.in-Some.is c.log_commit.ensures.entry c.log_commit.ensures.small c.log_commit.new.self c.log_commit.ensures.left
+pub returns-in_err-log_commit-clause-crash : goal.returns-in_err-log_commit-clause-crash
+returns-in_err-log_commit-clause-crash g c = λ wal running. one_left g.D.Disk.seen g.D.Disk.may_leave c.self.view_is c.requires.left c.as_slice.result.now c.as_slice.ensures.value c.run_next.new.store c.in_ok-committed.committed c.in_ok-committed.ensures.ran wal running c.in-Some.messages c.in-Some.is c.log_commit.ensures.entry c.log_commit.ensures.small c.log_commit.new.self c.log_commit.ensures.left
 
 pub returns-in_err-log_commit-clause-comes : goal.returns-in_err-log_commit-clause-comes
 returns-in_err-log_commit-clause-comes g c =
@@ -20,8 +20,8 @@ returns-in_err-log_commit-clause-comes g c =
 pub returns-in_ok-log_commit-clause-ran : goal.returns-in_ok-log_commit-clause-ran
 returns-in_ok-log_commit-clause-ran g c = λ wal running. one_logged g.D.Disk.seen g.D.Disk.may_leave c.self.view_is c.requires.left c.as_slice.result.now c.as_slice.ensures.value c.run_next.new.store c.in_ok-committed.committed c.in_ok-committed.ensures.ran wal running c.in-Some.messages c.in-Some.is c.log_commit.ensures.entry c.log_commit.ensures.small c.log_commit.new.self c.in_ok-log_commit.ensures.logged c.log_commit.ensures.same c.log_commit.ensures.stays
 
-pub returns-in_ok-log_commit-clause-images : goal.returns-in_ok-log_commit-clause-images
-returns-in_ok-log_commit-clause-images g c = λ wal running. one_left g.D.Disk.seen g.D.Disk.may_leave c.self.view_is c.requires.left c.as_slice.result.now c.as_slice.ensures.value c.run_next.new.store c.in_ok-committed.committed c.in_ok-committed.ensures.ran wal running c.in-Some.messages c.in-Some.is c.log_commit.ensures.entry c.log_commit.ensures.small c.log_commit.new.self c.log_commit.ensures.left
+pub returns-in_ok-log_commit-clause-crash : goal.returns-in_ok-log_commit-clause-crash
+returns-in_ok-log_commit-clause-crash g c = λ wal running. one_left g.D.Disk.seen g.D.Disk.may_leave c.self.view_is c.requires.left c.as_slice.result.now c.as_slice.ensures.value c.run_next.new.store c.in_ok-committed.committed c.in_ok-committed.ensures.ran wal running c.in-Some.messages c.in-Some.is c.log_commit.ensures.entry c.log_commit.ensures.small c.log_commit.new.self c.log_commit.ensures.left
 
 pub returns-in_ok-log_commit-clause-comes : goal.returns-in_ok-log_commit-clause-comes
 returns-in_ok-log_commit-clause-comes g c =
@@ -34,8 +34,8 @@ returns-in_ok-log_commit-clause-ends g c = λ step there. one_ends g.D.Disk.seen
 pub returns-in_default-clause-ran : goal.returns-in_default-clause-ran
 returns-in_default-clause-ran g c = λ wal running. one_silent g.D.Disk.seen g.D.Disk.may_leave c.self.view_is c.requires.left c.as_slice.result.now c.as_slice.ensures.value c.run_next.new.store c.in_ok-committed.committed c.in_ok-committed.ensures.ran wal running c.in_default.is
 
-pub returns-in_default-clause-images : goal.returns-in_default-clause-images
-returns-in_default-clause-images g c = λ wal running. one_alone g.D.Disk.seen g.D.Disk.may_leave c.self.view_is c.requires.left wal running
+pub returns-in_default-clause-crash : goal.returns-in_default-clause-crash
+returns-in_default-clause-crash g c = λ wal running. one_alone g.D.Disk.seen g.D.Disk.may_leave c.self.view_is c.requires.left wal running
 
 pub returns-in_default-clause-ends : goal.returns-in_default-clause-ends
 returns-in_default-clause-ends g c = λ step there. one_ends g.D.Disk.seen g.D.Disk.may_leave c.self.view_is c.requires.left c.is_tick-ends.result c.index.result.now step c.index.ensures c.is_tick-ends.ensures there

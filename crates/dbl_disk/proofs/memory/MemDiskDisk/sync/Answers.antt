@@ -6,12 +6,12 @@ use Rattle.dbl_disk.proofs.Tears.{only_stable}
 use Rattle.dbl_disk.proofs.memory.MemDiskDisk.sync.Goals as goal
 
 pub returns-in-Ok-clause-stable : goal.returns-in-Ok-clause-stable
-returns-in-Ok-clause-stable c bytes told image (inl now) =
+returns-in-Ok-clause-stable c bytes told crashed (inl now) =
     let current : c.self.inside.current.items ≡ c.args.self.now.current = ap (λ (p : Platter). p.current) c.self.view_is in
     let same : c.args.self.now.current ≡ bytes = cc in
     now ∙ current ∙ same
-returns-in-Ok-clause-stable c bytes told image (inr leaves) =
-    let stable : MayLeave c.settle.new.stable.items [] image = subst (λ (es : List Extent). MayLeave c.settle.new.stable.items es image) c.clear.ensures.items leaves in
+returns-in-Ok-clause-stable c bytes told crashed (inr leaves) =
+    let stable : MayLeave c.settle.new.stable.items [] crashed = subst (λ (es : List Extent). MayLeave c.settle.new.stable.items es crashed) c.clear.ensures.items leaves in
     let current : c.self.inside.current.items ≡ c.args.self.now.current = ap (λ (p : Platter). p.current) c.self.view_is in
     let same : c.args.self.now.current ≡ bytes = cc in
-    only_stable c.settle.new.stable.items image stable ∙ c.in-Ok.ensures.ok ∙ c.deref.ensures.value ∙ current ∙ same
+    only_stable c.settle.new.stable.items crashed stable ∙ c.in-Ok.ensures.ok ∙ c.deref.ensures.value ∙ current ∙ same

@@ -85,11 +85,11 @@ pub returns-in_err-stage-clause-comes : goal.returns-in_err-stage-clause-comes
 returns-in_err-stage-clause-comes g c =
     let entry : List ℕ = drop 4 c.args.bytes.items in
     let short : IsEntry entry = omega (arith, length-drop 4 c.args.bytes.items) in
-    comes_by_append g.D.Disk.seen g.D.Disk.may_leave g.met.D.Disk.seen_is_image c.args.self.now _ entry short c.requires.live
+    comes_by_append g.D.Disk.seen g.D.Disk.may_leave g.met.D.Disk.seen_may_be_left c.args.self.now _ entry short c.requires.live
     (λ entries lists (now : false ≡ true). cc)
-    (λ entries lists image may.
+    (λ entries lists crashed may.
     let held = lists_at c.self.view_is lists in
-    let kept = c.stage.ensures.kept held.bytes entries held.only held.spelled held.gate image may in
+    let kept = c.stage.ensures.kept held.bytes entries held.only held.spelled held.gate crashed may in
     (kept.0, kept.1, inl kept.2))
     (returns-in_err-stage-clause-grows g c)
     (λ before told. c.stage.ensures.told before (ap (λ (j : OnDisk _). g.D.Disk.seen j.disk) c.self.view_is ∙ told))
@@ -98,7 +98,7 @@ pub returns-in_err-open_gate-clause-comes : goal.returns-in_err-open_gate-clause
 returns-in_err-open_gate-clause-comes g c =
     let entry : List ℕ = drop 4 c.args.bytes.items in
     let short : IsEntry entry = omega (arith, length-drop 4 c.args.bytes.items) in
-    comes_by_append g.D.Disk.seen g.D.Disk.may_leave g.met.D.Disk.seen_is_image c.args.self.now _ entry short c.requires.live
+    comes_by_append g.D.Disk.seen g.D.Disk.may_leave g.met.D.Disk.seen_may_be_left c.args.self.now _ entry short c.requires.live
     (λ entries lists (now : false ≡ true). cc)
     (returns-in_err-open_gate-clause-left g c)
     (returns-in_err-open_gate-clause-grows g c)
@@ -108,7 +108,7 @@ pub returns-clause-comes : goal.returns-clause-comes
 returns-clause-comes g c =
     let entry : List ℕ = drop 4 c.args.bytes.items in
     let short : IsEntry entry = omega (arith, length-drop 4 c.args.bytes.items) in
-    comes_by_append g.D.Disk.seen g.D.Disk.may_leave g.met.D.Disk.seen_is_image c.args.self.now _ entry short c.requires.live
+    comes_by_append g.D.Disk.seen g.D.Disk.may_leave g.met.D.Disk.seen_may_be_left c.args.self.now _ entry short c.requires.live
     (λ entries lists now. returns-clause-added g c entries lists)
     (returns-clause-left g c)
     (returns-clause-grows g c)

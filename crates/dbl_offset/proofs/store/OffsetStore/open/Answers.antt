@@ -12,11 +12,11 @@ returns-in-Ok-read_last-clause-stable g c bytes told =
     let opened = c.in-Ok.ensures.opened bytes told in
     let is : Some opened.2.bytes ≡ Some bytes = sym opened.2.told ∙ c.in-Ok.ensures.seen ∙ told in
     let same : opened.2.bytes ≡ bytes = cc in
-    λ image may. opened.2.only image ((c.read_last.ensures.images image).0 may) ∙ same
+    λ crashed may. opened.2.only crashed ((c.read_last.ensures.crash crashed).0 may) ∙ same
 
 pub returns-in-Err-read_last-clause-stable : goal.returns-in-Err-read_last-clause-stable
 returns-in-Err-read_last-clause-stable g c bytes told failed =
     let opened = c.in-Ok.ensures.opened bytes told in
     let is : Some opened.2.bytes ≡ Some bytes = sym opened.2.told ∙ c.in-Ok.ensures.seen ∙ told in
     let same : opened.2.bytes ≡ bytes = cc in
-    λ image may. opened.2.only image ((c.read_last.ensures.images image).0 (subst (λ (d : g.row.D.Denot). g.D.Disk.may_leave d image) c.into_disk.ensures may)) ∙ same
+    λ crashed may. opened.2.only crashed ((c.read_last.ensures.crash crashed).0 (subst (λ (d : g.row.D.Denot). g.D.Disk.may_leave d crashed) c.into_disk.ensures may)) ∙ same

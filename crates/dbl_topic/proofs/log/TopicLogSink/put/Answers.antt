@@ -103,22 +103,22 @@ pub returns-in_err-append_built-clause-too_long : goal.returns-in_err-append_bui
 returns-in_err-append_built-clause-too_long g c len is = (returns-in_err-append_built-clause-exactly g c len).0 is
 
 pub returns-then-len-gt-GROUP_LIMIT-clause-some : goal.returns-then-len-gt-GROUP_LIMIT-clause-some
-returns-then-len-gt-GROUP_LIMIT-clause-some g c groups held = (groups, may_leave_held g.D.Disk.seen g.D.Disk.may_leave g.met.D.Disk.seen_is_image c.args.self.now groups held)
+returns-then-len-gt-GROUP_LIMIT-clause-some g c groups held = (groups, may_leave_held g.D.Disk.seen g.D.Disk.may_leave g.met.D.Disk.seen_may_be_left c.args.self.now groups held)
 
 pub returns-in_err-bytes-clause-some : goal.returns-in_err-bytes-clause-some
-returns-in_err-bytes-clause-some g c groups held = (groups, may_leave_held g.D.Disk.seen g.D.Disk.may_leave g.met.D.Disk.seen_is_image c.args.self.now groups held)
+returns-in_err-bytes-clause-some g c groups held = (groups, may_leave_held g.D.Disk.seen g.D.Disk.may_leave g.met.D.Disk.seen_may_be_left c.args.self.now groups held)
 
 pub returns-in_err-append_built-clause-some : goal.returns-in_err-append_built-clause-some
 returns-in_err-append_built-clause-some g c groups holds =
     let held = subst (λ (log : OnDisk _). HoldsGroups g.D.Disk.seen g.D.Disk.may_leave log groups) (sym c.self.view_is) holds in
     let told = c.append_built.ensures.told held.lists.bytes held.lists.told in
-    some_left g.D.Disk.seen g.D.Disk.may_leave g.met.D.Disk.seen_is_image c.append_built.new.self.disk told.0 told.1 (IsLeftByWhole groups c.args.group.now.items) (returns-in_err-append_built-clause-one_of g c groups holds)
+    some_left g.D.Disk.seen g.D.Disk.may_leave g.met.D.Disk.seen_may_be_left c.append_built.new.self.disk told.0 told.1 (IsLeftByWhole groups c.args.group.now.items) (returns-in_err-append_built-clause-one_of g c groups holds)
 
 pub returns-clause-some : goal.returns-clause-some
 returns-clause-some g c groups holds =
     let held = subst (λ (log : OnDisk _). HoldsGroups g.D.Disk.seen g.D.Disk.may_leave log groups) (sym c.self.view_is) holds in
     let told = c.append_built.ensures.told held.lists.bytes held.lists.told in
-    some_left g.D.Disk.seen g.D.Disk.may_leave g.met.D.Disk.seen_is_image c.append_built.new.self.disk told.0 told.1 (IsLeftByWhole groups c.args.group.now.items) (returns-clause-one_of g c groups holds)
+    some_left g.D.Disk.seen g.D.Disk.may_leave g.met.D.Disk.seen_may_be_left c.append_built.new.self.disk told.0 told.1 (IsLeftByWhole groups c.args.group.now.items) (returns-clause-one_of g c groups holds)
 
 abbrev failure : JournalError → Result (Unit {0}) JournalError
 failure e = Err e

@@ -34,7 +34,7 @@ returns-then-last-self-clause-runs c = run_out c.args.self.now c.args.steps (inl
 pub returns-then-last-all-clause-runs : goal.returns-then-last-all-clause-runs
 returns-then-last-all-clause-runs c = run_out c.args.self.now c.args.steps (inr (omega arith))
 
--- memory was wanting
+-- memory ran out
 pub returns-in_err-committed-clause-runs : goal.returns-in_err-committed-clause-runs
 returns-in_err-committed-clause-runs c = λ w entries is none.
     let p = err_from_is_err_and c.from_residual.result c.from_residual.ensures.1 in

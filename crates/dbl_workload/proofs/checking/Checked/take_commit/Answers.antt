@@ -24,7 +24,7 @@ returns-in_default-clause-checks c =
     none_is c.args.number c.args.steps c.args.entry.now c.args.self.now c.next_commit.new.self
     (subst (λ (o : Option (List Message)). NextCommit c.args.steps c.args.self.now c.next_commit.new.self (Ok o)) c.in_default.is c.in_ok-messages.ensures.next)
 
--- memory was wanting
+-- memory ran out
 pub returns-in_err-is_commit-clause-checks : goal.returns-in_err-is_commit-clause-checks
 returns-in_err-is_commit-clause-checks c = λ says w entries number_is is.
     let p = err_from_is_err_and c.from_residual-in_err-is_commit.result c.from_residual-in_err-is_commit.ensures.1 in

@@ -1,6 +1,6 @@
 use Rattle.dbl_running.proofs.LeadLemmas.{left_confirm, left_mark}
 use Rattle.dbl_running.proofs.PromiseLemmas.{left_held}
-use Rattle.dbl_running.proofs.laws.stops_leave_what_follows.Goals as goal
+use Rattle.dbl_running.proofs.laws.crashes_leave_what_follows.Goals as goal
 
 pub returns : goal.returns
 returns g c = λ old new upto. record {

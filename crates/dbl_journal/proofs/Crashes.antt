@@ -1,4 +1,4 @@
--- One call of the disk: what each image is after it.
+-- One call of the disk: what a crash may leave after it.
 use Rattle.std.proofs.Common.{◌≡◌, ◌⊎◌, inl, inr, ℕ, ◌+◌, ◌≤◌, max, List, [], ◌∷◌, ◌++◌, length, refl, ap, subst, Option, Some, None, Result, Ok, Err, OnOk, arith}
 use Rattle.dbl_disk.specs.Disks.{Follows, IsOnly, Torn, written}
 use Rattle.dbl_disk.proofs.Tears.{length-written}
@@ -6,17 +6,17 @@ use Rattle.dbl_journal.specs.Form.{IsEntry, IsJournal, front}
 use Rattle.dbl_journal.specs.Steps.{IsStaged}
 use Rattle.dbl_journal.proofs.Appends.{behind, torn_gate}
 
-pub behind_images : (entries : List (List ℕ)) (gate n : ℕ) (bytes : List ℕ) (old new : List ℕ → Type 0) → gate ≡ length (front entries) → IsJournal bytes entries → IsOnly bytes old → Follows (Torn (gate + 1) n) old new
-    → (image : List ℕ) → new image → (left : List (List ℕ)) × IsJournal image left × (left ≡ entries)
-behind_images entries gate n bytes old new gate_is journal only follows image left =
-    let from = follows image left in
-    (entries, behind entries gate gate_is n bytes image journal (subst (λ (l : List ℕ). Torn (gate + 1) n l image) (only from.0 from.1) from.2), refl)
+pub behind_crash : (entries : List (List ℕ)) (gate n : ℕ) (bytes : List ℕ) (old new : List ℕ → Type 0) → gate ≡ length (front entries) → IsJournal bytes entries → IsOnly bytes old → Follows (Torn (gate + 1) n) old new
+    → (crashed : List ℕ) → new crashed → (left : List (List ℕ)) × IsJournal crashed left × (left ≡ entries)
+behind_crash entries gate n bytes old new gate_is journal only follows crashed left =
+    let from = follows crashed left in
+    (entries, behind entries gate gate_is n bytes crashed journal (subst (λ (l : List ℕ). Torn (gate + 1) n l crashed) (only from.0 from.1) from.2), refl)
 
-pub gate_images : (entries : List (List ℕ)) (entry : List ℕ) (gate : ℕ) (bytes : List ℕ) (old new : List ℕ → Type 0) → gate ≡ length (front entries) → IsEntry entry → IsStaged bytes entries entry → IsOnly bytes old → Follows (Torn gate 1) old new
-    → (image : List ℕ) → new image → (left : List (List ℕ)) × IsJournal image left × ((left ≡ entries) ⊎ (left ≡ entries ++ entry ∷ []))
-gate_images entries entry gate bytes old new gate_is short staged only follows image left =
-    let from = follows image left in
-    elim (torn_gate entries gate gate_is entry short bytes image staged (subst (λ (l : List ℕ). Torn gate 1 l image) (only from.0 from.1) from.2)) [
+pub gate_crash : (entries : List (List ℕ)) (entry : List ℕ) (gate : ℕ) (bytes : List ℕ) (old new : List ℕ → Type 0) → gate ≡ length (front entries) → IsEntry entry → IsStaged bytes entries entry → IsOnly bytes old → Follows (Torn gate 1) old new
+    → (crashed : List ℕ) → new crashed → (left : List (List ℕ)) × IsJournal crashed left × ((left ≡ entries) ⊎ (left ≡ entries ++ entry ∷ []))
+gate_crash entries entry gate bytes old new gate_is short staged only follows crashed left =
+    let from = follows crashed left in
+    elim (torn_gate entries gate gate_is entry short bytes crashed staged (subst (λ (l : List ℕ). Torn gate 1 l crashed) (only from.0 from.1) from.2)) [
       | inl same ↦ (entries, same, inl refl)
       | inr more ↦ (entries ++ entry ∷ [], more, inr refl)
     ]

@@ -19,6 +19,7 @@ ghost use Rattle.dbl_steps.specs.Sinks.{HasHaltedPut, IsPutting};
 ghost use Rattle.dbl_steps.specs.Awaited.{Awaits};
 ghost use Rattle.dbl_steps.specs.Caused.{Halts, IsNotGone, IsQuiet};
 ghost use Rattle.dbl_steps.specs.Putting.{PutsOn};
+ghost use Rattle.dbl_causes.specs.Gained.{read_limit};
 
 use dbl_disk::Disk;
 use dbl_offset::OffsetStore;
@@ -52,7 +53,7 @@ pub(crate) fn next<S: Source, K: Sink, D: Disk>(
     requires since { work.old.since < work.old.every }
     requires number { work.old.number < 2 ^ 64 }
     requires time { IsMomentInRange work.old.now_ms }
-    requires messages { report.old.messages < 2 ^ 30 }
+    requires messages { report.old.messages < read_limit }
     requires commits { report.old.commits ≤ report.old.messages }
 
     // What goes on, and what may be left.

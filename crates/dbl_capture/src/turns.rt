@@ -23,6 +23,8 @@ ghost use Rattle.dbl_steps.specs.Sinks.{HasHaltedPut, IsPutting};
 ghost use Rattle.dbl_steps.specs.Awaited.{Awaits};
 ghost use Rattle.dbl_steps.specs.Caused.{Halts, IsNotGone, IsQuiet};
 ghost use Rattle.dbl_steps.specs.Owned.{IsContentFree};
+ghost use Rattle.dbl_causes.specs.Gained.{read_limit};
+ghost use Rattle.dbl_table.specs.Configs.{budget_limit};
 
 use crate::messages::next;
 use crate::settle::{end, settle};
@@ -136,7 +138,7 @@ fn turn<S: Source, K: Sink, D: Disk>(
     requires since { work.old.since < work.old.every }
     requires time { IsMomentInRange work.old.now_ms }
     requires number { work.old.number + 1 < 2 ^ 64 }
-    requires messages { report.old.messages < 2 ^ 30 }
+    requires messages { report.old.messages < read_limit }
     requires commits { report.old.commits ≤ report.old.messages }
 
     // What goes on, and what may be left.
@@ -294,7 +296,7 @@ pub(crate) fn run<S: Source, K: Sink, D: Disk>(
     requires time { IsMomentInRange work.old.now_ms }
     requires number { work.old.number ≡ 0 }
     requires report { (report.old.messages ≡ 0) × (report.old.commits ≡ 0) }
-    requires budget { budget ≤ 999999999 }
+    requires budget { budget ≤ budget_limit }
     requires some { 1 ≤ budget }
 
     // What it leaves.

@@ -140,10 +140,14 @@ CommitsAreSent = (after : Lsn) (ms : List Message) (m : Message) (commit : Commi
     × AllByRecursion (λ item. item.position ≤ commit.lsn.0) (records ++ records_by old.follower commit old.now_ms)
     × AllByRecursion (λ other. other.lsn.0 ≤ commit.lsn.0) (commits_of old.offset.infos (m ∷ ms))
 
+-- a session reads fewer messages than this
+abbrev pub read_limit : ℕ
+read_limit = 2 ^ 30
+
 -- A commit that messages state has its numbers and its texts in range, and fewer than 2^62 changes.
 abbrev pub StatedCommitsAreInRange : Type 0
 StatedCommitsAreInRange = (infos : List TableInfo) (m : Message) (ms : List Message) (commit : Commit)
-    → AllByRecursion FitsFields (m ∷ ms) → length ms < 2 ^ 30 → ended infos m ms ≡ Some commit → IsCommitInRange commit
+    → AllByRecursion FitsFields (m ∷ ms) → length ms < read_limit → ended infos m ms ≡ Some commit → IsCommitInRange commit
 
 -- A report that counts some first records of a commit counts what the sink has gained by them. Its counts are of 64 bits.
 abbrev pub PutsAreCounted : Type 0

@@ -1,5 +1,5 @@
 -- Where a session has to halt.
-use Rattle.std.specs.Prelude.{◌≡◌, ◌⊎◌, ℕ, ℤ, ◌<◌, ◌^◌, Contains, Option, Some, None, Result, Err, List, [], ◌∷◌, length, slice_get}
+use Rattle.std.specs.Prelude.{◌≡◌, ◌⊎◌, ℕ, ℤ, ◌<◌, Contains, Option, Some, None, Result, Err, List, [], ◌∷◌, length, slice_get}
 use Rattle.std.specs.List.{AllByRecursion}
 use Rattle.dbl_base.specs.declared.lsn.Lsn.{Lsn}
 use Rattle.dbl_pgmsg.specs.declared.error.MsgError.{MsgError}
@@ -34,6 +34,7 @@ use Rattle.dbl_work.specs.Causes.{IsLongRecord}
 use Rattle.dbl_work.specs.Halts.{window_halt}
 use Rattle.dbl_exits.specs.Found.{HasStored}
 use Rattle.dbl_causes.specs.Halted.{EndsCommit, IsMessageFault, IsNextPlan, IsTxnFault, WasStood, WasTold}
+use Rattle.dbl_topic.specs.Sinks.{group_limit}
 
 -- or memory ran out
 abbrev pub HaltsWith : Halt → Result Ending Halt → Type 0
@@ -57,7 +58,7 @@ pub record MustHaltBy (now : ℤ) (offset : Offset) (reading : Reading) (result 
       → clash_of offset.identity offset.infos commit ≡ Some c → HaltsWith (halt.Clash c.table c.column) result
   pub long : (commit : Commit) (changes : List Change) (place : ℕ) (item : Record) → EndsCommit offset.infos reading commit → commit.body ≡ Changes changes
       → clash_of offset.identity offset.infos commit ≡ None
-      → slice_get (envelopes offset.identity offset.infos commit now) place ≡ Some item → 2 ^ 28 < length (group_form (item ∷ []))
+      → slice_get (envelopes offset.identity offset.infos commit now) place ≡ Some item → group_limit < length (group_form (item ∷ []))
       → HaltsAtRecord (envelopes offset.identity offset.infos commit now) result
 
 -- Those that are told, and those behind which a source stands.

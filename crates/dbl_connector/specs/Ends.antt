@@ -39,6 +39,7 @@ use Rattle.dbl_connector.specs.declared.error.ConnectError.{ConnectError}
 use Rattle.dbl_connector.specs.declared.error.ConnectError.TheVariants.{BadEntry, Failed, Halted, NotAStore}
 use Rattle.dbl_connector.specs.Asked.{Refuses, asks_in}
 use Rattle.dbl_connector.specs.Errors.{IsOutside}
+use Rattle.dbl_disk.specs.Disks.{disk_limit}
 
 -- how it ended
 abbrev pub End : Type 0
@@ -184,7 +185,7 @@ pub record IsReported (asked : Asked) (now : ℤ) (wals logs stores : List ℕ �
   pub marks : AddsReportedMarks summary.ending summary.report.chunks ended.begun.held ended.left
   pub closed : HasClosedSent ended.begun.config ended.begun.held.offset ended.left.offset ended.left.wal summary.report
   -- a count stops at 2^64 - 1, which no topic log of fewer than 2^40 bytes comes to
-  pub exact : (bytes : List ℕ) → logs bytes → length bytes < 2 ^ 40 → AreCountedWhole report.more summary.report
+  pub exact : (bytes : List ℕ) → logs bytes → length bytes < disk_limit → AreCountedWhole report.more summary.report
 
 -- it was complete
 abbrev pub IsComplete : End → Type 0

@@ -1,12 +1,13 @@
 //! A confirmed position, which is written where it rises.
 
-ghost use Rattle.std.specs.Prelude.{◌≡◌, ◌⊎◌, ◌<◌, ◌≤◌, ◌^◌, ◌++◌, ◌∷◌, [], ℕ, List, length};
+ghost use Rattle.std.specs.Prelude.{◌≡◌, ◌⊎◌, ◌<◌, ◌≤◌, ◌++◌, ◌∷◌, [], ℕ, List, length};
 ghost use Rattle.std.specs.Prelude.{drop, false, Err, IsTrue, OnOk};
 ghost use Rattle.dbl_base.specs.Streams.{Rose};
 ghost use Rattle.dbl_journal.specs.Growth.{ComesOf};
 ghost use Rattle.dbl_journal.specs.Stored.{LeavesEntries, Lists, count_of};
 ghost use Rattle.dbl_running.specs.Answers.{Adds, AnswersNothing};
 ghost use Rattle.dbl_running.specs.Calls.{LeavesFirst, confirm_of, next_end};
+ghost use Rattle.dbl_disk.specs.Disks.{disk_limit};
 
 use crate::DemoSource;
 use crate::appending::append;
@@ -29,7 +30,7 @@ impl<D: Disk> DemoSource<D> {
             (λ left. (left ≡ forms) ⊎ (left ≡ forms ++ drop 4 entry.items ∷ [])) }
         ensures kept { (forms : List (List ℕ)) → Lists D.seen D.may_leave self.old.journal forms
             → result ≡ Err SourceError.Memory → Lists D.seen D.may_leave self.new.journal forms }
-        ensures small { count_of self.old.journal < 2 ^ 40 }
+        ensures small { count_of self.old.journal < disk_limit }
         ensures confirmed { OnOk result (self.new.confirmed ≡ upto) }
         ensures same { self.new ≡ record self.old {
           journal = self.new.journal;

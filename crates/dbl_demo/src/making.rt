@@ -1,6 +1,6 @@
 //! A log that begins.
 
-ghost use Rattle.std.specs.Prelude.{◌≡◌, ◌≢◌, ℕ, ◌<◌, ◌≤◌, ◌^◌, List, [], Some, None, Err, IfSome, IfOk, IfErr, OnOk};
+ghost use Rattle.std.specs.Prelude.{◌≡◌, ◌≢◌, ℕ, ◌<◌, ◌≤◌, List, [], Some, None, Err, IfSome, IfOk, IfErr, OnOk};
 ghost use Rattle.std.specs.Prelude.{IsTrue, MatchResult, is_some, length, max};
 ghost use Rattle.dbl_base.specs.Streams.{Rose};
 ghost use Rattle.dbl_journal.specs.Stored.{IsSteady, Lists, count_of, size};
@@ -12,6 +12,7 @@ ghost use Rattle.dbl_workload.specs.Logs.{IsFailed};
 ghost use Rattle.dbl_workload.specs.Ready.{IsReady};
 ghost use Rattle.dbl_workload.specs.Steps.{FitAnEntry};
 ghost use Rattle.dbl_demo.specs.Begun.{IsBeginFault, IsDiskBegun, numbers_of};
+ghost use Rattle.dbl_journal.specs.Form.{entry_limit};
 
 use crate::{DemoError, DemoSource};
 use dbl_base::Lsn;
@@ -43,7 +44,7 @@ fn begin_log<D: Disk>(
 ) -> Result<(), DemoError>
     requires live { IsTrue journal.old.live }
     requires empty { count_of journal.old ≡ 0 }
-    requires short { length bytes.now < 2 ^ 28 }
+    requires short { length bytes.now < entry_limit }
     requires fits { IfSome prepared.now.rows FitAnEntry }
     ensures begun { Lists D.seen D.may_leave journal.old []
         → OnOk result (Lists D.seen D.may_leave journal.new
@@ -80,7 +81,7 @@ pub(crate) fn make_log<D: Disk>(
     prepared: &Prepared,
 ) -> Result<Journal<D>, Refused<D, DemoError>>
     requires empty { (was : List ℕ) → D.seen disk ≡ Some was → was ≡ [] }
-    requires short { length bytes.now < 2 ^ 28 }
+    requires short { length bytes.now < entry_limit }
     requires fits { IfSome prepared.now.rows FitAnEntry }
     ensures begun { D.seen disk ≡ Some [] → IfOk result (λ journal.
         Lists D.seen D.may_leave journal (first_forms bytes.now prepared.now.rows)) }

@@ -1,6 +1,6 @@
 //! The next message of the log. Of a commit the entry is read once from the disk.
 
-ghost use Rattle.std.specs.Prelude.{◌≡◌, ◌⊎◌, ◌<◌, ◌≤◌, ◌^◌, ℕ, List, None, Some, Err, IfOk, IsTrue, slice_get, IfErr};
+ghost use Rattle.std.specs.Prelude.{◌≡◌, ◌⊎◌, ◌<◌, ◌≤◌, ℕ, List, None, Some, Err, IfOk, IsTrue, slice_get, IfErr};
 ghost use Rattle.std.specs.Prelude.{IsSome, is_some, false, length};
 ghost use Rattle.dbl_base.specs.Streams.{Rose};
 ghost use Rattle.dbl_feed.specs.declared.place.Place.{Place};
@@ -13,6 +13,7 @@ ghost use Rattle.dbl_sound.specs.Sound.{logged_by, logged_in};
 ghost use Rattle.dbl_sound.specs.Wals.{Wal};
 ghost use Rattle.dbl_running.specs.Demo.{IsRunning};
 ghost use Rattle.dbl_running.specs.Reading.{IsHeld, ReadsNext, has_unread};
+ghost use Rattle.dbl_disk.specs.Disks.{disk_limit};
 
 use crate::DemoSource;
 use crate::appending::entry;
@@ -87,7 +88,7 @@ impl<D: Disk> DemoSource<D> {
     // each Relation of its tables: only memory runs out.
     fn step_on(&mut self, place: Place, index: usize) -> Result<Option<Bytes>, SourceError>
         requires index { index ≡ index_of place }
-        requires small { index < 2 ^ 40 }
+        requires small { index < disk_limit }
         ensures read { (wal : Wal) → IsRunning D.seen D.may_leave wal self.old
             → self.old.place ≡ Some place
             → self.old.held ≡ slice_get (logged_in wal.entries) index → IsSome self.old.held

@@ -1,6 +1,6 @@
 //! Groups of steps that a call runs, and the commits that they add to the log.
 
-ghost use Rattle.std.specs.Prelude.{◌≡◌, ◌<◌, ◌≤◌, ◌+◌, ◌^◌, Err, [], false, length, IfOk, OnOk, IsTrue, slice_get, Some, ◌⊎◌, true};
+ghost use Rattle.std.specs.Prelude.{◌≡◌, ◌<◌, ◌≤◌, ◌+◌, Err, [], false, length, IfOk, OnOk, IsTrue, slice_get, Some, ◌⊎◌, true};
 ghost use Rattle.dbl_base.specs.Streams.{Rose};
 ghost use Rattle.dbl_journal.specs.Growth.{ComesOf};
 ghost use Rattle.dbl_journal.specs.Stored.{count_of};
@@ -14,6 +14,7 @@ ghost use Rattle.dbl_running.specs.Demo.{IsRunning};
 ghost use Rattle.dbl_running.specs.Reading.{has_unread, IsLogged, LeavesLogged, LeavesReadRun, RanOn};
 ghost use Rattle.dbl_running.specs.Running.{IsRunOf, LeavesRun, Ran};
 ghost use Rattle.dbl_workload.specs.Steps.{FitAnEntry, is_tick};
+ghost use Rattle.dbl_disk.specs.Disks.{disk_limit};
 
 use crate::DemoSource;
 use crate::appending::append;
@@ -34,7 +35,7 @@ impl<D: Disk> DemoSource<D> {
         ensures logged { OnOk result (IsLogged D.seen D.may_leave messages self.old self.new) }
         ensures left { LeavesLogged D.seen D.may_leave messages self.old self.new }
         ensures entry { FitsEntry (Commits self.old.done messages) }
-        ensures small { count_of self.old.journal < 2 ^ 40 }
+        ensures small { count_of self.old.journal < disk_limit }
         ensures live { OnOk result (IsTrue self.new.journal.live) }
         ensures same { IsRunOf self.old self.new }
         ensures stays { (self.new.done ≡ self.old.done) × (self.new.store ≡ self.old.store) }

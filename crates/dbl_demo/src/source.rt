@@ -1,7 +1,7 @@
-ghost use Rattle.std.specs.Prelude.{◌≡◌, ◌≢◌, ◌⊎◌, ℕ, ◌<◌, ◌≤◌, ◌^◌, List, [], Some, None, IfOk, IfErr, IsTrue, MatchResult, length, map};
+ghost use Rattle.std.specs.Prelude.{◌≡◌, ◌≢◌, ◌⊎◌, ℕ, ◌<◌, ◌≤◌, List, [], Some, None, IfOk, IfErr, IsTrue, MatchResult, length, map};
 ghost use Rattle.dbl_base.specs.Streams.{Rose};
 ghost use Rattle.dbl_disk.specs.Disks.{IsOnly};
-ghost use Rattle.dbl_journal.specs.Form.{IsFaultAt};
+ghost use Rattle.dbl_journal.specs.Form.{IsFaultAt, entry_limit};
 ghost use Rattle.dbl_journal.specs.Stored.{IsSteady};
 ghost use Rattle.dbl_sound.specs.Sound.{steps_in};
 ghost use Rattle.dbl_sound.specs.Wals.{HasBadEntry, IsWal, Wal};
@@ -11,6 +11,7 @@ ghost use Rattle.dbl_demo.specs.Errors.{IsMakeFault, IsOpenFault};
 ghost use Rattle.dbl_running.specs.Made.{IsFirst};
 ghost use Rattle.dbl_workload.specs.Ready.{AreTableNames};
 ghost use Rattle.dbl_workload.specs.Refusals.{IsRefused};
+ghost use Rattle.dbl_demo.specs.Begun.{first_room};
 
 use crate::DemoError;
 use crate::making::{first_numbers, first_source, make_log};
@@ -91,7 +92,7 @@ impl<D: Disk> DemoSource<D> {
         workload: &[u8],
     ) -> Result<DemoSource<D>, Refused<D, DemoError>>
         requires empty { (bytes : List ℕ) → D.seen disk ≡ Some bytes → bytes ≡ [] }
-        requires short { length workload.now < 2 ^ 28 }
+        requires short { length workload.now < entry_limit }
         // The wal is of the workload, without marks and confirmed positions, and no step is done.
         ensures made { D.seen disk ≡ Some [] → IfOk result (λ source. (wal : Wal)
             × IsDemo D.seen D.may_leave wal source × IsFirst workload.now wal × (source.done ≡ 0)) }
@@ -111,8 +112,8 @@ impl<D: Disk> DemoSource<D> {
             refused.error ≡ DemoError.Journal JournalError.Failed
             → Rose (D.faults disk) (D.faults refused.disk)) }
         ensures small { (bytes : List ℕ) → D.seen disk ≡ Some [] → MatchResult result
-            (λ source. D.seen source.journal.disk ≡ Some bytes → length bytes ≤ 2 ^ 30)
-            (λ refused. D.seen refused.disk ≡ Some bytes → length bytes ≤ 2 ^ 30) }
+            (λ source. D.seen source.journal.disk ≡ Some bytes → length bytes ≤ first_room)
+            (λ refused. D.seen refused.disk ≡ Some bytes → length bytes ≤ first_room) }
         ensures later { MatchResult result
             (λ source. D.faults disk ≤ D.faults source.journal.disk)
             (λ refused. D.faults disk ≤ D.faults refused.disk) }

@@ -1,9 +1,17 @@
 -- Disks, as bytes: what a write does, and what a crash may leave between two syncs. Nothing is assumed of the order in
 -- which a device keeps what it was told to write, nor of its parts.
-use Rattle.std.specs.Prelude.{◌≡◌, ◌⊎◌, ℕ, ◌+◌, ◌-◌, ◌<◌, ◌≤◌, max, List, [], ◌∷◌, ◌++◌, length, take, drop, replicate, slice_index, Option, Some}
+use Rattle.std.specs.Prelude.{◌^◌, ◌≡◌, ◌⊎◌, ℕ, ◌+◌, ◌-◌, ◌<◌, ◌≤◌, max, List, [], ◌∷◌, ◌++◌, length, take, drop, replicate, slice_index, Option, Some}
 use Rattle.std.specs.List.{All}
 use Rattle.dbl_base.specs.Streams.{raised}
 use Rattle.dbl_disk.specs.declared.extent.Extent.{Extent}
+
+-- a disk holds fewer bytes than this
+abbrev pub disk_limit : ℕ
+disk_limit = 2 ^ 40
+
+-- a write that would reach that limit is tried only where so many bytes stand already
+abbrev pub half_limit : ℕ
+half_limit = 2 ^ 39
 
 -- the extent does not have the place
 abbrev pub IsAside : Extent → ℕ → Type 0

@@ -1,10 +1,10 @@
 -- Disks in memory.
-use Rattle.std.specs.Prelude.{◌≡◌, ◌⊎◌, ℕ, ◌+◌, ◌^◌, ◌<◌, ◌≤◌, List, [], length, slice_index, Some}
+use Rattle.std.specs.Prelude.{◌≡◌, ◌⊎◌, ℕ, ◌+◌, ◌<◌, ◌≤◌, List, [], length, slice_index, Some}
 use Rattle.std.proofs.Common.{inl}
 use Rattle.std.specs.List.{All}
 use Rattle.dbl_base.specs.Memory.{Plan, new_plan}
 use Rattle.dbl_disk.specs.declared.extent.Extent.{Extent}
-use Rattle.dbl_disk.specs.Disks.{IsOutside, MayLeave}
+use Rattle.dbl_disk.specs.Disks.{IsOutside, MayLeave, disk_limit}
 
 -- the bytes at the last sync, the bytes that a read gives, the extents written since that sync, and the plan of faults
 pub record Platter : Type 0 where
@@ -42,7 +42,7 @@ pub record IsFilled (byte : ℕ) (stable current : List ℕ) (dirty : List Exten
 pub record IsKept (stable current : List ℕ) (dirty : List Extent) : Type 0 where
   pub left : MayLeave stable dirty current
   pub within : All (λ extent. extent.at + extent.length ≤ length current) dirty
-  pub small : length current < 2 ^ 40
+  pub small : length current < disk_limit
 
 pub told_may_be_left : (disk : Platter) (bytes : List ℕ) → Some disk.current ≡ Some bytes → MayRemain disk bytes
 told_may_be_left disk bytes told = inl (cc)

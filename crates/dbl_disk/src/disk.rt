@@ -1,6 +1,6 @@
-ghost use Rattle.std.specs.Prelude.{◌≡◌, ◌↔◌, ℕ, ◌+◌, ◌-◌, ◌^◌, ◌<◌, ◌≤◌, List, length, take, drop, min, Option, Some, None, IsErr, IfOk, OnOk, OnErr};
+ghost use Rattle.std.specs.Prelude.{◌≡◌, ◌↔◌, ℕ, ◌+◌, ◌-◌, ◌<◌, ◌≤◌, List, length, take, drop, min, Option, Some, None, IsErr, IfOk, OnOk, OnErr};
 ghost use Rattle.dbl_base.specs.Streams.{Rose};
-ghost use Rattle.dbl_disk.specs.Disks.{Follows, IsCalled, IsOnly, Torn, written};
+ghost use Rattle.dbl_disk.specs.Disks.{Follows, IsCalled, IsOnly, Torn, written, half_limit, disk_limit};
 
 use dbl_base::Failed;
 
@@ -25,7 +25,7 @@ pub trait Disk {
 
     /// The number of bytes.
     fn len(&mut self) -> Result<u64, Failed>
-        ensures below { IfOk result (λ n. n < 2 ^ 40) }
+        ensures below { IfOk result (λ n. n < disk_limit) }
         ensures told { (bytes : List ℕ) → seen self.old ≡ Some bytes →
             IfOk result (λ n. n ≡ length bytes) }
         ensures seen { seen self.new ≡ seen self.old }
@@ -59,18 +59,18 @@ pub trait Disk {
     ///
     /// A write whose end would reach `DISK_LIMIT` fails and is as if it had never been tried.
     fn write_at(&mut self, at: u64, bytes: &[u8]) -> Result<(), Failed>
-        requires { (old : List ℕ) → seen self.old ≡ Some old → 2 ^ 40 ≤ at + length bytes.now →
-            2 ^ 39 ≤ length old }
-        ensures room { OnOk result (at + length bytes.now < 2 ^ 40) }
+        requires { (old : List ℕ) → seen self.old ≡ Some old → disk_limit ≤ at + length bytes.now →
+            half_limit ≤ length old }
+        ensures room { OnOk result (at + length bytes.now < disk_limit) }
         ensures written { (old : List ℕ) → seen self.old ≡ Some old →
             OnOk result (seen self.new ≡ Some (written old at bytes.now)) }
         ensures torn { (old : List ℕ) → seen self.old ≡ Some old → OnErr result
             ((new : List ℕ) × (seen self.new ≡ Some new) × Torn at (length bytes.now) old new) }
         ensures crash { Follows (Torn at (length bytes.now)) (may_leave self.old)
             (may_leave self.new) }
-        ensures beyond { 2 ^ 40 ≤ at + length bytes.now → seen self.new ≡ seen self.old }
+        ensures beyond { disk_limit ≤ at + length bytes.now → seen self.new ≡ seen self.old }
         ensures silent { seen self.old ≡ None → seen self.new ≡ None }
-        ensures untried { 2 ^ 40 ≤ at + length bytes.now → (crashed : List ℕ) →
+        ensures untried { disk_limit ≤ at + length bytes.now → (crashed : List ℕ) →
             may_leave self.new crashed ↔ may_leave self.old crashed }
         ensures later { faults self.old ≤ faults self.new }
         ensures cause { OnErr result (Rose (faults self.old) (faults self.new)) }

@@ -1,6 +1,6 @@
-ghost use Rattle.std.specs.Prelude.{◌≡◌, ◌↔◌, ℕ, ◌+◌, ◌-◌, ◌^◌, ◌<◌, ◌≤◌, List, length, take, drop, min, Some, None, IfOk, OnOk, OnErr};
+ghost use Rattle.std.specs.Prelude.{◌≡◌, ◌↔◌, ℕ, ◌+◌, ◌-◌, ◌<◌, ◌≤◌, List, length, take, drop, min, Some, None, IfOk, OnOk, OnErr};
 ghost use Rattle.dbl_base.specs.Streams.{Rose, raised};
-ghost use Rattle.dbl_disk.specs.Disks.{Follows, IsCalled, IsOnly, Torn, written};
+ghost use Rattle.dbl_disk.specs.Disks.{Follows, IsCalled, IsOnly, Torn, written, half_limit, disk_limit};
 ghost use Rattle.dbl_disk.specs.Fuse.{Burns, fuse_calls, fuse_faults};
 
 use crate::Disk;
@@ -78,7 +78,7 @@ impl<D: Disk> Disk for FuseDisk<D> {
     ghost seen_may_be_left = { λ f bytes told. D.seen_may_be_left f.inner bytes told };
 
     fn len(&mut self) -> Result<u64, Failed>
-        ensures below { IfOk result (λ n. n < 2 ^ 40) }
+        ensures below { IfOk result (λ n. n < disk_limit) }
         ensures told { (bytes : List ℕ) → D.seen self.old.inner ≡ Some bytes →
             IfOk result (λ n. n ≡ length bytes) }
         ensures seen { D.seen self.new.inner ≡ D.seen self.old.inner }
@@ -119,8 +119,8 @@ impl<D: Disk> Disk for FuseDisk<D> {
 
     fn write_at(&mut self, at: u64, bytes: &[u8]) -> Result<(), Failed>
         requires { (old : List ℕ) → D.seen self.old.inner ≡ Some old →
-            2 ^ 40 ≤ at + length bytes.now → 2 ^ 39 ≤ length old }
-        ensures room { OnOk result (at + length bytes.now < 2 ^ 40) }
+            disk_limit ≤ at + length bytes.now → half_limit ≤ length old }
+        ensures room { OnOk result (at + length bytes.now < disk_limit) }
         ensures written { (old : List ℕ) → D.seen self.old.inner ≡ Some old →
             OnOk result (D.seen self.new.inner ≡ Some (written old at bytes.now)) }
         ensures torn { (old : List ℕ) → D.seen self.old.inner ≡ Some old →
@@ -128,10 +128,10 @@ impl<D: Disk> Disk for FuseDisk<D> {
             Torn at (length bytes.now) old new) }
         ensures crash { Follows (Torn at (length bytes.now)) (D.may_leave self.old.inner)
             (D.may_leave self.new.inner) }
-        ensures beyond { 2 ^ 40 ≤ at + length bytes.now →
+        ensures beyond { disk_limit ≤ at + length bytes.now →
             D.seen self.new.inner ≡ D.seen self.old.inner }
         ensures silent { D.seen self.old.inner ≡ None → D.seen self.new.inner ≡ None }
-        ensures untried { 2 ^ 40 ≤ at + length bytes.now → (crashed : List ℕ) →
+        ensures untried { disk_limit ≤ at + length bytes.now → (crashed : List ℕ) →
             D.may_leave self.new.inner crashed ↔ D.may_leave self.old.inner crashed }
         ensures later { fuse_faults D.faults self.old ≤ fuse_faults D.faults self.new }
         ensures cause { OnErr result

@@ -1,8 +1,8 @@
-ghost use Rattle.std.specs.Prelude.{◌≡◌, ◌↔◌, ◌⊎◌, ℕ, ◌+◌, ◌-◌, ◌^◌, ◌<◌, ◌≤◌, ◌++◌, List, [], ◌∷◌, length, take, drop, replicate, min, slice_index, Some, None, Ok, Err, IsErr, IfOk, OnOk, OnErr, Contains};
+ghost use Rattle.std.specs.Prelude.{◌≡◌, ◌↔◌, ◌⊎◌, ℕ, ◌+◌, ◌-◌, ◌<◌, ◌≤◌, ◌++◌, List, [], ◌∷◌, length, take, drop, replicate, min, slice_index, Some, None, Ok, Err, IsErr, IfOk, OnOk, OnErr, Contains};
 ghost use Rattle.std.specs.List.{All};
 ghost use Rattle.dbl_base.specs.Streams.{Rose, raised};
 ghost use Rattle.dbl_base.specs.Memory.{new_plan};
-ghost use Rattle.dbl_disk.specs.Disks.{Follows, IsAside, IsCalled, IsOnly, MayLeave, Torn, written};
+ghost use Rattle.dbl_disk.specs.Disks.{Follows, IsAside, IsCalled, IsOnly, MayLeave, Torn, written, half_limit, disk_limit};
 ghost use Rattle.dbl_disk.specs.Memory.{AreFilled, DiffersInside, MayRemain, IsFilled, IsKept, synced};
 
 use crate::{DISK_LIMIT, Disk, Extent};
@@ -70,7 +70,7 @@ fn put(
     at: usize,
     bytes: &[u8],
 ) -> Result<(), AllocError>
-    requires { at + length bytes.now < 2 ^ 40 }
+    requires { at + length bytes.now < disk_limit }
     ensures written { OnOk result (current.new.items ≡ written current.old.items at bytes.now) }
     ensures dirty { OnOk result
         (dirty.new.items ≡ dirty.old.items ++ record { at = at; length = length bytes.now } ∷ []) }
@@ -183,7 +183,7 @@ fn chosen_bytes(
         (λ crashed. IsFilled byte stable.now.items current.now.items dirty.now crashed.items) }
     ensures allowed { IfOk result (λ crashed. (crashed.items ≡ current.now.items) ⊎
         MayLeave stable.now.items dirty.now crashed.items) }
-    ensures small { IfOk result (λ crashed. length crashed.items < 2 ^ 40) }
+    ensures small { IfOk result (λ crashed. length crashed.items < disk_limit) }
 {
     match choice {
         Choice::Old => stable.clone(),
@@ -248,7 +248,7 @@ impl Disk for MemDisk {
     ghost seen_may_be_left = { λ d bytes told. told_may_be_left d bytes told };
 
     fn len(&mut self) -> Result<u64, Failed>
-        ensures below { IfOk result (λ n. n < 2 ^ 40) }
+        ensures below { IfOk result (λ n. n < disk_limit) }
         ensures told { (bytes : List ℕ) → Some self.old.current ≡ Some bytes →
             IfOk result (λ n. n ≡ length bytes) }
         ensures seen { Some self.new.current ≡ Some self.old.current }
@@ -316,8 +316,8 @@ impl Disk for MemDisk {
 
     fn write_at(&mut self, at: u64, bytes: &[u8]) -> Result<(), Failed>
         requires { (old : List ℕ) → Some self.old.current ≡ Some old →
-            2 ^ 40 ≤ at + length bytes.now → 2 ^ 39 ≤ length old }
-        ensures room { OnOk result (at + length bytes.now < 2 ^ 40) }
+            disk_limit ≤ at + length bytes.now → half_limit ≤ length old }
+        ensures room { OnOk result (at + length bytes.now < disk_limit) }
         ensures written { (old : List ℕ) → Some self.old.current ≡ Some old →
             OnOk result (Some self.new.current ≡ Some (written old at bytes.now)) }
         ensures torn { (old : List ℕ) → Some self.old.current ≡ Some old →
@@ -325,10 +325,10 @@ impl Disk for MemDisk {
             Torn at (length bytes.now) old new) }
         ensures crash { Follows (Torn at (length bytes.now)) (MayRemain self.old)
             (MayRemain self.new) }
-        ensures beyond { 2 ^ 40 ≤ at + length bytes.now →
+        ensures beyond { disk_limit ≤ at + length bytes.now →
             Some self.new.current ≡ Some self.old.current }
         ensures silent { Some self.old.current ≡ None → Some self.new.current ≡ None }
-        ensures untried { 2 ^ 40 ≤ at + length bytes.now → (crashed : List ℕ) →
+        ensures untried { disk_limit ≤ at + length bytes.now → (crashed : List ℕ) →
             MayRemain self.new crashed ↔ MayRemain self.old crashed }
         ensures later { self.old.plan.faults ≤ self.new.plan.faults }
         ensures cause { OnErr result (Rose self.old.plan.faults self.new.plan.faults) }

@@ -1,6 +1,6 @@
 -- Logs whose changes are fit for the rows just before them, key by key and as texts. Beside a fit history this says nothing of
 -- what is captured.
-use Rattle.std.specs.Prelude.{◌≡◌, ◌⊎◌, ◌<◌, ◌^◌, false, IsTrue, Option, None, IfSome, IsSome, IsSomeAnd, List, [], ◌∷◌, length, map}
+use Rattle.std.specs.Prelude.{◌≡◌, ◌⊎◌, ◌<◌, false, IsTrue, Option, None, IfSome, IsSome, IsSomeAnd, List, [], ◌∷◌, length, map}
 use Rattle.std.specs.List.{AllByRecursion, AllZip}
 use Rattle.dbl_value.specs.Values.{value_of}
 use Rattle.dbl_table.specs.declared.row.Key.{Key}
@@ -16,6 +16,7 @@ use Rattle.dbl_feed.specs.Relations.{catalogue}
 use Rattle.dbl_feed.specs.Texts.{Texts, raw_key, raw_key_types, key_from, key_in, given_text, all_texts}
 use Rattle.dbl_feed.specs.TextRows.{TextRows, no_text_rows, table_named, text_rows_after}
 use Rattle.dbl_feed.specs.Histories.{body_at, text_rows_at}
+use Rattle.dbl_feed.specs.Numbers.{commit_limit}
 
 -- a text for each column of the key, which spells a value of the column's type
 abbrev pub IsTextKey : RawTable → RawKey → Type 0
@@ -65,7 +66,7 @@ AreFitEntries tables rows (entry ∷ log) = IsFitEntry tables rows entry × AreF
 
 pub record AreFitLog (tables : List LogTable) (log : List Logged) : Type 0 where
   -- so that its LSNs have 64 bits
-  pub short : length log < 2 ^ 40
+  pub short : length log < commit_limit
   pub ranges : AllByRecursion IsEntryInRange (catalogue tables)
   pub distinct : IsTrue (are_distinct same_name (map (λ table. table.raw.name) tables))
   pub entries : AreFitEntries tables no_text_rows log

@@ -2,6 +2,14 @@
 use Rattle.std.specs.Prelude.{ℕ, ℤ, pos, ◌+◌, ◌*◌, ◌/◌, ◌%◌, ◌^◌}
 use Rattle.dbl_base.specs.declared.lsn.Lsn.{Lsn}
 
+-- a history has fewer commits than this, so that its LSNs, and its times, have 64 bits
+abbrev pub commit_limit : ℕ
+commit_limit = 2 ^ 40
+
+-- and so have those of a commit of a number below this one
+abbrev pub number_limit : ℕ
+number_limit = 2 ^ 41
+
 -- the LSN of commit n, and the LSN behind it
 abbrev pub lsn_of : ℕ → Lsn
 lsn_of n = record { 0 = 256 * n }

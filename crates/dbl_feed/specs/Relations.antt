@@ -1,6 +1,6 @@
 -- The tables of a log, their OIDs, and the Relations that describe them. PostgreSQL's "Logical Replication Message Formats",
 -- Relation; the OIDs are this project's own.
-use Rattle.std.specs.Prelude.{ℕ, negsuc, ◌+◌, ◌-◌, ◌==◌, ◌||◌, nat_lt, not, Bool, if◌then◌else◌, Option, Some, None, option_map, filter, slice_get, List, [], ◌∷◌, map, codes}
+use Rattle.std.specs.Prelude.{◌^◌, ℕ, negsuc, ◌+◌, ◌-◌, ◌==◌, ◌||◌, nat_lt, not, Bool, if◌then◌else◌, Option, Some, None, option_map, filter, slice_get, List, [], ◌∷◌, map, codes}
 use Rattle.std.specs.List.{list_any}
 use Rattle.std.specs.Str.{byte, bytes_eq}
 use Rattle.dbl_pgmsg.specs.declared.messages.Message.{Message}
@@ -15,6 +15,10 @@ use Rattle.dbl_feed.specs.declared.logged.LogTable.{LogTable}
 -- table number i, from 0, has the OID 16384 + i: where PostgreSQL's own OIDs of users' tables begin
 abbrev pub first_oid : ℕ
 first_oid = 16384
+
+-- so many tables have OIDs of 32 bits
+abbrev pub oid_limit : ℕ
+oid_limit = 2 ^ 31
 
 -- the table of the watermarks stands before them
 abbrev pub watermark_oid : ℕ

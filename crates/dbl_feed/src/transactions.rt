@@ -1,7 +1,7 @@
 //! The frame of a transaction as it is read, and the tables that a change names.
 
 ghost use Rattle.std.specs.Prelude.{◌≡◌, ◌+◌, ◌<◌, ◌^◌, IfSome, slice_get};
-ghost use Rattle.dbl_feed.specs.Numbers.{lsn_of, time_of, commits_upto};
+ghost use Rattle.dbl_feed.specs.Numbers.{lsn_of, time_of, commits_upto, number_limit};
 ghost use Rattle.dbl_feed.specs.Sent.{oids_of, begin_message, commit_message};
 
 use dbl_base::Lsn;
@@ -9,7 +9,7 @@ use dbl_pgmsg::Message;
 
 /// The LSN of commit n, from 1. Takes no memory.
 pub fn lsn_of(n: u64) -> Lsn
-    requires { n < 2 ^ 41 }
+    requires { n < number_limit }
     ensures { result ≡ lsn_of n }
 {
     Lsn(256 * n)
@@ -25,7 +25,7 @@ pub fn commits_upto(after: Lsn) -> usize
 
 // A second from commit to commit.
 fn time_of(n: u64) -> i64
-    requires { n < 2 ^ 41 }
+    requires { n < number_limit }
     ensures { result ≡ time_of n }
 {
     (n * 1_000_000) as i64
@@ -33,7 +33,7 @@ fn time_of(n: u64) -> i64
 
 /// Takes no memory.
 pub fn begin_message(n: u64) -> Message
-    requires { n < 2 ^ 41 }
+    requires { n < number_limit }
     ensures { result ≡ begin_message n }
 {
     Message::Begin {
@@ -45,7 +45,7 @@ pub fn begin_message(n: u64) -> Message
 
 /// Takes no memory.
 pub fn commit_message(n: u64) -> Message
-    requires { n < 2 ^ 41 }
+    requires { n < number_limit }
     ensures { result ≡ commit_message n }
 {
     Message::Commit {

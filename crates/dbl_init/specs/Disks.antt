@@ -1,5 +1,5 @@
 -- What `init` leaves of a disk. Source: own.
-use Rattle.std.specs.Prelude.{◌≡◌, ◌≢◌, ℕ, ◌^◌, ◌≤◌, max, Option, Some, Ok, Err, List, [], length}
+use Rattle.std.specs.Prelude.{◌≡◌, ◌≢◌, ℕ, ◌≤◌, max, Option, Some, Ok, Err, List, [], length}
 use Rattle.dbl_base.specs.Streams.{Rose}
 use Rattle.dbl_disk.specs.Disks.{Follows, IsOnly}
 use Rattle.dbl_journal.specs.Stored.{IsSteady}
@@ -10,6 +10,7 @@ use Rattle.dbl_init.specs.declared.error.Store.{Store}
 use Rattle.dbl_init.specs.declared.error.Store.TheVariants.{Wal, Topics, Offsets}
 use Rattle.dbl_init.specs.Answers.{End}
 use Rattle.dbl_init.specs.Fresh.{IsEmptyLog}
+use Rattle.dbl_demo.specs.Begun.{first_room}
 
 -- a disk that was asked for its length at the most
 pub record IsAsked {D : Type 0} (seen : D → Option (List ℕ)) (may_leave : D → List ℕ → Type 0) (faults : D → ℕ) (store : Store) (end : End) (old new : D) : Type 0 where
@@ -36,7 +37,7 @@ pub record Leaves {D : Type 0} (seen : D → Option (List ℕ)) (faults : D → 
   pub later : faults old ≤ faults new
   pub cause : end ≡ Err (Failed store) → Rose (faults old) (faults new)
   pub steady : end ≢ Err (Failed store) → IsSteady seen faults old new
-  pub short : (before after : List ℕ) → seen old ≡ Some before → seen new ≡ Some after → length after ≤ max (length before) (2 ^ 30)
+  pub short : (before after : List ℕ) → seen old ≡ Some before → seen new ≡ Some after → length after ≤ max (length before) first_room
 
 -- the disk tells bytes, and has some
 abbrev pub HoldsBytes : {D : Type 0} → (D → Option (List ℕ)) → D → Type 0

@@ -4,7 +4,7 @@ use Rattle.std.specs.Prelude.{◌||◌, ◌-◌, not, nat_lt, is_some, Result, O
 use Rattle.std.specs.List.{list_any}
 use Rattle.std.proofs.lemmas.Bool.Decides.{nat_tests}
 use Rattle.dbl_pgmsg.specs.declared.messages.Message.{Message}
-use Rattle.dbl_pgmsg.specs.Grammar.{spelling}
+use Rattle.dbl_pgmsg.specs.Grammar.{spelling, message_limit}
 use Rattle.dbl_table.specs.declared.named_cell.NamedCell.{NamedCell}
 use Rattle.dbl_table.specs.declared.table.TableName.{TableName}
 use Rattle.dbl_table.specs.declared.row.Key.{Key}
@@ -27,7 +27,7 @@ use Rattle.dbl_serial.specs.Acts.Accepted.{Did}
 use Rattle.dbl_serial.specs.Seen.{seen_rows}
 use Rattle.dbl_serial.specs.Locks.{names_key, names_key_in, is_of, locks, holds_key}
 use Rattle.dbl_serial.specs.Cells.{row_given, is_readable_row}
-use Rattle.dbl_serial.specs.Sending.{raw_of, log_table, log_tables, entry_size, entry_limit, message_limit, column_limit, insert_message, is_too_long, is_too_large}
+use Rattle.dbl_serial.specs.Sending.{raw_of, log_table, log_tables, entry_size, entry_limit, column_limit, insert_message, is_too_long, is_too_large}
 use Rattle.dbl_serial.specs.Refusals.{◌>>=◌, refuse_if, some_or, refuse_by}
 use Rattle.dbl_serial.specs.Steps.{Found, found, seen, in_the_way, table_judged, insert_in, insert_judged}
 use Rattle.dbl_isolation.specs.Reachable.{AreTables, IsOrderly}

@@ -1,5 +1,5 @@
 -- What the definitions come to.
-use Rattle.std.specs.Prelude.{◌≡◌, ◌≢◌, ℕ, ◌<◌, ◌^◌, true, false, IfSome, Option, None, Some, List, [], ◌∷◌, length, map, if◌then◌else◌, Ok}
+use Rattle.std.specs.Prelude.{◌≡◌, ◌≢◌, ℕ, ◌<◌, true, false, IfSome, Option, None, Some, List, [], ◌∷◌, length, map, if◌then◌else◌, Ok}
 use Rattle.std.specs.List.{AllByRecursion, list_any}
 use Rattle.std.specs.Str.{IsUtf8}
 use Rattle.dbl_pgmsg.specs.declared.messages.Message.{Message}
@@ -35,6 +35,7 @@ use Rattle.dbl_serial.specs.Steps.Step.{Begin, Commit, Rollback, Insert, Update,
 use Rattle.dbl_serial.specs.Serial.{InitialRow, acts_after, serial}
 use Rattle.dbl_serial.specs.Selects.{AreShown}
 use Rattle.dbl_isolation.specs.Reachable.{AreTables, IsOrderly, IsFitBehind}
+use Rattle.dbl_feed.specs.Numbers.{commit_limit}
 
 -- ---- what is asked of tables and of steps: their texts are UTF-8, as all texts of a program are
 
@@ -72,7 +73,7 @@ OpenChangesAreFit = (tables : List DemoTable) (steps : List Step) → AreTables 
 -- so the serial run of all steps is a log whose changes are fit, one commit after the other
 abbrev pub SerialRunsAreFit : Type 0
 SerialRunsAreFit = (tables : List DemoTable) (rows : List InitialRow) (steps : List Step) → AreTables tables → AllByRecursion IsEntryInRange (catalogue (log_tables tables)) → AllByRecursion IsRowInRange rows → AllByRecursion IsStepInRange steps
-    → length (serial tables rows steps) < 2 ^ 40 → AreFitLog (log_tables tables) (map Changes (serial tables rows steps))
+    → length (serial tables rows steps) < commit_limit → AreFitLog (log_tables tables) (map Changes (serial tables rows steps))
 
 -- and what is read of it is read right
 abbrev pub SerialRunsAreFair : Type 0

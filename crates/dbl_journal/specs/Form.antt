@@ -19,9 +19,13 @@ frame entry = 1 ∷ body entry
 unfoldable pub front : List (List ℕ) → List ℕ
 front entries = magic ++ flat_map frame entries
 
--- an entry holds at most 2^28 bytes
+-- an entry holds at most so many bytes
+abbrev pub entry_limit : ℕ
+entry_limit = 2 ^ 28
+
+-- bytes that one entry may hold
 abbrev pub IsEntry : List ℕ → Type 0
-IsEntry entry = length entry ≤ 2 ^ 28
+IsEntry entry = length entry ≤ entry_limit
 
 -- the bytes begin with a gate, and it is closed: any byte but 1
 abbrev pub IsClosed : List ℕ → Type 0

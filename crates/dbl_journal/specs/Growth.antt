@@ -3,13 +3,17 @@ use Rattle.std.specs.Prelude.{◌≡◌, ℕ, ◌+◌, ◌^◌, ◌≤◌, IsTru
 use Rattle.dbl_journal.specs.Form.{IsJournal, front}
 use Rattle.dbl_journal.specs.Stored.{Lists, OnDisk}
 
+-- so many bytes at most stand past the closed gate, where appends alone put them there: more than one append writes
+abbrev pub growth_room : ℕ
+growth_room = 2 ^ 30
+
 -- The bytes are a journal whose closed gate stands at this place or past it, and there are at most so many of them, or 2^30
 -- past that gate.
 pub record ReachesFrom (gate most : ℕ) (bytes : List ℕ) : Type 0 where
   pub entries : List (List ℕ)
   pub journal : IsJournal bytes entries
   pub on : gate ≤ length (front entries)
-  pub short : length bytes ≤ max most (length (front entries) + 2 ^ 30)
+  pub short : length bytes ≤ max most (length (front entries) + growth_room)
 
 -- A journal has come so far: if it can be used, it lists some entries; its disk tells its bytes; and these reach from there.
 pub record HasCome

@@ -1,6 +1,6 @@
 -- A journal on a disk.
-use Rattle.std.specs.Prelude.{◌≡◌, ℕ, ◌+◌, ◌^◌, ◌<◌, ◌≤◌, Bool, IsTrue, Option, Some, List, [], ◌∷◌, length}
-use Rattle.dbl_disk.specs.Disks.{IsOnly}
+use Rattle.std.specs.Prelude.{◌≡◌, ℕ, ◌+◌, ◌<◌, ◌≤◌, Bool, IsTrue, Option, Some, List, [], ◌∷◌, length}
+use Rattle.dbl_disk.specs.Disks.{IsOnly, disk_limit}
 use Rattle.dbl_disk.specs.declared.extent.Extent.{Extent}
 use Rattle.dbl_journal.specs.Form.{IsJournal, front}
 
@@ -50,6 +50,6 @@ LeavesEntries may_leave disk P = (crashed : List ℕ) → may_leave disk crashed
 -- what holds of the parts of each journal: the place of the last gate is small, and where the journal can be used, it has no
 -- more entries than bytes before that gate, which is among the bytes that the disk tells, where it tells them
 pub record IsPlaced {D : Type 0} (seen : D → Option (List ℕ)) (disk : D) (gate : ℕ) (places : List Extent) (live : Bool) : Type 0 where
-  pub small : gate < 2 ^ 40
+  pub small : gate < disk_limit
   pub few : IsTrue live → length places ≤ gate
   pub there : IsTrue live → (bytes : List ℕ) → seen disk ≡ Some bytes → gate < length bytes

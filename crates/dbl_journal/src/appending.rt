@@ -1,8 +1,8 @@
-ghost use Rattle.std.specs.Prelude.{◌≡◌, ◌⊎◌, ℕ, ◌+◌, ◌^◌, ◌<◌, ◌≤◌, ◌++◌, List, [], ◌∷◌, length, drop, max, Some, IfOk, OnOk, OnErr};
+ghost use Rattle.std.specs.Prelude.{◌≡◌, ◌⊎◌, ℕ, ◌+◌, ◌<◌, ◌≤◌, ◌++◌, List, [], ◌∷◌, length, drop, max, Some, IfOk, OnOk, OnErr};
 ghost use Rattle.std.specs.Int.{to_be_bytes, w32};
 ghost use Rattle.dbl_base.specs.Streams.{Rose};
-ghost use Rattle.dbl_disk.specs.Disks.{Follows, IsOnly, Torn};
-ghost use Rattle.dbl_journal.specs.Form.{IsEntry, IsJournal, body, front};
+ghost use Rattle.dbl_disk.specs.Disks.{Follows, IsOnly, Torn, disk_limit};
+ghost use Rattle.dbl_journal.specs.Form.{IsEntry, IsJournal, body, front, entry_limit};
 ghost use Rattle.dbl_journal.specs.Steps.{Stages};
 ghost use Rattle.dbl_journal.specs.Stored.{LeavesEntries};
 
@@ -46,10 +46,10 @@ pub(crate) fn spell(bytes: &mut Vec<u8>) -> Result<(), AllocError>
 
 // Writes the entry behind the closed gate, and makes it stable. Until then, and after a fault, a crash leaves the same list.
 pub(crate) fn stage<D: Disk>(disk: &mut D, gate: u64, bytes: &[u8]) -> Result<(), Failed>
-    requires small { gate < 2 ^ 40 }
-    requires short { length bytes.now ≤ 2 ^ 28 + 5 }
+    requires small { gate < disk_limit }
+    requires short { length bytes.now ≤ entry_limit + 5 }
     requires there { (old : List ℕ) → D.seen disk.old ≡ Some old → gate < length old }
-    ensures room { OnOk result (gate + 1 + length bytes.now < 2 ^ 40) }
+    ensures room { OnOk result (gate + 1 + length bytes.now < disk_limit) }
     ensures kept { (old : List ℕ) (entries : List (List ℕ)) → IsOnly old (D.may_leave disk.old) →
         IsJournal old entries → gate ≡ length (front entries) →
         LeavesEntries D.may_leave disk.new (λ left. left ≡ entries) }
@@ -75,7 +75,7 @@ pub(crate) fn stage<D: Disk>(disk: &mut D, gate: u64, bytes: &[u8]) -> Result<()
 // Opens the gate before a staged entry. Until this is stable, and after a fault, a crash leaves the list or the one with the
 // entry.
 pub(crate) fn open_gate<D: Disk>(disk: &mut D, gate: u64) -> Result<(), Failed>
-    requires { gate + 1 < 2 ^ 40 }
+    requires { gate + 1 < disk_limit }
     ensures one_of { (entries : List (List ℕ)) (entry : List ℕ) →
         Stages D.seen D.may_leave disk.old entries entry → gate ≡ length (front entries) →
         IsEntry entry →

@@ -1,7 +1,7 @@
-ghost use Rattle.std.specs.Prelude.{◌≡◌, ◌≢◌, ◌⊎◌, ◌↔◌, ℕ, ◌+◌, ◌^◌, ◌<◌, ◌≤◌, ◌++◌, List, [], ◌∷◌, length, drop, max, false, Some, IsTrue, IfOk, IfErr, OnOk, OnErr, MatchResult, slice_get};
+ghost use Rattle.std.specs.Prelude.{◌≡◌, ◌≢◌, ◌⊎◌, ◌↔◌, ℕ, ◌+◌, ◌<◌, ◌≤◌, ◌++◌, List, [], ◌∷◌, length, drop, max, false, Some, IsTrue, IfOk, IfErr, OnOk, OnErr, MatchResult, slice_get};
 ghost use Rattle.dbl_base.specs.Streams.{Rose, raised};
-ghost use Rattle.dbl_disk.specs.Disks.{Follows, IsOnly, Torn};
-ghost use Rattle.dbl_journal.specs.Form.{IsFaultAt, IsJournal};
+ghost use Rattle.dbl_disk.specs.Disks.{Follows, IsOnly, Torn, disk_limit};
+ghost use Rattle.dbl_journal.specs.Form.{IsFaultAt, IsJournal, entry_limit};
 ghost use Rattle.dbl_journal.specs.Growth.{ComesOf};
 ghost use Rattle.dbl_journal.specs.Stored.{IsSteady, LeavesEntries, Lists, count_of, size};
 
@@ -142,7 +142,7 @@ impl<D: Disk> Journal<D> {
         ensures live { OnOk result (IsTrue self.new.live) }
         ensures count { OnOk result (count_of self.new ≡ count_of self.old + 1) }
         ensures too_long { (len : ℕ) → (result ≡ Err (JournalError.EntryTooLong len)) ↔
-            ((2 ^ 28 < length entry.now) × (len ≡ length entry.now)) }
+            ((entry_limit < length entry.now) × (len ≡ length entry.now)) }
         ensures failed { result ≡ Err JournalError.Failed →
             Rose (D.faults self.old.disk) (D.faults self.new.disk) }
         ensures dead { result ≡ Err JournalError.Failed → self.new.live ≡ false }
@@ -181,7 +181,7 @@ impl<D: Disk> Journal<D> {
         ensures live { OnOk result (IsTrue self.new.live) }
         ensures count { OnOk result (count_of self.new ≡ count_of self.old + 1) }
         ensures too_long { (len : ℕ) → (result ≡ Err (JournalError.EntryTooLong len)) ↔
-            ((2 ^ 28 < length (drop 4 bytes.items)) × (len ≡ length (drop 4 bytes.items))) }
+            ((entry_limit < length (drop 4 bytes.items)) × (len ≡ length (drop 4 bytes.items))) }
         ensures failed { result ≡ Err JournalError.Failed →
             Rose (D.faults self.old.disk) (D.faults self.new.disk) }
         ensures dead { result ≡ Err JournalError.Failed → self.new.live ≡ false }
@@ -238,7 +238,7 @@ impl<D: Disk> Journal<D> {
     pub fn count(&self) -> u64
         requires { IsTrue self.now.live }
         ensures count { result ≡ count_of self.now }
-        ensures few { result < 2 ^ 40 }
+        ensures few { result < disk_limit }
     {
         self.places.len() as u64
     }

@@ -1,7 +1,7 @@
 ghost use Rattle.std.specs.Prelude.{◌≡◌, ◌≢◌, ◌↔◌, ℕ, ◌+◌, ◌^◌, ◌<◌, ◌≤◌, ◌++◌, List, [], ◌∷◌, length, take, drop, slice_index, Some, IfOk, IfSome, IfNone, OnOk, OnErr};
 ghost use Rattle.std.specs.Int.{to_be_bytes, w32};
 ghost use Rattle.dbl_base.specs.Streams.{Rose, raised};
-ghost use Rattle.dbl_disk.specs.Disks.{IsOnly};
+ghost use Rattle.dbl_disk.specs.Disks.{IsOnly, disk_limit};
 ghost use Rattle.dbl_journal.specs.Form.{IsBroken, IsFaultAt, IsJournal, front, magic};
 ghost use Rattle.dbl_journal.specs.Steps.{AreRead, IsStep};
 ghost use Rattle.dbl_journal.specs.Stored.{places_from};
@@ -47,7 +47,7 @@ fn open_length(head: &[u8]) -> Option<u32>
 
 // One step over the entries: the place of the next one, or none at a closed gate.
 fn next_place<D: Disk>(disk: &mut D, gate: u64, total: u64) -> Result<Option<Extent>, JournalError>
-    requires small { total < 2 ^ 40 }
+    requires small { total < disk_limit }
     requires within { gate ≤ total }
     ensures step { (bytes : List ℕ) → D.seen disk.old ≡ Some bytes → total ≡ length bytes →
         IfOk result (λ place. IsStep bytes gate place) }
@@ -111,7 +111,7 @@ fn read_magic<D: Disk>(disk: &mut D) -> Result<(), JournalError>
 
 // Goes over the entries behind the magic.
 fn read_places<D: Disk>(alloc: Global, disk: &mut D, total: u64) -> Result<Found, JournalError>
-    requires { total < 2 ^ 40 }
+    requires { total < disk_limit }
     ensures read { (bytes : List ℕ) → D.seen disk.old ≡ Some bytes → total ≡ length bytes →
         bytes ≡ magic ++ drop 8 bytes → IfOk result
         (λ found. (entries : List (List ℕ)) × IsJournal bytes entries ×
@@ -156,7 +156,7 @@ pub(crate) fn scan<D: Disk>(alloc: Global, disk: &mut D) -> Result<Found, Journa
         IsOnly bytes (D.may_leave disk.new) }
     ensures broken { (bytes : List ℕ) (at : ℕ) → D.seen disk.old ≡ Some bytes →
         result ≡ Err (JournalError.NotAJournal at) → IsFaultAt bytes at }
-    ensures small { IfOk result (λ found. found.gate < 2 ^ 40) }
+    ensures small { IfOk result (λ found. found.gate < disk_limit) }
     ensures few { IfOk result (λ found. length found.places.items ≤ found.gate) }
     ensures seen { D.seen disk.new ≡ D.seen disk.old }
     ensures crash { (crashed : List ℕ) →

@@ -1,5 +1,5 @@
 -- How many marks a session writes, and how long a disk becomes. Source: own.
-use Rattle.std.specs.Prelude.{◌≡◌, ◌⊎◌, ℕ, ◌+◌, ◌^◌, ◌≤◌, max, Option, Some, List, length}
+use Rattle.std.specs.Prelude.{◌≡◌, ◌⊎◌, ℕ, ◌+◌, ◌≤◌, max, Option, Some, List, length}
 use Rattle.dbl_journal.specs.Form.{IsJournal, front}
 use Rattle.dbl_table.specs.declared.config.Config.{Config}
 use Rattle.dbl_table.specs.declared.table.TableInfo.{TableInfo}
@@ -9,6 +9,7 @@ use Rattle.dbl_exits.specs.Sessions.{Captures}
 use Rattle.dbl_causes.specs.Written.{AddsExactly, marks_more}
 use Rattle.dbl_honest.specs.Growth.{marks_in}
 use Rattle.dbl_kept.specs.Contents.{Contents, history_at}
+use Rattle.dbl_journal.specs.Growth.{growth_room}
 
 -- ---- marks
 
@@ -30,7 +31,7 @@ AddsReportedMarks ending chunks old new = AddsExactly chunks (marks_more ending 
 pub record IsShort (before now : List ℕ) : Type 0 where
   pub entries : List (List ℕ)
   pub journal : IsJournal now entries
-  pub short : length now ≤ max (length before) (length (front entries) + 2 ^ 30)
+  pub short : length now ≤ max (length before) (length (front entries) + growth_room)
 
 -- It goes on telling its bytes; these are the same, or so short.
 pub record IsBounded (told_before told_now : Option (List ℕ)) : Type 0 where

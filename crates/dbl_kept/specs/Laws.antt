@@ -1,5 +1,5 @@
 -- What the contents of the disks determine, and what runs make of them.
-use Rattle.std.specs.Prelude.{◌≡◌, ℕ, ℤ, ◌<◌, ◌≤◌, ◌^◌, None, Some, Option, IsTrue, List, [], ◌++◌, length, map}
+use Rattle.std.specs.Prelude.{◌≡◌, ℕ, ℤ, ◌<◌, ◌≤◌, None, Some, Option, IsTrue, List, [], ◌++◌, length, map}
 use Rattle.dbl_record.specs.declared.record.Record.{Record}
 use Rattle.dbl_record.specs.Cuts.{joined}
 use Rattle.dbl_table.specs.declared.config.Config.{Config}
@@ -29,6 +29,7 @@ use Rattle.dbl_kept.specs.Kept.{IsKept}
 use Rattle.dbl_kept.specs.Goes.{GoesFrom}
 use Rattle.dbl_kept.specs.Headline.{IsPromised, LeavesTablesEqual}
 use Rattle.dbl_kept.specs.Reports.{IsReportOf}
+use Rattle.dbl_disk.specs.Disks.{disk_limit}
 
 -- ---- what the disks hold
 
@@ -102,7 +103,7 @@ pub record AreCountedWhole (more : List (List Record)) (report : Report) : Type 
 -- So it is of a topic log of fewer than 2^40 bytes, which are all that a disk takes: it has fewer records than a report counts.
 abbrev pub SmallLogsAreCounted : Type 0
 SmallLogsAreCounted = (bytes : List ℕ) (groups old more : List (List Record)) (report : Report)
-    → IsLog bytes groups → length bytes < 2 ^ 40 → groups ≡ old ++ more → AreCounted more report → AreCountedWhole more report
+    → IsLog bytes groups → length bytes < disk_limit → groups ≡ old ++ more → AreCounted more report → AreCountedWhole more report
 
 -- ---- workloads
 

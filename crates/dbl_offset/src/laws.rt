@@ -1,10 +1,11 @@
 //! Laws of offsets and their stores. The functions do nothing: their contracts are the laws.
 
-ghost use Rattle.std.specs.Prelude.{◌≡◌, ◌⊎◌, ℕ, ◌+◌, ◌^◌, ◌≤◌, Option, Some, List, length, max};
+ghost use Rattle.std.specs.Prelude.{◌≡◌, ◌⊎◌, ℕ, ◌+◌, ◌≤◌, Option, Some, List, length, max};
 ghost use Rattle.dbl_offset.specs.declared.offset.Offset.{Offset};
 ghost use Rattle.dbl_offset.specs.Entries.{Fits, spelling};
 ghost use Rattle.dbl_offset.specs.Offsets.{IsOffset, Spells};
 ghost use Rattle.dbl_offset.specs.Stores.{ComesOf, Counts, HasBadOffset, Holds, IsNoStoreAt, IsStore, LeavesOffset, MayLeaveOffset, StoreOn, disk_of};
+ghost use Rattle.dbl_journal.specs.Growth.{growth_room};
 
 use dbl_disk::Disk;
 
@@ -71,5 +72,5 @@ pub fn stores_come_of_stores<D: Disk>()
         (count : ℕ) → ComesOf D.seen D.may_leave old new → Holds D.seen D.may_leave old offset →
         D.seen (disk_of old) ≡ Some before →
         D.seen (disk_of new) ≡ Some after → Counts before count → (more : ℕ) × Counts after more ×
-        (count ≤ more) × (length after + 1 ≤ max (length before + 1) (more + 2 ^ 30)) }
+        (count ≤ more) × (length after + 1 ≤ max (length before + 1) (more + growth_room)) }
 {}

@@ -1,4 +1,4 @@
-ghost use Rattle.std.specs.Prelude.{◌≡◌, ◌≢◌, ◌⊎◌, ◌↔◌, ℕ, ◌^◌, ◌<◌, ◌≤◌, List, [], length, max, option_map, Option, Some, None, Ok, Err, IfOk, IfErr, IfSome, OnOk, OnErr, MatchResult, IsTrue, take, slice_get};
+ghost use Rattle.std.specs.Prelude.{◌≡◌, ◌≢◌, ◌⊎◌, ◌↔◌, ℕ, ◌<◌, ◌≤◌, List, [], length, max, option_map, Option, Some, None, Ok, Err, IfOk, IfErr, IfSome, OnOk, OnErr, MatchResult, IsTrue, take, slice_get};
 ghost use Rattle.std.specs.List.{All};
 ghost use Rattle.dbl_base.specs.Streams.{Rose};
 ghost use Rattle.dbl_disk.specs.Disks.{Follows, IsOnly};
@@ -8,6 +8,7 @@ ghost use Rattle.dbl_offset.specs.Entries.{spelling};
 ghost use Rattle.dbl_offset.specs.Measures.{capped};
 ghost use Rattle.dbl_offset.specs.Offsets.{IsEntry, IsOffset, Spells};
 ghost use Rattle.dbl_offset.specs.Stores.{BeginsTorn, ComesOf, HasBadOffset, Holds, IsLastOf, IsLive, IsNoStoreAt, IsStore, LeavesOffset, disk_of, least_room, room_of};
+ghost use Rattle.dbl_journal.specs.Form.{entry_limit};
 
 use crate::decoding::decode;
 use crate::measuring::measure;
@@ -203,7 +204,7 @@ impl<D: Disk> OffsetStore<D> {
         ensures keeps { OnErr result (self.new.offset ≡ self.old.offset) }
         ensures live { OnOk result (IsLive self.new) }
         ensures too_long { (len : ℕ) → (result ≡ Err (OffsetError.TooLong len)) ↔
-            ((2 ^ 28 < length (spelling offset)) × (len ≡ capped (length (spelling offset)))) }
+            ((entry_limit < length (spelling offset)) × (len ≡ capped (length (spelling offset)))) }
         ensures failed { result ≡ Err OffsetError.Failed →
             Rose (D.faults (disk_of self.old)) (D.faults (disk_of self.new)) }
         ensures dead { result ≡ Err OffsetError.Failed → ¬ IsLive self.new }

@@ -4,6 +4,7 @@ ghost use Rattle.std.specs.Prelude.{◌≡◌, ◌<◌, ◌≤◌, ◌^◌, leng
 ghost use Rattle.std.specs.List.{AllByRecursion, flat_map, zip};
 ghost use Rattle.dbl_record.specs.Fields.{Extends, number32};
 ghost use Rattle.dbl_offset.specs.Entries.{Fits, FitsCell, FitsColumn, FitsCursor, FitsEntry, FitsNames, FitsTable, cell, column, counted, cursor, entry, last_key, names, spelling, table};
+ghost use Rattle.dbl_journal.specs.Form.{entry_limit};
 
 use crate::decoding::VERSION;
 use crate::offset::Offset;
@@ -169,7 +170,7 @@ fn write_offset(out: &mut Vec<u8>, offset: &Offset) -> Result<(), AllocError>
 
 /// The offset's bytes, of which there are so many, behind room for their length, in a buffer that the journal needn't grow.
 pub(crate) fn encode(alloc: Global, count: usize, offset: &Offset) -> Result<Vec<u8>, AllocError>
-    requires short { count ≤ 2 ^ 28 }
+    requires short { count ≤ entry_limit }
     requires long { length offset.now.cursors ≡ length offset.now.infos }
     requires few { length offset.now.infos < 2 ^ 32 }
     requires fit { Fits offset.now }

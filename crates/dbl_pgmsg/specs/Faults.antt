@@ -4,7 +4,7 @@ use Rattle.std.specs.List.{AllByRecursion}
 use Rattle.dbl_pgmsg.specs.declared.error.MsgError.{MsgError}
 use Rattle.dbl_pgmsg.specs.declared.error.MsgError.TheVariants.{Truncated, TrailingBytes, TooLong}
 use Rattle.dbl_pgmsg.specs.declared.messages.Message.{Message}
-use Rattle.dbl_pgmsg.specs.Grammar.{Spells}
+use Rattle.dbl_pgmsg.specs.Grammar.{Spells, message_limit}
 use Rattle.dbl_pgmsg.specs.Fields.{Field, Tag, width, behind, form, IsWhole, IsCut}
 
 -- The fault of bytes from the place `at` on, where these fields are wanted: a field that is cut, whose place is the end of the
@@ -27,9 +27,9 @@ pub record Trails (bytes : List ℕ) (error : MsgError) : Type 0 where
 
 -- The fault of the bytes: that they are too many, before all else; a fault in a field; or that bytes stand behind a message.
 pub data IsFault (bytes : List ℕ) (error : MsgError) : Type 0 where
-  too_long : 16777216 < length bytes → error ≡ TooLong (length bytes) → IsFault bytes error
-  in_field : length bytes ≤ 16777216 → FaultAt error 0 (Tag ∷ []) bytes → IsFault bytes error
-  trailing : length bytes ≤ 16777216 → Trails bytes error → IsFault bytes error
+  too_long : message_limit < length bytes → error ≡ TooLong (length bytes) → IsFault bytes error
+  in_field : length bytes ≤ message_limit → FaultAt error 0 (Tag ∷ []) bytes → IsFault bytes error
+  trailing : length bytes ≤ message_limit → Trails bytes error → IsFault bytes error
 
 -- bytes, as numbers
 abbrev pub AreBytes : List ℕ → Type 0

@@ -121,10 +121,14 @@ FitsFields (Delete oid before) = (oid < 2 ^ 32) × FitsOld before
 FitsFields (Truncate options oids) = (options < 2 ^ 8) × (length oids < 2 ^ 31) × AllByRecursion (λ oid. oid < 2 ^ 32) oids
 FitsFields (Logical flags lsn prefix content) = (flags < 2 ^ 8) × (lsn.0 < 2 ^ 64) × IsString prefix × (length content < 2 ^ 31) × AllByRecursion (λ b. b < 2 ^ 8) content
 
--- what has a spelling: a message has at most 16,777,216 bytes
+-- a message has at most so many bytes
+abbrev pub message_limit : ℕ
+message_limit = 16777216
+
+-- what has a spelling
 pub record Fits (message : Message) : Type 0 where
   pub fields : FitsFields message
-  pub short : length (spelling message) ≤ 16777216
+  pub short : length (spelling message) ≤ message_limit
 
 -- the bytes spell the message
 pub record Spells (bytes : List ℕ) (message : Message) : Type 0 where

@@ -3,7 +3,7 @@
 ghost use Rattle.std.specs.Prelude.{◌≡◌, ◌≢◌, ◌⊎◌, ◌↔◌, ◌≤◌, ◌++◌, ℕ, List, [], length};
 ghost use Rattle.dbl_pgmsg.specs.declared.error.MsgError.{MsgError};
 ghost use Rattle.dbl_pgmsg.specs.declared.messages.Message.{Message};
-ghost use Rattle.dbl_pgmsg.specs.Grammar.{spelling, Fits, FitsFields, Spells};
+ghost use Rattle.dbl_pgmsg.specs.Grammar.{spelling, Fits, FitsFields, Spells, message_limit};
 ghost use Rattle.dbl_pgmsg.specs.Faults.{AreBytes, IsFault, Trails};
 
 /// A message has one spelling at most.
@@ -34,14 +34,14 @@ pub fn truncated_bytes()
     ensures place { (bytes : List ℕ) (at : ℕ) → IsFault bytes (MsgError.Truncated at) →
         at ≡ length bytes }
     ensures front { (front rest : List ℕ) (message : Message) → AreBytes front →
-        length front ≤ 16777216 → FitsFields message → front ++ rest ≡ spelling message →
+        length front ≤ message_limit → FitsFields message → front ++ rest ≡ spelling message →
         rest ≢ [] → IsFault front (MsgError.Truncated (length front)) }
 {}
 
 /// Bytes trail exactly where a spelling is a beginning of them, but not all. Their place is that spelling's length.
 pub fn trailing_bytes()
     ensures { (bytes : List ℕ) (at : ℕ) → IsFault bytes (MsgError.TrailingBytes at) ↔
-        (length bytes ≤ 16777216) × Trails bytes (MsgError.TrailingBytes at) }
+        (length bytes ≤ message_limit) × Trails bytes (MsgError.TrailingBytes at) }
 {}
 
 /// What fits is what some bytes spell, and its spelling is read as nothing else: what was encoded is decoded again.

@@ -8,6 +8,7 @@ ghost use Rattle.dbl_feed.specs.declared.logged.Logged.{Logged};
 ghost use Rattle.dbl_feed.specs.declared.logged.Logged.TheVariants.{Mark};
 ghost use Rattle.dbl_feed.specs.Sent.{described_in, oids_of, messages_in, onto_relations, index_of, told_at, IsPlaceIn};
 ghost use Rattle.dbl_reading.specs.Readings.{Describes, Steps, Finds, LeadsTo};
+ghost use Rattle.dbl_feed.specs.Numbers.{number_limit};
 
 use crate::SourceError;
 use dbl_base::{Bytes, Text};
@@ -89,7 +90,7 @@ fn next_missing(
 
 // The commit begins.
 fn first_step(alloc: Global, place: Place, number: u64) -> Result<Step, SourceError>
-    requires { number < 2 ^ 41 }
+    requires { number < number_limit }
     ensures { (tables : List LogTable) (log : List Logged) (entry : Logged)
         → number ≡ index_of place + 1 → place.begun ≡ false
         → slice_get log (index_of place) ≡ Some entry
@@ -147,7 +148,7 @@ fn change_step(
 
 // The commit ends.
 fn last_step(alloc: Global, place: Place, number: u64) -> Result<Step, SourceError>
-    requires number { number < 2 ^ 41 }
+    requires number { number < number_limit }
     requires place { place.commits + 1 < 2 ^ 64 }
     ensures { (tables : List LogTable) (log : List Logged) (entry : Logged)
         → number ≡ index_of place + 1 → place.begun ≡ true
@@ -195,7 +196,7 @@ fn inner_step(
     place: Place,
     number: u64,
 ) -> Result<Step, SourceError>
-    requires number { number < 2 ^ 41 }
+    requires number { number < number_limit }
     requires place { place.commits + 1 < 2 ^ 64 }
     ensures { (log : List Logged) → number ≡ index_of place + 1 → place.begun ≡ true
         → slice_get log (index_of place) ≡ Some entry.now → IsPlaceIn log place
@@ -228,7 +229,7 @@ pub fn next_step(
     place: Place,
     number: u64,
 ) -> Result<Step, SourceError>
-    requires number { number < 2 ^ 41 }
+    requires number { number < number_limit }
     requires place { place.commits + 1 < 2 ^ 64 }
     ensures { (log : List Logged) → number ≡ index_of place + 1
         → slice_get log (index_of place) ≡ Some entry.now → IsPlaceIn log place

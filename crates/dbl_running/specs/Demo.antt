@@ -1,5 +1,5 @@
 -- A source over a disk that runs a workload: its parts, and the wal that it stands for.
-use Rattle.std.specs.Prelude.{◌≡◌, ℕ, ◌<◌, ◌≤◌, ◌^◌, Bool, false, IsTrue, Option, Some, slice_get, List, length, map, drop}
+use Rattle.std.specs.Prelude.{◌≡◌, ℕ, ◌<◌, ◌≤◌, Bool, false, IsTrue, Option, Some, slice_get, List, length, map, drop}
 use Rattle.std.specs.List.{All, AllByRecursion}
 use Rattle.std.specs.BTreeSet.{BTreeSet}
 use Rattle.dbl_base.specs.declared.lsn.Lsn.{Lsn}
@@ -23,6 +23,7 @@ use Rattle.dbl_sound.specs.Standings.{tables_of, confirmed_of, standing_in}
 use Rattle.dbl_sound.specs.Left.{LeavesWal}
 use Rattle.dbl_workload.specs.Checking.{commit_places}
 use Rattle.dbl_workload.specs.Steps.{IsBehind}
+use Rattle.dbl_disk.specs.Disks.{disk_limit}
 
 -- The journal; the tables' names, and the tables as those of a log; the store behind the steps that were done, and how many were;
 -- the number of each commit's entry; up to where commits were confirmed; where the reader is, which tables were described to it,
@@ -54,7 +55,7 @@ pub record IsReader (tables : List LogTable) (log : List Logged) (place : Option
 pub record IsRunning {D : Type 0} (seen : D → Option (List ℕ)) (may_leave : D → List ℕ → Type 0) (wal : Wal) (demo : Demo D) : Type 0 where
   pub lists : Lists seen may_leave demo.journal (forms_of wal)
   pub is : IsWalOf (forms_of wal) wal
-  pub few : length wal.entries < 2 ^ 40
+  pub few : length wal.entries < disk_limit
   pub names : demo.names ≡ map (λ table. table.info.name) wal.workload.tables
   pub tables : demo.tables ≡ tables_of wal
   pub steps : demo.steps ≡ steps_of wal.workload
@@ -107,4 +108,4 @@ pub record HasParts {D : Type 0} (journal : OnDisk D) (store : Tables) (steps : 
   pub few : IsTrue journal.live → length commits < count_of journal
   pub there : IsTrue journal.live → All (λ number. number < count_of journal) commits
   -- a reader has passed no more commits than a journal has entries
-  pub near : (p : Place) → place ≡ Some p → p.commits ≤ 2 ^ 40
+  pub near : (p : Place) → place ≡ Some p → p.commits ≤ disk_limit

@@ -8,7 +8,7 @@ use Rattle.dbl_pgmsg.specs.declared.messages.OldTuple.TheVariants as old
 use Rattle.dbl_pgmsg.specs.declared.messages.Tuple.{Tuple}
 use Rattle.dbl_pgmsg.specs.declared.messages.TupleCell.{TupleCell}
 use Rattle.dbl_pgmsg.specs.declared.messages.TupleCell.TheVariants as cell
-use Rattle.dbl_pgmsg.specs.Grammar.{spelling}
+use Rattle.dbl_pgmsg.specs.Grammar.{spelling, message_limit}
 use Rattle.dbl_value.specs.declared.column_type.PgType.{PgType}
 use Rattle.dbl_value.specs.declared.column_type.PgType.TheVariants as type
 use Rattle.dbl_value.specs.Types.{type_of}
@@ -100,10 +100,7 @@ truncate_message oids = says.Truncate 0 oids
 
 -- ---- sizes
 
--- how long a message may be, what the entry of a commit may take, and how many columns a row may have
-abbrev pub message_limit : ℕ
-message_limit = 16777216
-
+-- what the entry of a commit may take, and how many columns a row may have
 abbrev pub entry_limit : ℕ
 entry_limit = 268435456
 

@@ -1,7 +1,7 @@
 //! What a session is asked for.
 
 ghost use Rattle.std.specs.Prelude.{◌≡◌, ◌≤◌, Some, length, map, IsTrue, IfOk};
-ghost use Rattle.dbl_table.specs.Configs.{IsGoodConfig};
+ghost use Rattle.dbl_table.specs.Configs.{IsGoodConfig, budget_limit};
 ghost use Rattle.dbl_table.specs.Identities.{is_good_identity};
 ghost use Rattle.dbl_table.specs.Tables.{are_distinct, same_name};
 ghost use Rattle.dbl_offset.specs.Offsets.{IsOffset};
@@ -115,7 +115,7 @@ fn every(word: &str) -> Result<u32>
 }
 
 fn messages(word: &str) -> Result<u64>
-    ensures { IfOk result (λ most. (1 ≤ most) × (most ≤ 999999999)) }
+    ensures { IfOk result (λ most. (1 ≤ most) × (most ≤ budget_limit)) }
 {
     let most = word.parse::<u64>()?;
     if most < 1 || most > 999_999_999 {

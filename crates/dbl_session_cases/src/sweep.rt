@@ -1,7 +1,7 @@
 //! Sessions of one case, of which a later call fails in each, or which may read a message more.
 
 ghost use Rattle.std.specs.Prelude.{◌≤◌, IfOk};
-ghost use Rattle.dbl_table.specs.Configs.{IsGoodConfig};
+ghost use Rattle.dbl_table.specs.Configs.{IsGoodConfig, budget_limit};
 
 use crate::run::{Ran, first};
 use crate::{asked, left, shown};
@@ -22,7 +22,7 @@ fn this(alloc: Global, number: u64) -> Result<Vec<u64>> {
 fn with_budget(config: Config, messages: u64) -> Config
     requires config { IsGoodConfig config }
     requires some { 1 ≤ messages }
-    requires most { messages ≤ 999999999 }
+    requires most { messages ≤ budget_limit }
     ensures { IsGoodConfig result }
 {
     let Config {

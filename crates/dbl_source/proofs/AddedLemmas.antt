@@ -8,7 +8,8 @@ use Rattle.dbl_table.specs.declared.table.TableName.{TableName}
 use Rattle.dbl_feed.specs.declared.logged.Logged.TheVariants.{Changes, Mark}
 use Rattle.dbl_source.specs.declared.asked.Asked.{Asked}
 use Rattle.dbl_source.specs.declared.asked.Last.TheVariants as answers
-use Rattle.dbl_source.specs.Moves.{commit_limit, HasRoom}
+use Rattle.dbl_feed.specs.Numbers.{commit_limit}
+use Rattle.dbl_source.specs.Moves.{HasRoom}
 use Rattle.dbl_source.specs.Played.{Played, messages_of, inside_of, counted, committed, released, with_answer, question_of, with_mark, with_select}
 use Rattle.dbl_source.specs.Steps.{IsKept, WasFair}
 use Rattle.dbl_source.proofs.PlayLemmas.{WereAsked, fair_before, fair_same}

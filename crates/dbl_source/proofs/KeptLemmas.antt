@@ -12,7 +12,7 @@ use Rattle.dbl_feed.specs.Sent.{told_at, IsPlaceIn}
 use Rattle.dbl_feed.proofs.SentLemmas.{told_at-grown}
 use Rattle.dbl_reading.specs.Readings.{Describes}
 use Rattle.dbl_source.specs.declared.asked.Asked.{Asked}
-use Rattle.dbl_source.specs.Moves.{commit_limit}
+use Rattle.dbl_feed.specs.Numbers.{commit_limit}
 use Rattle.dbl_source.specs.Steps.{IsPlayed}
 use Rattle.dbl_source.proofs.PlayLemmas.{asked_more}
 use Rattle.dbl_source.proofs.CallLemmas.{placed_on}

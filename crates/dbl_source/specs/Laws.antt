@@ -15,7 +15,7 @@ use Rattle.dbl_feed.specs.Histories.{history_of}
 use Rattle.dbl_feed.specs.Fair.{AreNamed, IsFairLog}
 use Rattle.dbl_source.specs.declared.asked.Asked.{Asked}
 use Rattle.dbl_source.specs.declared.moves.Move.{Move}
-use Rattle.dbl_source.specs.Moves.{commit_limit}
+use Rattle.dbl_feed.specs.Numbers.{commit_limit}
 use Rattle.dbl_source.specs.Fairness.{IsAnswered}
 use Rattle.dbl_source.specs.Played.{Played, keyed_table, new_played, committed, with_mark, next_rows, question_of, with_select}
 use Rattle.dbl_source.specs.Steps.{WasFair, AddedFirst}

@@ -26,7 +26,7 @@ use Rattle.dbl_source.specs.declared.asked.Last.TheVariants as answers
 use Rattle.dbl_source.specs.declared.moves.Move.{Move}
 use Rattle.dbl_reading.specs.declared.error.SourceError.{SourceError}
 use Rattle.dbl_reading.specs.declared.error.SourceError.TheVariants.{Failed}
-use Rattle.dbl_source.specs.Moves.{commit_limit}
+use Rattle.dbl_feed.specs.Numbers.{commit_limit}
 
 -- The script's tables, what is left of its moves, its rows for each select; the selects so far; the log that was committed, up to
 -- where it was confirmed, and where its reader is; which calls are to fail; what was answered last; whether the last read

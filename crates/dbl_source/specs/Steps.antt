@@ -15,7 +15,7 @@ use Rattle.dbl_reading.specs.declared.error.SourceError.{SourceError}
 use Rattle.dbl_reading.specs.declared.error.SourceError.TheVariants.{Failed, Memory}
 use Rattle.dbl_reading.specs.declared.reading.Step.{Step}
 use Rattle.dbl_reading.specs.Readings.{IsNext, Describes}
-use Rattle.dbl_source.specs.Moves.{commit_limit}
+use Rattle.dbl_feed.specs.Numbers.{commit_limit}
 use Rattle.dbl_source.specs.Fairness.{IsFair}
 use Rattle.dbl_source.specs.Played.{Played, standing_of, IsFullBy, IsListed, counted, committed, with_fault}
 

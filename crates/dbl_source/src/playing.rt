@@ -1,11 +1,11 @@
 //! How a source plays its script: what a call begins with, what it does and what it answers. How each function ends is told by
 //! the state that it leads to; what a source promises of its calls is told of those of the trait.
 
-ghost use Rattle.std.specs.Prelude.{◌≡◌, ◌+◌, ◌≤◌, ◌<◌, ◌^◌, ◌++◌, ◌∷◌, [], false, length, max, Option, option_copied, Err, IsErr, IfOk, IfErr, OnOk, OnErr};
+ghost use Rattle.std.specs.Prelude.{◌≡◌, ◌+◌, ◌≤◌, ◌<◌, ◌++◌, ◌∷◌, [], false, length, max, Option, option_copied, Err, IsErr, IfOk, IfErr, OnOk, OnErr};
 ghost use Rattle.dbl_history.specs.History.{entry_of};
 ghost use Rattle.dbl_feed.specs.declared.logged.Logged.TheVariants.{Mark};
 ghost use Rattle.dbl_feed.specs.Histories.{history_of};
-ghost use Rattle.dbl_feed.specs.Numbers.{lsn_of};
+ghost use Rattle.dbl_feed.specs.Numbers.{lsn_of, commit_limit};
 ghost use Rattle.dbl_reading.specs.declared.error.SourceError.TheVariants.{Failed, Memory};
 ghost use Rattle.dbl_source.specs.Exits.{Plays, AnswersEntry, AnswersHead, AnswersStart, HasRead, AnswersRead, AnswersRows};
 ghost use Rattle.dbl_source.specs.Moves.{HasRoom};
@@ -42,7 +42,7 @@ impl ScriptedSource {
 
     // Other clients commit. Beside a mark, this alone makes the log grow.
     fn commit(&mut self, commits: Vec<Seq<Message>>) -> Result<(), SourceError>
-        requires { length self.old.log + length commits.items < 2 ^ 40 }
+        requires { length self.old.log + length commits.items < commit_limit }
         ensures ok { OnOk result (self.new ≡ committed commits.items self.old) }
         ensures err { OnErr result (IsBehind commits.items self.old.log self.new.log) }
         ensures kept { OnErr result (self.new ≡ record self.old { log = self.new.log }) }
@@ -277,7 +277,7 @@ impl ScriptedSource {
 
     // A commit of its own.
     fn write_mark(&mut self, value: &Text) -> Result<(), SourceError>
-        requires { length self.old.log + 1 < 2 ^ 40 }
+        requires { length self.old.log + 1 < commit_limit }
         ensures ok { OnOk result
             (self.new ≡ record self.old { log = self.old.log ++ Mark value.now ∷ [] }) }
         ensures err { OnErr result (self.new ≡ self.old) }

@@ -1,4 +1,4 @@
-ghost use Rattle.std.specs.Prelude.{◌≡◌, ◌≢◌, ◌+◌, ◌≤◌, ◌<◌, ◌^◌, ◌++◌, ◌∷◌, [], ℕ, length, map, Option, Some, None, false, is_some, is_none, option_copied, Err, IsTrue, IfSome, IfOk, IfErr, OnOk, OnErr, MatchOption};
+ghost use Rattle.std.specs.Prelude.{◌≡◌, ◌≢◌, ◌+◌, ◌≤◌, ◌<◌, ◌++◌, ◌∷◌, [], ℕ, length, map, Option, Some, None, false, is_some, is_none, option_copied, Err, IsTrue, IfSome, IfOk, IfErr, OnOk, OnErr, MatchOption};
 ghost use Rattle.std.specs.List.{AllByRecursion};
 ghost use Rattle.dbl_base.specs.Streams.{Rose};
 ghost use Rattle.dbl_pgmsg.specs.declared.messages.Message.{Message};
@@ -10,7 +10,7 @@ ghost use Rattle.dbl_honest.specs.Answered.{IsDescribed, IsHeaded, IsSelected};
 ghost use Rattle.dbl_honest.specs.Calls.{Moved, IsMarked, Starts, Took, HasReadAll, IsConfirmed};
 ghost use Rattle.dbl_honest.specs.Leaves.{Leaves, LeavesSome, MayFollow, MayFollowMark, MayFollowConfirm};
 ghost use Rattle.dbl_honest.specs.Told.{Described, Head, Began, Read, Selected, Done, IsTakenBy, IsTakenAnew, Tells, is_ready};
-ghost use Rattle.dbl_feed.specs.Relations.{catalogue, all_relations};
+ghost use Rattle.dbl_feed.specs.Relations.{catalogue, all_relations, oid_limit};
 ghost use Rattle.dbl_source.specs.declared.asked.Last.TheVariants as answers;
 ghost use Rattle.dbl_reading.specs.declared.error.SourceError.TheVariants.{Failed, Memory};
 ghost use Rattle.dbl_source.specs.Played.{keyed_table, new_played, told_of, before_of, inside_of, IsListed, past_move, released, FailsAsPlanned, with_answer, with_mark, with_confirmed, started_at, with_start, with_head, next_rows, with_select};
@@ -84,7 +84,7 @@ impl ScriptedSource {
         rows: Vec<Vec<RawRow>>,
         fails: Vec<u64>,
     ) -> Result<ScriptedSource, SourceError>
-        requires few { length tables.items < 2 ^ 31 }
+        requires few { length tables.items < oid_limit }
         requires distinct { IsTrue (are_distinct same_name (map (λ raw. raw.name) tables.items)) }
         requires schemas { AllByRecursion (λ raw. raw.name.schema ≢ []) tables.items }
         ensures made { IfOk result (λ source. source ≡ new_played

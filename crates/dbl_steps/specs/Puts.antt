@@ -1,5 +1,5 @@
 -- What the sink has gained, from step to step, and what is left of it where a session halts or ends.
-use Rattle.std.specs.Prelude.{◌≡◌, ℕ, ℤ, ◌<◌, ◌^◌, ◌++◌, ◌∷◌, [], is_some, take, true, Option, Some, None, List, length}
+use Rattle.std.specs.Prelude.{◌≡◌, ℕ, ℤ, ◌<◌, ◌++◌, ◌∷◌, [], is_some, take, true, Option, Some, None, List, length}
 use Rattle.dbl_base.specs.declared.lsn.Lsn.{Lsn}
 use Rattle.dbl_pgmsg.specs.declared.messages.Message.{Message}
 use Rattle.dbl_record.specs.declared.record.Record.{Record}
@@ -14,7 +14,7 @@ use Rattle.dbl_work.specs.declared.work.Work.{Work}
 use Rattle.dbl_work.specs.Groups.{report_with}
 use Rattle.dbl_work.specs.Takes.{IsLeftByStep, ReportsStep, WasStepped, WasTaken}
 use Rattle.dbl_work.specs.Works.{IsBegun, IsWork}
-use Rattle.dbl_causes.specs.Gained.{AreCounted, Gains, IsGained}
+use Rattle.dbl_causes.specs.Gained.{AreCounted, Gains, IsGained, read_limit}
 use Rattle.dbl_causes.specs.Underway.{IsOfFirst}
 
 -- ---- what the sink has
@@ -50,7 +50,7 @@ MessagesGainNothing = (after : Lsn) (ms : List Message) (bytes : List ℕ) (old 
 abbrev pub CommitsGain : Type 0
 CommitsGain = (after : Lsn) (ms : List Message) (bytes : List ℕ) (commit : Commit) (old next new : Work) (before report : Report) (records : List Record)
     → IsWork after ms old → (w : WasTaken after ms bytes old next (Some commit)) → WasStepped commit next new
-    → length ms < 2 ^ 30 → IsMomentInRange old.now_ms → ReportsStep commit next before report true
+    → length ms < read_limit → IsMomentInRange old.now_ms → ReportsStep commit next before report true
     → IsGained after ms old records → AreCounted (cut records) before
     → IsGained after (w.message ∷ ms) new (records ++ records_by next.follower commit next.now_ms)
     × AreCounted (cut (records ++ records_by next.follower commit next.now_ms)) report
@@ -78,7 +78,7 @@ StepsLeaveGains = (config : Config) (now : ℤ) (held : Option Offset) (first st
 abbrev pub StepsAreCounted : Type 0
 StepsAreCounted = (after : Lsn) (ms : List Message) (bytes : List ℕ) (commit : Commit) (old next : Work) (count : ℕ) (before report : Report)
     (records : List Record) (groups : List (List Record))
-    → IsWork after ms old → WasTaken after ms bytes old next (Some commit) → length ms < 2 ^ 30 → IsMomentInRange old.now_ms
+    → IsWork after ms old → WasTaken after ms bytes old next (Some commit) → length ms < read_limit → IsMomentInRange old.now_ms
     → IsLeftByStep commit next groups (groups ++ cut (take count (records_by next.follower commit next.now_ms)))
     → AreCounted (cut records) before
     → report ≡ report_with (is_some (mark_of commit)) (take count (records_by next.follower commit next.now_ms)) before

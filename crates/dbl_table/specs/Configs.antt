@@ -1,8 +1,12 @@
 -- What a session may be asked for. Source: own.
-use Rattle.std.specs.Prelude.{◌≤◌, IsTrue, length}
+use Rattle.std.specs.Prelude.{ℕ, ◌≤◌, IsTrue, length}
 use Rattle.dbl_table.specs.declared.config.Config.{Config}
 use Rattle.dbl_table.specs.Tables.{same_name, are_distinct}
 use Rattle.dbl_table.specs.Identities.{is_good_identity}
+
+-- a session is asked for so many messages at most
+abbrev pub budget_limit : ℕ
+budget_limit = 999999999
 
 -- a good identity, 1 to 64 tables and none twice, and numbers within their limits
 pub record IsGoodConfig (config : Config) : Type 0 where
@@ -12,4 +16,4 @@ pub record IsGoodConfig (config : Config) : Type 0 where
   pub distinct : IsTrue (are_distinct same_name config.tables)
   pub chunk : (1 ≤ config.chunk) × (config.chunk ≤ 100000)
   pub every : (1 ≤ config.every) × (config.every ≤ 10000)
-  pub messages : (1 ≤ config.messages) × (config.messages ≤ 999999999)
+  pub messages : (1 ≤ config.messages) × (config.messages ≤ budget_limit)

@@ -1,11 +1,11 @@
 -- For private clauses: truncates of several tables.
-use Rattle.std.specs.Prelude.{◌≡◌, ◌⊎◌, ◌+◌, ◌<◌, ◌^◌, ◌++◌, ◌&&◌, not, nat_eq, ℕ, Bool, true, false, is_none, IsSome, Option, None, Some, Result, Ok, Err, slice_get, replicate, List, [], ◌∷◌, length, map, bytes_eq}
+use Rattle.std.specs.Prelude.{◌≡◌, ◌⊎◌, ◌+◌, ◌<◌, ◌++◌, ◌&&◌, not, nat_eq, ℕ, Bool, true, false, is_none, IsSome, Option, None, Some, Result, Ok, Err, slice_get, replicate, List, [], ◌∷◌, length, map, bytes_eq}
 use Rattle.std.specs.List.{AllByRecursion, AllZip, list_any, position_from}
 use Rattle.dbl_pgmsg.specs.declared.messages.Message.{Message}
 use Rattle.dbl_pgmsg.specs.Grammar.{Fits}
 use Rattle.dbl_table.specs.declared.table.TableName.{TableName}
 use Rattle.dbl_table.specs.Tables.{same_name}
-use Rattle.dbl_feed.specs.Relations.{first_oid}
+use Rattle.dbl_feed.specs.Relations.{first_oid, oid_limit}
 use Rattle.dbl_serial.specs.declared.demo_table.DemoTable.{DemoTable}
 use Rattle.dbl_serial.specs.declared.error.StepError.{StepError}
 use Rattle.dbl_serial.specs.declared.error.StepError.TheVariants as errors
@@ -35,7 +35,7 @@ PlacesOf tables names (Err e) = (e ≡ errors.Memory) ⊎ ((e ≡ errors.Unknown
 
 -- the truncate of the tables at these places, where each has an OID
 abbrev pub TruncatesAt : List ℕ → Message → Type 0
-TruncatesAt places message = AllByRecursion (λ place. place < 2 ^ 31) places → message ≡ truncate_message (map (λ place. first_oid + place) places)
+TruncatesAt places message = AllByRecursion (λ place. place < oid_limit) places → message ≡ truncate_message (map (λ place. first_oid + place) places)
 
 -- ---- who is in the way
 

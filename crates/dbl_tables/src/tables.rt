@@ -1,9 +1,9 @@
 //! The store: its tables and its open sessions.
 
-ghost use Rattle.std.specs.Prelude.{◌≡◌, ◌≤◌, ◌<◌, ◌^◌, ◌+◌, [], List, IsTrue, IfOk, IfErr, length, map};
+ghost use Rattle.std.specs.Prelude.{◌≡◌, ◌≤◌, ◌<◌, ◌+◌, [], List, IsTrue, IfOk, IfErr, length, map};
 ghost use Rattle.std.specs.List.{position_from};
 ghost use Rattle.dbl_table.specs.Tables.{same_name, are_distinct};
-ghost use Rattle.dbl_feed.specs.Relations.{first_oid};
+ghost use Rattle.dbl_feed.specs.Relations.{first_oid, oid_limit};
 ghost use Rattle.dbl_serial.specs.declared.demo_table.DemoTable.{DemoTable};
 ghost use Rattle.dbl_serial.specs.Acts.{Accepted};
 ghost use Rattle.dbl_serial.specs.Steps.Step.{Begin};
@@ -39,7 +39,7 @@ pub fn place_of(tables: &Vec<Rows>, name: &TableName) -> Option<usize>
 
 /// The OID of the table at a place.
 pub fn oid_of(place: usize) -> u32
-    ensures { place < 2 ^ 31 → result ≡ first_oid + place }
+    ensures { place < oid_limit → result ≡ first_oid + place }
 {
     match u32::try_from(place) {
         Ok(place) => FIRST_OID.saturating_add(place),

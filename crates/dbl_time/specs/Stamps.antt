@@ -1,5 +1,5 @@
 -- Timestamps, in microseconds since 1970-01-01: PostgreSQL's manual, "Date/Time Types".
-use Rattle.std.specs.Prelude.{ℕ, ◌+◌, ◌/◌, ◌%◌, ℤ, pos, neg_ℤ, ◌+ℤ◌, ◌-ℤ◌, ◌*ℤ◌, int_le, unsigned_abs, ◌==◌, ◌&&◌, ◌||◌, Bool, if◌then◌else◌, Option, Some, None, List, ◌++◌, slice_index, take, drop, codes}
+use Rattle.std.specs.Prelude.{◌^◌, ℕ, ◌+◌, ◌/◌, ◌%◌, ℤ, pos, neg_ℤ, ◌+ℤ◌, ◌-ℤ◌, ◌*ℤ◌, int_le, unsigned_abs, ◌==◌, ◌&&◌, ◌||◌, Bool, if◌then◌else◌, Option, Some, None, List, ◌++◌, slice_index, take, drop, codes}
 use Rattle.std.specs.Int.{int_div_euclid, int_rem_euclid}
 use Rattle.std.specs.List.{position}
 use Rattle.dbl_time.specs.Shapes.{has_shape, two_at}
@@ -11,6 +11,10 @@ abbrev pub joined_stamp : Option ℤ → Option ℕ → Option ℤ
 joined_stamp None clock = None
 joined_stamp (Some day) None = None
 joined_stamp (Some day) (Some clock) = Some (day *ℤ pos day_micros +ℤ pos clock)
+
+-- such a moment is within so many microseconds of 1970-01-01
+abbrev pub moment_room : ℕ
+moment_room = 2 ^ 60
 
 -- the moment of a text that is a date, one space and a time before 24:00:00
 abbrev pub stamp_of : List ℕ → Option ℤ

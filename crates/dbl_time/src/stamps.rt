@@ -1,9 +1,9 @@
-ghost use Rattle.std.specs.Prelude.{◌≡◌, ◌≤◌, ◌<◌, ◌^◌, ◌++◌, length, IsTrue, OnOk, IfSome};
+ghost use Rattle.std.specs.Prelude.{◌≡◌, ◌≤◌, ◌<◌, ◌++◌, length, IsTrue, OnOk, IfSome};
 ghost use Rattle.std.specs.String.{string_bytes};
 ghost use Rattle.jiff_core.specs.Calendar.{IsEpochDay, IsWithin};
 ghost use Rattle.dbl_time.specs.Dates.{IsInYears};
 ghost use Rattle.dbl_time.specs.Clocks.{day_micros};
-ghost use Rattle.dbl_time.specs.Stamps.{joined_stamp, stamp_of, is_sign, sign_place, is_offset_size, offset_size, signed_offset, offset_of, joined_instant, instant_of, is_instant, day_of_stamp, clock_of_stamp, stamp_text, zulu_text};
+ghost use Rattle.dbl_time.specs.Stamps.{joined_stamp, stamp_of, is_sign, sign_place, is_offset_size, offset_size, signed_offset, offset_of, joined_instant, instant_of, is_instant, day_of_stamp, clock_of_stamp, stamp_text, zulu_text, moment_room};
 
 use crate::clocks::{clock, push_seconds, push_six, push_time, seconds_within};
 use crate::dates::{parse_date, push_date};
@@ -20,7 +20,7 @@ fn joined_stamp(day: Option<i32>, clock: Option<u64>) -> Option<i64>
     requires day { IfSome day (λ n. IsEpochDay n) }
     requires clock { IfSome clock (λ n. n < 90000000000) }
     ensures value { result ≡ joined_stamp day clock }
-    ensures bound { IfSome result (λ z. IsWithin (2 ^ 60) z) }
+    ensures bound { IfSome result (λ z. IsWithin moment_room z) }
 {
     match (day, clock) {
         (Some(day), Some(clock)) => Some(day as i64 * DAY_MICROS + clock as i64),
@@ -32,7 +32,7 @@ fn joined_stamp(day: Option<i32>, clock: Option<u64>) -> Option<i64>
 /// text. PostgreSQL's manual, "Date/Time Types".
 pub fn parse_timestamp(text: &[u8]) -> Option<i64>
     ensures value { result ≡ stamp_of text.now }
-    ensures bound { IfSome result (λ z. IsWithin (2 ^ 60) z) }
+    ensures bound { IfSome result (λ z. IsWithin moment_room z) }
 {
     if byte_at(text, 10) == b' ' {
         joined_stamp(
@@ -91,7 +91,7 @@ fn offset(text: &[u8]) -> Option<i32>
 }
 
 fn joined_instant(moment: Option<i64>, offset: Option<i32>) -> Option<i64>
-    requires moment { IfSome moment (λ z. IsWithin (2 ^ 60) z) }
+    requires moment { IfSome moment (λ z. IsWithin moment_room z) }
     requires offset { IfSome offset (λ z. IsWithin 86400 z) }
     ensures { result ≡ joined_instant moment offset }
 {

@@ -3,6 +3,10 @@ use Rattle.std.specs.Prelude.{◌≡◌, ◌⊎◌, ◌-◌, ◌^◌, ◌≤◌,
 use Rattle.dbl_record.specs.declared.record.Record.{Record}
 use Rattle.dbl_record.specs.Groups.{group_form}
 
+-- a sink takes groups whose bytes form has at most so many bytes
+abbrev pub group_limit : ℕ
+group_limit = 2 ^ 28
+
 -- The groups that are left where these were there and this one was put: these, or these and some first records of the group,
 -- one at least, as a group of their own.
 abbrev pub IsLeftByPut : List (List Record) → List Record → List (List Record) → Type 0

@@ -1,4 +1,4 @@
-ghost use Rattle.std.specs.Prelude.{◌≡◌, ◌≢◌, ◌⊎◌, ◌↔◌, ℕ, ◌+◌, ◌^◌, ◌<◌, ◌≤◌, ◌++◌, List, [], ◌∷◌, length, max, take, drop, false, Some, IsTrue, IsErr, IfOk, IfErr, OnOk, OnErr, MatchResult, slice_get};
+ghost use Rattle.std.specs.Prelude.{◌≡◌, ◌≢◌, ◌⊎◌, ◌↔◌, ℕ, ◌+◌, ◌<◌, ◌≤◌, ◌++◌, List, [], ◌∷◌, length, max, take, drop, false, Some, IsTrue, IsErr, IfOk, IfErr, OnOk, OnErr, MatchResult, slice_get};
 ghost use Rattle.dbl_base.specs.Streams.{Rose};
 ghost use Rattle.dbl_disk.specs.Disks.{Follows, IsOnly, Torn};
 ghost use Rattle.dbl_journal.specs.Form.{IsFaultAt, IsJournal};
@@ -8,7 +8,7 @@ ghost use Rattle.dbl_record.specs.Cuts.{IsHandful};
 ghost use Rattle.dbl_record.specs.Groups.{group_form};
 ghost use Rattle.dbl_topic.specs.Held.{ComesOf, HoldsGroups, LeavesGroups, MayLeaveGroups};
 ghost use Rattle.dbl_topic.specs.Logs.{AreLogEntries, HasBadEntry, IsLog, IsLogEntry, log_size};
-ghost use Rattle.dbl_topic.specs.Sinks.{IsLeftByPut, IsLeftByWhole, told_length};
+ghost use Rattle.dbl_topic.specs.Sinks.{IsLeftByPut, IsLeftByWhole, told_length, group_limit};
 
 use crate::{GROUP_LIMIT, Sink, SinkError, TopicError};
 use dbl_disk::{Disk, Refused};
@@ -61,7 +61,7 @@ fn group_of(alloc: Global, entry: &[u8], number: u64) -> Result<Vec<Record>, Top
 fn build_entry(alloc: Global, group: &Vec<Record>, len: u64) -> Result<Vec<u8>, SinkError>
     requires handful { IsHandful group.now.items }
     requires len { len ≡ length (group_form group.now.items) }
-    requires short { len ≤ 2 ^ 28 }
+    requires short { len ≤ group_limit }
     ensures room { IfOk result (λ bytes. 4 ≤ length bytes.items) }
     ensures entry { IfOk result (λ bytes. IsLogEntry (drop 4 bytes.items) group.now.items) }
     ensures memory { OnErr result (result ≡ Err SinkError.Memory) }
@@ -354,8 +354,9 @@ impl<D: Disk> Sink for TopicLog<D> {
         ensures live { result ≢ Err SinkError.Failed → IsTrue self.new.live }
         ensures dead { result ≡ Err SinkError.Failed → self.new.live ≡ false }
         ensures too_long { (len : ℕ) → result ≡ Err (SinkError.TooLong len) →
-            (2 ^ 28 < length (group_form group.now.items)) × (len ≡ told_length group.now.items) }
-        ensures long { 2 ^ 28 < length (group_form group.now.items) → IsErr result }
+            (group_limit < length (group_form group.now.items)) ×
+            (len ≡ told_length group.now.items) }
+        ensures long { group_limit < length (group_form group.now.items) → IsErr result }
         ensures failed { result ≡ Err SinkError.Failed →
             Rose (D.faults self.old.disk) (D.faults self.new.disk) }
         ensures later { D.faults self.old.disk ≤ D.faults self.new.disk }
@@ -372,7 +373,8 @@ impl<D: Disk> Sink for TopicLog<D> {
         ensures told { (old : List ℕ) → D.seen self.old.disk ≡ Some old → (new : List ℕ) ×
             (D.seen self.new.disk ≡ Some new) }
         ensures exactly { (len : ℕ) → (result ≡ Err (SinkError.TooLong len)) ↔
-            ((2 ^ 28 < length (group_form group.now.items)) × (len ≡ told_length group.now.items)) }
+            ((group_limit < length (group_form group.now.items)) ×
+            (len ≡ told_length group.now.items)) }
         ensures count { OnOk result (count_of self.new ≡ count_of self.old + 1) }
         ensures unchanged { OnErr result (result ≢ Err SinkError.Failed → self.new ≡ self.old) }
         ensures steady { result ≢ Err SinkError.Failed →

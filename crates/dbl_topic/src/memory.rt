@@ -1,10 +1,10 @@
-ghost use Rattle.std.specs.Prelude.{◌≡◌, ◌≢◌, ◌↔◌, ℕ, ◌+◌, ◌^◌, ◌<◌, ◌≤◌, ◌++◌, List, [], ◌∷◌, length, Bool, true, false, IsTrue, IsErr, IfOk, OnOk, OnErr, Contains};
+ghost use Rattle.std.specs.Prelude.{◌≡◌, ◌≢◌, ◌↔◌, ℕ, ◌+◌, ◌<◌, ◌≤◌, ◌++◌, List, [], ◌∷◌, length, Bool, true, false, IsTrue, IsErr, IfOk, OnOk, OnErr, Contains};
 ghost use Rattle.dbl_base.specs.Streams.{Rose, raised};
 ghost use Rattle.dbl_base.specs.Memory.{new_plan};
 ghost use Rattle.dbl_record.specs.declared.record.Record.{Record};
 ghost use Rattle.dbl_record.specs.Cuts.{IsHandful, joined};
 ghost use Rattle.dbl_record.specs.Groups.{group_form};
-ghost use Rattle.dbl_topic.specs.Sinks.{IsLeftByPut, told_length};
+ghost use Rattle.dbl_topic.specs.Sinks.{IsLeftByPut, told_length, group_limit};
 
 use crate::{GROUP_LIMIT, Sink, SinkError};
 use dbl_base::FaultPlan;
@@ -131,8 +131,9 @@ impl Sink for MemSink {
         ensures live { result ≢ Err SinkError.Failed → IsTrue self.new.live }
         ensures dead { result ≡ Err SinkError.Failed → self.new.live ≡ false }
         ensures too_long { (len : ℕ) → result ≡ Err (SinkError.TooLong len) →
-            (2 ^ 28 < length (group_form group.now.items)) × (len ≡ told_length group.now.items) }
-        ensures long { 2 ^ 28 < length (group_form group.now.items) → IsErr result }
+            (group_limit < length (group_form group.now.items)) ×
+            (len ≡ told_length group.now.items) }
+        ensures long { group_limit < length (group_form group.now.items) → IsErr result }
         ensures failed { result ≡ Err SinkError.Failed →
             Rose self.old.plan.faults self.new.plan.faults }
         ensures later { self.old.plan.faults ≤ self.new.plan.faults }
@@ -143,7 +144,8 @@ impl Sink for MemSink {
             Contains self.old.plan.planned (raised self.old.plan.calls) }
         ensures exactly { (len : ℕ) → (result ≡ Err (SinkError.TooLong len)) ↔
             (¬ Contains self.old.plan.planned (raised self.old.plan.calls) ×
-            (2 ^ 28 < length (group_form group.now.items)) × (len ≡ told_length group.now.items)) }
+            (group_limit < length (group_form group.now.items)) ×
+            (len ≡ told_length group.now.items)) }
         ensures calls { self.new.plan.calls ≡ raised self.old.plan.calls }
         ensures counted { result ≡ Err SinkError.Failed →
             self.new.plan.faults ≡ raised self.old.plan.faults }

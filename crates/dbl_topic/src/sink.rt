@@ -1,9 +1,9 @@
-ghost use Rattle.std.specs.Prelude.{◌≡◌, ◌≢◌, ℕ, ◌^◌, ◌<◌, ◌≤◌, ◌++◌, List, [], ◌∷◌, length, Bool, false, IsTrue, IsErr, OnOk, OnErr};
+ghost use Rattle.std.specs.Prelude.{◌≡◌, ◌≢◌, ℕ, ◌<◌, ◌≤◌, ◌++◌, List, [], ◌∷◌, length, Bool, false, IsTrue, IsErr, OnOk, OnErr};
 ghost use Rattle.dbl_base.specs.Streams.{Rose};
 ghost use Rattle.dbl_record.specs.declared.record.Record.{Record};
 ghost use Rattle.dbl_record.specs.Cuts.{IsHandful};
 ghost use Rattle.dbl_record.specs.Groups.{group_form};
-ghost use Rattle.dbl_topic.specs.Sinks.{IsLeftByPut, told_length};
+ghost use Rattle.dbl_topic.specs.Sinks.{IsLeftByPut, told_length, group_limit};
 
 use crate::SinkError;
 use dbl_record::Record;
@@ -52,8 +52,9 @@ pub trait Sink {
         ensures live { result ≢ Err SinkError.Failed → IsTrue (is_live self.new) }
         ensures dead { result ≡ Err SinkError.Failed → is_live self.new ≡ false }
         ensures too_long { (len : ℕ) → result ≡ Err (SinkError.TooLong len) →
-            (2 ^ 28 < length (group_form group.now.items)) × (len ≡ told_length group.now.items) }
-        ensures long { 2 ^ 28 < length (group_form group.now.items) → IsErr result }
+            (group_limit < length (group_form group.now.items)) ×
+            (len ≡ told_length group.now.items) }
+        ensures long { group_limit < length (group_form group.now.items) → IsErr result }
         ensures failed { result ≡ Err SinkError.Failed → Rose (faults self.old) (faults self.new) }
         ensures later { faults self.old ≤ faults self.new };
 

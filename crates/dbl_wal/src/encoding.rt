@@ -6,6 +6,7 @@ ghost use Rattle.dbl_pgmsg.specs.Grammar.{Fits, spelling};
 ghost use Rattle.dbl_record.specs.Fields.{Extends};
 ghost use Rattle.dbl_wal.specs.declared.entry.Entry.TheVariants.{Commits, Marks, Confirms};
 ghost use Rattle.dbl_wal.specs.Entries.{HoldsChange, Spells, change_form, changes_form, workload_form};
+ghost use Rattle.dbl_journal.specs.Form.{entry_limit};
 
 use dbl_base::{Lsn, Text};
 use dbl_journal::{ENTRY_LIMIT, ENTRY_ROOM};
@@ -59,7 +60,7 @@ fn append_changes(out: &mut Vec<u8>, messages: &[Message]) -> Result<(), AllocEr
 
 // How many bytes a commit's entry takes behind its tag, or as many as an entry may: so many are made room for at once.
 fn commit_room(messages: &[Message]) -> usize
-    ensures { result ≤ 2 ^ 28 }
+    ensures { result ≤ entry_limit }
 {
     let mut room = 12usize;
     for message in messages {
@@ -71,7 +72,7 @@ fn commit_room(messages: &[Message]) -> usize
 
 // An empty entry behind its room, with the tag. So many bytes more and the journal's gate are added without a copy.
 fn begin_entry(alloc: Global, tag: u8, room: usize) -> Result<Vec<u8>, AllocError>
-    requires { room ≤ 2 ^ 28 }
+    requires { room ≤ entry_limit }
     ensures { IfOk result (λ bytes. bytes.items ≡ 0 ∷ 0 ∷ 0 ∷ 0 ∷ tag ∷ []) }
 {
     let mut bytes = Vec::with_capacity(alloc, ENTRY_ROOM + room + 2)?;
@@ -83,7 +84,7 @@ fn begin_entry(alloc: Global, tag: u8, room: usize) -> Result<Vec<u8>, AllocErro
 /// A log's first entry, of a workload's bytes.
 #[tactic(auto, unfolding(crate::specs::Entries::workload_form))]
 pub fn workload_entry(alloc: Global, workload: &[u8]) -> Result<Vec<u8>, AllocError>
-    requires { length workload.now < 2 ^ 28 }
+    requires { length workload.now < entry_limit }
     ensures room { IfOk result (λ bytes. 4 ≤ length bytes.items) }
     ensures entry { IfOk result (λ bytes. drop 4 bytes.items ≡ workload_form workload.now) }
 {

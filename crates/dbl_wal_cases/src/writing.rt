@@ -1,7 +1,8 @@
 //! Entries that were read, written again.
 
-ghost use Rattle.std.specs.Prelude.{◌≤◌, ◌<◌, ◌^◌, length, IfOk};
+ghost use Rattle.std.specs.Prelude.{◌≤◌, ◌<◌, length, IfOk};
 ghost use Rattle.dbl_wal.specs.Entries.{FitsEntry};
+ghost use Rattle.dbl_journal.specs.Form.{entry_limit};
 
 use anyhow::Result;
 use dbl_journal::ENTRY_ROOM;
@@ -37,7 +38,7 @@ pub fn is_same(alloc: Global, bytes: &[u8], entry: &Entry) -> Result<bool>
 
 /// Whether the first entry of the workload is written as these bytes.
 pub fn is_same_workload(alloc: Global, bytes: &[u8], workload: &[u8]) -> Result<bool>
-    requires { length workload.now < 2 ^ 28 }
+    requires { length workload.now < entry_limit }
 {
     Ok(holds(&workload_entry(alloc, workload)?, bytes))
 }

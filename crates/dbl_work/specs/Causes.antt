@@ -1,6 +1,6 @@
 -- Why a window isn't read, and which record is too long. A window's cause is said of what the source told, where it tells it; memory may run out at
 -- any time.
-use Rattle.std.specs.Prelude.{◌≡◌, ◌⊎◌, ℕ, ◌<◌, ◌≤◌, ◌^◌, take, Option, Some, Err, List, [], ◌∷◌, ◌++◌, Bool, length, slice_get}
+use Rattle.std.specs.Prelude.{◌≡◌, ◌⊎◌, ℕ, ◌<◌, ◌≤◌, take, Option, Some, Err, List, [], ◌∷◌, ◌++◌, Bool, length, slice_get}
 use Rattle.std.specs.List.{AllByRecursion}
 use Rattle.dbl_record.specs.declared.record.Record.{Record}
 use Rattle.dbl_record.specs.Cuts.{cut}
@@ -8,7 +8,7 @@ use Rattle.dbl_record.specs.Groups.{group_form}
 use Rattle.dbl_table.specs.declared.table.TableInfo.{TableInfo}
 use Rattle.dbl_honest.specs.Standings.{Standing}
 use Rattle.dbl_honest.specs.Told.{Told}
-use Rattle.dbl_topic.specs.Sinks.{told_length}
+use Rattle.dbl_topic.specs.Sinks.{told_length, group_limit}
 use Rattle.dbl_window.specs.declared.error.WindowError.{WindowError}
 use Rattle.dbl_window.specs.declared.error.WindowError.TheVariants as window
 use Rattle.dbl_window.specs.Plans.{Plan}
@@ -54,8 +54,8 @@ pub record IsLongRecord (records : List Record) (h : Halt) : Type 0 where
   pub place : ℕ
   pub item : Record
   pub stands : slice_get records place ≡ Some item
-  pub first : AllByRecursion (λ other. length (group_form (other ∷ [])) ≤ 2 ^ 28) (take place records)
-  pub long : 2 ^ 28 < length (group_form (item ∷ []))
+  pub first : AllByRecursion (λ other. length (group_form (other ∷ [])) ≤ group_limit) (take place records)
+  pub long : group_limit < length (group_form (item ∷ []))
   pub is : h ≡ halt.RecordTooLong (told_length (item ∷ []))
 
 -- The first record that is too long: the sink holds those before it, in the groups of their cut, and the report counts them.

@@ -1,5 +1,5 @@
 -- What a session has in hand, whatever its source, its sink and its store tell.
-use Rattle.std.specs.Prelude.{◌≡◌, ℕ, ℤ, ◌+◌, ◌^◌, ◌≤◌, false, not, nat_lt, position, Option, Some, None, List, [], ◌∷◌, length, slice_get}
+use Rattle.std.specs.Prelude.{◌≡◌, ℕ, ℤ, ◌+◌, ◌≤◌, false, not, nat_lt, position, Option, Some, None, List, [], ◌∷◌, length, slice_get}
 use Rattle.std.specs.List.{AllByRecursion}
 use Rattle.dbl_base.specs.declared.lsn.Lsn.{Lsn}
 use Rattle.dbl_pgmsg.specs.declared.messages.Message.{Message}
@@ -28,6 +28,7 @@ use Rattle.dbl_follow.specs.declared.window.Window.{Window}
 use Rattle.dbl_follow.specs.declared.window.Window.TheVariants.{Absent, Armed, Open}
 use Rattle.dbl_session.specs.Steps.{following_of}
 use Rattle.dbl_work.specs.declared.work.Work.{Work}
+use Rattle.dbl_topic.specs.Sinks.{group_limit}
 
 -- the offset that it would store now
 abbrev pub next_of : Work → Offset
@@ -54,7 +55,7 @@ EndsAt end (first ∷ (second ∷ more)) = EndsAt end (second ∷ more)
 
 -- none of them is too long as a group
 abbrev pub AreShort : List Record → Type 0
-AreShort records = AllByRecursion (λ item. length (group_form (item ∷ [])) ≤ 2 ^ 28) records
+AreShort records = AllByRecursion (λ item. length (group_form (item ∷ [])) ≤ group_limit) records
 
 -- the records of a commit's changes have no clash, and none is too long
 abbrev pub CouldBeSent : Identity → List TableInfo → ℤ → Commit → Body → Type 0

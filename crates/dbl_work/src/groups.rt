@@ -1,11 +1,11 @@
 //! Records in groups, as a sink takes them.
 
-ghost use Rattle.std.specs.Prelude.{◌≡◌, ◌≢◌, ◌⊎◌, ◌^◌, ◌<◌, ◌≤◌, ◌++◌, ◌∷◌, [], ℕ, Some, List, length, slice_get, IfErr, IfOk, IsErr, IsTrue, OnOk, OnErr};
+ghost use Rattle.std.specs.Prelude.{◌≡◌, ◌≢◌, ◌⊎◌, ◌<◌, ◌≤◌, ◌++◌, ◌∷◌, [], ℕ, Some, List, length, slice_get, IfErr, IfOk, IsErr, IsTrue, OnOk, OnErr};
 ghost use Rattle.dbl_base.specs.Streams.{Rose};
 ghost use Rattle.dbl_record.specs.declared.record.Record.{Record as SpecRecord};
 ghost use Rattle.dbl_record.specs.Cuts.{IsHandful, begins_behind, cut};
 ghost use Rattle.dbl_record.specs.Groups.{group_form};
-ghost use Rattle.dbl_topic.specs.Sinks.{IsLeftByPut, told_length};
+ghost use Rattle.dbl_topic.specs.Sinks.{IsLeftByPut, told_length, group_limit};
 ghost use Rattle.dbl_work.specs.Causes.{HasPutBefore, IsLongRecord};
 ghost use Rattle.dbl_work.specs.Groups.{HasLastsAtItsEnd, HoldsPut, IsGathered, IsLeftByCut, WasTorn, WerePut, ends_commit, report_with};
 
@@ -117,9 +117,9 @@ fn put_group<K: Sink>(
         report.new ≡ report_with snapshot group.now.items report.old) }
     ensures unnoted { OnErr result (report.new ≡ report.old) }
     ensures halt { IfErr result (λ h. (h ≡ Halt.Memory) ⊎ ((h ≡ Halt.Sink)
-        ⊎ ((2 ^ 28 < length (group_form group.now.items))
+        ⊎ ((group_limit < length (group_form group.now.items))
         × (h ≡ Halt.RecordTooLong (told_length group.now.items))))) }
-    ensures long { 2 ^ 28 < length (group_form group.now.items) → IsErr result }
+    ensures long { group_limit < length (group_form group.now.items) → IsErr result }
     ensures live { OnOk result (IsTrue (K.is_live sink.new)) }
     ensures comes { K.comes_of sink.old sink.new }
     ensures later { K.faults sink.old ≤ K.faults sink.new }
@@ -165,7 +165,7 @@ pub fn put_all<K: Sink>(
         HasPutBefore K.holds groups snapshot records.items report.old report.new sink.new
         (Halt.RecordTooLong len) }
     ensures long { (place : ℕ) (item : SpecRecord) → slice_get records.items place ≡ Some item →
-        2 ^ 28 < length (group_form (item ∷ [])) → IsErr result }
+        group_limit < length (group_form (item ∷ [])) → IsErr result }
     ensures live { OnOk result (IsTrue (K.is_live sink.new)) }
     ensures comes { K.comes_of sink.old sink.new }
     ensures later { K.faults sink.old ≤ K.faults sink.new }

@@ -1,10 +1,11 @@
 //! The entries of a log, from the first to the last, beside what its workload gives.
 
-ghost use Rattle.std.specs.Prelude.{◌≡◌, ◌⊎◌, ℕ, ◌<◌, ◌^◌, List, Some, Err, IfOk, IfErr, IfSome, OnOk, IsTrue, None, slice_get};
+ghost use Rattle.std.specs.Prelude.{◌≡◌, ◌⊎◌, ℕ, ◌<◌, List, Some, Err, IfOk, IfErr, IfSome, OnOk, IsTrue, None, slice_get};
 ghost use Rattle.dbl_journal.specs.Stored.{Lists, count_of};
 ghost use Rattle.dbl_workload.specs.Logs.{ChecksAll, Fails, HasReadParts, IsBegun, IsFailed, IsReadFault, IsReadOnly, NoWorkload, ReadsFirst, ReadsLog, workload_error};
 ghost use Rattle.dbl_workload.specs.Ready.{AreTableNames};
 ghost use Rattle.dbl_workload.specs.Steps.{FitAnEntry};
+ghost use Rattle.dbl_disk.specs.Disks.{disk_limit};
 
 use crate::DemoError;
 use crate::checking::Checked;
@@ -73,7 +74,7 @@ fn read_first<D: Disk>(alloc: Global, journal: &mut Journal<D>) -> Result<Checke
         (Fails result) journal.old journal.new }
     ensures parts { IfOk result (HasReadParts 1) }
     ensures some { OnOk result (0 < count_of journal.old) }
-    ensures small { count_of journal.old < 2 ^ 40 }
+    ensures small { count_of journal.old < disk_limit }
 {
     if journal.count() == 0 {
         return Err(no_workload());
@@ -119,7 +120,7 @@ pub fn check_log<D: Disk>(alloc: Global, journal: &mut Journal<D>) -> Result<Che
     ensures found { IfOk result (λ checked. checked.prepared.rows ≡ None) }
     ensures named { IfOk result (λ checked. AreTableNames checked.prepared.names.items) }
     ensures parts { IfOk result (HasReadParts (count_of journal.old)) }
-    ensures small { count_of journal.old < 2 ^ 40 }
+    ensures small { count_of journal.old < disk_limit }
     ensures kinds { IfErr result (λ e. IsReadFault e) }
     ensures read { IsReadOnly D.seen D.may_leave D.faults
         (Fails result) journal.old journal.new }

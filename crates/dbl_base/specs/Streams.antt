@@ -9,6 +9,11 @@ raised count = min (count + 1) (2 ^ 64 - 1)
 abbrev pub Rose : ℕ → ℕ → Type 0
 Rose before now = raised before ≤ now
 
+-- this failure is told only where the count of faults rose, which never falls
+pub record HasCause (failed : Type 0) (before now : ℕ) : Type 0 where
+  pub later : before ≤ now
+  pub cause : failed → Rose before now
+
 -- the first n of the bytes left were moved to the front of the buffer
 pub record MovesFront (n : ℕ) (bytes buffer : List ℕ) (left : Option (List ℕ)) : Type 0 where
   pub moved : take n buffer ≡ take n bytes

@@ -1,5 +1,5 @@
-ghost use Rattle.std.specs.Prelude.{◌≡◌, ◌≢◌, ℕ, ◌+◌, ◌<◌, ◌≤◌, ◌++◌, List, [], length, take, drop, Option, Some, Ok, Err, IfOk, OnOk, OnErr};
-ghost use Rattle.dbl_base.specs.Streams.{Rose, MovesFront, raised, input_limit};
+ghost use Rattle.std.specs.Prelude.{◌≡◌, ◌≢◌, ℕ, ◌+◌, ◌<◌, ◌≤◌, ◌++◌, List, [], length, take, drop, Option, Some, Ok, Err, IfOk, OnOk, OnErr, IsErr};
+ghost use Rattle.dbl_base.specs.Streams.{HasCause, MovesFront, raised, input_limit};
 
 use crate::{Bytes, Failed};
 use std::alloc::{AllocError, AllocFailed, Global};
@@ -31,8 +31,7 @@ pub trait Input {
             result ≡ Ok 0 → bytes ≡ [] }
         ensures kept { (bytes : List ℕ) → left self.old ≡ Some bytes →
             OnErr result (left self.new ≡ Some bytes) }
-        ensures later { faults self.old ≤ faults self.new }
-        ensures cause { OnErr result (Rose (faults self.old) (faults self.new)) }
+        ensures cause { HasCause (IsErr result) (faults self.old) (faults self.new) }
         ensures steady { (bytes : List ℕ) → left self.old ≡ Some bytes →
             OnOk result (faults self.new ≡ faults self.old) }
         ensures once { (bytes : List ℕ) → left self.old ≡ Some bytes →
@@ -85,10 +84,9 @@ fn read_piece<I: Input>(
         IfOk result (λ n. bytes.new.items ≡ bytes.old.items ++ take n rest) }
     ensures end { (rest : List ℕ) → I.left input.old ≡ Some rest → result ≡ Ok 0 → rest ≡ [] }
     ensures longer { IfOk result (λ n. length bytes.new.items ≡ length bytes.old.items + n) }
-    ensures failed { result ≡ Err InputError.Failed →
-        Rose (I.faults input.old) (I.faults input.new) }
+    ensures cause { HasCause (result ≡ Err InputError.Failed)
+        (I.faults input.old) (I.faults input.new) }
     ensures short { result ≢ Err InputError.TooLong }
-    ensures later { I.faults input.old ≤ I.faults input.new }
     ensures steady { (rest : List ℕ) → I.left input.old ≡ Some rest →
         result ≢ Err InputError.Failed → I.faults input.new ≡ I.faults input.old }
     ensures once { (rest : List ℕ) → I.left input.old ≡ Some rest → result ≡ Err InputError.Failed →
@@ -108,9 +106,8 @@ pub fn read_all<I: Input>(alloc: Global, input: &mut I) -> Result<Bytes, InputEr
     ensures within { IfOk result (λ read. length read ≤ input_limit) }
     ensures too_long { (bytes : List ℕ) → I.left input.old ≡ Some bytes →
         result ≡ Err InputError.TooLong → input_limit < length bytes }
-    ensures failed { result ≡ Err InputError.Failed →
-        Rose (I.faults input.old) (I.faults input.new) }
-    ensures later { I.faults input.old ≤ I.faults input.new }
+    ensures cause { HasCause (result ≡ Err InputError.Failed)
+        (I.faults input.old) (I.faults input.new) }
     ensures steady { (bytes : List ℕ) → I.left input.old ≡ Some bytes →
         result ≢ Err InputError.Failed → I.faults input.new ≡ I.faults input.old }
     ensures once { (bytes : List ℕ) → I.left input.old ≡ Some bytes →

@@ -1,5 +1,5 @@
 ghost use Rattle.std.specs.Prelude.{◌≡◌, ◌<◌, ◌≤◌, ◌++◌, ◌↔◌, ℕ, List, [], Some, Ok, length, drop, take, min, IsErr, OnOk, OnErr, IfOk, Contains};
-ghost use Rattle.dbl_base.specs.Streams.{Rose, MovesFront, raised};
+ghost use Rattle.dbl_base.specs.Streams.{HasCause, MovesFront, raised};
 ghost use Rattle.dbl_base.specs.Memory.{new_plan};
 
 use crate::{Failed, FaultPlan, Input, Output};
@@ -53,8 +53,7 @@ impl Input for MemInput {
             result ≡ Ok 0 → bytes ≡ [] }
         ensures kept { (bytes : List ℕ) → Some self.old.left ≡ Some bytes →
             OnErr result (Some self.new.left ≡ Some bytes) }
-        ensures later { self.old.plan.faults ≤ self.new.plan.faults }
-        ensures cause { OnErr result (Rose self.old.plan.faults self.new.plan.faults) }
+        ensures cause { HasCause (IsErr result) self.old.plan.faults self.new.plan.faults }
         ensures steady { (bytes : List ℕ) → Some self.old.left ≡ Some bytes →
             OnOk result (self.new.plan.faults ≡ self.old.plan.faults) }
         ensures once { (bytes : List ℕ) → Some self.old.left ≡ Some bytes →
@@ -124,8 +123,7 @@ impl Output for MemOutput {
             OnOk result (Some self.new.written ≡ Some (bytes ++ piece.now)) }
         ensures front { (bytes : List ℕ) → Some self.old.written ≡ Some bytes →
             OnErr result ((n : ℕ) × (Some self.new.written ≡ Some (bytes ++ take n piece.now))) }
-        ensures later { self.old.plan.faults ≤ self.new.plan.faults }
-        ensures cause { OnErr result (Rose self.old.plan.faults self.new.plan.faults) }
+        ensures cause { HasCause (IsErr result) self.old.plan.faults self.new.plan.faults }
 
         // A call that is planned to fail does. Where there is no room another one fails too. One that fails
         // counts one fault.

@@ -1,5 +1,5 @@
-ghost use Rattle.std.specs.Prelude.{◌≡◌, ℕ, ◌≤◌, ◌++◌, List, length, take, Option, Some, OnOk, OnErr};
-ghost use Rattle.dbl_base.specs.Streams.{Rose};
+ghost use Rattle.std.specs.Prelude.{◌≡◌, ℕ, ◌++◌, List, length, take, Option, Some, OnOk, OnErr, IsErr};
+ghost use Rattle.dbl_base.specs.Streams.{HasCause};
 
 use crate::Failed;
 
@@ -17,6 +17,5 @@ pub trait Output {
             OnOk result (written self.new ≡ Some (bytes ++ piece.now)) }
         ensures front { (bytes : List ℕ) → written self.old ≡ Some bytes →
             OnErr result ((n : ℕ) × (written self.new ≡ Some (bytes ++ take n piece.now))) }
-        ensures later { faults self.old ≤ faults self.new }
-        ensures cause { OnErr result (Rose (faults self.old) (faults self.new)) };
+        ensures cause { HasCause (IsErr result) (faults self.old) (faults self.new) };
 }

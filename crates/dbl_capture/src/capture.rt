@@ -1,7 +1,7 @@
 //! The session.
 
 ghost use Rattle.std.specs.Prelude.{◌≡◌, ◌≢◌, ◌⊎◌, ◌<◌, ◌≤◌, List, Option, Some, None, Bool, [], IfErr, IfOk, IsTrue, OnErr, OnOk, true};
-ghost use Rattle.dbl_base.specs.Streams.{Rose};
+ghost use Rattle.dbl_base.specs.Streams.{HasCause};
 ghost use Rattle.dbl_record.specs.declared.record.Record.{Record as SpecRecord};
 ghost use Rattle.dbl_table.specs.Configs.{IsGoodConfig};
 ghost use Rattle.dbl_honest.specs.Calls.{Moved};
@@ -68,8 +68,7 @@ fn offset_of<S: Source, D: Disk>(
     ensures live { OnOk result (IsTrue (S.is_live src.new)) }
     ensures honest { S.honest src.new → S.honest src.old }
     ensures comes { S.comes_of src.old src.new }
-    ensures later { S.faults src.old ≤ S.faults src.new }
-    ensures failed { result ≡ Err Halt.Source → Rose (S.faults src.old) (S.faults src.new) }
+    ensures cause { HasCause (result ≡ Err Halt.Source) (S.faults src.old) (S.faults src.new) }
     ensures others { (result ≢ Err Halt.Sink) × (result ≢ Err Halt.Offsets) }
     ensures never { (value at : _) → result ≢ Err (Halt.WatermarkMissing value at) }
     ensures stood { Leads S.stands src.old src.new result (λ offset. Moved) }
@@ -134,9 +133,7 @@ fn begin_session<S: Source, K: Sink, D: Disk>(
     ensures honest { S.honest src.new → S.honest src.old }
     ensures source_comes { S.comes_of src.old src.new }
     ensures store_comes { ComesOf D.seen D.may_leave store.old store.new }
-    ensures source_later { S.faults src.old ≤ S.faults src.new }
-    ensures store_later { D.faults (disk_of store.old) ≤ D.faults (disk_of store.new) }
-    ensures source { result ≡ Err Halt.Source → Rose (S.faults src.old) (S.faults src.new) }
+    ensures source { HasCause (result ≡ Err Halt.Source) (S.faults src.old) (S.faults src.new) }
     ensures sink { result ≢ Err Halt.Sink }
     ensures never { (value at : _) → result ≢ Err (Halt.WatermarkMissing value at) }
     ensures rests { Leaves S.stands S.may_leave src.old src.new MayRest }
@@ -161,8 +158,8 @@ fn begin_session<S: Source, K: Sink, D: Disk>(
     ensures taken { IsTakenBy [] (S.told src.old) (S.told src.new) }
     ensures ask { IfErr result (AsksUnread config.now store.old.offset store.new.offset
         (S.told src.new)) }
-    ensures offsets { result ≡ Err Halt.Offsets →
-        Rose (D.faults (disk_of store.old)) (D.faults (disk_of store.new)) }
+    ensures offsets { HasCause (result ≡ Err Halt.Offsets)
+        (D.faults (disk_of store.old)) (D.faults (disk_of store.new)) }
     ensures long { (s : Standing) → S.stands src.old s → store.old.offset ≡ None →
         IfErr result (IsLongBy config.now s.history) }
     ensures content { (entry : SpecEntry) (stored : Option SpecOffset) (report : SpecReport) →
@@ -233,13 +230,11 @@ fn open_session<S: Source, K: Sink, D: Disk>(
     ensures honest { S.honest src.new → S.honest src.old }
     ensures source_comes { S.comes_of src.old src.new }
     ensures store_comes { ComesOf D.seen D.may_leave store.old store.new }
-    ensures source_later { S.faults src.old ≤ S.faults src.new }
-    ensures store_later { D.faults (disk_of store.old) ≤ D.faults (disk_of store.new) }
-    ensures source { result ≡ Err Halt.Source → Rose (S.faults src.old) (S.faults src.new) }
+    ensures source { HasCause (result ≡ Err Halt.Source) (S.faults src.old) (S.faults src.new) }
     ensures sink { result ≢ Err Halt.Sink }
     ensures never { (value at : _) → result ≢ Err (Halt.WatermarkMissing value at) }
-    ensures offsets { result ≡ Err Halt.Offsets →
-        Rose (D.faults (disk_of store.old)) (D.faults (disk_of store.new)) }
+    ensures offsets { HasCause (result ≡ Err Halt.Offsets)
+        (D.faults (disk_of store.old)) (D.faults (disk_of store.new)) }
 
     // What its report tells, by what the source told and stands for.
     ensures under_way { (at : Option Standing) → ((s : Standing) → at ≡ Some s →
@@ -449,10 +444,10 @@ pub fn session<S: Source, K: Sink, D: Disk>(
     // Where it halts by a watermark that is missing, or by a count.
     ensures missed { (value at : _) → result ≡ Err (Halt.WatermarkMissing value at) →
         IsTrue (S.has_ended src.new) }
-    ensures source { result ≡ Err Halt.Source → Rose (S.faults src.old) (S.faults src.new) }
-    ensures sink { result ≡ Err Halt.Sink → Rose (K.faults sink.old) (K.faults sink.new) }
-    ensures offsets { result ≡ Err Halt.Offsets →
-        Rose (D.faults (disk_of offsets.old)) (D.faults (disk_of offsets.new)) }
+    ensures source { HasCause (result ≡ Err Halt.Source) (S.faults src.old) (S.faults src.new) }
+    ensures sink { HasCause (result ≡ Err Halt.Sink) (K.faults sink.old) (K.faults sink.new) }
+    ensures offsets { HasCause (result ≡ Err Halt.Offsets)
+        (D.faults (disk_of offsets.old)) (D.faults (disk_of offsets.new)) }
 
     // Behind an ending another session may follow, over the same three.
     ensures source_live { OnOk result (IsTrue (S.is_live src.new)) }
@@ -464,9 +459,6 @@ pub fn session<S: Source, K: Sink, D: Disk>(
     ensures source_comes { S.comes_of src.old src.new }
     ensures sink_comes { K.comes_of sink.old sink.new }
     ensures store_comes { ComesOf D.seen D.may_leave offsets.old offsets.new }
-    ensures source_later { S.faults src.old ≤ S.faults src.new }
-    ensures sink_later { K.faults sink.old ≤ K.faults sink.new }
-    ensures store_later { D.faults (disk_of offsets.old) ≤ D.faults (disk_of offsets.new) }
 {
     *report = Report {
         messages: 0,

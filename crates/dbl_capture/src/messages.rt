@@ -1,7 +1,7 @@
 //! The next message of a session.
 
 ghost use Rattle.std.specs.Prelude.{◌≡◌, ◌≢◌, ◌⊎◌, ◌^◌, ◌<◌, ◌≤◌, List, Option, None, Ok, Some, Bool, false, true, IfErr, IfOk, IsTrue, OnErr, OnOk};
-ghost use Rattle.dbl_base.specs.Streams.{Rose};
+ghost use Rattle.dbl_base.specs.Streams.{HasCause};
 ghost use Rattle.dbl_record.specs.declared.record.Record.{Record as SpecRecord};
 ghost use Rattle.dbl_history.specs.Ranges.{IsMomentInRange};
 ghost use Rattle.dbl_honest.specs.Standings.{Left, Standing};
@@ -89,10 +89,8 @@ pub(crate) fn next<S: Source, K: Sink, D: Disk>(
     ensures honest { S.honest src.new → S.honest src.old }
     ensures source_comes { S.comes_of src.old src.new }
     ensures sink_comes { K.comes_of sink.old sink.new }
-    ensures source_later { S.faults src.old ≤ S.faults src.new }
-    ensures sink_later { K.faults sink.old ≤ K.faults sink.new }
-    ensures source { result ≡ Err Halt.Source → Rose (S.faults src.old) (S.faults src.new) }
-    ensures sink { result ≡ Err Halt.Sink → Rose (K.faults sink.old) (K.faults sink.new) }
+    ensures source { HasCause (result ≡ Err Halt.Source) (S.faults src.old) (S.faults src.new) }
+    ensures sink { HasCause (result ≡ Err Halt.Sink) (K.faults sink.old) (K.faults sink.new) }
     ensures offsets { result ≢ Err Halt.Offsets }
     ensures never { (value at : _) → result ≢ Err (Halt.WatermarkMissing value at) }
     ensures reads { IfErr result IsNotGone }

@@ -1,7 +1,7 @@
 //! The offset is stored, and then confirmed; and so it is where everything was read.
 
-ghost use Rattle.std.specs.Prelude.{◌≡◌, ◌≢◌, ◌≤◌, List, Option, Bool, IfErr, IsTrue, OnErr, OnOk, is_ok, true};
-ghost use Rattle.dbl_base.specs.Streams.{Rose};
+ghost use Rattle.std.specs.Prelude.{◌≡◌, ◌≢◌, List, Option, Bool, IfErr, IsTrue, OnErr, OnOk, is_ok, true};
+ghost use Rattle.dbl_base.specs.Streams.{HasCause};
 ghost use Rattle.dbl_record.specs.declared.record.Record.{Record as SpecRecord};
 ghost use Rattle.dbl_honest.specs.Standings.{Left, Standing};
 ghost use Rattle.dbl_honest.specs.Told.{Read, Tells, Told};
@@ -71,14 +71,12 @@ pub(crate) fn settle<S: Source, K: Sink, D: Disk>(
     ensures honest { S.honest src.new → S.honest src.old }
     ensures source_comes { S.comes_of src.old src.new }
     ensures store_comes { ComesOf D.seen D.may_leave store.old store.new }
-    ensures source_later { S.faults src.old ≤ S.faults src.new }
-    ensures store_later { D.faults (disk_of store.old) ≤ D.faults (disk_of store.new) }
-    ensures source { result ≡ Err Halt.Source → Rose (S.faults src.old) (S.faults src.new) }
+    ensures source { HasCause (result ≡ Err Halt.Source) (S.faults src.old) (S.faults src.new) }
     ensures sink { result ≢ Err Halt.Sink }
     ensures never { (value at : _) → result ≢ Err (Halt.WatermarkMissing value at) }
     ensures reads { IfErr result IsNotGone }
-    ensures offsets { result ≡ Err Halt.Offsets →
-        Rose (D.faults (disk_of store.old)) (D.faults (disk_of store.new)) }
+    ensures offsets { HasCause (result ≡ Err Halt.Offsets)
+        (D.faults (disk_of store.old)) (D.faults (disk_of store.new)) }
 
     // What its report tells, by what the source told and stands for.
     ensures all { (at : Option Standing) (found : Option Told) (b : Beginning) →
@@ -166,13 +164,11 @@ pub(crate) fn end<S: Source, K: Sink, D: Disk>(
     ensures honest { S.honest src.new → S.honest src.old }
     ensures source_comes { S.comes_of src.old src.new }
     ensures store_comes { ComesOf D.seen D.may_leave store.old store.new }
-    ensures source_later { S.faults src.old ≤ S.faults src.new }
-    ensures store_later { D.faults (disk_of store.old) ≤ D.faults (disk_of store.new) }
-    ensures source { result ≡ Err Halt.Source → Rose (S.faults src.old) (S.faults src.new) }
+    ensures source { HasCause (result ≡ Err Halt.Source) (S.faults src.old) (S.faults src.new) }
     ensures sink { result ≢ Err Halt.Sink }
     ensures reads { IfErr result IsNotGone }
-    ensures offsets { result ≡ Err Halt.Offsets →
-        Rose (D.faults (disk_of store.old)) (D.faults (disk_of store.new)) }
+    ensures offsets { HasCause (result ≡ Err Halt.Offsets)
+        (D.faults (disk_of store.old)) (D.faults (disk_of store.new)) }
 
     // What its report tells, by what the source told and stands for.
     ensures all { (at : Option Standing) (found : Option Told) (b : Beginning) →

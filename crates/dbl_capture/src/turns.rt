@@ -1,7 +1,7 @@
 //! The turns of a session, each of which reads one message.
 
 ghost use Rattle.std.specs.Prelude.{◌≡◌, ◌≢◌, ◌+◌, ◌^◌, ◌≤◌, ◌<◌, false, true, List, Option, Some, None, Ok, Bool, IfErr, IfOk, IsTrue, MatchBool, OnErr, OnOk, ℕ};
-ghost use Rattle.dbl_base.specs.Streams.{Rose};
+ghost use Rattle.dbl_base.specs.Streams.{HasCause};
 ghost use Rattle.dbl_record.specs.declared.record.Record.{Record as SpecRecord};
 ghost use Rattle.dbl_history.specs.Ranges.{IsMomentInRange};
 ghost use Rattle.dbl_honest.specs.Standings.{Left, Standing};
@@ -74,8 +74,7 @@ fn arm_next<S: Source, K: Sink, D: Disk>(
     ensures live { OnOk result (IsTrue (S.is_live src.new)) }
     ensures honest { S.honest src.new → S.honest src.old }
     ensures comes { S.comes_of src.old src.new }
-    ensures later { S.faults src.old ≤ S.faults src.new }
-    ensures failed { result ≡ Err Halt.Source → Rose (S.faults src.old) (S.faults src.new) }
+    ensures cause { HasCause (result ≡ Err Halt.Source) (S.faults src.old) (S.faults src.new) }
     ensures others { (result ≢ Err Halt.Sink) × (result ≢ Err Halt.Offsets) }
     ensures never { (value at : _) → result ≢ Err (Halt.WatermarkMissing value at) }
     ensures reads { IfErr result IsNotGone }
@@ -200,13 +199,10 @@ fn turn<S: Source, K: Sink, D: Disk>(
     ensures source_comes { S.comes_of src.old src.new }
     ensures sink_comes { K.comes_of sink.old sink.new }
     ensures store_comes { ComesOf D.seen D.may_leave store.old store.new }
-    ensures source_later { S.faults src.old ≤ S.faults src.new }
-    ensures sink_later { K.faults sink.old ≤ K.faults sink.new }
-    ensures store_later { D.faults (disk_of store.old) ≤ D.faults (disk_of store.new) }
-    ensures source { result ≡ Err Halt.Source → Rose (S.faults src.old) (S.faults src.new) }
-    ensures sink { result ≡ Err Halt.Sink → Rose (K.faults sink.old) (K.faults sink.new) }
-    ensures offsets { result ≡ Err Halt.Offsets →
-        Rose (D.faults (disk_of store.old)) (D.faults (disk_of store.new)) }
+    ensures source { HasCause (result ≡ Err Halt.Source) (S.faults src.old) (S.faults src.new) }
+    ensures sink { HasCause (result ≡ Err Halt.Sink) (K.faults sink.old) (K.faults sink.new) }
+    ensures offsets { HasCause (result ≡ Err Halt.Offsets)
+        (D.faults (disk_of store.old)) (D.faults (disk_of store.new)) }
 
     // What its report tells, by what the source told and stands for.
     ensures under_way { (at : Option Standing) (found : Option Told) (b : Beginning) →
@@ -348,13 +344,10 @@ pub(crate) fn run<S: Source, K: Sink, D: Disk>(
     ensures source_comes { S.comes_of src.old src.new }
     ensures sink_comes { K.comes_of sink.old sink.new }
     ensures store_comes { ComesOf D.seen D.may_leave store.old store.new }
-    ensures source_later { S.faults src.old ≤ S.faults src.new }
-    ensures sink_later { K.faults sink.old ≤ K.faults sink.new }
-    ensures store_later { D.faults (disk_of store.old) ≤ D.faults (disk_of store.new) }
-    ensures source { result ≡ Err Halt.Source → Rose (S.faults src.old) (S.faults src.new) }
-    ensures sink { result ≡ Err Halt.Sink → Rose (K.faults sink.old) (K.faults sink.new) }
-    ensures offsets { result ≡ Err Halt.Offsets →
-        Rose (D.faults (disk_of store.old)) (D.faults (disk_of store.new)) }
+    ensures source { HasCause (result ≡ Err Halt.Source) (S.faults src.old) (S.faults src.new) }
+    ensures sink { HasCause (result ≡ Err Halt.Sink) (K.faults sink.old) (K.faults sink.new) }
+    ensures offsets { HasCause (result ≡ Err Halt.Offsets)
+        (D.faults (disk_of store.old)) (D.faults (disk_of store.new)) }
 
     // What its report tells, by what the source told and stands for.
     ensures all { (at : Option Standing) (found : Option Told) (b : Beginning) →

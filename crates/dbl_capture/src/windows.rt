@@ -1,7 +1,7 @@
 //! Windows of a session: rows that are read between two marks.
 
-ghost use Rattle.std.specs.Prelude.{◌≡◌, ◌≢◌, ◌+◌, ◌^◌, ◌<◌, ◌≤◌, List, Option, Bool, IfErr, IsTrue, OnErr, OnOk, ℕ};
-ghost use Rattle.dbl_base.specs.Streams.{Rose};
+ghost use Rattle.std.specs.Prelude.{◌≡◌, ◌≢◌, ◌+◌, ◌^◌, ◌<◌, List, Option, Bool, IfErr, IsTrue, OnErr, OnOk, ℕ};
+ghost use Rattle.dbl_base.specs.Streams.{HasCause};
 ghost use Rattle.dbl_record.specs.declared.record.Record.{Record as SpecRecord};
 ghost use Rattle.dbl_honest.specs.Standings.{Left, Standing};
 ghost use Rattle.dbl_honest.specs.Told.{Told};
@@ -55,8 +55,7 @@ pub(crate) fn arm<S: Source, K: Sink, D: Disk>(
     ensures live { OnOk result (IsTrue (S.is_live src.new)) }
     ensures honest { S.honest src.new → S.honest src.old }
     ensures comes { S.comes_of src.old src.new }
-    ensures later { S.faults src.old ≤ S.faults src.new }
-    ensures failed { result ≡ Err Halt.Source → Rose (S.faults src.old) (S.faults src.new) }
+    ensures cause { HasCause (result ≡ Err Halt.Source) (S.faults src.old) (S.faults src.new) }
     ensures others { (result ≢ Err Halt.Sink) × (result ≢ Err Halt.Offsets) }
     ensures never { (value at : _) → result ≢ Err (Halt.WatermarkMissing value at) }
     ensures reads { IfErr result IsNotGone }

@@ -1,7 +1,7 @@
 -- How `capture` and `resume` end, by the bytes that the disks told. Source: own.
 use Rattle.std.specs.Prelude.{Contains, ◌≡◌, ◌⊎◌, ℕ, ℤ, ◌+◌, ◌<◌, ◌≤◌, ◌^◌, take, Option, Some, None, Result, Ok, Err, List, length}
 use Rattle.std.specs.List.{AllByRecursion}
-use Rattle.dbl_base.specs.Streams.{Rose}
+use Rattle.dbl_base.specs.Streams.{HasCause}
 use Rattle.dbl_record.specs.declared.record.Record.{Record}
 use Rattle.dbl_journal.specs.Form.{IsFaultAt}
 use Rattle.dbl_table.specs.declared.config.Config.{Config}
@@ -211,9 +211,8 @@ IsKeptError asked now wals logs stores w t f e = Unit {0}
 -- ---- of every disk
 
 -- A disk that the command opens, or that it left alone: its count of faults never falls, and its fault is told only where that rose.
-pub record Counts {D : Type 0} (faults : D → ℕ) (store : Store) (end : End) (old new : D) : Type 0 where
-  pub later : faults old ≤ faults new
-  pub cause : end ≡ Err (Failed store) → Rose (faults old) (faults new)
+abbrev pub Counts : {D : Type 0} → (D → ℕ) → Store → End → D → D → Type 0
+Counts faults store end old new = HasCause (end ≡ Err (Failed store)) (faults old) (faults new)
 
 -- a refused command has only read the disks: what a read gives is the same, and a crash leaves nothing that it couldn't leave before
 pub record OnlyRead {D : Type 0} (seen : D → Option (List ℕ)) (may_leave : D → List ℕ → Type 0) (old new : D) : Type 0 where

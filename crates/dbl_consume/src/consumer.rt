@@ -1,11 +1,11 @@
-ghost use Rattle.std.specs.Prelude.{◌≡◌, ◌≢◌, ◌≤◌, ◌++◌, ◌∷◌, [], List, ℕ, Some, Err, IsOk, IfOk, IfErr, OnOk};
+ghost use Rattle.std.specs.Prelude.{◌≡◌, ◌≢◌, ◌++◌, ◌∷◌, [], List, ℕ, Some, Err, IsOk, IfOk, IfErr, OnOk};
 ghost use Rattle.serde_json.specs.View.{view};
 ghost use Rattle.dbl_record.specs.declared.acts.ConsumeError.TheVariants.{Memory};
 ghost use Rattle.dbl_record.specs.Acts as spec;
 ghost use Rattle.dbl_record.specs.Acts.{Reading, reading_of};
 ghost use Rattle.dbl_record.specs.Consumers.{consumer_of};
 ghost use Rattle.dbl_consume.specs.Holdings.{Took, placeholder_of, tables_of};
-ghost use Rattle.dbl_base.specs.Streams.{Rose};
+ghost use Rattle.dbl_base.specs.Streams.{HasCause};
 ghost use Rattle.dbl_lines.specs.declared.error.PrintError.TheVariants.{OutputFailed};
 ghost use Rattle.dbl_consume.specs.Printing.{PrintsRows};
 ghost use Rattle.dbl_consume.specs.Rows.{row_at};
@@ -117,9 +117,8 @@ impl Consumer {
         ensures prints { (taken : List Reading) → Took taken self.now →
             PrintsRows (consumer_of (placeholder_of self.now) taken) result
             (O.written output.old) (O.written output.new) }
-        ensures cause { result ≡ Err OutputFailed →
-            Rose (O.faults output.old) (O.faults output.new) }
-        ensures later { O.faults output.old ≤ O.faults output.new }
+        ensures cause { HasCause (result ≡ Err OutputFailed)
+            (O.faults output.old) (O.faults output.new) }
     {
         look_at_order(&self.tables);
         print(self.alloc, &self.tables, output)

@@ -1,8 +1,8 @@
 //! The text of the rows that are held.
-ghost use Rattle.std.specs.Prelude.{◌≡◌, ◌≤◌, ◌++◌, ◌∷◌, [], List, ℕ, OnOk, IfOk, IfErr, Err, map, codes, false, if◌then◌else◌};
+ghost use Rattle.std.specs.Prelude.{◌≡◌, ◌++◌, ◌∷◌, [], List, ℕ, OnOk, IfOk, IfErr, Err, map, codes, false, if◌then◌else◌};
 ghost use Rattle.std.specs.BTreeMap.{IsOrdered};
 ghost use Rattle.json.specs.Print.{quoted};
-ghost use Rattle.dbl_base.specs.Streams.{Rose};
+ghost use Rattle.dbl_base.specs.Streams.{HasCause};
 ghost use Rattle.dbl_base.specs.Texts.{text_cmp};
 ghost use Rattle.dbl_lines.specs.declared.error.PrintError.TheVariants.{OutputFailed, Memory};
 ghost use Rattle.dbl_lines.specs.Writing.{Prints};
@@ -128,9 +128,8 @@ fn put_table<O: Output>(
 ) -> Result<(), PrintError>
     ensures puts { PutsLines (map row_line (rows_in topic.now table.now.entries)) result
         lines.old lines.new (O.written output.old) (O.written output.new) }
-    ensures cause { result ≡ Err OutputFailed →
-        Rose (O.faults output.old) (O.faults output.new) }
-    ensures later { O.faults output.old ≤ O.faults output.new }
+    ensures cause { HasCause (result ≡ Err OutputFailed)
+        (O.faults output.old) (O.faults output.new) }
 {
     for (key, row) in table.iter() {
         match lines.put(output, &Placed { topic, key, row }) {
@@ -149,9 +148,8 @@ fn put_tables<O: Output>(
 ) -> Result<(), PrintError>
     ensures puts { PutsLines (map row_line (all_rows tables.now.entries)) result
         lines.old lines.new (O.written output.old) (O.written output.new) }
-    ensures cause { result ≡ Err OutputFailed →
-        Rose (O.faults output.old) (O.faults output.new) }
-    ensures later { O.faults output.old ≤ O.faults output.new }
+    ensures cause { HasCause (result ≡ Err OutputFailed)
+        (O.faults output.old) (O.faults output.new) }
 {
     for (topic, table) in tables.iter() {
         match put_table(output, lines, topic, table) {
@@ -181,9 +179,8 @@ pub(crate) fn print<O: Output>(
 ) -> Result<(), PrintError>
     ensures prints { Prints (map row_line (all_rows tables.now.entries)) result
         (O.written output.old) (O.written output.new) }
-    ensures cause { result ≡ Err OutputFailed →
-        Rose (O.faults output.old) (O.faults output.new) }
-    ensures later { O.faults output.old ≤ O.faults output.new }
+    ensures cause { HasCause (result ≡ Err OutputFailed)
+        (O.faults output.old) (O.faults output.new) }
 {
     let mut lines = LineWriter::make(alloc)?;
     match put_tables(output, &mut lines, tables) {

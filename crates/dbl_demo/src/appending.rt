@@ -2,7 +2,7 @@
 
 ghost use Rattle.std.specs.Prelude.{◌≡◌, ◌⊎◌, ◌+◌, ◌<◌, ◌≤◌, ◌++◌, ◌∷◌, [], ℕ, List, length, drop, slice_get, Some};
 ghost use Rattle.std.specs.Prelude.{Err, IsTrue, IfOk, OnErr, OnOk};
-ghost use Rattle.dbl_base.specs.Streams.{Rose};
+ghost use Rattle.dbl_base.specs.Streams.{HasCause};
 ghost use Rattle.dbl_journal.specs.Growth.{ComesOf};
 ghost use Rattle.dbl_journal.specs.Stored.{LeavesEntries, Lists, count_of};
 ghost use Rattle.dbl_demo.specs.Errors.{source_error};
@@ -40,9 +40,8 @@ pub(crate) fn append<D: Disk>(journal: &mut Journal<D>, entry: Vec<u8>) -> Resul
     ensures live { OnOk result (IsTrue journal.new.live) }
     ensures count { OnOk result (count_of journal.new ≡ count_of journal.old + 1) }
     ensures comes { ComesOf D.seen D.may_leave journal.old journal.new }
-    ensures failed { result ≡ Err SourceError.Failed
-        → Rose (D.faults journal.old.disk) (D.faults journal.new.disk) }
-    ensures later { D.faults journal.old.disk ≤ D.faults journal.new.disk }
+    ensures cause { HasCause (result ≡ Err SourceError.Failed)
+        (D.faults journal.old.disk) (D.faults journal.new.disk) }
 {
     match journal.append_built(entry) {
         Ok(()) => Ok(()),
@@ -66,9 +65,8 @@ pub(crate) fn entry<D: Disk>(
     ensures comes { ComesOf D.seen D.may_leave journal.old journal.new }
     ensures crash { (crashed : List ℕ) → D.may_leave journal.new.disk crashed
         → D.may_leave journal.old.disk crashed }
-    ensures failed { result ≡ Err SourceError.Failed
-        → Rose (D.faults journal.old.disk) (D.faults journal.new.disk) }
-    ensures later { D.faults journal.old.disk ≤ D.faults journal.new.disk }
+    ensures cause { HasCause (result ≡ Err SourceError.Failed)
+        (D.faults journal.old.disk) (D.faults journal.new.disk) }
 {
     match journal.entry(alloc, number) {
         Ok(bytes) => Ok(bytes),

@@ -2,7 +2,7 @@
 
 ghost use Rattle.std.specs.Prelude.{◌≡◌, ◌≤◌, ◌∷◌, [], length, None, false, is_none, is_some, option_copied, Err};
 ghost use Rattle.std.specs.Prelude.{IsTrue, IfSome, IfOk, OnOk, OnErr, MatchOption};
-ghost use Rattle.dbl_base.specs.Streams.{Rose};
+ghost use Rattle.dbl_base.specs.Streams.{HasCause};
 ghost use Rattle.dbl_pgmsg.specs.declared.messages.Message.{Message};
 ghost use Rattle.dbl_pgmsg.specs.Grammar.{Spells};
 ghost use Rattle.dbl_reading.specs.declared.error.SourceError.TheVariants.{Failed, Memory};
@@ -97,9 +97,8 @@ impl<D: Disk> Source for DemoSource<D> {
         ensures dead { OnErr result (self.new.live ≡ false) }
         ensures honest { Unit {0} → Unit {0} }
         ensures comes { ComesOf D.seen D.may_leave self.old self.new }
-        ensures later { D.faults self.old.journal.disk ≤ D.faults self.new.journal.disk }
-        ensures failed { result ≡ Err Failed
-            → Rose (D.faults self.old.journal.disk) (D.faults self.new.journal.disk) }
+        ensures cause { HasCause (result ≡ Err Failed)
+            (D.faults self.old.journal.disk) (D.faults self.new.journal.disk) }
         ensures group { OnOk result (self.new.done ≡ next_end self.old) }
         ensures released { OnOk result (Releases D.seen D.may_leave
             (next_end self.old) [] self.old self.new) }
@@ -126,9 +125,8 @@ impl<D: Disk> Source for DemoSource<D> {
         ensures dead { OnErr result (self.new.live ≡ false) }
         ensures honest { Unit {0} → Unit {0} }
         ensures comes { ComesOf D.seen D.may_leave self.old self.new }
-        ensures later { D.faults self.old.journal.disk ≤ D.faults self.new.journal.disk }
-        ensures failed { result ≡ Err Failed
-            → Rose (D.faults self.old.journal.disk) (D.faults self.new.journal.disk) }
+        ensures cause { HasCause (result ≡ Err Failed)
+            (D.faults self.old.journal.disk) (D.faults self.new.journal.disk) }
         ensures last { IfOk result (λ lsn. lsn ≡ lsn_of (length self.new.commits)) }
         ensures group { OnOk result (self.new.done ≡ next_end self.old) }
         ensures released { OnOk result (Releases D.seen D.may_leave
@@ -163,9 +161,8 @@ impl<D: Disk> Source for DemoSource<D> {
         ensures dead { OnErr result (self.new.live ≡ false) }
         ensures honest { Unit {0} → Unit {0} }
         ensures comes { ComesOf D.seen D.may_leave self.old self.new }
-        ensures later { D.faults self.old.journal.disk ≤ D.faults self.new.journal.disk }
-        ensures failed { result ≡ Err Failed
-            → Rose (D.faults self.old.journal.disk) (D.faults self.new.journal.disk) }
+        ensures cause { HasCause (result ≡ Err Failed)
+            (D.faults self.old.journal.disk) (D.faults self.new.journal.disk) }
         ensures group { OnOk result (self.new.done ≡ next_end self.old) }
         ensures released { OnOk result (Releases D.seen D.may_leave
             (next_end self.old) [] self.old self.new) }
@@ -201,9 +198,8 @@ impl<D: Disk> Source for DemoSource<D> {
         ensures dead { OnErr result (self.new.live ≡ false) }
         ensures honest { Unit {0} → Unit {0} }
         ensures comes { ComesOf D.seen D.may_leave self.old self.new }
-        ensures later { D.faults self.old.journal.disk ≤ D.faults self.new.journal.disk }
-        ensures failed { result ≡ Err Failed
-            → Rose (D.faults self.old.journal.disk) (D.faults self.new.journal.disk) }
+        ensures cause { HasCause (result ≡ Err Failed)
+            (D.faults self.old.journal.disk) (D.faults self.new.journal.disk) }
         ensures released { OnOk result (ReadsOnTo D.seen D.may_leave
             self.old self.new) }
         ensures first { LeavesRead D.seen D.may_leave self.old self.new }
@@ -246,9 +242,8 @@ impl<D: Disk> Source for DemoSource<D> {
         ensures dead { OnErr result (self.new.live ≡ false) }
         ensures honest { Unit {0} → Unit {0} }
         ensures comes { ComesOf D.seen D.may_leave self.old self.new }
-        ensures later { D.faults self.old.journal.disk ≤ D.faults self.new.journal.disk }
-        ensures failed { result ≡ Err Failed
-            → Rose (D.faults self.old.journal.disk) (D.faults self.new.journal.disk) }
+        ensures cause { HasCause (result ≡ Err Failed)
+            (D.faults self.old.journal.disk) (D.faults self.new.journal.disk) }
         ensures group { OnOk result (self.new.done ≡ second_end self.old) }
         ensures released { OnOk result (Releases D.seen D.may_leave
             (second_end self.old) [] self.old self.new) }
@@ -280,9 +275,8 @@ impl<D: Disk> Source for DemoSource<D> {
         ensures dead { OnErr result (self.new.live ≡ false) }
         ensures honest { Unit {0} → Unit {0} }
         ensures comes { ComesOf D.seen D.may_leave self.old self.new }
-        ensures later { D.faults self.old.journal.disk ≤ D.faults self.new.journal.disk }
-        ensures failed { result ≡ Err Failed
-            → Rose (D.faults self.old.journal.disk) (D.faults self.new.journal.disk) }
+        ensures cause { HasCause (result ≡ Err Failed)
+            (D.faults self.old.journal.disk) (D.faults self.new.journal.disk) }
         ensures group { OnOk result (self.new.done ≡ next_end self.old) }
         ensures released { OnOk result (Releases D.seen D.may_leave
             (next_end self.old) (mark_of value.now (next_end self.old)) self.old self.new) }
@@ -314,9 +308,8 @@ impl<D: Disk> Source for DemoSource<D> {
         ensures dead { OnErr result (self.new.live ≡ false) }
         ensures honest { Unit {0} → Unit {0} }
         ensures comes { ComesOf D.seen D.may_leave self.old self.new }
-        ensures later { D.faults self.old.journal.disk ≤ D.faults self.new.journal.disk }
-        ensures failed { result ≡ Err Failed
-            → Rose (D.faults self.old.journal.disk) (D.faults self.new.journal.disk) }
+        ensures cause { HasCause (result ≡ Err Failed)
+            (D.faults self.old.journal.disk) (D.faults self.new.journal.disk) }
         ensures group { OnOk result (self.new.done ≡ next_end self.old) }
         ensures released { OnOk result (Releases D.seen D.may_leave
             (next_end self.old) (confirm_of self.old.confirmed upto) self.old self.new) }

@@ -2,7 +2,7 @@
 
 ghost use Rattle.std.specs.Prelude.{◌≡◌, ◌≢◌, ℕ, ◌<◌, ◌≤◌, List, [], Some, None, Err, IfSome, IfOk, IfErr, OnOk};
 ghost use Rattle.std.specs.Prelude.{IsTrue, MatchResult, is_some, length, max};
-ghost use Rattle.dbl_base.specs.Streams.{Rose};
+ghost use Rattle.dbl_base.specs.Streams.{HasCause};
 ghost use Rattle.dbl_journal.specs.Stored.{IsSteady, Lists, count_of, size};
 ghost use Rattle.dbl_sound.specs.Wals.{Wal};
 ghost use Rattle.dbl_sound.specs.Workloads.{IsWorkload, Workload};
@@ -53,13 +53,12 @@ fn begin_log<D: Disk>(
     ensures count { OnOk result (count_of journal.new
         ≡ length (first_forms bytes.now prepared.now.rows)) }
     ensures kinds { IfErr result IsBeginFault }
-    ensures failed { result ≡ Err (DemoError.Journal JournalError.Failed)
-        → Rose (D.faults journal.old.disk) (D.faults journal.new.disk) }
+    ensures cause { HasCause (result ≡ Err (DemoError.Journal JournalError.Failed))
+        (D.faults journal.old.disk) (D.faults journal.new.disk) }
     ensures grows { (old new : List ℕ) → Lists D.seen D.may_leave journal.old []
         → D.seen journal.old.disk ≡ Some old → D.seen journal.new.disk ≡ Some new
         → length new ≤ max (length old)
         (size (first_forms bytes.now prepared.now.rows)) }
-    ensures later { D.faults journal.old.disk ≤ D.faults journal.new.disk }
     ensures steady { result ≢ Err (DemoError.Journal JournalError.Failed)
         → IsSteady D.seen D.faults journal.old.disk journal.new.disk }
 {

@@ -2,7 +2,7 @@
 
 ghost use Rattle.std.specs.Prelude.{◌≡◌, ◌⊎◌, ◌<◌, ◌≤◌, ◌++◌, ◌∷◌, [], ℕ, List, length};
 ghost use Rattle.std.specs.Prelude.{drop, false, Err, IsTrue, OnOk};
-ghost use Rattle.dbl_base.specs.Streams.{Rose};
+ghost use Rattle.dbl_base.specs.Streams.{HasCause};
 ghost use Rattle.dbl_journal.specs.Growth.{ComesOf};
 ghost use Rattle.dbl_journal.specs.Stored.{LeavesEntries, Lists, count_of};
 ghost use Rattle.dbl_running.specs.Answers.{Adds, AnswersNothing};
@@ -39,9 +39,8 @@ impl<D: Disk> DemoSource<D> {
         } }
         ensures live { OnOk result (IsTrue self.new.journal.live) }
         ensures comes { ComesOf D.seen D.may_leave self.old.journal self.new.journal }
-        ensures failed { result ≡ Err SourceError.Failed
-            → Rose (D.faults self.old.journal.disk) (D.faults self.new.journal.disk) }
-        ensures later { D.faults self.old.journal.disk ≤ D.faults self.new.journal.disk }
+        ensures cause { HasCause (result ≡ Err SourceError.Failed)
+            (D.faults self.old.journal.disk) (D.faults self.new.journal.disk) }
     {
         let number = self.journal.count();
         self.commits.push(number)?;

@@ -1,8 +1,8 @@
 //! The next message of the log. Of a commit the entry is read once from the disk.
 
-ghost use Rattle.std.specs.Prelude.{◌≡◌, ◌⊎◌, ◌<◌, ◌≤◌, ℕ, List, None, Some, Err, IfOk, IsTrue, slice_get, IfErr};
+ghost use Rattle.std.specs.Prelude.{◌≡◌, ◌⊎◌, ◌<◌, ℕ, List, None, Some, Err, IfOk, IsTrue, slice_get, IfErr};
 ghost use Rattle.std.specs.Prelude.{IsSome, is_some, false, length};
-ghost use Rattle.dbl_base.specs.Streams.{Rose};
+ghost use Rattle.dbl_base.specs.Streams.{HasCause};
 ghost use Rattle.dbl_feed.specs.declared.place.Place.{Place};
 ghost use Rattle.dbl_feed.specs.Sent.{index_of};
 ghost use Rattle.dbl_journal.specs.Growth.{ComesOf};
@@ -69,9 +69,8 @@ impl<D: Disk> DemoSource<D> {
         ensures crash { (crashed : List ℕ) → D.may_leave self.new.journal.disk crashed
             → D.may_leave self.old.journal.disk crashed }
         ensures comes { ComesOf D.seen D.may_leave self.old.journal self.new.journal }
-        ensures failed { result ≡ Err SourceError.Failed
-            → Rose (D.faults self.old.journal.disk) (D.faults self.new.journal.disk) }
-        ensures later { D.faults self.old.journal.disk ≤ D.faults self.new.journal.disk }
+        ensures cause { HasCause (result ≡ Err SourceError.Failed)
+            (D.faults self.old.journal.disk) (D.faults self.new.journal.disk) }
     {
         if self.held.is_some() {
             return Ok(None);
@@ -145,9 +144,8 @@ impl<D: Disk> DemoSource<D> {
         ensures crash { (crashed : List ℕ) → D.may_leave self.new.journal.disk crashed
             → D.may_leave self.old.journal.disk crashed }
         ensures comes { ComesOf D.seen D.may_leave self.old.journal self.new.journal }
-        ensures failed { result ≡ Err SourceError.Failed
-            → Rose (D.faults self.old.journal.disk) (D.faults self.new.journal.disk) }
-        ensures later { D.faults self.old.journal.disk ≤ D.faults self.new.journal.disk }
+        ensures cause { HasCause (result ≡ Err SourceError.Failed)
+            (D.faults self.old.journal.disk) (D.faults self.new.journal.disk) }
     {
         let Some(place) = self.place else {
             return Ok(None);

@@ -1,7 +1,7 @@
 //! Groups of steps that a call runs, and the commits that they add to the log.
 
 ghost use Rattle.std.specs.Prelude.{◌≡◌, ◌<◌, ◌≤◌, ◌+◌, Err, [], false, length, IfOk, OnOk, IsTrue, slice_get, Some, ◌⊎◌, true};
-ghost use Rattle.dbl_base.specs.Streams.{Rose};
+ghost use Rattle.dbl_base.specs.Streams.{HasCause};
 ghost use Rattle.dbl_journal.specs.Growth.{ComesOf};
 ghost use Rattle.dbl_journal.specs.Stored.{count_of};
 ghost use Rattle.dbl_feed.specs.declared.place.Place.{Place};
@@ -40,9 +40,8 @@ impl<D: Disk> DemoSource<D> {
         ensures same { IsRunOf self.old self.new }
         ensures stays { (self.new.done ≡ self.old.done) × (self.new.store ≡ self.old.store) }
         ensures comes { ComesOf D.seen D.may_leave self.old.journal self.new.journal }
-        ensures failed { result ≡ Err SourceError.Failed
-            → Rose (D.faults self.old.journal.disk) (D.faults self.new.journal.disk) }
-        ensures later { D.faults self.old.journal.disk ≤ D.faults self.new.journal.disk }
+        ensures cause { HasCause (result ≡ Err SourceError.Failed)
+            (D.faults self.old.journal.disk) (D.faults self.new.journal.disk) }
     {
         let number = self.journal.count();
         let entry = commit_entry(self.alloc, self.done as u64, messages.items().as_slice())?;
@@ -66,9 +65,8 @@ impl<D: Disk> DemoSource<D> {
         ensures live { OnOk result (IsTrue self.new.journal.live) }
         ensures same { IsRunOf self.old self.new }
         ensures comes { ComesOf D.seen D.may_leave self.old.journal self.new.journal }
-        ensures failed { result ≡ Err SourceError.Failed
-            → Rose (D.faults self.old.journal.disk) (D.faults self.new.journal.disk) }
-        ensures later { D.faults self.old.journal.disk ≤ D.faults self.new.journal.disk }
+        ensures cause { HasCause (result ≡ Err SourceError.Failed)
+            (D.faults self.old.journal.disk) (D.faults self.new.journal.disk) }
     {
         let ends = is_tick(&self.steps[self.done]);
         let committed = run_next(&mut self.store, self.steps.as_slice(), self.done)?;
@@ -91,9 +89,8 @@ impl<D: Disk> DemoSource<D> {
         ensures live { OnOk result (IsTrue self.new.journal.live) }
         ensures same { IsRunOf self.old self.new }
         ensures comes { ComesOf D.seen D.may_leave self.old.journal self.new.journal }
-        ensures failed { result ≡ Err SourceError.Failed
-            → Rose (D.faults self.old.journal.disk) (D.faults self.new.journal.disk) }
-        ensures later { D.faults self.old.journal.disk ≤ D.faults self.new.journal.disk }
+        ensures cause { HasCause (result ≡ Err SourceError.Failed)
+            (D.faults self.old.journal.disk) (D.faults self.new.journal.disk) }
     {
         'steps: while self.done < self.steps.len() {
             if self.run_one()? {
@@ -129,9 +126,8 @@ impl<D: Disk> DemoSource<D> {
         ensures live { OnOk result (IsTrue self.new.journal.live) }
         ensures same { IsRunOf self.old self.new }
         ensures comes { ComesOf D.seen D.may_leave self.old.journal self.new.journal }
-        ensures failed { result ≡ Err SourceError.Failed
-            → Rose (D.faults self.old.journal.disk) (D.faults self.new.journal.disk) }
-        ensures later { D.faults self.old.journal.disk ≤ D.faults self.new.journal.disk }
+        ensures cause { HasCause (result ≡ Err SourceError.Failed)
+            (D.faults self.old.journal.disk) (D.faults self.new.journal.disk) }
     {
         self.release()?;
         'groups: while self.done < self.steps.len() {

@@ -1,6 +1,6 @@
 -- Disks with a fuse.
-use Rattle.std.specs.Prelude.{◌≡◌, ℕ, ◌+◌, ◌-◌, ◌^◌, ◌<◌, min, Option, Some, None, Result, IsErr, OnErr}
-use Rattle.dbl_base.specs.Streams.{Rose, raised}
+use Rattle.std.specs.Prelude.{◌≡◌, ℕ, ◌+◌, ◌-◌, ◌^◌, ◌<◌, min, Option, Some, None, Result, IsErr}
+use Rattle.dbl_base.specs.Streams.{HasCause, raised}
 use Rattle.dbl_disk.specs.Disks.{IsCalled}
 
 -- the disk behind the fuse, how many calls the fuse still passes, and how many it has refused
@@ -13,7 +13,7 @@ pub record Fused (D : Type 0) : Type 0 where
 -- that one fails; then it fails and leaves the disk behind as it is.
 pub record Burns {D T E : Type 0} (faults : D → ℕ) (calls : D → Option ℕ) (old new : Fused D) (result : Result T E) : Type 0 where
   pub left : new.left ≡ old.left - 1
-  pub passed : 0 < old.left → OnErr result (Rose (faults old.inner) (faults new.inner))
+  pub passed : 0 < old.left → HasCause (IsErr result) (faults old.inner) (faults new.inner)
   pub once : 0 < old.left → IsCalled (calls old.inner) (calls new.inner)
   pub counted : 0 < old.left → new.refused ≡ old.refused
   pub blown : old.left ≡ 0 → IsErr result

@@ -1,5 +1,5 @@
 ghost use Rattle.std.specs.Prelude.{◌≡◌, ◌↔◌, ℕ, ◌+◌, ◌-◌, ◌<◌, ◌≤◌, List, length, take, drop, min, Option, Some, None, IsErr, IfOk, OnOk, OnErr};
-ghost use Rattle.dbl_base.specs.Streams.{Rose};
+ghost use Rattle.dbl_base.specs.Streams.{HasCause};
 ghost use Rattle.dbl_disk.specs.Disks.{Follows, IsCalled, IsOnly, Torn, written, half_limit, disk_limit};
 
 use dbl_base::Failed;
@@ -31,8 +31,7 @@ pub trait Disk {
         ensures seen { seen self.new ≡ seen self.old }
         ensures crash { (crashed : List ℕ) →
             may_leave self.new crashed ↔ may_leave self.old crashed }
-        ensures later { faults self.old ≤ faults self.new }
-        ensures cause { OnErr result (Rose (faults self.old) (faults self.new)) }
+        ensures cause { HasCause (IsErr result) (faults self.old) (faults self.new) }
         ensures steady { (bytes : List ℕ) → seen self.old ≡ Some bytes →
             OnOk result (faults self.new ≡ faults self.old) }
         ensures called { IsCalled (calls self.old) (calls self.new) };
@@ -48,8 +47,7 @@ pub trait Disk {
         ensures seen { seen self.new ≡ seen self.old }
         ensures crash { (crashed : List ℕ) →
             may_leave self.new crashed ↔ may_leave self.old crashed }
-        ensures later { faults self.old ≤ faults self.new }
-        ensures cause { OnErr result (Rose (faults self.old) (faults self.new)) }
+        ensures cause { HasCause (IsErr result) (faults self.old) (faults self.new) }
         ensures steady { (bytes : List ℕ) → seen self.old ≡ Some bytes →
             OnOk result (faults self.new ≡ faults self.old) }
         ensures called { IsCalled (calls self.old) (calls self.new) };
@@ -72,8 +70,7 @@ pub trait Disk {
         ensures silent { seen self.old ≡ None → seen self.new ≡ None }
         ensures untried { disk_limit ≤ at + length bytes.now → (crashed : List ℕ) →
             may_leave self.new crashed ↔ may_leave self.old crashed }
-        ensures later { faults self.old ≤ faults self.new }
-        ensures cause { OnErr result (Rose (faults self.old) (faults self.new)) }
+        ensures cause { HasCause (IsErr result) (faults self.old) (faults self.new) }
         ensures steady { (bytes : List ℕ) → seen self.old ≡ Some bytes →
             OnOk result (faults self.new ≡ faults self.old) }
         ensures called { IsCalled (calls self.old) (calls self.new) };
@@ -85,8 +82,7 @@ pub trait Disk {
         ensures seen { seen self.new ≡ seen self.old }
         ensures crash { (crashed : List ℕ) →
             may_leave self.new crashed → may_leave self.old crashed }
-        ensures later { faults self.old ≤ faults self.new }
-        ensures cause { OnErr result (Rose (faults self.old) (faults self.new)) }
+        ensures cause { HasCause (IsErr result) (faults self.old) (faults self.new) }
         ensures steady { (bytes : List ℕ) → seen self.old ≡ Some bytes →
             OnOk result (faults self.new ≡ faults self.old) }
         ensures called { IsCalled (calls self.old) (calls self.new) };

@@ -1,5 +1,5 @@
-ghost use Rattle.std.specs.Prelude.{◌≡◌, ◌+◌, ◌^◌, ◌<◌, ◌≤◌, length, IfOk, OnOk, OnErr};
-ghost use Rattle.dbl_base.specs.Streams.{Rose, raised};
+ghost use Rattle.std.specs.Prelude.{◌≡◌, ◌+◌, ◌^◌, ◌<◌, ◌≤◌, length, IfOk, OnOk, IsErr};
+ghost use Rattle.dbl_base.specs.Streams.{HasCause, raised};
 
 use crate::{DISK_LIMIT, Disk};
 use dbl_base::Failed;
@@ -40,8 +40,7 @@ fn count(faults: &mut u64) -> Failed
 
 // Counts an error of the system as a fault.
 fn count_fault<T: Drop>(outcome: io::Result<T>, faults: &mut u64) -> Result<T, Failed>
-    ensures later { faults.old ≤ faults.new }
-    ensures cause { OnErr result (Rose faults.old faults.new) }
+    ensures cause { HasCause (IsErr result) faults.old faults.new }
 {
     match outcome {
         Ok(value) => Ok(value),
@@ -60,8 +59,7 @@ fn open<R: Files>(files: &R, path: &str) -> io::Result<R::File> {
 // Reads until the buffer is full or the file ends, and answers how many bytes.
 fn read_all<F: Read>(file: &mut F, faults: &mut u64, buffer: &mut [u8]) -> Result<usize, Failed>
     ensures bound { IfOk result (λ n. n ≤ length buffer.old) }
-    ensures later { faults.old ≤ faults.new }
-    ensures cause { OnErr result (Rose faults.old faults.new) }
+    ensures cause { HasCause (IsErr result) faults.old faults.new }
 {
     let mut done = 0;
     'pieces: for _ in 0..u64::MAX {
@@ -84,8 +82,7 @@ fn read_all<F: Read>(file: &mut F, faults: &mut u64, buffer: &mut [u8]) -> Resul
 
 // Writes all of the bytes.
 fn write_all<F: Write>(file: &mut F, faults: &mut u64, bytes: &[u8]) -> Result<(), Failed>
-    ensures later { faults.old ≤ faults.new }
-    ensures cause { OnErr result (Rose faults.old faults.new) }
+    ensures cause { HasCause (IsErr result) faults.old faults.new }
 {
     let mut done = 0;
     'pieces: for _ in 0..u64::MAX {
@@ -121,8 +118,7 @@ impl<'a, R: Files> FileDisk<'a, R> {
 
     // The file, which the caller puts back.
     fn take_file(&mut self) -> Result<R::File, Failed>
-        ensures later { self.old ≤ self.new }
-        ensures cause { OnErr result (Rose self.old self.new) }
+        ensures cause { HasCause (IsErr result) self.old self.new }
     {
         match self.file.take() {
             Some(file) => Ok(file),

@@ -1,5 +1,5 @@
-ghost use Rattle.std.specs.Prelude.{◌≡◌, ◌↔◌, ℕ, ◌+◌, ◌-◌, ◌<◌, ◌≤◌, List, length, take, drop, min, Some, None, IfOk, OnOk, OnErr};
-ghost use Rattle.dbl_base.specs.Streams.{Rose, raised};
+ghost use Rattle.std.specs.Prelude.{◌≡◌, ◌↔◌, ℕ, ◌+◌, ◌-◌, ◌<◌, ◌≤◌, List, length, take, drop, min, Some, None, IfOk, OnOk, OnErr, IsErr};
+ghost use Rattle.dbl_base.specs.Streams.{HasCause, raised};
 ghost use Rattle.dbl_disk.specs.Disks.{Follows, IsCalled, IsOnly, Torn, written, half_limit, disk_limit};
 ghost use Rattle.dbl_disk.specs.Fuse.{Burns, fuse_calls, fuse_faults};
 
@@ -84,9 +84,8 @@ impl<D: Disk> Disk for FuseDisk<D> {
         ensures seen { D.seen self.new.inner ≡ D.seen self.old.inner }
         ensures crash { (crashed : List ℕ) → D.may_leave self.new.inner crashed ↔
             D.may_leave self.old.inner crashed }
-        ensures later { fuse_faults D.faults self.old ≤ fuse_faults D.faults self.new }
-        ensures cause { OnErr result
-            (Rose (fuse_faults D.faults self.old) (fuse_faults D.faults self.new)) }
+        ensures cause { HasCause (IsErr result)
+            (fuse_faults D.faults self.old) (fuse_faults D.faults self.new) }
         ensures steady { (bytes : List ℕ) → D.seen self.old.inner ≡ Some bytes →
             OnOk result (fuse_faults D.faults self.new ≡ fuse_faults D.faults self.old) }
         ensures called { IsCalled (fuse_calls D.calls self.old) (fuse_calls D.calls self.new) }
@@ -105,9 +104,8 @@ impl<D: Disk> Disk for FuseDisk<D> {
         ensures seen { D.seen self.new.inner ≡ D.seen self.old.inner }
         ensures crash { (crashed : List ℕ) → D.may_leave self.new.inner crashed ↔
             D.may_leave self.old.inner crashed }
-        ensures later { fuse_faults D.faults self.old ≤ fuse_faults D.faults self.new }
-        ensures cause { OnErr result
-            (Rose (fuse_faults D.faults self.old) (fuse_faults D.faults self.new)) }
+        ensures cause { HasCause (IsErr result)
+            (fuse_faults D.faults self.old) (fuse_faults D.faults self.new) }
         ensures steady { (bytes : List ℕ) → D.seen self.old.inner ≡ Some bytes →
             OnOk result (fuse_faults D.faults self.new ≡ fuse_faults D.faults self.old) }
         ensures called { IsCalled (fuse_calls D.calls self.old) (fuse_calls D.calls self.new) }
@@ -133,9 +131,8 @@ impl<D: Disk> Disk for FuseDisk<D> {
         ensures silent { D.seen self.old.inner ≡ None → D.seen self.new.inner ≡ None }
         ensures untried { disk_limit ≤ at + length bytes.now → (crashed : List ℕ) →
             D.may_leave self.new.inner crashed ↔ D.may_leave self.old.inner crashed }
-        ensures later { fuse_faults D.faults self.old ≤ fuse_faults D.faults self.new }
-        ensures cause { OnErr result
-            (Rose (fuse_faults D.faults self.old) (fuse_faults D.faults self.new)) }
+        ensures cause { HasCause (IsErr result)
+            (fuse_faults D.faults self.old) (fuse_faults D.faults self.new) }
         ensures steady { (bytes : List ℕ) → D.seen self.old.inner ≡ Some bytes →
             OnOk result (fuse_faults D.faults self.new ≡ fuse_faults D.faults self.old) }
         ensures called { IsCalled (fuse_calls D.calls self.old) (fuse_calls D.calls self.new) }
@@ -151,9 +148,8 @@ impl<D: Disk> Disk for FuseDisk<D> {
         ensures seen { D.seen self.new.inner ≡ D.seen self.old.inner }
         ensures crash { (crashed : List ℕ) → D.may_leave self.new.inner crashed →
             D.may_leave self.old.inner crashed }
-        ensures later { fuse_faults D.faults self.old ≤ fuse_faults D.faults self.new }
-        ensures cause { OnErr result
-            (Rose (fuse_faults D.faults self.old) (fuse_faults D.faults self.new)) }
+        ensures cause { HasCause (IsErr result)
+            (fuse_faults D.faults self.old) (fuse_faults D.faults self.new) }
         ensures steady { (bytes : List ℕ) → D.seen self.old.inner ≡ Some bytes →
             OnOk result (fuse_faults D.faults self.new ≡ fuse_faults D.faults self.old) }
         ensures called { IsCalled (fuse_calls D.calls self.old) (fuse_calls D.calls self.new) }

@@ -1,6 +1,6 @@
 ghost use Rattle.std.specs.Prelude.{◌≡◌, ◌↔◌, ◌⊎◌, ℕ, ◌+◌, ◌-◌, ◌<◌, ◌≤◌, ◌++◌, List, [], ◌∷◌, length, take, drop, replicate, min, slice_index, Some, None, Ok, Err, IsErr, IfOk, OnOk, OnErr, Contains};
 ghost use Rattle.std.specs.List.{All};
-ghost use Rattle.dbl_base.specs.Streams.{Rose, raised};
+ghost use Rattle.dbl_base.specs.Streams.{HasCause, raised};
 ghost use Rattle.dbl_base.specs.Memory.{new_plan};
 ghost use Rattle.dbl_disk.specs.Disks.{Follows, IsAside, IsCalled, IsOnly, MayLeave, Torn, written, half_limit, disk_limit};
 ghost use Rattle.dbl_disk.specs.Memory.{AreFilled, DiffersInside, MayRemain, IsFilled, IsKept, synced};
@@ -254,8 +254,7 @@ impl Disk for MemDisk {
         ensures seen { Some self.new.current ≡ Some self.old.current }
         ensures crash { (crashed : List ℕ) →
             MayRemain self.new crashed ↔ MayRemain self.old crashed }
-        ensures later { self.old.plan.faults ≤ self.new.plan.faults }
-        ensures cause { OnErr result (Rose self.old.plan.faults self.new.plan.faults) }
+        ensures cause { HasCause (IsErr result) self.old.plan.faults self.new.plan.faults }
         ensures steady { (bytes : List ℕ) → Some self.old.current ≡ Some bytes →
             OnOk result (self.new.plan.faults ≡ self.old.plan.faults) }
         ensures called { IsCalled (Some self.old.plan.calls) (Some self.new.plan.calls) }
@@ -286,8 +285,7 @@ impl Disk for MemDisk {
         ensures seen { Some self.new.current ≡ Some self.old.current }
         ensures crash { (crashed : List ℕ) →
             MayRemain self.new crashed ↔ MayRemain self.old crashed }
-        ensures later { self.old.plan.faults ≤ self.new.plan.faults }
-        ensures cause { OnErr result (Rose self.old.plan.faults self.new.plan.faults) }
+        ensures cause { HasCause (IsErr result) self.old.plan.faults self.new.plan.faults }
         ensures steady { (bytes : List ℕ) → Some self.old.current ≡ Some bytes →
             OnOk result (self.new.plan.faults ≡ self.old.plan.faults) }
         ensures called { IsCalled (Some self.old.plan.calls) (Some self.new.plan.calls) }
@@ -330,8 +328,7 @@ impl Disk for MemDisk {
         ensures silent { Some self.old.current ≡ None → Some self.new.current ≡ None }
         ensures untried { disk_limit ≤ at + length bytes.now → (crashed : List ℕ) →
             MayRemain self.new crashed ↔ MayRemain self.old crashed }
-        ensures later { self.old.plan.faults ≤ self.new.plan.faults }
-        ensures cause { OnErr result (Rose self.old.plan.faults self.new.plan.faults) }
+        ensures cause { HasCause (IsErr result) self.old.plan.faults self.new.plan.faults }
         ensures steady { (bytes : List ℕ) → Some self.old.current ≡ Some bytes →
             OnOk result (self.new.plan.faults ≡ self.old.plan.faults) }
         ensures called { IsCalled (Some self.old.plan.calls) (Some self.new.plan.calls) }
@@ -364,8 +361,7 @@ impl Disk for MemDisk {
         ensures seen { Some self.new.current ≡ Some self.old.current }
         ensures crash { (crashed : List ℕ) →
             MayRemain self.new crashed → MayRemain self.old crashed }
-        ensures later { self.old.plan.faults ≤ self.new.plan.faults }
-        ensures cause { OnErr result (Rose self.old.plan.faults self.new.plan.faults) }
+        ensures cause { HasCause (IsErr result) self.old.plan.faults self.new.plan.faults }
         ensures steady { (bytes : List ℕ) → Some self.old.current ≡ Some bytes →
             OnOk result (self.new.plan.faults ≡ self.old.plan.faults) }
         ensures called { IsCalled (Some self.old.plan.calls) (Some self.new.plan.calls) }

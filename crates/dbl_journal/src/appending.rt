@@ -1,6 +1,6 @@
-ghost use Rattle.std.specs.Prelude.{◌≡◌, ◌⊎◌, ℕ, ◌+◌, ◌<◌, ◌≤◌, ◌++◌, List, [], ◌∷◌, length, drop, max, Some, IfOk, OnOk, OnErr};
+ghost use Rattle.std.specs.Prelude.{◌≡◌, ◌⊎◌, ℕ, ◌+◌, ◌<◌, ◌≤◌, ◌++◌, List, [], ◌∷◌, length, drop, max, Some, IfOk, OnOk, IsErr};
 ghost use Rattle.std.specs.Int.{to_be_bytes, w32};
-ghost use Rattle.dbl_base.specs.Streams.{Rose};
+ghost use Rattle.dbl_base.specs.Streams.{HasCause};
 ghost use Rattle.dbl_disk.specs.Disks.{Follows, IsOnly, Torn, disk_limit};
 ghost use Rattle.dbl_journal.specs.Form.{IsEntry, IsJournal, body, front, entry_limit};
 ghost use Rattle.dbl_journal.specs.Steps.{Stages};
@@ -63,8 +63,7 @@ pub(crate) fn stage<D: Disk>(disk: &mut D, gate: u64, bytes: &[u8]) -> Result<()
         (D.seen disk.new ≡ Some new) }
     ensures longest { (old new : List ℕ) → D.seen disk.old ≡ Some old → D.seen disk.new ≡ Some new →
         length new ≤ max (length old) (gate + 1 + length bytes.now) }
-    ensures later { D.faults disk.old ≤ D.faults disk.new }
-    ensures cause { OnErr result (Rose (D.faults disk.old) (D.faults disk.new)) }
+    ensures cause { HasCause (IsErr result) (D.faults disk.old) (D.faults disk.new) }
     ensures steady { (old : List ℕ) → D.seen disk.old ≡ Some old →
         OnOk result (D.faults disk.new ≡ D.faults disk.old) }
 {
@@ -92,8 +91,7 @@ pub(crate) fn open_gate<D: Disk>(disk: &mut D, gate: u64) -> Result<(), Failed>
         length new ≤ max (length old) (gate + 1) }
     ensures reaches { (new : List ℕ) → D.seen disk.new ≡ Some new →
         OnOk result ((old : List ℕ) × (D.seen disk.old ≡ Some old) × (length old ≤ length new)) }
-    ensures later { D.faults disk.old ≤ D.faults disk.new }
-    ensures cause { OnErr result (Rose (D.faults disk.old) (D.faults disk.new)) }
+    ensures cause { HasCause (IsErr result) (D.faults disk.old) (D.faults disk.new) }
     ensures steady { (old : List ℕ) → D.seen disk.old ≡ Some old →
         OnOk result (D.faults disk.new ≡ D.faults disk.old) }
 {
@@ -110,8 +108,7 @@ pub(crate) fn start<D: Disk>(disk: &mut D, bytes: &[u8]) -> Result<(), Failed>
     ensures reaches { (new : List ℕ) → D.seen disk.new ≡ Some new → OnOk result (9 ≤ length new) }
     ensures longest { (new : List ℕ) → D.seen disk.old ≡ Some [] → D.seen disk.new ≡ Some new →
         length new ≤ 9 }
-    ensures later { D.faults disk.old ≤ D.faults disk.new }
-    ensures cause { OnErr result (Rose (D.faults disk.old) (D.faults disk.new)) }
+    ensures cause { HasCause (IsErr result) (D.faults disk.old) (D.faults disk.new) }
     ensures steady { (old : List ℕ) → D.seen disk.old ≡ Some old →
         OnOk result (D.faults disk.new ≡ D.faults disk.old) }
 {

@@ -1,5 +1,5 @@
 ghost use Rattle.std.specs.Prelude.{◌≡◌, ◌≢◌, ◌⊎◌, ◌↔◌, ℕ, ◌+◌, ◌<◌, ◌≤◌, ◌++◌, List, [], ◌∷◌, length, drop, max, false, Some, IsTrue, IfOk, IfErr, OnOk, OnErr, MatchResult, slice_get};
-ghost use Rattle.dbl_base.specs.Streams.{Rose, raised};
+ghost use Rattle.dbl_base.specs.Streams.{HasCause, Rose, raised};
 ghost use Rattle.dbl_disk.specs.Disks.{Follows, IsOnly, Torn, disk_limit};
 ghost use Rattle.dbl_journal.specs.Form.{IsFaultAt, IsJournal, entry_limit};
 ghost use Rattle.dbl_journal.specs.Growth.{ComesOf};
@@ -143,12 +143,11 @@ impl<D: Disk> Journal<D> {
         ensures count { OnOk result (count_of self.new ≡ count_of self.old + 1) }
         ensures too_long { (len : ℕ) → (result ≡ Err (JournalError.EntryTooLong len)) ↔
             ((entry_limit < length entry.now) × (len ≡ length entry.now)) }
-        ensures failed { result ≡ Err JournalError.Failed →
-            Rose (D.faults self.old.disk) (D.faults self.new.disk) }
+        ensures cause { HasCause (result ≡ Err JournalError.Failed)
+            (D.faults self.old.disk) (D.faults self.new.disk) }
         ensures dead { result ≡ Err JournalError.Failed → self.new.live ≡ false }
         ensures journal { (at : ℕ) → result ≢ Err (JournalError.NotAJournal at) }
         ensures unchanged { OnErr result (result ≢ Err JournalError.Failed → self.new ≡ self.old) }
-        ensures later { D.faults self.old.disk ≤ D.faults self.new.disk }
         ensures steady { result ≢ Err JournalError.Failed →
             IsSteady D.seen D.faults self.old.disk self.new.disk }
     {
@@ -182,12 +181,11 @@ impl<D: Disk> Journal<D> {
         ensures count { OnOk result (count_of self.new ≡ count_of self.old + 1) }
         ensures too_long { (len : ℕ) → (result ≡ Err (JournalError.EntryTooLong len)) ↔
             ((entry_limit < length (drop 4 bytes.items)) × (len ≡ length (drop 4 bytes.items))) }
-        ensures failed { result ≡ Err JournalError.Failed →
-            Rose (D.faults self.old.disk) (D.faults self.new.disk) }
+        ensures cause { HasCause (result ≡ Err JournalError.Failed)
+            (D.faults self.old.disk) (D.faults self.new.disk) }
         ensures dead { result ≡ Err JournalError.Failed → self.new.live ≡ false }
         ensures journal { (at : ℕ) → result ≢ Err (JournalError.NotAJournal at) }
         ensures unchanged { OnErr result (result ≢ Err JournalError.Failed → self.new ≡ self.old) }
-        ensures later { D.faults self.old.disk ≤ D.faults self.new.disk }
         ensures steady { result ≢ Err JournalError.Failed →
             IsSteady D.seen D.faults self.old.disk self.new.disk }
     {
@@ -220,11 +218,10 @@ impl<D: Disk> Journal<D> {
         ensures seen { D.seen self.new.disk ≡ D.seen self.old.disk }
         ensures crash { (crashed : List ℕ) → D.may_leave self.new.disk crashed ↔
             D.may_leave self.old.disk crashed }
-        ensures failed { result ≡ Err JournalError.Failed →
-            Rose (D.faults self.old.disk) (D.faults self.new.disk) }
+        ensures cause { HasCause (result ≡ Err JournalError.Failed)
+            (D.faults self.old.disk) (D.faults self.new.disk) }
         ensures journal { (at : ℕ) → result ≢ Err (JournalError.NotAJournal at) }
         ensures short { (len : ℕ) → result ≢ Err (JournalError.EntryTooLong len) }
-        ensures later { D.faults self.old.disk ≤ D.faults self.new.disk }
         ensures steady { result ≢ Err JournalError.Failed →
             IsSteady D.seen D.faults self.old.disk self.new.disk }
     {

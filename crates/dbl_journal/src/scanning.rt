@@ -1,6 +1,6 @@
-ghost use Rattle.std.specs.Prelude.{◌≡◌, ◌≢◌, ◌↔◌, ℕ, ◌+◌, ◌^◌, ◌<◌, ◌≤◌, ◌++◌, List, [], ◌∷◌, length, take, drop, slice_index, Some, IfOk, IfSome, IfNone, OnOk, OnErr};
+ghost use Rattle.std.specs.Prelude.{◌≡◌, ◌≢◌, ◌↔◌, ℕ, ◌+◌, ◌^◌, ◌<◌, ◌≤◌, ◌++◌, List, [], ◌∷◌, length, take, drop, slice_index, Some, IfOk, IfSome, IfNone, OnOk};
 ghost use Rattle.std.specs.Int.{to_be_bytes, w32};
-ghost use Rattle.dbl_base.specs.Streams.{Rose, raised};
+ghost use Rattle.dbl_base.specs.Streams.{HasCause, raised};
 ghost use Rattle.dbl_disk.specs.Disks.{IsOnly, disk_limit};
 ghost use Rattle.dbl_journal.specs.Form.{IsBroken, IsFaultAt, IsJournal, front, magic};
 ghost use Rattle.dbl_journal.specs.Steps.{AreRead, IsStep};
@@ -59,10 +59,9 @@ fn next_place<D: Disk>(disk: &mut D, gate: u64, total: u64) -> Result<Option<Ext
     ensures seen { D.seen disk.new ≡ D.seen disk.old }
     ensures crash { (crashed : List ℕ) →
         D.may_leave disk.new crashed ↔ D.may_leave disk.old crashed }
-    ensures failed { result ≡ Err JournalError.Failed →
-        Rose (D.faults disk.old) (D.faults disk.new) }
+    ensures cause { HasCause (result ≡ Err JournalError.Failed)
+        (D.faults disk.old) (D.faults disk.new) }
     ensures short { (len : ℕ) → result ≢ Err (JournalError.EntryTooLong len) }
-    ensures later { D.faults disk.old ≤ D.faults disk.new }
     ensures steady { (bytes : List ℕ) → D.seen disk.old ≡ Some bytes →
         result ≢ Err JournalError.Failed → D.faults disk.new ≡ D.faults disk.old }
 {
@@ -93,10 +92,9 @@ fn read_magic<D: Disk>(disk: &mut D) -> Result<(), JournalError>
     ensures seen { D.seen disk.new ≡ D.seen disk.old }
     ensures crash { (crashed : List ℕ) →
         D.may_leave disk.new crashed ↔ D.may_leave disk.old crashed }
-    ensures failed { result ≡ Err JournalError.Failed →
-        Rose (D.faults disk.old) (D.faults disk.new) }
+    ensures cause { HasCause (result ≡ Err JournalError.Failed)
+        (D.faults disk.old) (D.faults disk.new) }
     ensures short { (len : ℕ) → result ≢ Err (JournalError.EntryTooLong len) }
-    ensures later { D.faults disk.old ≤ D.faults disk.new }
     ensures steady { (bytes : List ℕ) → D.seen disk.old ≡ Some bytes →
         result ≢ Err JournalError.Failed → D.faults disk.new ≡ D.faults disk.old }
 {
@@ -124,10 +122,9 @@ fn read_places<D: Disk>(alloc: Global, disk: &mut D, total: u64) -> Result<Found
     ensures seen { D.seen disk.new ≡ D.seen disk.old }
     ensures crash { (crashed : List ℕ) →
         D.may_leave disk.new crashed ↔ D.may_leave disk.old crashed }
-    ensures failed { result ≡ Err JournalError.Failed →
-        Rose (D.faults disk.old) (D.faults disk.new) }
+    ensures cause { HasCause (result ≡ Err JournalError.Failed)
+        (D.faults disk.old) (D.faults disk.new) }
     ensures short { (len : ℕ) → result ≢ Err (JournalError.EntryTooLong len) }
-    ensures later { D.faults disk.old ≤ D.faults disk.new }
     ensures steady { (bytes : List ℕ) → D.seen disk.old ≡ Some bytes →
         result ≢ Err JournalError.Failed → D.faults disk.new ≡ D.faults disk.old }
 {
@@ -161,10 +158,9 @@ pub(crate) fn scan<D: Disk>(alloc: Global, disk: &mut D) -> Result<Found, Journa
     ensures seen { D.seen disk.new ≡ D.seen disk.old }
     ensures crash { (crashed : List ℕ) →
         D.may_leave disk.new crashed → D.may_leave disk.old crashed }
-    ensures failed { result ≡ Err JournalError.Failed →
-        Rose (D.faults disk.old) (D.faults disk.new) }
+    ensures cause { HasCause (result ≡ Err JournalError.Failed)
+        (D.faults disk.old) (D.faults disk.new) }
     ensures short { (len : ℕ) → result ≢ Err (JournalError.EntryTooLong len) }
-    ensures later { D.faults disk.old ≤ D.faults disk.new }
     ensures steady { (bytes : List ℕ) → D.seen disk.old ≡ Some bytes →
         result ≢ Err JournalError.Failed → D.faults disk.new ≡ D.faults disk.old }
 {

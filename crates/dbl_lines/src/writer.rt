@@ -1,6 +1,6 @@
 //! Lines that are gathered before they are written.
-ghost use Rattle.std.specs.Prelude.{◌≡◌, ◌≤◌, ◌++◌, ◌∷◌, ℕ, List, [], Option, Err, map, IfOk, IfErr, OnOk};
-ghost use Rattle.dbl_base.specs.Streams.{Rose};
+ghost use Rattle.std.specs.Prelude.{◌≡◌, ◌++◌, ◌∷◌, ℕ, List, [], Option, Err, map, IfOk, IfErr, OnOk};
+ghost use Rattle.dbl_base.specs.Streams.{HasCause};
 ghost use Rattle.dbl_record.specs.Line.{line_of};
 ghost use Rattle.dbl_lines.specs.declared.error.PrintError.TheVariants.{OutputFailed, Memory};
 ghost use Rattle.dbl_lines.specs.Writing.{Wrote, WroteFront, Prints};
@@ -51,9 +51,8 @@ impl LineWriter {
         ensures puts { PutsLines (L.line line.now ∷ []) result self.old self.new
             (O.written output.old) (O.written output.new) }
         ensures unwritten { result ≡ Err Memory → O.written output.new ≡ O.written output.old }
-        ensures failed { result ≡ Err OutputFailed →
-            Rose (O.faults output.old) (O.faults output.new) }
-        ensures later { O.faults output.old ≤ O.faults output.new }
+        ensures cause { HasCause (result ≡ Err OutputFailed)
+            (O.faults output.old) (O.faults output.new) }
     {
         match self.gather(line) {
             Ok(()) => self.write_much(output),
@@ -69,9 +68,8 @@ impl LineWriter {
     ) -> Result<(), PrintError>
         ensures puts { PutsLines (map line_of records.now.items) result self.old self.new
             (O.written output.old) (O.written output.new) }
-        ensures failed { result ≡ Err OutputFailed →
-            Rose (O.faults output.old) (O.faults output.new) }
-        ensures later { O.faults output.old ≤ O.faults output.new }
+        ensures cause { HasCause (result ≡ Err OutputFailed)
+            (O.faults output.old) (O.faults output.new) }
     {
         'records: for item in records {
             match self.put(output, item) {
@@ -90,9 +88,8 @@ impl LineWriter {
         ensures wrote { OnOk result (Wrote (O.written output.old) (O.written output.new) self) }
         ensures front { IfErr result (λ error. (error ≡ OutputFailed) ×
             WroteFront (O.written output.old) (O.written output.new) self) }
-        ensures failed { result ≡ Err OutputFailed →
-            Rose (O.faults output.old) (O.faults output.new) }
-        ensures later { O.faults output.old ≤ O.faults output.new }
+        ensures cause { HasCause (result ≡ Err OutputFailed)
+            (O.faults output.old) (O.faults output.new) }
     {
         if self.gathered.is_empty() {
             return Ok(());
@@ -117,9 +114,8 @@ impl LineWriter {
         ensures stays { StaysPut result self.old self.new
             (O.written output.old) (O.written output.new) }
         ensures failed { IfErr result (λ error. error ≡ OutputFailed) }
-        ensures cause { result ≡ Err OutputFailed →
-            Rose (O.faults output.old) (O.faults output.new) }
-        ensures later { O.faults output.old ≤ O.faults output.new }
+        ensures cause { HasCause (result ≡ Err OutputFailed)
+            (O.faults output.old) (O.faults output.new) }
     {
         if self.gathered.len() < PIECE_LENGTH {
             return Ok(());
@@ -135,9 +131,8 @@ fn flush<O: Output>(output: &mut O, gathered: &mut Vec<u8>) -> Result<(), PrintE
     ensures emptied { OnOk result (gathered.new.items ≡ []) }
     ensures front { IfErr result (λ error. (error ≡ OutputFailed) ×
         WroteFront (O.written output.old) (O.written output.new) gathered.old.items) }
-    ensures failed { result ≡ Err OutputFailed →
-        Rose (O.faults output.old) (O.faults output.new) }
-    ensures later { O.faults output.old ≤ O.faults output.new }
+    ensures cause { HasCause (result ≡ Err OutputFailed)
+        (O.faults output.old) (O.faults output.new) }
 {
     match output.write(gathered.as_slice()) {
         Ok(()) => {

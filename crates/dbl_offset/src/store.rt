@@ -1,6 +1,6 @@
 ghost use Rattle.std.specs.Prelude.{◌≡◌, ◌≢◌, ◌⊎◌, ◌↔◌, ℕ, ◌<◌, ◌≤◌, List, [], length, max, option_map, Option, Some, None, Ok, Err, IfOk, IfErr, IfSome, OnOk, OnErr, MatchResult, IsTrue, take, slice_get};
 ghost use Rattle.std.specs.List.{All};
-ghost use Rattle.dbl_base.specs.Streams.{Rose};
+ghost use Rattle.dbl_base.specs.Streams.{HasCause, Rose};
 ghost use Rattle.dbl_disk.specs.Disks.{Follows, IsOnly};
 ghost use Rattle.dbl_journal.specs.Stored.{IsSteady, Lists};
 ghost use Rattle.dbl_offset.specs.declared.offset.Offset.{Offset};
@@ -75,11 +75,10 @@ fn read_last<D: Disk>(
     ensures seen { D.seen journal.new.disk ≡ D.seen journal.old.disk }
     ensures crash { (crashed : List ℕ) → D.may_leave journal.new.disk crashed ↔
         D.may_leave journal.old.disk crashed }
-    ensures failed { result ≡ Err OffsetError.Failed →
-        Rose (D.faults journal.old.disk) (D.faults journal.new.disk) }
+    ensures cause { HasCause (result ≡ Err OffsetError.Failed)
+        (D.faults journal.old.disk) (D.faults journal.new.disk) }
     ensures store { (at : ℕ) → result ≢ Err (OffsetError.NotAStore at) }
     ensures short { (len : ℕ) → result ≢ Err (OffsetError.TooLong len) }
-    ensures later { D.faults journal.old.disk ≤ D.faults journal.new.disk }
     ensures steady { result ≢ Err OffsetError.Failed →
         IsSteady D.seen D.faults journal.old.disk journal.new.disk }
 {
@@ -205,13 +204,12 @@ impl<D: Disk> OffsetStore<D> {
         ensures live { OnOk result (IsLive self.new) }
         ensures too_long { (len : ℕ) → (result ≡ Err (OffsetError.TooLong len)) ↔
             ((entry_limit < length (spelling offset)) × (len ≡ capped (length (spelling offset)))) }
-        ensures failed { result ≡ Err OffsetError.Failed →
-            Rose (D.faults (disk_of self.old)) (D.faults (disk_of self.new)) }
+        ensures cause { HasCause (result ≡ Err OffsetError.Failed)
+            (D.faults (disk_of self.old)) (D.faults (disk_of self.new)) }
         ensures dead { result ≡ Err OffsetError.Failed → ¬ IsLive self.new }
         ensures unchanged { OnErr result (result ≢ Err OffsetError.Failed → self.new ≡ self.old) }
         ensures a_store { (at : ℕ) → result ≢ Err (OffsetError.NotAStore at) }
         ensures no_bad_offset { (index : ℕ) → result ≢ Err (OffsetError.BadOffset index) }
-        ensures later { D.faults (disk_of self.old) ≤ D.faults (disk_of self.new) }
         ensures steady { result ≢ Err OffsetError.Failed →
             IsSteady D.seen D.faults (disk_of self.old) (disk_of self.new) }
     {

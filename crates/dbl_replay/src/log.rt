@@ -1,7 +1,7 @@
 //! The loop over the messages of a log: the lines of the commits that they end are put one behind the other, up to the first
 //! fault, and then that fault's line.
-ghost use Rattle.std.specs.Prelude.{◌≡◌, ◌≢◌, Some, ◌≤◌, ◌+◌, ◌∷◌, List, [], length, map, None, option_and_then, All, IfSome, IfOk, IfErr, OnOk, Err};
-ghost use Rattle.dbl_base.specs.Streams.{Rose};
+ghost use Rattle.std.specs.Prelude.{◌≡◌, ◌≢◌, Some, ◌+◌, ◌∷◌, List, [], length, map, None, option_and_then, All, IfSome, IfOk, IfErr, OnOk, Err};
+ghost use Rattle.dbl_base.specs.Streams.{HasCause};
 ghost use Rattle.dbl_lines.specs.Gathering.{PutsLines};
 ghost use Rattle.dbl_pgmsg.specs.declared.messages.Message.{Message};
 ghost use Rattle.dbl_record.specs.Line.{line_of};
@@ -80,9 +80,8 @@ fn put_commit<O: Output>(
     ensures puts { PutsCommit (commit_fault writer.now.identity writer.now.infos commit.now)
         (map line_of (envelopes writer.now.identity writer.now.infos commit.now now_ms.now))
         lines.old lines.new result (O.written output.old) (O.written output.new) }
-    ensures failed { result ≡ Err PrintError.OutputFailed →
-        Rose (O.faults output.old) (O.faults output.new) }
-    ensures later { O.faults output.old ≤ O.faults output.new }
+    ensures cause { HasCause (result ≡ Err PrintError.OutputFailed)
+        (O.faults output.old) (O.faults output.new) }
 {
     let records = match records_of(alloc, writer, commit, now_ms) {
         Ok(records) => records,
@@ -111,9 +110,8 @@ fn put_ended<O: Output>(
         (option_and_then (commit_fault writer.now.identity writer.now.infos) ended.now)
         (lines_in writer.now.identity writer.now.infos (list_of ended.now) now_ms.now)
         lines.old lines.new result (O.written output.old) (O.written output.new) }
-    ensures failed { result ≡ Err PrintError.OutputFailed →
-        Rose (O.faults output.old) (O.faults output.new) }
-    ensures later { O.faults output.old ≤ O.faults output.new }
+    ensures cause { HasCause (result ≡ Err PrintError.OutputFailed)
+        (O.faults output.old) (O.faults output.new) }
 {
     match ended {
         Some(commit) => put_commit(alloc, writer, commit, now_ms, output, lines),
@@ -150,9 +148,8 @@ fn put_message<O: Output>(
         Follows options ms replayer.old → number ≡ length ms + 1
         → Steps options now_ms.now ms bytes lines.old lines.new replayer.new result
         (O.written output.old) (O.written output.new) }
-    ensures failed { result ≡ Err PrintError.OutputFailed →
-        Rose (O.faults output.old) (O.faults output.new) }
-    ensures later { O.faults output.old ≤ O.faults output.new }
+    ensures cause { HasCause (result ≡ Err PrintError.OutputFailed)
+        (O.faults output.old) (O.faults output.new) }
 {
     match take_bytes(alloc, replayer, number, bytes) {
         Ok(ended) => put_ended(alloc, &replayer.writer, &ended, now_ms, output, lines),
@@ -174,9 +171,8 @@ fn put_messages<O: Output>(
     ensures puts { (options : ReplayOptions) → Follows options [] replayer.old
         → PutsLog options now_ms.now messages.items lines.old lines.new result
         (O.written output.old) (O.written output.new) }
-    ensures failed { result ≡ Err PrintError.OutputFailed
-        → Rose (O.faults output.old) (O.faults output.new) }
-    ensures later { O.faults output.old ≤ O.faults output.new }
+    ensures cause { HasCause (result ≡ Err PrintError.OutputFailed)
+        (O.faults output.old) (O.faults output.new) }
 {
     let mut number = 0u64;
     'messages: for bytes in messages {
@@ -201,9 +197,8 @@ fn put_log<O: Output>(
 ) -> Result<Option<LogFault>, PrintError>
     ensures puts { PutsLog options now_ms.now messages.items lines.old lines.new result
         (O.written output.old) (O.written output.new) }
-    ensures failed { result ≡ Err PrintError.OutputFailed
-        → Rose (O.faults output.old) (O.faults output.new) }
-    ensures later { O.faults output.old ≤ O.faults output.new }
+    ensures cause { HasCause (result ≡ Err PrintError.OutputFailed)
+        (O.faults output.old) (O.faults output.new) }
 {
     let mut replayer = match Replayer::make(alloc, options) {
         Ok(replayer) => replayer,
@@ -231,9 +226,8 @@ fn put_fault<O: Output>(
         (O.written output.old) (O.written output.new) }
     ensures unwritten { result ≡ Err PrintError.Memory →
         O.written output.new ≡ O.written output.old }
-    ensures failed { result ≡ Err PrintError.OutputFailed →
-        Rose (O.faults output.old) (O.faults output.new) }
-    ensures later { O.faults output.old ≤ O.faults output.new }
+    ensures cause { HasCause (result ≡ Err PrintError.OutputFailed)
+        (O.faults output.old) (O.faults output.new) }
 {
     let line = match line_of_fault(alloc, fault) {
         Ok(line) => line,
@@ -257,9 +251,8 @@ fn put_end<O: Output>(
         (O.written output.old) (O.written output.new) }
     ensures unwritten { result ≡ Err PrintError.Memory →
         O.written output.new ≡ O.written output.old }
-    ensures failed { result ≡ Err PrintError.OutputFailed →
-        Rose (O.faults output.old) (O.faults output.new) }
-    ensures later { O.faults output.old ≤ O.faults output.new }
+    ensures cause { HasCause (result ≡ Err PrintError.OutputFailed)
+        (O.faults output.old) (O.faults output.new) }
 {
     match fault {
         None => Ok(0),
@@ -276,9 +269,8 @@ fn finish_log<O: Output>(
 ) -> Result<u8, PrintError>
     ensures ends { FinishesLog fault.now lines result
         (O.written output.old) (O.written output.new) }
-    ensures failed { result ≡ Err PrintError.OutputFailed →
-        Rose (O.faults output.old) (O.faults output.new) }
-    ensures later { O.faults output.old ≤ O.faults output.new }
+    ensures cause { HasCause (result ≡ Err PrintError.OutputFailed)
+        (O.faults output.old) (O.faults output.new) }
 {
     let status = match put_end(alloc, fault, output, &mut lines) {
         Ok(status) => status,
@@ -301,9 +293,8 @@ pub fn print_log<O: Output>(
 ) -> Result<u8, PrintError>
     ensures prints { PrintsLog options now_ms.now messages.items result
         (O.written output.old) (O.written output.new) }
-    ensures failed { result ≡ Err PrintError.OutputFailed →
-        Rose (O.faults output.old) (O.faults output.new) }
-    ensures later { O.faults output.old ≤ O.faults output.new }
+    ensures cause { HasCause (result ≡ Err PrintError.OutputFailed)
+        (O.faults output.old) (O.faults output.new) }
 {
     let mut lines = match LineWriter::make(alloc) {
         Ok(lines) => lines,

@@ -1,6 +1,6 @@
 //! The lines of the records of a commit.
-ghost use Rattle.std.specs.Prelude.{◌≡◌, ◌≤◌, map, Err};
-ghost use Rattle.dbl_base.specs.Streams.{Rose};
+ghost use Rattle.std.specs.Prelude.{◌≡◌, map, Err};
+ghost use Rattle.dbl_base.specs.Streams.{HasCause};
 ghost use Rattle.dbl_lines.specs.declared.error.PrintError.TheVariants.{OutputFailed};
 ghost use Rattle.dbl_lines.specs.Gathering.{PutsLines};
 ghost use Rattle.dbl_record.specs.Line.{line_of};
@@ -19,9 +19,8 @@ pub(crate) fn put_left<O: Output>(
 ) -> Result<(), PrintError>
     ensures puts { PutsLines (map line_of records.entry) result lines.old lines.new
         (O.written output.old) (O.written output.new) }
-    ensures failed { result ≡ Err OutputFailed →
-        Rose (O.faults output.old) (O.faults output.new) }
-    ensures later { O.faults output.old ≤ O.faults output.new }
+    ensures cause { HasCause (result ≡ Err OutputFailed)
+        (O.faults output.old) (O.faults output.new) }
 {
     let mut left = records;
     'left: loop {

@@ -1,6 +1,6 @@
 //! `apply`: the rows that a consumer of the topic log holds.
-ghost use Rattle.std.specs.Prelude.{◌≡◌, ◌≢◌, ◌⊎◌, ℕ, ◌≤◌, List, Ok, Err, Some, None, IfErr, IfSome, MatchResult, IsTrue, option_map, map};
-ghost use Rattle.dbl_base.specs.Streams.{Rose};
+ghost use Rattle.std.specs.Prelude.{◌≡◌, ◌≢◌, ◌⊎◌, ℕ, List, Ok, Err, Some, None, IfErr, IfSome, MatchResult, IsTrue, option_map, map};
+ghost use Rattle.dbl_base.specs.Streams.{HasCause};
 ghost use Rattle.dbl_record.specs.declared.record.Record.{Record};
 ghost use Rattle.dbl_record.specs.Acts.{Reading};
 ghost use Rattle.dbl_record.specs.Consumers.{consumer_of};
@@ -56,9 +56,8 @@ pub fn apply<T: Disk, F: Disk, O: Output>(
     ensures keeps_offsets { Keeps F.seen F.may_leave F.faults
         (result.end ≡ Err (RunError.Failed Store.Offsets)) offsets result.offsets }
     ensures unwritten { IfErr result.end (λ error. IsRefusal error → output.new ≡ output.old) }
-    ensures output_failed { result.end ≡ Err RunError.OutputFailed →
-        Rose (O.faults output.old) (O.faults output.new) }
-    ensures output_later { O.faults output.old ≤ O.faults output.new }
+    ensures output { HasCause (result.end ≡ Err RunError.OutputFailed)
+        (O.faults output.old) (O.faults output.new) }
 {
     let mut log = match open_topics(alloc, topics) {
         Ok(log) => log,
@@ -105,9 +104,8 @@ fn print_consumer<D: Disk, O: Output>(
         ((error ≡ RunError.NotStarted) ⊎ IsErrorOf Store.Topics error)) }
     ensures a_store { IfErr result IsBehindOpening }
     ensures unwritten { IfErr result (λ error. IsRefusal error → output.new ≡ output.old) }
-    ensures output_failed { result ≡ Err RunError.OutputFailed →
-        Rose (O.faults output.old) (O.faults output.new) }
-    ensures output_later { O.faults output.old ≤ O.faults output.new }
+    ensures output { HasCause (result ≡ Err RunError.OutputFailed)
+        (O.faults output.old) (O.faults output.new) }
 {
     match loaded {
         Some(offset) => print_groups(alloc, log, &offset.identity.placeholder, output),
@@ -131,9 +129,8 @@ fn print_groups<D: Disk, O: Output>(
         (λ error. (error ≡ RunError.OutputFailed) ⊎ IsErrorOf Store.Topics error) }
     ensures a_store { IfErr result IsBehindOpening }
     ensures unwritten { IfErr result (λ error. IsRefusal error → output.new ≡ output.old) }
-    ensures output_failed { result ≡ Err RunError.OutputFailed →
-        Rose (O.faults output.old) (O.faults output.new) }
-    ensures output_later { O.faults output.old ≤ O.faults output.new }
+    ensures output { HasCause (result ≡ Err RunError.OutputFailed)
+        (O.faults output.old) (O.faults output.new) }
 {
     match consume(alloc, log, placeholder) {
         Ok(held) => print_rows(&held, output),
@@ -149,9 +146,8 @@ fn print_rows<O: Output>(held: &Consumer, output: &mut O) -> Result<(), RunError
     ensures kinds { IfErr result
         (λ error. (error ≡ RunError.OutputFailed) ⊎ (error ≡ RunError.Memory)) }
     ensures a_store { IfErr result IsBehindOpening }
-    ensures output_failed { result ≡ Err RunError.OutputFailed →
-        Rose (O.faults output.old) (O.faults output.new) }
-    ensures output_later { O.faults output.old ≤ O.faults output.new }
+    ensures output { HasCause (result ≡ Err RunError.OutputFailed)
+        (O.faults output.old) (O.faults output.new) }
 {
     match held.print(output) {
         Ok(()) => Ok(()),

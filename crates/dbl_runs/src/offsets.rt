@@ -1,9 +1,9 @@
 //! `offsets`: the text of the stored offset.
-ghost use Rattle.std.specs.Prelude.{◌≡◌, ◌≢◌, ◌⊎◌, ◌++◌, ◌∷◌, ℕ, ◌≤◌, List, [], Ok, Err, Some, IfOk, IfErr, IfSome, OnOk, length, map, option_map};
+ghost use Rattle.std.specs.Prelude.{◌≡◌, ◌≢◌, ◌⊎◌, ◌++◌, ◌∷◌, ℕ, List, [], Ok, Err, Some, IfOk, IfErr, IfSome, OnOk, length, map, option_map};
 ghost use Rattle.std.specs.List.{zip};
 ghost use Rattle.std.specs.String.{string_bytes};
 ghost use Rattle.dbl_base.specs.Lines.{lines_text};
-ghost use Rattle.dbl_base.specs.Streams.{Rose};
+ghost use Rattle.dbl_base.specs.Streams.{HasCause};
 ghost use Rattle.dbl_history.specs.Cursors.{AreCursorsOf, IsCursorOf};
 ghost use Rattle.dbl_offset.specs.Offsets.{IsOffset};
 ghost use Rattle.dbl_runs.specs.Answers.{AnswersOffsets, number_lines, offset_lines, table_line};
@@ -38,9 +38,8 @@ pub fn print_offset<D: Disk, O: Output>(alloc: Global, disk: D, output: &mut O) 
         (λ error. (error ≡ RunError.OutputFailed) ⊎
         ((error ≡ RunError.NotStarted) ⊎ IsErrorOf Store.Offsets error)) }
     ensures unwritten { IfErr result.end (λ error. IsRefusal error → output.new ≡ output.old) }
-    ensures output_failed { result.end ≡ Err RunError.OutputFailed →
-        Rose (O.faults output.old) (O.faults output.new) }
-    ensures output_later { O.faults output.old ≤ O.faults output.new }
+    ensures output { HasCause (result.end ≡ Err RunError.OutputFailed)
+        (O.faults output.old) (O.faults output.new) }
 {
     match open_offsets(alloc, disk) {
         Ok(store) => {
@@ -71,9 +70,8 @@ fn print_loaded<O: Output>(
         ((error ≡ RunError.NotStarted) ⊎ IsErrorOf Store.Offsets error)) }
     ensures running { (store : Store) → result ≢ Err (RunError.Failed store) }
     ensures unwritten { IfErr result (λ error. IsRefusal error → output.new ≡ output.old) }
-    ensures output_failed { result ≡ Err RunError.OutputFailed →
-        Rose (O.faults output.old) (O.faults output.new) }
-    ensures output_later { O.faults output.old ≤ O.faults output.new }
+    ensures output { HasCause (result ≡ Err RunError.OutputFailed)
+        (O.faults output.old) (O.faults output.new) }
 {
     match loaded {
         Some(offset) => print_text(alloc, offset, output),
@@ -88,9 +86,8 @@ fn print_text<O: Output>(alloc: Global, offset: &Offset, output: &mut O) -> Resu
         (O.written output.old) (O.written output.new) }
     ensures kinds { IfErr result
         (λ error. (error ≡ RunError.OutputFailed) ⊎ (error ≡ RunError.Memory)) }
-    ensures output_failed { result ≡ Err RunError.OutputFailed →
-        Rose (O.faults output.old) (O.faults output.new) }
-    ensures output_later { O.faults output.old ≤ O.faults output.new }
+    ensures output { HasCause (result ≡ Err RunError.OutputFailed)
+        (O.faults output.old) (O.faults output.new) }
 {
     match offset_text(alloc, offset) {
         Ok(text) => write_text(text.as_str(), output),
@@ -103,9 +100,8 @@ fn write_text<O: Output>(text: &str, output: &mut O) -> Result<(), RunError>
     ensures front { IfErr result
         (λ error. (error ≡ RunError.OutputFailed) ×
         WroteFront (O.written output.old) (O.written output.new) text.now) }
-    ensures output_failed { result ≡ Err RunError.OutputFailed →
-        Rose (O.faults output.old) (O.faults output.new) }
-    ensures output_later { O.faults output.old ≤ O.faults output.new }
+    ensures output { HasCause (result ≡ Err RunError.OutputFailed)
+        (O.faults output.old) (O.faults output.new) }
 {
     match output.write(text.as_bytes()) {
         Ok(()) => Ok(()),

@@ -1,6 +1,6 @@
 //! `topics`: the lines of a topic log's records.
-ghost use Rattle.std.specs.Prelude.{◌≡◌, ◌≢◌, ◌⊎◌, ℕ, ◌≤◌, List, [], Option, Ok, Err, Some, IfErr, MatchResult, IsTrue, false};
-ghost use Rattle.dbl_base.specs.Streams.{Rose};
+ghost use Rattle.std.specs.Prelude.{◌≡◌, ◌≢◌, ◌⊎◌, ℕ, List, [], Option, Ok, Err, Some, IfErr, MatchResult, IsTrue, false};
+ghost use Rattle.dbl_base.specs.Streams.{HasCause};
 ghost use Rattle.dbl_lines.specs.Gathering.{IsPut};
 ghost use Rattle.dbl_record.specs.declared.record.Record.{Record};
 ghost use Rattle.dbl_topic.specs.Held.{HoldsGroups};
@@ -33,9 +33,8 @@ pub fn print_topics<D: Disk, O: Output>(alloc: Global, disk: D, output: &mut O) 
         (result.end ≡ Err (RunError.Failed Store.Topics)) disk result.disk }
     ensures kinds { IfErr result.end
         (λ error. (error ≡ RunError.OutputFailed) ⊎ IsErrorOf Store.Topics error) }
-    ensures output_failed { result.end ≡ Err RunError.OutputFailed →
-        Rose (O.faults output.old) (O.faults output.new) }
-    ensures output_later { O.faults output.old ≤ O.faults output.new }
+    ensures output { HasCause (result.end ≡ Err RunError.OutputFailed)
+        (O.faults output.old) (O.faults output.new) }
 {
     match open_topics(alloc, disk) {
         Ok(mut log) => {
@@ -65,9 +64,8 @@ fn put_groups<D: Disk, O: Output>(
         (result ≡ Err (RunError.Failed Store.Topics)) log.old.disk log.new.disk }
     ensures kinds { IfErr result
         (λ error. (error ≡ RunError.OutputFailed) ⊎ IsErrorOf Store.Topics error) }
-    ensures output_failed { result ≡ Err RunError.OutputFailed →
-        Rose (O.faults output.old) (O.faults output.new) }
-    ensures output_later { O.faults output.old ≤ O.faults output.new }
+    ensures output { HasCause (result ≡ Err RunError.OutputFailed)
+        (O.faults output.old) (O.faults output.new) }
 {
     let mut lines = match LineWriter::make(alloc) {
         Ok(lines) => lines,
@@ -98,9 +96,8 @@ fn gather_groups<D: Disk, O: Output>(
         (result ≡ Err (RunError.Failed Store.Topics)) log.old.disk log.new.disk }
     ensures kinds { IfErr result
         (λ error. (error ≡ RunError.OutputFailed) ⊎ IsErrorOf Store.Topics error) }
-    ensures output_failed { result ≡ Err RunError.OutputFailed →
-        Rose (O.faults output.old) (O.faults output.new) }
-    ensures output_later { O.faults output.old ≤ O.faults output.new }
+    ensures output { HasCause (result ≡ Err RunError.OutputFailed)
+        (O.faults output.old) (O.faults output.new) }
 {
     'each: for number in 0..log.groups() {
         let group = match read_group(log, number) {

@@ -1,6 +1,6 @@
 ghost use Rattle.std.specs.Prelude.{◌≡◌, ◌≢◌, ◌+◌, ◌≤◌, ◌<◌, ◌++◌, ◌∷◌, [], ℕ, length, map, Option, Some, None, false, is_some, is_none, option_copied, Err, IsTrue, IfSome, IfOk, IfErr, OnOk, OnErr, MatchOption};
 ghost use Rattle.std.specs.List.{AllByRecursion};
-ghost use Rattle.dbl_base.specs.Streams.{Rose};
+ghost use Rattle.dbl_base.specs.Streams.{HasCause};
 ghost use Rattle.dbl_pgmsg.specs.declared.messages.Message.{Message};
 ghost use Rattle.dbl_pgmsg.specs.Grammar.{Fits, Spells};
 ghost use Rattle.dbl_table.specs.Tables.{same_name, are_distinct};
@@ -175,8 +175,7 @@ impl Source for ScriptedSource {
         ensures dead { OnErr result (self.new.live ≡ false) }
         ensures honest { WasFair self.new → WasFair self.old }
         ensures comes { Unit {0} }
-        ensures later { self.old.plan.faults ≤ self.new.plan.faults }
-        ensures failed { result ≡ Err Failed → Rose self.old.plan.faults self.new.plan.faults }
+        ensures cause { HasCause (result ≡ Err Failed) self.old.plan.faults self.new.plan.faults }
         ensures planned { FailsAsPlanned 0 ⊥ self.old self.new result }
         ensures memory { result ≡ Err Memory
             → AddedFirst (before_of self.old) (past_move self.old) self.new }
@@ -199,8 +198,7 @@ impl Source for ScriptedSource {
         ensures dead { OnErr result (self.new.live ≡ false) }
         ensures honest { WasFair self.new → WasFair self.old }
         ensures comes { Unit {0} }
-        ensures later { self.old.plan.faults ≤ self.new.plan.faults }
-        ensures failed { result ≡ Err Failed → Rose self.old.plan.faults self.new.plan.faults }
+        ensures cause { HasCause (result ≡ Err Failed) self.old.plan.faults self.new.plan.faults }
         ensures planned { FailsAsPlanned 0 ⊥ self.old self.new result }
         ensures memory { result ≡ Err Memory
             → AddedFirst (before_of self.old) (past_move self.old) self.new }
@@ -228,8 +226,7 @@ impl Source for ScriptedSource {
         ensures dead { OnErr result (self.new.live ≡ false) }
         ensures honest { WasFair self.new → WasFair self.old }
         ensures comes { Unit {0} }
-        ensures later { self.old.plan.faults ≤ self.new.plan.faults }
-        ensures failed { result ≡ Err Failed → Rose self.old.plan.faults self.new.plan.faults }
+        ensures cause { HasCause (result ≡ Err Failed) self.old.plan.faults self.new.plan.faults }
         ensures planned { FailsAsPlanned 0 ⊥ self.old self.new result }
         ensures memory { result ≡ Err Memory
             → AddedFirst (before_of self.old) (past_move self.old) self.new }
@@ -261,8 +258,7 @@ impl Source for ScriptedSource {
         ensures dead { OnErr result (self.new.live ≡ false) }
         ensures honest { WasFair self.new → WasFair self.old }
         ensures comes { Unit {0} }
-        ensures later { self.old.plan.faults ≤ self.new.plan.faults }
-        ensures failed { result ≡ Err Failed → Rose self.old.plan.faults self.new.plan.faults }
+        ensures cause { HasCause (result ≡ Err Failed) self.old.plan.faults self.new.plan.faults }
         ensures planned { FailsAsPlanned 0 (IsUnfit (released self.old)) self.old self.new result }
         ensures memory { result ≡ Err Memory
             → AddedFirst (before_of self.old) (past_move self.old) self.new }
@@ -295,8 +291,7 @@ impl Source for ScriptedSource {
         ensures dead { OnErr result (self.new.live ≡ false) }
         ensures honest { WasFair self.new → WasFair self.old }
         ensures comes { Unit {0} }
-        ensures later { self.old.plan.faults ≤ self.new.plan.faults }
-        ensures failed { result ≡ Err Failed → Rose self.old.plan.faults self.new.plan.faults }
+        ensures cause { HasCause (result ≡ Err Failed) self.old.plan.faults self.new.plan.faults }
         ensures planned { FailsAsPlanned (length (inside_of self.old)) ⊥ self.old self.new result }
         ensures memory { result ≡ Err Memory
             → AddedFirst (before_of self.old ++ inside_of self.old) (past_move self.old) self.new }
@@ -325,8 +320,7 @@ impl Source for ScriptedSource {
         ensures dead { OnErr result (self.new.live ≡ false) }
         ensures honest { WasFair self.new → WasFair self.old }
         ensures comes { Unit {0} }
-        ensures later { self.old.plan.faults ≤ self.new.plan.faults }
-        ensures failed { result ≡ Err Failed → Rose self.old.plan.faults self.new.plan.faults }
+        ensures cause { HasCause (result ≡ Err Failed) self.old.plan.faults self.new.plan.faults }
         ensures planned { FailsAsPlanned 1 ⊥ self.old self.new result }
         ensures memory { result ≡ Err Memory
             → AddedFirst (before_of self.old) (past_move self.old) self.new }
@@ -350,8 +344,7 @@ impl Source for ScriptedSource {
         ensures dead { OnErr result (self.new.live ≡ false) }
         ensures honest { WasFair self.new → WasFair self.old }
         ensures comes { Unit {0} }
-        ensures later { self.old.plan.faults ≤ self.new.plan.faults }
-        ensures failed { result ≡ Err Failed → Rose self.old.plan.faults self.new.plan.faults }
+        ensures cause { HasCause (result ≡ Err Failed) self.old.plan.faults self.new.plan.faults }
         ensures planned { FailsAsPlanned 0 ⊥ self.old self.new result }
         ensures memory { result ≡ Err Memory
             → AddedFirst (before_of self.old) (past_move self.old) self.new }

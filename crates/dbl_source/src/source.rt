@@ -1,5 +1,5 @@
 ghost use Rattle.std.specs.Prelude.{◌≡◌, ◌≤◌, ℕ, List, [], ◌∷◌, length, Bool, false, is_some, is_none, IsTrue, Option, None, Some, option_copied, IfSome, IfOk, OnOk, OnErr, MatchOption};
-ghost use Rattle.dbl_base.specs.Streams.{Rose};
+ghost use Rattle.dbl_base.specs.Streams.{HasCause};
 ghost use Rattle.dbl_pgmsg.specs.declared.messages.Message.{Message};
 ghost use Rattle.dbl_pgmsg.specs.Grammar.{Spells};
 ghost use Rattle.dbl_history.specs.History.{IsRising};
@@ -66,8 +66,7 @@ pub trait Source {
         ensures dead { OnErr result (is_live self.new ≡ false) }
         ensures honest { honest self.new → honest self.old }
         ensures comes { comes_of self.old self.new }
-        ensures later { faults self.old ≤ faults self.new }
-        ensures failed { result ≡ Err Failed → Rose (faults self.old) (faults self.new) };
+        ensures cause { HasCause (result ≡ Err Failed) (faults self.old) (faults self.new) };
 
     /// The LSN of the last commit at one moment of the call, and 0 where there was none.
     fn head(&mut self) -> Result<Lsn, SourceError>
@@ -83,8 +82,7 @@ pub trait Source {
         ensures dead { OnErr result (is_live self.new ≡ false) }
         ensures honest { honest self.new → honest self.old }
         ensures comes { comes_of self.old self.new }
-        ensures later { faults self.old ≤ faults self.new }
-        ensures failed { result ≡ Err Failed → Rose (faults self.old) (faults self.new) };
+        ensures cause { HasCause (result ≡ Err Failed) (faults self.old) (faults self.new) };
 
     /// Reading begins anew, with the first commit behind the LSN; or the log behind it is gone, of which only what lies up to the
     /// confirmed position is ever dropped. `Gone` tells the first position that reading could begin behind: it is above the LSN,
@@ -105,8 +103,7 @@ pub trait Source {
         ensures dead { OnErr result (is_live self.new ≡ false) }
         ensures honest { honest self.new → honest self.old }
         ensures comes { comes_of self.old self.new }
-        ensures later { faults self.old ≤ faults self.new }
-        ensures failed { result ≡ Err Failed → Rose (faults self.old) (faults self.new) };
+        ensures cause { HasCause (result ≡ Err Failed) (faults self.old) (faults self.new) };
 
     /// The bytes of the next message; none where every commit that stood at the call was read.
     fn read(&mut self) -> Result<Option<Bytes>, SourceError>
@@ -129,8 +126,7 @@ pub trait Source {
         ensures dead { OnErr result (is_live self.new ≡ false) }
         ensures honest { honest self.new → honest self.old }
         ensures comes { comes_of self.old self.new }
-        ensures later { faults self.old ≤ faults self.new }
-        ensures failed { result ≡ Err Failed → Rose (faults self.old) (faults self.new) };
+        ensures cause { HasCause (result ≡ Err Failed) (faults self.old) (faults self.new) };
 
     /// The first `limit` rows of the table with a key above `above`, and above every key where that is None, in key order, at one
     /// position between the call and the return. No row is above a key that isn't of the table's key types, and a table that
@@ -155,8 +151,7 @@ pub trait Source {
         ensures dead { OnErr result (is_live self.new ≡ false) }
         ensures honest { honest self.new → honest self.old }
         ensures comes { comes_of self.old self.new }
-        ensures later { faults self.old ≤ faults self.new }
-        ensures failed { result ≡ Err Failed → Rose (faults self.old) (faults self.new) };
+        ensures cause { HasCause (result ≡ Err Failed) (faults self.old) (faults self.new) };
 
     /// Writes the watermark: a commit of its own. After `Failed` it may stand in the log, after `Memory` it doesn't.
     fn mark(&mut self, value: &Text) -> Result<(), SourceError>
@@ -175,8 +170,7 @@ pub trait Source {
         ensures dead { OnErr result (is_live self.new ≡ false) }
         ensures honest { honest self.new → honest self.old }
         ensures comes { comes_of self.old self.new }
-        ensures later { faults self.old ≤ faults self.new }
-        ensures failed { result ≡ Err Failed → Rose (faults self.old) (faults self.new) };
+        ensures cause { HasCause (result ≡ Err Failed) (faults self.old) (faults self.new) };
 
     /// The log up to this LSN isn't needed any more; one that is below the confirmed position changes nothing. After `Failed` it
     /// may be confirmed, after `Memory` it isn't.
@@ -195,8 +189,7 @@ pub trait Source {
         ensures dead { OnErr result (is_live self.new ≡ false) }
         ensures honest { honest self.new → honest self.old }
         ensures comes { comes_of self.old self.new }
-        ensures later { faults self.old ≤ faults self.new }
-        ensures failed { result ≡ Err Failed → Rose (faults self.old) (faults self.new) };
+        ensures cause { HasCause (result ≡ Err Failed) (faults self.old) (faults self.new) };
 
     /// A source that stands for something can be used.
     ghost lives: { (source : Self) (s : Standing) → stands source s → IsTrue (is_live source) };

@@ -1,5 +1,5 @@
 ghost use Rattle.std.specs.Prelude.{◌≡◌, ◌≢◌, ◌⊎◌, ◌↔◌, ℕ, ◌+◌, ◌<◌, ◌≤◌, ◌++◌, List, [], ◌∷◌, length, max, take, drop, false, Some, IsTrue, IsErr, IfOk, IfErr, OnOk, OnErr, MatchResult, slice_get};
-ghost use Rattle.dbl_base.specs.Streams.{Rose};
+ghost use Rattle.dbl_base.specs.Streams.{HasCause, Rose};
 ghost use Rattle.dbl_disk.specs.Disks.{Follows, IsOnly, Torn};
 ghost use Rattle.dbl_journal.specs.Form.{IsFaultAt, IsJournal};
 ghost use Rattle.dbl_journal.specs.Stored.{IsSteady, Lists, count_of};
@@ -98,9 +98,8 @@ fn read_entry<D: Disk>(
     ensures seen { D.seen journal.new.disk ≡ D.seen journal.old.disk }
     ensures crash { (crashed : List ℕ) → D.may_leave journal.new.disk crashed ↔
         D.may_leave journal.old.disk crashed }
-    ensures failed { result ≡ Err (TopicError.Journal JournalError.Failed) →
-        Rose (D.faults journal.old.disk) (D.faults journal.new.disk) }
-    ensures later { D.faults journal.old.disk ≤ D.faults journal.new.disk }
+    ensures cause { HasCause (result ≡ Err (TopicError.Journal JournalError.Failed))
+        (D.faults journal.old.disk) (D.faults journal.new.disk) }
     ensures steady { result ≢ Err (TopicError.Journal JournalError.Failed) →
         IsSteady D.seen D.faults journal.old.disk journal.new.disk }
 {
@@ -126,9 +125,8 @@ fn check_entries<D: Disk>(alloc: Global, journal: &mut Journal<D>) -> Result<(),
     ensures seen { D.seen journal.new.disk ≡ D.seen journal.old.disk }
     ensures crash { (crashed : List ℕ) → D.may_leave journal.new.disk crashed →
         D.may_leave journal.old.disk crashed }
-    ensures failed { result ≡ Err (TopicError.Journal JournalError.Failed) →
-        Rose (D.faults journal.old.disk) (D.faults journal.new.disk) }
-    ensures later { D.faults journal.old.disk ≤ D.faults journal.new.disk }
+    ensures cause { HasCause (result ≡ Err (TopicError.Journal JournalError.Failed))
+        (D.faults journal.old.disk) (D.faults journal.new.disk) }
     ensures steady { result ≢ Err (TopicError.Journal JournalError.Failed) →
         IsSteady D.seen D.faults journal.old.disk journal.new.disk }
 {
@@ -233,9 +231,8 @@ impl<D: Disk> TopicLog<D> {
         ensures seen { D.seen self.new.disk ≡ D.seen self.old.disk }
         ensures crash { (crashed : List ℕ) → D.may_leave self.new.disk crashed ↔
             D.may_leave self.old.disk crashed }
-        ensures failed { result ≡ Err (TopicError.Journal JournalError.Failed) →
-            Rose (D.faults self.old.disk) (D.faults self.new.disk) }
-        ensures later { D.faults self.old.disk ≤ D.faults self.new.disk }
+        ensures cause { HasCause (result ≡ Err (TopicError.Journal JournalError.Failed))
+            (D.faults self.old.disk) (D.faults self.new.disk) }
         ensures steady { result ≢ Err (TopicError.Journal JournalError.Failed) →
             IsSteady D.seen D.faults self.old.disk self.new.disk }
     {
@@ -357,9 +354,8 @@ impl<D: Disk> Sink for TopicLog<D> {
             (group_limit < length (group_form group.now.items)) ×
             (len ≡ told_length group.now.items) }
         ensures long { group_limit < length (group_form group.now.items) → IsErr result }
-        ensures failed { result ≡ Err SinkError.Failed →
-            Rose (D.faults self.old.disk) (D.faults self.new.disk) }
-        ensures later { D.faults self.old.disk ≤ D.faults self.new.disk }
+        ensures cause { HasCause (result ≡ Err SinkError.Failed)
+            (D.faults self.old.disk) (D.faults self.new.disk) }
 
         // A put is all or nothing, and a group is too long exactly by its length. The disk's bytes become no more than a log
         // with the group takes, unless they were more before. A disk that tells its bytes tells them after each answer.

@@ -1,5 +1,5 @@
-ghost use Rattle.std.specs.Prelude.{◌≡◌, ◌≢◌, ◌↔◌, ℕ, ◌+◌, ◌<◌, ◌≤◌, ◌++◌, List, [], ◌∷◌, length, Bool, true, false, IsTrue, IsErr, IfOk, OnOk, OnErr, Contains};
-ghost use Rattle.dbl_base.specs.Streams.{Rose, raised};
+ghost use Rattle.std.specs.Prelude.{◌≡◌, ◌≢◌, ◌↔◌, ℕ, ◌+◌, ◌<◌, ◌++◌, List, [], ◌∷◌, length, Bool, true, false, IsTrue, IsErr, IfOk, OnOk, OnErr, Contains};
+ghost use Rattle.dbl_base.specs.Streams.{HasCause, raised};
 ghost use Rattle.dbl_base.specs.Memory.{new_plan};
 ghost use Rattle.dbl_record.specs.declared.record.Record.{Record};
 ghost use Rattle.dbl_record.specs.Cuts.{IsHandful, joined};
@@ -134,9 +134,8 @@ impl Sink for MemSink {
             (group_limit < length (group_form group.now.items)) ×
             (len ≡ told_length group.now.items) }
         ensures long { group_limit < length (group_form group.now.items) → IsErr result }
-        ensures failed { result ≡ Err SinkError.Failed →
-            Rose self.old.plan.faults self.new.plan.faults }
-        ensures later { self.old.plan.faults ≤ self.new.plan.faults }
+        ensures cause { HasCause (result ≡ Err SinkError.Failed)
+            self.old.plan.faults self.new.plan.faults }
 
         // A put fails exactly where it is planned to, whatever its length, and then changes no records. Of the others those
         // fail whose group is too long.

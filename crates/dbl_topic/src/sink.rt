@@ -1,5 +1,5 @@
-ghost use Rattle.std.specs.Prelude.{◌≡◌, ◌≢◌, ℕ, ◌<◌, ◌≤◌, ◌++◌, List, [], ◌∷◌, length, Bool, false, IsTrue, IsErr, OnOk, OnErr};
-ghost use Rattle.dbl_base.specs.Streams.{Rose};
+ghost use Rattle.std.specs.Prelude.{◌≡◌, ◌≢◌, ℕ, ◌<◌, ◌++◌, List, [], ◌∷◌, length, Bool, false, IsTrue, IsErr, OnOk, OnErr};
+ghost use Rattle.dbl_base.specs.Streams.{HasCause};
 ghost use Rattle.dbl_record.specs.declared.record.Record.{Record};
 ghost use Rattle.dbl_record.specs.Cuts.{IsHandful};
 ghost use Rattle.dbl_record.specs.Groups.{group_form};
@@ -55,8 +55,8 @@ pub trait Sink {
             (group_limit < length (group_form group.now.items)) ×
             (len ≡ told_length group.now.items) }
         ensures long { group_limit < length (group_form group.now.items) → IsErr result }
-        ensures failed { result ≡ Err SinkError.Failed → Rose (faults self.old) (faults self.new) }
-        ensures later { faults self.old ≤ faults self.new };
+        ensures cause { HasCause (result ≡ Err SinkError.Failed)
+            (faults self.old) (faults self.new) };
 
     /// A sink that tells its groups may leave them, and no others.
     ghost only: { (sink : Self) (groups left : List (List Record)) → holds sink groups → may_leave sink left → left ≡ groups };

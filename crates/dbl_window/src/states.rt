@@ -3,7 +3,7 @@
 
 ghost use Rattle.std.specs.Prelude.{◌≡◌, ◌≢◌, ◌⊎◌, ◌↔◌, ◌≤◌, ℕ, List, [], length, nat_lt, IsTrue, IfOk, IfErr, IfSome, IsOk, OnOk};
 ghost use Rattle.std.specs.List.{AllByRecursion};
-ghost use Rattle.dbl_base.specs.Streams.{Rose};
+ghost use Rattle.dbl_base.specs.Streams.{HasCause};
 ghost use Rattle.dbl_value.specs.declared.error.ValueError.{ValueError as SpecValueError};
 ghost use Rattle.dbl_table.specs.declared.table.TableInfo.{TableInfo as SpecInfo};
 ghost use Rattle.dbl_table.specs.Rows.{table_of};
@@ -198,9 +198,8 @@ impl Idle {
         ensures live { OnOk result (IsTrue (S.is_live src.new)) }
         ensures honest { S.honest src.new → S.honest src.old }
         ensures comes { S.comes_of src.old src.new }
-        ensures later { S.faults src.old ≤ S.faults src.new }
-        ensures failed { result ≡ Err WindowError.Failed →
-            Rose (S.faults src.old) (S.faults src.new) }
+        ensures cause { HasCause (result ≡ Err WindowError.Failed)
+            (S.faults src.old) (S.faults src.new) }
     {
         let marked = self.name_marks()?;
         src.mark(marked.low_mark())?;
@@ -259,9 +258,8 @@ impl Marked {
         ensures live { OnOk result (IsTrue (S.is_live src.new)) }
         ensures honest { S.honest src.new → S.honest src.old }
         ensures comes { S.comes_of src.old src.new }
-        ensures later { S.faults src.old ≤ S.faults src.new }
-        ensures failed { result ≡ Err WindowError.Failed →
-            Rose (S.faults src.old) (S.faults src.new) }
+        ensures cause { HasCause (result ≡ Err WindowError.Failed)
+            (S.faults src.old) (S.faults src.new) }
     {
         let frame = &self.frame;
         Ok(src.select(&frame.info.name, frame.bound(), frame.limit)?)
@@ -301,9 +299,8 @@ impl Marked {
         ensures live { OnOk result (IsTrue (S.is_live src.new)) }
         ensures honest { S.honest src.new → S.honest src.old }
         ensures comes { S.comes_of src.old src.new }
-        ensures later { S.faults src.old ≤ S.faults src.new }
-        ensures failed { result ≡ Err WindowError.Failed →
-            Rose (S.faults src.old) (S.faults src.new) }
+        ensures cause { HasCause (result ≡ Err WindowError.Failed)
+            (S.faults src.old) (S.faults src.new) }
     {
         let rows = self.answered_rows(src)?;
         self.holding(rows)
@@ -351,9 +348,8 @@ impl Held {
         ensures live { OnOk result (IsTrue (S.is_live src.new)) }
         ensures honest { S.honest src.new → S.honest src.old }
         ensures comes { S.comes_of src.old src.new }
-        ensures later { S.faults src.old ≤ S.faults src.new }
-        ensures failed { result ≡ Err WindowError.Failed →
-            Rose (S.faults src.old) (S.faults src.new) }
+        ensures cause { HasCause (result ≡ Err WindowError.Failed)
+            (S.faults src.old) (S.faults src.new) }
     {
         src.mark(self.high_mark())?;
         Ok(Armed { held: self })

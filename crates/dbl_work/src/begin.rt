@@ -1,7 +1,7 @@
 //! How a session begins: with the first offset of a connector, or with the stored one.
 
 ghost use Rattle.std.specs.Prelude.{◌≡◌, ◌≢◌, ◌⊎◌, ◌^◌, ◌<◌, ◌≤◌, ◌∷◌, [], Contains, Option, None, Some, IfOk, IfErr, IfSome, IsTrue, OnOk, OnErr, length, map};
-ghost use Rattle.dbl_base.specs.Streams.{Rose};
+ghost use Rattle.dbl_base.specs.Streams.{HasCause};
 ghost use Rattle.dbl_table.specs.Configs.{IsGoodConfig};
 ghost use Rattle.dbl_history.specs.Fit.{AreInfosOf};
 ghost use Rattle.dbl_honest.specs.Standings.{Standing, Leads};
@@ -43,8 +43,7 @@ fn describe_table<S: Source>(alloc: Global, src: &mut S, name: &TableName) -> Re
     ensures live { OnOk result (IsTrue (S.is_live src.new)) }
     ensures honest { S.honest src.new → S.honest src.old }
     ensures comes { S.comes_of src.old src.new }
-    ensures later { S.faults src.old ≤ S.faults src.new }
-    ensures failed { result ≡ Err Halt.Source → Rose (S.faults src.old) (S.faults src.new) }
+    ensures cause { HasCause (result ≡ Err Halt.Source) (S.faults src.old) (S.faults src.new) }
 {
     match src.describe(name)? {
         Some(raw) => Ok(TableInfo::make(alloc, &raw)?),
@@ -76,8 +75,7 @@ fn describe_tables<S: Source>(
     ensures live { OnOk result (IsTrue (S.is_live src.new)) }
     ensures honest { S.honest src.new → S.honest src.old }
     ensures comes { S.comes_of src.old src.new }
-    ensures later { S.faults src.old ≤ S.faults src.new }
-    ensures failed { result ≡ Err Halt.Source → Rose (S.faults src.old) (S.faults src.new) }
+    ensures cause { HasCause (result ≡ Err Halt.Source) (S.faults src.old) (S.faults src.new) }
 {
     let mut infos = Vec::with_capacity(alloc, names.len())?;
     'tables: for name in names {
@@ -144,8 +142,7 @@ pub fn first_offset<S: Source>(alloc: Global, config: &Config, src: &mut S) -> R
     ensures live { OnOk result (IsTrue (S.is_live src.new)) }
     ensures honest { S.honest src.new → S.honest src.old }
     ensures comes { S.comes_of src.old src.new }
-    ensures later { S.faults src.old ≤ S.faults src.new }
-    ensures failed { result ≡ Err Halt.Source → Rose (S.faults src.old) (S.faults src.new) }
+    ensures cause { HasCause (result ≡ Err Halt.Source) (S.faults src.old) (S.faults src.new) }
 {
     let infos = describe_tables(alloc, src, config.tables.items())?;
     let head = src.head()?;
@@ -195,9 +192,8 @@ pub fn put_offset<D: Disk>(
         ⊎ IsTooLong offset h)) }
     ensures long { 2 ^ 28 < length (spelling offset) →
         result ≡ Err (Halt.OffsetTooLong (capped (length (spelling offset)))) }
-    ensures later { D.faults (disk_of store.old) ≤ D.faults (disk_of store.new) }
-    ensures failed { result ≡ Err Halt.Offsets →
-        Rose (D.faults (disk_of store.old)) (D.faults (disk_of store.new)) }
+    ensures cause { HasCause (result ≡ Err Halt.Offsets)
+        (D.faults (disk_of store.old)) (D.faults (disk_of store.new)) }
 {
     store.store(alloc, offset)?;
     Ok(())
@@ -226,8 +222,7 @@ pub fn start<S: Source>(src: &mut S, after: Lsn) -> Result<(), Halt>
     ensures live { OnOk result (IsTrue (S.is_live src.new)) }
     ensures honest { S.honest src.new → S.honest src.old }
     ensures comes { S.comes_of src.old src.new }
-    ensures later { S.faults src.old ≤ S.faults src.new }
-    ensures failed { result ≡ Err Halt.Source → Rose (S.faults src.old) (S.faults src.new) }
+    ensures cause { HasCause (result ≡ Err Halt.Source) (S.faults src.old) (S.faults src.new) }
 {
     match src.start(after)? {
         Started::Ready => Ok(()),

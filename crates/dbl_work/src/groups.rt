@@ -1,7 +1,7 @@
 //! Records in groups, as a sink takes them.
 
-ghost use Rattle.std.specs.Prelude.{◌≡◌, ◌≢◌, ◌⊎◌, ◌<◌, ◌≤◌, ◌++◌, ◌∷◌, [], ℕ, Some, List, length, slice_get, IfErr, IfOk, IsErr, IsTrue, OnOk, OnErr};
-ghost use Rattle.dbl_base.specs.Streams.{Rose};
+ghost use Rattle.std.specs.Prelude.{◌≡◌, ◌≢◌, ◌⊎◌, ◌<◌, ◌++◌, ◌∷◌, [], ℕ, Some, List, length, slice_get, IfErr, IfOk, IsErr, IsTrue, OnOk, OnErr};
+ghost use Rattle.dbl_base.specs.Streams.{HasCause};
 ghost use Rattle.dbl_record.specs.declared.record.Record.{Record as SpecRecord};
 ghost use Rattle.dbl_record.specs.Cuts.{IsHandful, begins_behind, cut};
 ghost use Rattle.dbl_record.specs.Groups.{group_form};
@@ -122,8 +122,7 @@ fn put_group<K: Sink>(
     ensures long { group_limit < length (group_form group.now.items) → IsErr result }
     ensures live { OnOk result (IsTrue (K.is_live sink.new)) }
     ensures comes { K.comes_of sink.old sink.new }
-    ensures later { K.faults sink.old ≤ K.faults sink.new }
-    ensures failed { result ≡ Err Halt.Sink → Rose (K.faults sink.old) (K.faults sink.new) }
+    ensures cause { HasCause (result ≡ Err Halt.Sink) (K.faults sink.old) (K.faults sink.new) }
 {
     sink.put(group)?;
     note(report, group, snapshot);
@@ -168,8 +167,7 @@ pub fn put_all<K: Sink>(
         group_limit < length (group_form (item ∷ [])) → IsErr result }
     ensures live { OnOk result (IsTrue (K.is_live sink.new)) }
     ensures comes { K.comes_of sink.old sink.new }
-    ensures later { K.faults sink.old ≤ K.faults sink.new }
-    ensures failed { result ≡ Err Halt.Sink → Rose (K.faults sink.old) (K.faults sink.new) }
+    ensures cause { HasCause (result ≡ Err Halt.Sink) (K.faults sink.old) (K.faults sink.new) }
 {
     // All its counts are of 64 bits.
     let (_records, _chunks, _rows) = (report.records, report.chunks, report.snapshot_rows);

@@ -1,8 +1,8 @@
 //! Messages that were read, and commits that are followed.
 
-ghost use Rattle.std.specs.Prelude.{◌≡◌, ◌≢◌, ◌⊎◌, ◌+◌, ◌^◌, ◌<◌, ◌≤◌, ◌++◌, ℕ, All, Some, None, List, IfErr, IfOk, IfSome, IsErr, IsTrue, OnErr, OnOk, is_ok, is_some};
+ghost use Rattle.std.specs.Prelude.{◌≡◌, ◌≢◌, ◌⊎◌, ◌+◌, ◌^◌, ◌<◌, ◌++◌, ℕ, All, Some, None, List, IfErr, IfOk, IfSome, IsErr, IsTrue, OnErr, OnOk, is_ok, is_some};
 ghost use Rattle.dbl_base.specs.declared.lsn.Lsn.{Lsn as SpecLsn};
-ghost use Rattle.dbl_base.specs.Streams.{Rose};
+ghost use Rattle.dbl_base.specs.Streams.{HasCause};
 ghost use Rattle.dbl_pgmsg.specs.declared.messages.Message.{Message as SpecMessage};
 ghost use Rattle.dbl_pgmsg.specs.Grammar.{Spells};
 ghost use Rattle.dbl_record.specs.declared.record.Record.{Record as SpecRecord};
@@ -132,8 +132,7 @@ pub fn follow<K: Sink>(
         (AreShort (records_by work.old.follower commit.now work.old.now_ms)) }
     ensures live { OnOk result (IsTrue (K.is_live sink.new)) }
     ensures comes { K.comes_of sink.old sink.new }
-    ensures later { K.faults sink.old ≤ K.faults sink.new }
-    ensures failed { result ≡ Err Halt.Sink → Rose (K.faults sink.old) (K.faults sink.new) }
+    ensures cause { HasCause (result ≡ Err Halt.Sink) (K.faults sink.old) (K.faults sink.new) }
 {
     // All its counts are of 64 bits.
     let (_records, _chunks, _rows) = (report.records, report.chunks, report.snapshot_rows);

@@ -1,7 +1,7 @@
 //! Windows of a session: rows that are read between two marks.
 
-ghost use Rattle.std.specs.Prelude.{◌≡◌, ◌⊎◌, ◌+◌, ◌^◌, ◌<◌, ◌≤◌, ◌∷◌, [], length, IfErr, IfOk, IsTrue, OnErr, OnOk, Some, List};
-ghost use Rattle.dbl_base.specs.Streams.{Rose};
+ghost use Rattle.std.specs.Prelude.{◌≡◌, ◌⊎◌, ◌+◌, ◌^◌, ◌<◌, ◌∷◌, [], length, IfErr, IfOk, IsTrue, OnErr, OnOk, Some, List};
+ghost use Rattle.dbl_base.specs.Streams.{HasCause};
 ghost use Rattle.dbl_table.specs.declared.table.TableInfo.{TableInfo as SpecInfo};
 ghost use Rattle.dbl_honest.specs.Leaves.{Leaves, LeavesSome};
 ghost use Rattle.dbl_honest.specs.Standings.{Standing, Leads};
@@ -66,9 +66,8 @@ fn rows_and_high<S: Source>(marked: Marked, src: &mut S) -> Result<Armed, Window
     ensures live { OnOk result (IsTrue (S.is_live src.new)) }
     ensures honest { S.honest src.new → S.honest src.old }
     ensures comes { S.comes_of src.old src.new }
-    ensures later { S.faults src.old ≤ S.faults src.new }
-    ensures failed { result ≡ Err WindowError.Failed →
-        Rose (S.faults src.old) (S.faults src.new) }
+    ensures cause { HasCause (result ≡ Err WindowError.Failed)
+        (S.faults src.old) (S.faults src.new) }
 {
     let held = marked.select(src)?;
     held.high(src)
@@ -95,9 +94,8 @@ fn between_marks<S: Source>(idle: Idle, src: &mut S) -> Result<Armed, WindowErro
     ensures live { OnOk result (IsTrue (S.is_live src.new)) }
     ensures honest { S.honest src.new → S.honest src.old }
     ensures comes { S.comes_of src.old src.new }
-    ensures later { S.faults src.old ≤ S.faults src.new }
-    ensures failed { result ≡ Err WindowError.Failed →
-        Rose (S.faults src.old) (S.faults src.new) }
+    ensures cause { HasCause (result ≡ Err WindowError.Failed)
+        (S.faults src.old) (S.faults src.new) }
 {
     let marked = idle.low(src)?;
     rows_and_high(marked, src)
@@ -152,7 +150,7 @@ pub fn read_window<S: Source>(work: &mut Work, table: u32, src: &mut S) -> Resul
         S.stands src.old s → S.honest src.new →
         plan_at work.old table ≡ Some plan → IsCaptured infos s.history plan →
         IfErr result (IsHonestChunkHalt plan (S.stands src.new) infos) }
-    ensures failed { result ≡ Err Halt.Source → Rose (S.faults src.old) (S.faults src.new) }
+    ensures cause { HasCause (result ≡ Err Halt.Source) (S.faults src.old) (S.faults src.new) }
 
     // Of the source, whatever it answers.
     ensures left { (plan : Plan) → plan_at work.old table ≡ Some plan →
@@ -166,7 +164,6 @@ pub fn read_window<S: Source>(work: &mut Work, table: u32, src: &mut S) -> Resul
     ensures live { OnOk result (IsTrue (S.is_live src.new)) }
     ensures honest { S.honest src.new → S.honest src.old }
     ensures comes { S.comes_of src.old src.new }
-    ensures later { S.faults src.old ≤ S.faults src.new }
 {
     let idle = window_of(work, table)?;
     match between_marks(idle, src) {

@@ -9,7 +9,7 @@ pieces-init g c = (reading_begins _ _ c.new-bytes.ensures.items, omega arith, λ
 pub pieces-preserved : goal.pieces-preserved
 pieces-preserved g c = (
   reading_goes_on _ _ _ _ _ c.in_ok-count.count c.pieces.invariant.0 c.in_ok-count.ensures.left c.in_ok-count.ensures.moved,
-  omega arith,
+  omega (arith, c.pieces.invariant.1, c.in_ok-count.ensures.cause.later),
   λ bytes told.
       let now = c.pieces.invariant.0.told bytes told in
       c.in_ok-count.ensures.steady now.0 now.1 (λ ok. cc) ∙ c.pieces.invariant.2 bytes told,

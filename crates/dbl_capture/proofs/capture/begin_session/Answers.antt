@@ -1,4 +1,4 @@
-use Rattle.std.proofs.Common.{◌≡◌, ◌∙◌, ◌⊎◌, inl, inr, Some, refl, sym, subst}
+use Rattle.std.proofs.Common.{◌≡◌, ◌∙◌, ◌⊎◌, inl, inr, Some, refl, sym, subst, le_refl}
 use Rattle.dbl_history.specs.Fit.{IsFitHistory}
 use Rattle.dbl_honest.specs.Standings.{left_of}
 use Rattle.dbl_offset.specs.declared.offset.Offset.{Offset}
@@ -65,32 +65,14 @@ returns-clause-begun g c tell entry asked f honest had =
 
 -- ---- counts, and what no call undoes
 
-pub returns-in_err-offset-clause-source : goal.returns-in_err-offset-clause-source
-returns-in_err-offset-clause-source g c is = c.offset_of.ensures.failed (residual_is c.from_residual.result c.offset_of.result _ _ c.in_err-offset.was c.from_residual.ensures.1 is)
-
 pub returns-in_err-offset-clause-sink : goal.returns-in_err-offset-clause-sink
 returns-in_err-offset-clause-sink g c is = c.offset_of.ensures.others.0 (residual_is c.from_residual.result c.offset_of.result _ _ c.in_err-offset.was c.from_residual.ensures.1 is)
-
-pub returns-in_err-offset-clause-offsets : goal.returns-in_err-offset-clause-offsets
-returns-in_err-offset-clause-offsets g c is = absurd (c.offset_of.ensures.others.1 (residual_is c.from_residual.result c.offset_of.result _ _ c.in_err-offset.was c.from_residual.ensures.1 is))
-
-pub returns-in_err-stored-clause-source : goal.returns-in_err-stored-clause-source
-returns-in_err-stored-clause-source g c is = absurd (err_at c.from_residual-in_err-stored.result _ OfNone (residual_of c.from_residual-in_err-stored.result halt.Memory OfNone c.from_residual-in_err-stored.ensures.1 tt) is)
 
 pub returns-in_err-stored-clause-sink : goal.returns-in_err-stored-clause-sink
 returns-in_err-stored-clause-sink g c is = err_at c.from_residual-in_err-stored.result _ OfNone (residual_of c.from_residual-in_err-stored.result halt.Memory OfNone c.from_residual-in_err-stored.ensures.1 tt) is
 
-pub returns-in_err-stored-clause-offsets : goal.returns-in_err-stored-clause-offsets
-returns-in_err-stored-clause-offsets g c is = absurd (err_at c.from_residual-in_err-stored.result _ OfNone (residual_of c.from_residual-in_err-stored.result halt.Memory OfNone c.from_residual-in_err-stored.ensures.1 tt) is)
-
-pub returns-in_err-put_offset-clause-source : goal.returns-in_err-put_offset-clause-source
-returns-in_err-put_offset-clause-source g c is = absurd (err_at c.from_residual-in_err-put_offset.result _ OfStore (residual_of c.from_residual-in_err-put_offset.result _ OfStore c.from_residual-in_err-put_offset.ensures.1 (store_of _ _ c.in_err-put_offset.ensures.halt)) is)
-
 pub returns-in_err-put_offset-clause-sink : goal.returns-in_err-put_offset-clause-sink
 returns-in_err-put_offset-clause-sink g c is = err_at c.from_residual-in_err-put_offset.result _ OfStore (residual_of c.from_residual-in_err-put_offset.result _ OfStore c.from_residual-in_err-put_offset.ensures.1 (store_of _ _ c.in_err-put_offset.ensures.halt)) is
-
-pub returns-in_err-put_offset-clause-offsets : goal.returns-in_err-put_offset-clause-offsets
-returns-in_err-put_offset-clause-offsets g c is = c.put_offset.ensures.failed (residual_is c.from_residual-in_err-put_offset.result c.put_offset.result _ _ c.in_err-put_offset.was c.from_residual-in_err-put_offset.ensures.1 is)
 
 pub returns-in_err-offset-clause-never : goal.returns-in_err-offset-clause-never
 returns-in_err-offset-clause-never g c value at is = c.offset_of.ensures.never value at (residual_is c.from_residual.result c.offset_of.result _ _ c.in_err-offset.was c.from_residual.ensures.1 is)
@@ -264,3 +246,29 @@ returns-clause-held g c held other = held_stored g.D.Disk.seen g.D.Disk.may_leav
 
 pub returns-clause-first : goal.returns-clause-first
 returns-clause-first g c s is none = (c.in_ok-offset.ensures.first s is none).1
+
+-- ---- whose fault it is
+
+pub returns-in_err-offset-clause-source : goal.returns-in_err-offset-clause-source
+returns-in_err-offset-clause-source g c = record { later = c.offset_of.ensures.cause.later; cause = λ is. c.offset_of.ensures.cause.cause (residual_is c.from_residual.result c.offset_of.result _ _ c.in_err-offset.was c.from_residual.ensures.1 is) }
+
+pub returns-in_err-offset-clause-offsets : goal.returns-in_err-offset-clause-offsets
+returns-in_err-offset-clause-offsets g c = record { later = le_refl _; cause = λ is. absurd (c.offset_of.ensures.others.1 (residual_is c.from_residual.result c.offset_of.result _ _ c.in_err-offset.was c.from_residual.ensures.1 is)) }
+
+pub returns-in_err-stored-clause-source : goal.returns-in_err-stored-clause-source
+returns-in_err-stored-clause-source g c = record { later = c.offset_of.ensures.cause.later; cause = λ is. absurd (err_at c.from_residual-in_err-stored.result _ OfNone (residual_of c.from_residual-in_err-stored.result halt.Memory OfNone c.from_residual-in_err-stored.ensures.1 tt) is) }
+
+pub returns-in_err-stored-clause-offsets : goal.returns-in_err-stored-clause-offsets
+returns-in_err-stored-clause-offsets g c = record { later = le_refl _; cause = λ is. absurd (err_at c.from_residual-in_err-stored.result _ OfNone (residual_of c.from_residual-in_err-stored.result halt.Memory OfNone c.from_residual-in_err-stored.ensures.1 tt) is) }
+
+pub returns-in_err-put_offset-clause-source : goal.returns-in_err-put_offset-clause-source
+returns-in_err-put_offset-clause-source g c = record { later = c.offset_of.ensures.cause.later; cause = λ is. absurd (err_at c.from_residual-in_err-put_offset.result _ OfStore (residual_of c.from_residual-in_err-put_offset.result _ OfStore c.from_residual-in_err-put_offset.ensures.1 (store_of _ _ c.in_err-put_offset.ensures.halt)) is) }
+
+pub returns-in_err-put_offset-clause-offsets : goal.returns-in_err-put_offset-clause-offsets
+returns-in_err-put_offset-clause-offsets g c = record { later = c.put_offset.ensures.cause.later; cause = λ is. c.put_offset.ensures.cause.cause (residual_is c.from_residual-in_err-put_offset.result c.put_offset.result _ _ c.in_err-put_offset.was c.from_residual-in_err-put_offset.ensures.1 is) }
+
+pub returns-clause-source : goal.returns-clause-source
+returns-clause-source g c = record { later = c.offset_of.ensures.cause.later; cause = λ is. absurd (let i = is in cc) }
+
+pub returns-clause-offsets : goal.returns-clause-offsets
+returns-clause-offsets g c = record { later = c.put_offset.ensures.cause.later; cause = λ is. absurd (let i = is in cc) }

@@ -1,4 +1,4 @@
-use Rattle.std.proofs.Common.{◌∙◌, inl, inr, Some, Option, refl, sym, ap, subst}
+use Rattle.std.proofs.Common.{◌∙◌, inl, inr, Some, Option, refl, sym, ap, subst, arith}
 use Rattle.std.specs.Prelude.{IfOk}
 use Rattle.dbl_honest.proofs.GrowthLemmas.{grows_none}
 use Rattle.dbl_honest.specs.Standings.{Standing, left_of}
@@ -34,9 +34,8 @@ returns-in_err-offset-clause-left g c s l is may = inl (g.met.S.Source.only _ s 
 pub returns-in_err-offset-clause-some : goal.returns-in_err-offset-clause-some
 returns-in_err-offset-clause-some g c s is = (left_of s, g.met.S.Source.may _ s is)
 
-pub returns-in_err-offset-clause-failed : goal.returns-in_err-offset-clause-failed
-returns-in_err-offset-clause-failed g c is =
-    absurd (err_at c.from_residual.result _ OfNone (residual_of c.from_residual.result _ OfNone c.from_residual.ensures.1 (again_of c.args.store.now.offset _ c.in_err-offset.ensures.halt)) is)
+pub returns-in_err-offset-clause-cause : goal.returns-in_err-offset-clause-cause
+returns-in_err-offset-clause-cause g c = record { later = omega arith; cause = λ is. absurd (err_at c.from_residual.result _ OfNone (residual_of c.from_residual.result _ OfNone c.from_residual.ensures.1 (again_of c.args.store.now.offset _ c.in_err-offset.ensures.halt)) is) }
 
 pub returns-in_err-offset-clause-others : goal.returns-in_err-offset-clause-others
 returns-in_err-offset-clause-others g c =

@@ -119,23 +119,11 @@ returns-clause-opened g c tell entry asked time f honest had =
 
 -- ---- counts, and what no call undoes
 
-pub returns-in_err-offset-clause-source : goal.returns-in_err-offset-clause-source
-returns-in_err-offset-clause-source g c is = c.begin_session.ensures.source (residual_is c.from_residual.result c.begin_session.result _ _ c.in_err-offset.was c.from_residual.ensures.1 is)
-
 pub returns-in_err-offset-clause-sink : goal.returns-in_err-offset-clause-sink
 returns-in_err-offset-clause-sink g c is = c.begin_session.ensures.sink (residual_is c.from_residual.result c.begin_session.result _ _ c.in_err-offset.was c.from_residual.ensures.1 is)
 
-pub returns-in_err-offset-clause-offsets : goal.returns-in_err-offset-clause-offsets
-returns-in_err-offset-clause-offsets g c is = c.begin_session.ensures.offsets (residual_is c.from_residual.result c.begin_session.result _ _ c.in_err-offset.was c.from_residual.ensures.1 is)
-
-pub returns-in_err-start-clause-source : goal.returns-in_err-start-clause-source
-returns-in_err-start-clause-source g c is = rose_behind (g.S.Source.faults c.args.src.now) (g.S.Source.faults c.begin_session.new.src) (g.S.Source.faults c.start.new.src) c.begin_session.ensures.source_later (c.start.ensures.failed (residual_is c.from_residual-in_err-start.result c.start.result _ _ c.in_err-start.was c.from_residual-in_err-start.ensures.1 is))
-
 pub returns-in_err-start-clause-sink : goal.returns-in_err-start-clause-sink
 returns-in_err-start-clause-sink g c is = err_at c.from_residual-in_err-start.result _ OfSource (residual_of c.from_residual-in_err-start.result _ OfSource c.from_residual-in_err-start.ensures.1 (start_of _ _ c.in_err-start.ensures.halt)) is
-
-pub returns-in_err-start-clause-offsets : goal.returns-in_err-start-clause-offsets
-returns-in_err-start-clause-offsets g c is = absurd (err_at c.from_residual-in_err-start.result _ OfSource (residual_of c.from_residual-in_err-start.result _ OfSource c.from_residual-in_err-start.ensures.1 (start_of _ _ c.in_err-start.ensures.halt)) is)
 
 pub returns-in_err-start-clause-source_comes : goal.returns-in_err-start-clause-source_comes
 returns-in_err-start-clause-source_comes g c = g.met.S.Source.comes_on c.args.src.now c.begin_session.new.src c.start.new.src c.begin_session.ensures.source_comes c.start.ensures.comes
@@ -143,14 +131,8 @@ returns-in_err-start-clause-source_comes g c = g.met.S.Source.comes_on c.args.sr
 pub returns-clause-source_comes : goal.returns-clause-source_comes
 returns-clause-source_comes g c = g.met.S.Source.comes_on c.args.src.now c.begin_session.new.src c.start.new.src c.begin_session.ensures.source_comes c.start.ensures.comes
 
-pub returns-clause-source : goal.returns-clause-source
-returns-clause-source g c is = absurd (err_at c.make.result _ OfNone (err_then c.make.result _ OfNone c.make.ensures.memory (λ h is. subst OfNone (sym is) tt)) is)
-
 pub returns-clause-sink : goal.returns-clause-sink
 returns-clause-sink g c is = err_at c.make.result _ OfNone (err_then c.make.result _ OfNone c.make.ensures.memory (λ h is. subst OfNone (sym is) tt)) is
-
-pub returns-clause-offsets : goal.returns-clause-offsets
-returns-clause-offsets g c is = absurd (err_at c.make.result _ OfNone (err_then c.make.result _ OfNone c.make.ensures.memory (λ h is. subst OfNone (sym is) tt)) is)
 
 pub returns-in_err-offset-clause-never : goal.returns-in_err-offset-clause-never
 returns-in_err-offset-clause-never g c value at is = c.begin_session.ensures.never value at (residual_is c.from_residual.result c.begin_session.result _ _ c.in_err-offset.was c.from_residual.ensures.1 is)
@@ -164,14 +146,8 @@ returns-clause-never g c value at is = err_at c.make.result _ OfNone (err_then c
 pub returns-in_err-start-clause-honest : goal.returns-in_err-start-clause-honest
 returns-in_err-start-clause-honest g c honest = c.begin_session.ensures.honest (c.start.ensures.honest honest)
 
-pub returns-in_err-start-clause-source_later : goal.returns-in_err-start-clause-source_later
-returns-in_err-start-clause-source_later g c = later_on (g.S.Source.faults c.args.src.now) (g.S.Source.faults c.begin_session.new.src) (g.S.Source.faults c.start.new.src) c.begin_session.ensures.source_later c.start.ensures.later
-
 pub returns-clause-honest : goal.returns-clause-honest
 returns-clause-honest g c honest = c.begin_session.ensures.honest (c.start.ensures.honest honest)
-
-pub returns-clause-source_later : goal.returns-clause-source_later
-returns-clause-source_later g c = later_on (g.S.Source.faults c.args.src.now) (g.S.Source.faults c.begin_session.new.src) (g.S.Source.faults c.start.new.src) c.begin_session.ensures.source_later c.start.ensures.later
 
 pub returns-in_err-offset-clause-report : goal.returns-in_err-offset-clause-report
 returns-in_err-offset-clause-report g c = (refl, refl)
@@ -387,3 +363,23 @@ returns-in_err-start-clause-gone_stood g c s is =
 
 pub returns-clause-gone_stood : goal.returns-clause-gone_stood
 returns-clause-gone_stood g c s is = err_then c.make.result _ (IsGoneBelow s.confirmed) c.make.ensures.memory (λ h memory. free_below s.confirmed h (memory_reads h memory))
+
+-- ---- whose fault it is
+
+pub returns-in_err-offset-clause-source : goal.returns-in_err-offset-clause-source
+returns-in_err-offset-clause-source g c = record { later = c.begin_session.ensures.source.later; cause = λ is. c.begin_session.ensures.source.cause (residual_is c.from_residual.result c.begin_session.result _ _ c.in_err-offset.was c.from_residual.ensures.1 is) }
+
+pub returns-in_err-offset-clause-offsets : goal.returns-in_err-offset-clause-offsets
+returns-in_err-offset-clause-offsets g c = record { later = c.begin_session.ensures.offsets.later; cause = λ is. c.begin_session.ensures.offsets.cause (residual_is c.from_residual.result c.begin_session.result _ _ c.in_err-offset.was c.from_residual.ensures.1 is) }
+
+pub returns-in_err-start-clause-source : goal.returns-in_err-start-clause-source
+returns-in_err-start-clause-source g c = record { later = later_on (g.S.Source.faults c.args.src.now) (g.S.Source.faults c.begin_session.new.src) (g.S.Source.faults c.start.new.src) c.begin_session.ensures.source.later c.start.ensures.cause.later; cause = λ is. rose_behind (g.S.Source.faults c.args.src.now) (g.S.Source.faults c.begin_session.new.src) (g.S.Source.faults c.start.new.src) c.begin_session.ensures.source.later (c.start.ensures.cause.cause (residual_is c.from_residual-in_err-start.result c.start.result _ _ c.in_err-start.was c.from_residual-in_err-start.ensures.1 is)) }
+
+pub returns-in_err-start-clause-offsets : goal.returns-in_err-start-clause-offsets
+returns-in_err-start-clause-offsets g c = record { later = c.begin_session.ensures.offsets.later; cause = λ is. absurd (err_at c.from_residual-in_err-start.result _ OfSource (residual_of c.from_residual-in_err-start.result _ OfSource c.from_residual-in_err-start.ensures.1 (start_of _ _ c.in_err-start.ensures.halt)) is) }
+
+pub returns-clause-source : goal.returns-clause-source
+returns-clause-source g c = record { later = later_on (g.S.Source.faults c.args.src.now) (g.S.Source.faults c.begin_session.new.src) (g.S.Source.faults c.start.new.src) c.begin_session.ensures.source.later c.start.ensures.cause.later; cause = λ is. absurd (err_at c.make.result _ OfNone (err_then c.make.result _ OfNone c.make.ensures.memory (λ h is. subst OfNone (sym is) tt)) is) }
+
+pub returns-clause-offsets : goal.returns-clause-offsets
+returns-clause-offsets g c = record { later = c.begin_session.ensures.offsets.later; cause = λ is. absurd (err_at c.make.result _ OfNone (err_then c.make.result _ OfNone c.make.ensures.memory (λ h is. subst OfNone (sym is) tt)) is) }

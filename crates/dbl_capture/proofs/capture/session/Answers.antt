@@ -1,4 +1,4 @@
-use Rattle.std.proofs.Common.{◌≡◌, ◌∙◌, arith, inl, inr, ℤ, true, false, Some, None, [], Ok, Err, refl, sym, ap, subst}
+use Rattle.std.proofs.Common.{◌≡◌, ◌∙◌, arith, inl, inr, ℤ, true, false, Some, None, [], Ok, Err, refl, sym, ap, subst, le_refl}
 use Rattle.std.specs.Prelude.{OnOk}
 use Rattle.std.proofs.Math.Facts.{to_z-of_z}
 use Rattle.dbl_history.specs.Ranges.{IsMomentInRange}
@@ -114,23 +114,8 @@ returns-clause-done g c is = let done = c.run.ensures.done is in (next_of c.run.
 
 -- ---- counts, and what no call undoes
 
-pub returns-in_err-work-clause-source : goal.returns-in_err-work-clause-source
-returns-in_err-work-clause-source g c is = c.open_session.ensures.source (residual_is c.from_residual.result c.open_session.result _ _ c.in_err-work.was c.from_residual.ensures.1 is)
-
-pub returns-in_err-work-clause-sink : goal.returns-in_err-work-clause-sink
-returns-in_err-work-clause-sink g c is = absurd (c.open_session.ensures.sink (residual_is c.from_residual.result c.open_session.result _ _ c.in_err-work.was c.from_residual.ensures.1 is))
-
-pub returns-in_err-work-clause-offsets : goal.returns-in_err-work-clause-offsets
-returns-in_err-work-clause-offsets g c is = c.open_session.ensures.offsets (residual_is c.from_residual.result c.open_session.result _ _ c.in_err-work.was c.from_residual.ensures.1 is)
-
 pub returns-in_err-work-clause-sink_comes : goal.returns-in_err-work-clause-sink_comes
 returns-in_err-work-clause-sink_comes g c = g.met.K.Sink.comes_self _
-
-pub returns-clause-source : goal.returns-clause-source
-returns-clause-source g c is = rose_behind (g.S.Source.faults c.args.src.now) (g.S.Source.faults c.open_session.new.src) (g.S.Source.faults c.run.new.src) c.open_session.ensures.source_later (c.run.ensures.source is)
-
-pub returns-clause-offsets : goal.returns-clause-offsets
-returns-clause-offsets g c is = rose_behind _ _ _ c.open_session.ensures.store_later (c.run.ensures.offsets is)
 
 pub returns-clause-source_comes : goal.returns-clause-source_comes
 returns-clause-source_comes g c = g.met.S.Source.comes_on c.args.src.now c.open_session.new.src c.run.new.src c.open_session.ensures.source_comes c.run.ensures.source_comes
@@ -143,12 +128,6 @@ returns-clause-missed g c = c.run.ensures.missed
 
 pub returns-clause-honest : goal.returns-clause-honest
 returns-clause-honest g c honest = c.open_session.ensures.honest (c.run.ensures.honest honest)
-
-pub returns-clause-source_later : goal.returns-clause-source_later
-returns-clause-source_later g c = later_on (g.S.Source.faults c.args.src.now) (g.S.Source.faults c.open_session.new.src) (g.S.Source.faults c.run.new.src) c.open_session.ensures.source_later c.run.ensures.source_later
-
-pub returns-clause-store_later : goal.returns-clause-store_later
-returns-clause-store_later g c = later_on (g.D.Disk.faults (disk_of c.args.offsets.now)) (g.D.Disk.faults (disk_of c.open_session.new.store)) (g.D.Disk.faults (disk_of c.run.new.store)) c.open_session.ensures.store_later c.run.ensures.store_later
 
 pub returns-clause-store_comes : goal.returns-clause-store_comes
 returns-clause-store_comes g c gate most come = c.run.ensures.store_comes gate most (c.open_session.ensures.store_comes gate most come)
@@ -513,3 +492,23 @@ returns-clause-unclosed g c entry asked f honest faithful t now =
     let u = subst (λ (n : ℤ). IsUnderWay g.S.Source.stands None (g.S.Source.told c.args.src.now) (beginning_at c.args.config.now n c.args.offsets.now.offset way.0) c.open_session.new.store.offset c.in_ok-work.work c.open_session.new.report c.open_session.new.src (g.S.Source.told c.open_session.new.src)) (to_z-of_z c.ranges.now_ms) way.1 in
     ok_then c.run.result _ _ (ok_pair c.run.result _ _ (c.run.ensures.ran true entry in_session honest) (c.run.ensures.all None (g.S.Source.told c.args.src.now) b u))
     (λ x. closed_read x.0 faithful c.run.new.store.offset c.run.new.report t x.1.stored_is (g.met.S.Source.one c.run.new.src t (standing_at x.0.stage) now x.0.source_is) x.1.is.is.windows)
+
+-- ---- whose fault it is
+
+pub returns-in_err-work-clause-source : goal.returns-in_err-work-clause-source
+returns-in_err-work-clause-source g c = record { later = c.open_session.ensures.source.later; cause = λ is. c.open_session.ensures.source.cause (residual_is c.from_residual.result c.open_session.result _ _ c.in_err-work.was c.from_residual.ensures.1 is) }
+
+pub returns-in_err-work-clause-sink : goal.returns-in_err-work-clause-sink
+returns-in_err-work-clause-sink g c = record { later = le_refl _; cause = λ is. absurd (c.open_session.ensures.sink (residual_is c.from_residual.result c.open_session.result _ _ c.in_err-work.was c.from_residual.ensures.1 is)) }
+
+pub returns-in_err-work-clause-offsets : goal.returns-in_err-work-clause-offsets
+returns-in_err-work-clause-offsets g c = record { later = c.open_session.ensures.offsets.later; cause = λ is. c.open_session.ensures.offsets.cause (residual_is c.from_residual.result c.open_session.result _ _ c.in_err-work.was c.from_residual.ensures.1 is) }
+
+pub returns-clause-source : goal.returns-clause-source
+returns-clause-source g c = record { later = later_on (g.S.Source.faults c.args.src.now) (g.S.Source.faults c.open_session.new.src) (g.S.Source.faults c.run.new.src) c.open_session.ensures.source.later c.run.ensures.source.later; cause = λ is. rose_behind (g.S.Source.faults c.args.src.now) (g.S.Source.faults c.open_session.new.src) (g.S.Source.faults c.run.new.src) c.open_session.ensures.source.later (c.run.ensures.source.cause is) }
+
+pub returns-clause-sink : goal.returns-clause-sink
+returns-clause-sink g c = c.run.ensures.sink
+
+pub returns-clause-offsets : goal.returns-clause-offsets
+returns-clause-offsets g c = record { later = later_on (g.D.Disk.faults (disk_of c.args.offsets.now)) (g.D.Disk.faults (disk_of c.open_session.new.store)) (g.D.Disk.faults (disk_of c.run.new.store)) c.open_session.ensures.offsets.later c.run.ensures.offsets.later; cause = λ is. rose_behind _ _ _ c.open_session.ensures.offsets.later (c.run.ensures.offsets.cause is) }

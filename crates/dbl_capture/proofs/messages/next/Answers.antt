@@ -1,4 +1,4 @@
-use Rattle.std.proofs.Common.{◌≡◌, ◌∙◌, ◌+◌, true, ◌++◌, ◌<◌, inl, length, ℕ, List, Some, None, Option, Err, refl, sym, ap, subst, arith}
+use Rattle.std.proofs.Common.{◌≡◌, ◌∙◌, ◌+◌, true, ◌++◌, ◌<◌, inl, length, ℕ, List, Some, None, Option, Err, refl, sym, ap, subst, arith, le_refl}
 use Rattle.std.specs.Prelude.{IfSome, All, is_none}
 use Rattle.std.proofs.lemmas.Result.{err_from_is_err_and}
 use Rattle.dbl_table.specs.declared.change.Commit.{Commit}
@@ -106,31 +106,16 @@ follow-requires-clause-since g c = subst (λ (w : Work). w.since < w.every) (sym
 pub follow-requires-clause-fits : goal.follow-requires-clause-fits
 follow-requires-clause-fits g c = subst (λ (o : Option Commit). IfSome o (λ x. All (FitsInfos c.take_message.new.work.follower.infos) (changes_of x))) c.in-Some-2.is c.in_ok-commit-in-Some.ensures.fits
 
-pub returns-in_err-bytes-clause-sink : goal.returns-in_err-bytes-clause-sink
-returns-in_err-bytes-clause-sink g c is = absurd (err_at c.from_residual.result _ OfSource (residual_of c.from_residual.result _ OfSource c.from_residual.ensures.1 (source_of c.in_err-bytes.field-0.0)) is)
-
 pub returns-in_err-bytes-clause-offsets : goal.returns-in_err-bytes-clause-offsets
 returns-in_err-bytes-clause-offsets g c is = err_at c.from_residual.result _ OfSource (residual_of c.from_residual.result _ OfSource c.from_residual.ensures.1 (source_of c.in_err-bytes.field-0.0)) is
 
-pub returns-in_err-commit-in-Some-clause-source : goal.returns-in_err-commit-in-Some-clause-source
-returns-in_err-commit-in-Some-clause-source g c is = absurd (err_at c.from_residual-in_err-commit-in-Some.result _ OfNone (residual_of c.from_residual-in_err-commit-in-Some.result _ OfNone c.from_residual-in_err-commit-in-Some.ensures.1 (taken_of _ c.requires.ready.after c.requires.ready.messages c.in-Some.bytes c.args.work.now _ (c.in_err-commit-in-Some.ensures.halt c.requires.ready.after c.requires.ready.messages c.requires.ready.is))) is)
-
-pub returns-in_err-commit-in-Some-clause-sink : goal.returns-in_err-commit-in-Some-clause-sink
-returns-in_err-commit-in-Some-clause-sink g c is = absurd (err_at c.from_residual-in_err-commit-in-Some.result _ OfNone (residual_of c.from_residual-in_err-commit-in-Some.result _ OfNone c.from_residual-in_err-commit-in-Some.ensures.1 (taken_of _ c.requires.ready.after c.requires.ready.messages c.in-Some.bytes c.args.work.now _ (c.in_err-commit-in-Some.ensures.halt c.requires.ready.after c.requires.ready.messages c.requires.ready.is))) is)
-
 pub returns-in_err-commit-in-Some-clause-offsets : goal.returns-in_err-commit-in-Some-clause-offsets
 returns-in_err-commit-in-Some-clause-offsets g c is = err_at c.from_residual-in_err-commit-in-Some.result _ OfNone (residual_of c.from_residual-in_err-commit-in-Some.result _ OfNone c.from_residual-in_err-commit-in-Some.ensures.1 (taken_of _ c.requires.ready.after c.requires.ready.messages c.in-Some.bytes c.args.work.now _ (c.in_err-commit-in-Some.ensures.halt c.requires.ready.after c.requires.ready.messages c.requires.ready.is))) is
-
-pub returns-in_err-closed-in-Some-2-clause-source : goal.returns-in_err-closed-in-Some-2-clause-source
-returns-in_err-closed-in-Some-2-clause-source g c is = absurd (err_at c.from_residual-in_err-closed-in-Some-2.result _ OfSink (residual_of c.from_residual-in_err-closed-in-Some-2.result _ OfSink c.from_residual-in_err-closed-in-Some-2.ensures.1 (follow_of _ _ _ c.in_err-closed-in-Some-2.ensures.halt)) is)
 
 pub returns-in_err-closed-in-Some-2-clause-offsets : goal.returns-in_err-closed-in-Some-2-clause-offsets
 returns-in_err-closed-in-Some-2-clause-offsets g c is = err_at c.from_residual-in_err-closed-in-Some-2.result _ OfSink (residual_of c.from_residual-in_err-closed-in-Some-2.result _ OfSink c.from_residual-in_err-closed-in-Some-2.ensures.1 (follow_of _ _ _ c.in_err-closed-in-Some-2.ensures.halt)) is
 
 -- ---- counts, and what no call undoes
-
-pub returns-in_err-bytes-clause-source : goal.returns-in_err-bytes-clause-source
-returns-in_err-bytes-clause-source g c is = c.read.ensures.failed (residual_source c.from_residual.result c.read.result _ c.in_err-bytes.was c.from_residual.ensures.1 is)
 
 pub returns-in_err-bytes-clause-sink_comes : goal.returns-in_err-bytes-clause-sink_comes
 returns-in_err-bytes-clause-sink_comes g c = g.met.K.Sink.comes_self _
@@ -143,9 +128,6 @@ returns-in_err-commit-in-Some-clause-sink_comes g c = g.met.K.Sink.comes_self _
 
 pub returns-in-Some-clause-sink_comes : goal.returns-in-Some-clause-sink_comes
 returns-in-Some-clause-sink_comes g c = g.met.K.Sink.comes_self _
-
-pub returns-in_err-closed-in-Some-2-clause-sink : goal.returns-in_err-closed-in-Some-2-clause-sink
-returns-in_err-closed-in-Some-2-clause-sink g c is = c.follow.ensures.failed (residual_is c.from_residual-in_err-closed-in-Some-2.result c.follow.result _ _ c.in_err-closed-in-Some-2.was c.from_residual-in_err-closed-in-Some-2.ensures.1 is)
 
 pub returns-clause-ended : goal.returns-clause-ended
 returns-clause-ended g c is = c.in_ok-bytes.ensures.ended ∙ ap is_none c.in-None.is
@@ -380,3 +362,41 @@ returns-clause-waits g c at found b u s first honest a is =
     let own = (work_at g.S.Source.stands at found b c.args.store.now.offset c.args.work.now c.args.report.now c.args.src.now (g.S.Source.told c.args.src.now) u (g.met.S.Source.one c.args.src.now) s first a) in
     let t = none_read _ _ _ c.in-None.is (c.in_ok-bytes.ensures.took a.standing a.is) in
     awaits_nothing g.S.Source.stands c.args.work.now c.args.src.now t.standing a own.accepted t.holds.0 (t.holds.1 honest)
+
+-- ---- whose fault it is
+
+pub returns-in_err-bytes-clause-source : goal.returns-in_err-bytes-clause-source
+returns-in_err-bytes-clause-source g c = record { later = c.read.ensures.cause.later; cause = λ is. c.read.ensures.cause.cause (residual_source c.from_residual.result c.read.result _ c.in_err-bytes.was c.from_residual.ensures.1 is) }
+
+pub returns-in_err-bytes-clause-sink : goal.returns-in_err-bytes-clause-sink
+returns-in_err-bytes-clause-sink g c = record { later = le_refl _; cause = λ is. absurd (err_at c.from_residual.result _ OfSource (residual_of c.from_residual.result _ OfSource c.from_residual.ensures.1 (source_of c.in_err-bytes.field-0.0)) is) }
+
+pub returns-in_err-commit-in-Some-clause-source : goal.returns-in_err-commit-in-Some-clause-source
+returns-in_err-commit-in-Some-clause-source g c = record { later = c.read.ensures.cause.later; cause = λ is. absurd (err_at c.from_residual-in_err-commit-in-Some.result _ OfNone (residual_of c.from_residual-in_err-commit-in-Some.result _ OfNone c.from_residual-in_err-commit-in-Some.ensures.1 (taken_of _ c.requires.ready.after c.requires.ready.messages c.in-Some.bytes c.args.work.now _ (c.in_err-commit-in-Some.ensures.halt c.requires.ready.after c.requires.ready.messages c.requires.ready.is))) is) }
+
+pub returns-in_err-commit-in-Some-clause-sink : goal.returns-in_err-commit-in-Some-clause-sink
+returns-in_err-commit-in-Some-clause-sink g c = record { later = le_refl _; cause = λ is. absurd (err_at c.from_residual-in_err-commit-in-Some.result _ OfNone (residual_of c.from_residual-in_err-commit-in-Some.result _ OfNone c.from_residual-in_err-commit-in-Some.ensures.1 (taken_of _ c.requires.ready.after c.requires.ready.messages c.in-Some.bytes c.args.work.now _ (c.in_err-commit-in-Some.ensures.halt c.requires.ready.after c.requires.ready.messages c.requires.ready.is))) is) }
+
+pub returns-in_err-closed-in-Some-2-clause-source : goal.returns-in_err-closed-in-Some-2-clause-source
+returns-in_err-closed-in-Some-2-clause-source g c = record { later = c.read.ensures.cause.later; cause = λ is. absurd (err_at c.from_residual-in_err-closed-in-Some-2.result _ OfSink (residual_of c.from_residual-in_err-closed-in-Some-2.result _ OfSink c.from_residual-in_err-closed-in-Some-2.ensures.1 (follow_of _ _ _ c.in_err-closed-in-Some-2.ensures.halt)) is) }
+
+pub returns-in_err-closed-in-Some-2-clause-sink : goal.returns-in_err-closed-in-Some-2-clause-sink
+returns-in_err-closed-in-Some-2-clause-sink g c = record { later = c.follow.ensures.cause.later; cause = λ is. c.follow.ensures.cause.cause (residual_is c.from_residual-in_err-closed-in-Some-2.result c.follow.result _ _ c.in_err-closed-in-Some-2.was c.from_residual-in_err-closed-in-Some-2.ensures.1 is) }
+
+pub returns-in-Some-2-clause-source : goal.returns-in-Some-2-clause-source
+returns-in-Some-2-clause-source g c = record { later = c.read.ensures.cause.later; cause = λ is. absurd (let i = is in cc) }
+
+pub returns-in-Some-2-clause-sink : goal.returns-in-Some-2-clause-sink
+returns-in-Some-2-clause-sink g c = record { later = c.follow.ensures.cause.later; cause = λ is. absurd (let i = is in cc) }
+
+pub returns-in-Some-clause-source : goal.returns-in-Some-clause-source
+returns-in-Some-clause-source g c = record { later = c.read.ensures.cause.later; cause = λ is. absurd (let i = is in cc) }
+
+pub returns-in-Some-clause-sink : goal.returns-in-Some-clause-sink
+returns-in-Some-clause-sink g c = record { later = le_refl _; cause = λ is. absurd (let i = is in cc) }
+
+pub returns-clause-source : goal.returns-clause-source
+returns-clause-source g c = record { later = c.read.ensures.cause.later; cause = λ is. absurd (let i = is in cc) }
+
+pub returns-clause-sink : goal.returns-clause-sink
+returns-clause-sink g c = record { later = le_refl _; cause = λ is. absurd (let i = is in cc) }

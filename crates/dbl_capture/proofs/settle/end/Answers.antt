@@ -1,4 +1,4 @@
-use Rattle.std.proofs.Common.{◌∙◌, ℕ, Err, List, None, Some, ap, inl, refl, sym}
+use Rattle.std.proofs.Common.{◌∙◌, ℕ, Err, List, None, Some, ap, inl, refl, sym, le_refl}
 use Rattle.std.proofs.lemmas.Result.{err_from_is_err_and}
 use Rattle.dbl_work.specs.declared.halt.Halt.TheVariants as halt
 use Rattle.dbl_steps.proofs.Reporting.{report_err}
@@ -50,14 +50,8 @@ returns-in_err-copy-in-Some-clause-source_comes g c = g.met.S.Source.comes_self 
 pub returns-in_ok-copy-in-Some-clause-source_comes : goal.returns-in_ok-copy-in-Some-clause-source_comes
 returns-in_ok-copy-in-Some-clause-source_comes g c = g.met.S.Source.comes_self _
 
-pub returns-in_err-copy-in-Some-clause-source : goal.returns-in_err-copy-in-Some-clause-source
-returns-in_err-copy-in-Some-clause-source g c is = absurd (err_at c.from_residual.result _ OfNone (residual_of c.from_residual.result halt.Memory OfNone c.from_residual.ensures.1 tt) is)
-
 pub returns-in_err-copy-in-Some-clause-sink : goal.returns-in_err-copy-in-Some-clause-sink
 returns-in_err-copy-in-Some-clause-sink g c is = err_at c.from_residual.result _ OfNone (residual_of c.from_residual.result halt.Memory OfNone c.from_residual.ensures.1 tt) is
-
-pub returns-in_err-copy-in-Some-clause-offsets : goal.returns-in_err-copy-in-Some-clause-offsets
-returns-in_err-copy-in-Some-clause-offsets g c is = absurd (err_at c.from_residual.result _ OfNone (residual_of c.from_residual.result halt.Memory OfNone c.from_residual.ensures.1 tt) is)
 
 pub returns-in_err-copy-in-Some-clause-report : goal.returns-in_err-copy-in-Some-clause-report
 returns-in_err-copy-in-Some-clause-report g c =
@@ -159,3 +153,23 @@ returns-in_ok-copy-in-Some-clause-held g c held other = held
 
 pub returns-in-None-clause-held : goal.returns-in-None-clause-held
 returns-in-None-clause-held g c = c.settle.ensures.held
+
+-- ---- whose fault it is
+
+pub returns-in_err-copy-in-Some-clause-source : goal.returns-in_err-copy-in-Some-clause-source
+returns-in_err-copy-in-Some-clause-source g c = record { later = le_refl _; cause = λ is. absurd (err_at c.from_residual.result _ OfNone (residual_of c.from_residual.result halt.Memory OfNone c.from_residual.ensures.1 tt) is) }
+
+pub returns-in_err-copy-in-Some-clause-offsets : goal.returns-in_err-copy-in-Some-clause-offsets
+returns-in_err-copy-in-Some-clause-offsets g c = record { later = le_refl _; cause = λ is. absurd (err_at c.from_residual.result _ OfNone (residual_of c.from_residual.result halt.Memory OfNone c.from_residual.ensures.1 tt) is) }
+
+pub returns-in_ok-copy-in-Some-clause-source : goal.returns-in_ok-copy-in-Some-clause-source
+returns-in_ok-copy-in-Some-clause-source g c = record { later = le_refl _; cause = λ is. absurd (let i = is in cc) }
+
+pub returns-in_ok-copy-in-Some-clause-offsets : goal.returns-in_ok-copy-in-Some-clause-offsets
+returns-in_ok-copy-in-Some-clause-offsets g c = record { later = le_refl _; cause = λ is. absurd (let i = is in cc) }
+
+pub returns-in-None-clause-source : goal.returns-in-None-clause-source
+returns-in-None-clause-source g c = c.settle.ensures.source
+
+pub returns-in-None-clause-offsets : goal.returns-in-None-clause-offsets
+returns-in-None-clause-offsets g c = c.settle.ensures.offsets

@@ -1,4 +1,4 @@
-use Rattle.std.proofs.Common.{◌≡◌, ◌∙◌, ◌⊎◌, Err, Option, Some, subst, inl, inr, refl, sym, ap}
+use Rattle.std.proofs.Common.{◌≡◌, ◌∙◌, ◌⊎◌, Err, Option, Some, subst, inl, inr, refl, sym, ap, le_refl}
 use Rattle.dbl_honest.specs.Calls.{IsConfirmed}
 use Rattle.dbl_honest.specs.Leaves.{MayFollowConfirm}
 use Rattle.dbl_offset.specs.declared.offset.Offset.{Offset}
@@ -86,42 +86,24 @@ returns-in_err-offset-clause-source_comes g c = g.met.S.Source.comes_self _
 pub returns-in_err-put_offset-clause-source_comes : goal.returns-in_err-put_offset-clause-source_comes
 returns-in_err-put_offset-clause-source_comes g c = g.met.S.Source.comes_self _
 
-pub returns-in_err-offset-clause-source : goal.returns-in_err-offset-clause-source
-returns-in_err-offset-clause-source g c is = absurd (err_at c.from_residual.result _ OfNone (residual_of c.from_residual.result halt.Memory OfNone c.from_residual.ensures.1 tt) is)
-
 pub returns-in_err-offset-clause-sink : goal.returns-in_err-offset-clause-sink
 returns-in_err-offset-clause-sink g c is = err_at c.from_residual.result _ OfNone (residual_of c.from_residual.result halt.Memory OfNone c.from_residual.ensures.1 tt) is
-
-pub returns-in_err-offset-clause-offsets : goal.returns-in_err-offset-clause-offsets
-returns-in_err-offset-clause-offsets g c is = absurd (err_at c.from_residual.result _ OfNone (residual_of c.from_residual.result halt.Memory OfNone c.from_residual.ensures.1 tt) is)
 
 pub returns-in_err-offset-clause-report : goal.returns-in_err-offset-clause-report
 returns-in_err-offset-clause-report g c =
     let p = err_from_is_err_and c.from_residual.result c.from_residual.ensures.1 in
     report_err c.from_residual.result p.0 c.args.store.now.offset c.args.store.now.offset c.args.work.now c.args.report.now c.args.report.now p.1 (inl (refl, refl))
 
-pub returns-in_err-put_offset-clause-source : goal.returns-in_err-put_offset-clause-source
-returns-in_err-put_offset-clause-source g c is = absurd (err_at c.from_residual-in_err-put_offset.result _ OfStore (residual_of c.from_residual-in_err-put_offset.result _ OfStore c.from_residual-in_err-put_offset.ensures.1 (store_of _ _ c.in_err-put_offset.ensures.halt)) is)
-
 pub returns-in_err-put_offset-clause-sink : goal.returns-in_err-put_offset-clause-sink
 returns-in_err-put_offset-clause-sink g c is = err_at c.from_residual-in_err-put_offset.result _ OfStore (residual_of c.from_residual-in_err-put_offset.result _ OfStore c.from_residual-in_err-put_offset.ensures.1 (store_of _ _ c.in_err-put_offset.ensures.halt)) is
-
-pub returns-in_err-put_offset-clause-offsets : goal.returns-in_err-put_offset-clause-offsets
-returns-in_err-put_offset-clause-offsets g c is = c.put_offset.ensures.failed (residual_is c.from_residual-in_err-put_offset.result c.put_offset.result _ _ c.in_err-put_offset.was c.from_residual-in_err-put_offset.ensures.1 is)
 
 pub returns-in_err-put_offset-clause-report : goal.returns-in_err-put_offset-clause-report
 returns-in_err-put_offset-clause-report g c =
     let p = err_from_is_err_and c.from_residual-in_err-put_offset.result c.from_residual-in_err-put_offset.ensures.1 in
     report_err c.from_residual-in_err-put_offset.result p.0 c.args.store.now.offset c.put_offset.new.store.offset c.args.work.now c.args.report.now c.args.report.now p.1 (inl (c.in_err-put_offset.ensures.keeps, refl))
 
-pub returns-in_err-confirm-clause-source : goal.returns-in_err-confirm-clause-source
-returns-in_err-confirm-clause-source g c is = c.confirm.ensures.failed (residual_source c.from_residual-in_err-confirm.result c.confirm.result _ c.in_err-confirm.was c.from_residual-in_err-confirm.ensures.1 is)
-
 pub returns-in_err-confirm-clause-sink : goal.returns-in_err-confirm-clause-sink
 returns-in_err-confirm-clause-sink g c is = err_at c.from_residual-in_err-confirm.result _ OfSource (residual_of c.from_residual-in_err-confirm.result _ OfSource c.from_residual-in_err-confirm.ensures.1 (source_of c.in_err-confirm.field-0.0)) is
-
-pub returns-in_err-confirm-clause-offsets : goal.returns-in_err-confirm-clause-offsets
-returns-in_err-confirm-clause-offsets g c is = absurd (err_at c.from_residual-in_err-confirm.result _ OfSource (residual_of c.from_residual-in_err-confirm.result _ OfSource c.from_residual-in_err-confirm.ensures.1 (source_of c.in_err-confirm.field-0.0)) is)
 
 pub returns-in_err-confirm-clause-report : goal.returns-in_err-confirm-clause-report
 returns-in_err-confirm-clause-report g c =
@@ -262,3 +244,29 @@ returns-in_err-confirm-clause-held g c held other = held_stored g.D.Disk.seen g.
 
 pub returns-clause-held : goal.returns-clause-held
 returns-clause-held g c held other = held_stored g.D.Disk.seen g.D.Disk.may_leave c.put_offset.new.store c.in_ok-offset.offset c.in_ok-put_offset.ensures.loads (c.in_ok-put_offset.ensures.stored c.args.store.now.offset held)
+
+-- ---- whose fault it is
+
+pub returns-in_err-offset-clause-source : goal.returns-in_err-offset-clause-source
+returns-in_err-offset-clause-source g c = record { later = le_refl _; cause = λ is. absurd (err_at c.from_residual.result _ OfNone (residual_of c.from_residual.result halt.Memory OfNone c.from_residual.ensures.1 tt) is) }
+
+pub returns-in_err-offset-clause-offsets : goal.returns-in_err-offset-clause-offsets
+returns-in_err-offset-clause-offsets g c = record { later = le_refl _; cause = λ is. absurd (err_at c.from_residual.result _ OfNone (residual_of c.from_residual.result halt.Memory OfNone c.from_residual.ensures.1 tt) is) }
+
+pub returns-in_err-put_offset-clause-source : goal.returns-in_err-put_offset-clause-source
+returns-in_err-put_offset-clause-source g c = record { later = le_refl _; cause = λ is. absurd (err_at c.from_residual-in_err-put_offset.result _ OfStore (residual_of c.from_residual-in_err-put_offset.result _ OfStore c.from_residual-in_err-put_offset.ensures.1 (store_of _ _ c.in_err-put_offset.ensures.halt)) is) }
+
+pub returns-in_err-put_offset-clause-offsets : goal.returns-in_err-put_offset-clause-offsets
+returns-in_err-put_offset-clause-offsets g c = record { later = c.put_offset.ensures.cause.later; cause = λ is. c.put_offset.ensures.cause.cause (residual_is c.from_residual-in_err-put_offset.result c.put_offset.result _ _ c.in_err-put_offset.was c.from_residual-in_err-put_offset.ensures.1 is) }
+
+pub returns-in_err-confirm-clause-source : goal.returns-in_err-confirm-clause-source
+returns-in_err-confirm-clause-source g c = record { later = c.confirm.ensures.cause.later; cause = λ is. c.confirm.ensures.cause.cause (residual_source c.from_residual-in_err-confirm.result c.confirm.result _ c.in_err-confirm.was c.from_residual-in_err-confirm.ensures.1 is) }
+
+pub returns-in_err-confirm-clause-offsets : goal.returns-in_err-confirm-clause-offsets
+returns-in_err-confirm-clause-offsets g c = record { later = c.put_offset.ensures.cause.later; cause = λ is. absurd (err_at c.from_residual-in_err-confirm.result _ OfSource (residual_of c.from_residual-in_err-confirm.result _ OfSource c.from_residual-in_err-confirm.ensures.1 (source_of c.in_err-confirm.field-0.0)) is) }
+
+pub returns-clause-source : goal.returns-clause-source
+returns-clause-source g c = record { later = c.confirm.ensures.cause.later; cause = λ is. absurd (let i = is in cc) }
+
+pub returns-clause-offsets : goal.returns-clause-offsets
+returns-clause-offsets g c = record { later = c.put_offset.ensures.cause.later; cause = λ is. absurd (let i = is in cc) }

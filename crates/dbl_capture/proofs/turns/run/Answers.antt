@@ -73,9 +73,9 @@ turns-preserved g c = record {
   source_comes = g.met.S.Source.comes_on c.args.src.now c.turns.src c.turn.new.src c.turns.invariant.source_comes c.turn.ensures.source_comes;
   sink_comes = g.met.K.Sink.comes_on c.args.sink.now c.turns.sink c.turn.new.sink c.turns.invariant.sink_comes c.turn.ensures.sink_comes;
   store_comes = λ gate most come. c.turn.ensures.store_comes gate most (c.turns.invariant.store_comes gate most come);
-  source_later = later_on _ _ _ c.turns.invariant.source_later c.turn.ensures.source_later;
-  sink_later = later_on _ _ _ c.turns.invariant.sink_later c.turn.ensures.sink_later;
-  store_later = later_on _ _ _ c.turns.invariant.store_later c.turn.ensures.store_later;
+  source_later = later_on _ _ _ c.turns.invariant.source_later c.turn.ensures.source.later;
+  sink_later = later_on _ _ _ c.turns.invariant.sink_later c.turn.ensures.sink.later;
+  store_later = later_on _ _ _ c.turns.invariant.store_later c.turn.ensures.offsets.later;
 }
 
 pub returns-in_err-turn-clause-left : goal.returns-in_err-turn-clause-left
@@ -90,15 +90,6 @@ returns-in_err-settle-clause-left g c tell entry s honest =
     on_err _ _ (c.in_err-settle.ensures.left tell entry (c.in_ok-arm_next.ensures.armed tell entry (c.turns.invariant.kept tell entry s (c.arm_next.ensures.honest before)) before) honest)
 
 -- ---- counts, and what no call undoes
-
-pub returns-in_err-turn-clause-source : goal.returns-in_err-turn-clause-source
-returns-in_err-turn-clause-source g c is = rose_behind (g.S.Source.faults c.args.src.now) (g.S.Source.faults c.turns.src) (g.S.Source.faults c.turn.new.src) c.turns.invariant.source_later (c.turn.ensures.source (residual_is c.from_residual.result c.turn.result _ _ c.in_err-turn.was c.from_residual.ensures.1 is))
-
-pub returns-in_err-turn-clause-sink : goal.returns-in_err-turn-clause-sink
-returns-in_err-turn-clause-sink g c is = rose_behind _ _ _ c.turns.invariant.sink_later (c.turn.ensures.sink (residual_is c.from_residual.result c.turn.result _ _ c.in_err-turn.was c.from_residual.ensures.1 is))
-
-pub returns-in_err-turn-clause-offsets : goal.returns-in_err-turn-clause-offsets
-returns-in_err-turn-clause-offsets g c is = rose_behind _ _ _ c.turns.invariant.store_later (c.turn.ensures.offsets (residual_is c.from_residual.result c.turn.result _ _ c.in_err-turn.was c.from_residual.ensures.1 is))
 
 pub returns-in_err-turn-clause-source_comes : goal.returns-in_err-turn-clause-source_comes
 returns-in_err-turn-clause-source_comes g c = g.met.S.Source.comes_on c.args.src.now c.turns.src c.turn.new.src c.turns.invariant.source_comes c.turn.ensures.source_comes
@@ -115,26 +106,8 @@ returns-in_err-turn-clause-position g c at = c.turn.ensures.position (c.turns.in
 pub returns-in_err-turn-clause-bounded : goal.returns-in_err-turn-clause-bounded
 returns-in_err-turn-clause-bounded g c = omega (arith, c.turn.ensures.messages, c.turns.invariant.messages, c.turns-test.true)
 
-pub returns-in_err-arm_next-clause-source : goal.returns-in_err-arm_next-clause-source
-returns-in_err-arm_next-clause-source g c is = rose_behind (g.S.Source.faults c.args.src.now) (g.S.Source.faults c.turns.src) (g.S.Source.faults c.arm_next.new.src) c.turns.invariant.source_later (c.arm_next.ensures.failed (residual_is c.from_residual-in_err-arm_next.result c.arm_next.result _ _ c.in_err-arm_next.was c.from_residual-in_err-arm_next.ensures.1 is))
-
-pub returns-in_err-arm_next-clause-sink : goal.returns-in_err-arm_next-clause-sink
-returns-in_err-arm_next-clause-sink g c is = absurd (c.arm_next.ensures.others.0 (residual_is c.from_residual-in_err-arm_next.result c.arm_next.result _ _ c.in_err-arm_next.was c.from_residual-in_err-arm_next.ensures.1 is))
-
-pub returns-in_err-arm_next-clause-offsets : goal.returns-in_err-arm_next-clause-offsets
-returns-in_err-arm_next-clause-offsets g c is = absurd (c.arm_next.ensures.others.1 (residual_is c.from_residual-in_err-arm_next.result c.arm_next.result _ _ c.in_err-arm_next.was c.from_residual-in_err-arm_next.ensures.1 is))
-
 pub returns-in_err-arm_next-clause-source_comes : goal.returns-in_err-arm_next-clause-source_comes
 returns-in_err-arm_next-clause-source_comes g c = g.met.S.Source.comes_on c.args.src.now c.turns.src c.arm_next.new.src c.turns.invariant.source_comes c.arm_next.ensures.comes
-
-pub returns-in_err-settle-clause-source : goal.returns-in_err-settle-clause-source
-returns-in_err-settle-clause-source g c is = rose_behind (g.S.Source.faults c.args.src.now) (g.S.Source.faults c.arm_next.new.src) (g.S.Source.faults c.settle.new.src) (later_on (g.S.Source.faults c.args.src.now) (g.S.Source.faults c.turns.src) (g.S.Source.faults c.arm_next.new.src) c.turns.invariant.source_later c.arm_next.ensures.later) (c.settle.ensures.source (residual_is c.from_residual-in_err-settle.result c.settle.result _ _ c.in_err-settle.was c.from_residual-in_err-settle.ensures.1 is))
-
-pub returns-in_err-settle-clause-sink : goal.returns-in_err-settle-clause-sink
-returns-in_err-settle-clause-sink g c is = absurd (c.settle.ensures.sink (residual_is c.from_residual-in_err-settle.result c.settle.result _ _ c.in_err-settle.was c.from_residual-in_err-settle.ensures.1 is))
-
-pub returns-in_err-settle-clause-offsets : goal.returns-in_err-settle-clause-offsets
-returns-in_err-settle-clause-offsets g c is = rose_behind _ _ _ c.turns.invariant.store_later (c.settle.ensures.offsets (residual_is c.from_residual-in_err-settle.result c.settle.result _ _ c.in_err-settle.was c.from_residual-in_err-settle.ensures.1 is))
 
 pub returns-in_err-settle-clause-source_comes : goal.returns-in_err-settle-clause-source_comes
 returns-in_err-settle-clause-source_comes g c = g.met.S.Source.comes_on c.args.src.now c.arm_next.new.src c.settle.new.src (g.met.S.Source.comes_on c.args.src.now c.turns.src c.arm_next.new.src c.turns.invariant.source_comes c.arm_next.ensures.comes) c.settle.ensures.source_comes
@@ -283,29 +256,11 @@ settle-requires-clause-store_live g c = c.turns.invariant.store_live
 pub returns-in_err-turn-clause-honest : goal.returns-in_err-turn-clause-honest
 returns-in_err-turn-clause-honest g c honest = c.turns.invariant.honest (c.turn.ensures.honest honest)
 
-pub returns-in_err-turn-clause-source_later : goal.returns-in_err-turn-clause-source_later
-returns-in_err-turn-clause-source_later g c = later_on (g.S.Source.faults c.args.src.now) (g.S.Source.faults c.turns.src) (g.S.Source.faults c.turn.new.src) c.turns.invariant.source_later c.turn.ensures.source_later
-
-pub returns-in_err-turn-clause-sink_later : goal.returns-in_err-turn-clause-sink_later
-returns-in_err-turn-clause-sink_later g c = later_on (g.K.Sink.faults c.args.sink.now) (g.K.Sink.faults c.turns.sink) (g.K.Sink.faults c.turn.new.sink) c.turns.invariant.sink_later c.turn.ensures.sink_later
-
-pub returns-in_err-turn-clause-store_later : goal.returns-in_err-turn-clause-store_later
-returns-in_err-turn-clause-store_later g c = later_on (g.D.Disk.faults (disk_of c.args.store.now)) (g.D.Disk.faults (disk_of c.turns.store)) (g.D.Disk.faults (disk_of c.turn.new.store)) c.turns.invariant.store_later c.turn.ensures.store_later
-
 pub returns-in_err-turn-clause-store_comes : goal.returns-in_err-turn-clause-store_comes
 returns-in_err-turn-clause-store_comes g c gate most come = c.turn.ensures.store_comes gate most (c.turns.invariant.store_comes gate most come)
 
 pub returns-then-branch-clause-honest : goal.returns-then-branch-clause-honest
 returns-then-branch-clause-honest g c honest = c.turns.invariant.honest (c.turn.ensures.honest honest)
-
-pub returns-then-branch-clause-source_later : goal.returns-then-branch-clause-source_later
-returns-then-branch-clause-source_later g c = later_on (g.S.Source.faults c.args.src.now) (g.S.Source.faults c.turns.src) (g.S.Source.faults c.turn.new.src) c.turns.invariant.source_later c.turn.ensures.source_later
-
-pub returns-then-branch-clause-sink_later : goal.returns-then-branch-clause-sink_later
-returns-then-branch-clause-sink_later g c = later_on (g.K.Sink.faults c.args.sink.now) (g.K.Sink.faults c.turns.sink) (g.K.Sink.faults c.turn.new.sink) c.turns.invariant.sink_later c.turn.ensures.sink_later
-
-pub returns-then-branch-clause-store_later : goal.returns-then-branch-clause-store_later
-returns-then-branch-clause-store_later g c = later_on (g.D.Disk.faults (disk_of c.args.store.now)) (g.D.Disk.faults (disk_of c.turns.store)) (g.D.Disk.faults (disk_of c.turn.new.store)) c.turns.invariant.store_later c.turn.ensures.store_later
 
 pub returns-then-branch-clause-store_comes : goal.returns-then-branch-clause-store_comes
 returns-then-branch-clause-store_comes g c gate most come = c.turn.ensures.store_comes gate most (c.turns.invariant.store_comes gate most come)
@@ -313,17 +268,8 @@ returns-then-branch-clause-store_comes g c gate most come = c.turn.ensures.store
 pub returns-in_err-arm_next-clause-honest : goal.returns-in_err-arm_next-clause-honest
 returns-in_err-arm_next-clause-honest g c honest = c.turns.invariant.honest (c.arm_next.ensures.honest honest)
 
-pub returns-in_err-arm_next-clause-source_later : goal.returns-in_err-arm_next-clause-source_later
-returns-in_err-arm_next-clause-source_later g c = later_on (g.S.Source.faults c.args.src.now) (g.S.Source.faults c.turns.src) (g.S.Source.faults c.arm_next.new.src) c.turns.invariant.source_later c.arm_next.ensures.later
-
 pub returns-in_err-arm_next-clause-bounded : goal.returns-in_err-arm_next-clause-bounded
 returns-in_err-arm_next-clause-bounded g c = omega (arith, c.turns.invariant.messages, c.turns.auto._count-end)
-
-pub returns-in_err-arm_next-clause-sink_later : goal.returns-in_err-arm_next-clause-sink_later
-returns-in_err-arm_next-clause-sink_later g c = c.turns.invariant.sink_later
-
-pub returns-in_err-arm_next-clause-store_later : goal.returns-in_err-arm_next-clause-store_later
-returns-in_err-arm_next-clause-store_later g c = c.turns.invariant.store_later
 
 pub returns-in_err-arm_next-clause-sink_comes : goal.returns-in_err-arm_next-clause-sink_comes
 returns-in_err-arm_next-clause-sink_comes g c = c.turns.invariant.sink_comes
@@ -343,17 +289,8 @@ returns-in_err-arm_next-clause-commits g c = c.turns.invariant.commits
 pub returns-in_err-settle-clause-honest : goal.returns-in_err-settle-clause-honest
 returns-in_err-settle-clause-honest g c honest = c.turns.invariant.honest (c.arm_next.ensures.honest (c.settle.ensures.honest honest))
 
-pub returns-in_err-settle-clause-source_later : goal.returns-in_err-settle-clause-source_later
-returns-in_err-settle-clause-source_later g c = later_on (g.S.Source.faults c.args.src.now) (g.S.Source.faults c.arm_next.new.src) (g.S.Source.faults c.settle.new.src) (later_on (g.S.Source.faults c.args.src.now) (g.S.Source.faults c.turns.src) (g.S.Source.faults c.arm_next.new.src) c.turns.invariant.source_later c.arm_next.ensures.later) c.settle.ensures.source_later
-
-pub returns-in_err-settle-clause-sink_later : goal.returns-in_err-settle-clause-sink_later
-returns-in_err-settle-clause-sink_later g c = c.turns.invariant.sink_later
-
 pub returns-in_err-settle-clause-sink_comes : goal.returns-in_err-settle-clause-sink_comes
 returns-in_err-settle-clause-sink_comes g c = c.turns.invariant.sink_comes
-
-pub returns-in_err-settle-clause-store_later : goal.returns-in_err-settle-clause-store_later
-returns-in_err-settle-clause-store_later g c = later_on (g.D.Disk.faults (disk_of c.args.store.now)) (g.D.Disk.faults (disk_of c.turns.store)) (g.D.Disk.faults (disk_of c.settle.new.store)) c.turns.invariant.store_later c.settle.ensures.store_later
 
 pub returns-in_err-settle-clause-store_comes : goal.returns-in_err-settle-clause-store_comes
 returns-in_err-settle-clause-store_comes g c gate most come = c.settle.ensures.store_comes gate most (c.turns.invariant.store_comes gate most come)
@@ -361,17 +298,8 @@ returns-in_err-settle-clause-store_comes g c gate most come = c.settle.ensures.s
 pub returns-clause-honest : goal.returns-clause-honest
 returns-clause-honest g c honest = c.turns.invariant.honest (c.arm_next.ensures.honest (c.settle.ensures.honest honest))
 
-pub returns-clause-source_later : goal.returns-clause-source_later
-returns-clause-source_later g c = later_on (g.S.Source.faults c.args.src.now) (g.S.Source.faults c.arm_next.new.src) (g.S.Source.faults c.settle.new.src) (later_on (g.S.Source.faults c.args.src.now) (g.S.Source.faults c.turns.src) (g.S.Source.faults c.arm_next.new.src) c.turns.invariant.source_later c.arm_next.ensures.later) c.settle.ensures.source_later
-
-pub returns-clause-sink_later : goal.returns-clause-sink_later
-returns-clause-sink_later g c = c.turns.invariant.sink_later
-
 pub returns-clause-sink_comes : goal.returns-clause-sink_comes
 returns-clause-sink_comes g c = c.turns.invariant.sink_comes
-
-pub returns-clause-store_later : goal.returns-clause-store_later
-returns-clause-store_later g c = later_on (g.D.Disk.faults (disk_of c.args.store.now)) (g.D.Disk.faults (disk_of c.turns.store)) (g.D.Disk.faults (disk_of c.settle.new.store)) c.turns.invariant.store_later c.settle.ensures.store_later
 
 pub returns-clause-store_comes : goal.returns-clause-store_comes
 returns-clause-store_comes g c gate most come = c.settle.ensures.store_comes gate most (c.turns.invariant.store_comes gate most come)
@@ -515,3 +443,50 @@ returns-in_err-settle-clause-held g c held other =
 
 pub returns-clause-held : goal.returns-clause-held
 returns-clause-held g c held other = c.settle.ensures.held (c.turns.invariant.held held) (λ is. not_both c.settle.result _ halt.Offsets is c.in_ok-settle.was)
+
+-- ---- whose fault it is
+
+pub returns-in_err-turn-clause-source : goal.returns-in_err-turn-clause-source
+returns-in_err-turn-clause-source g c = record { later = later_on (g.S.Source.faults c.args.src.now) (g.S.Source.faults c.turns.src) (g.S.Source.faults c.turn.new.src) c.turns.invariant.source_later c.turn.ensures.source.later; cause = λ is. rose_behind (g.S.Source.faults c.args.src.now) (g.S.Source.faults c.turns.src) (g.S.Source.faults c.turn.new.src) c.turns.invariant.source_later (c.turn.ensures.source.cause (residual_is c.from_residual.result c.turn.result _ _ c.in_err-turn.was c.from_residual.ensures.1 is)) }
+
+pub returns-in_err-turn-clause-sink : goal.returns-in_err-turn-clause-sink
+returns-in_err-turn-clause-sink g c = record { later = later_on (g.K.Sink.faults c.args.sink.now) (g.K.Sink.faults c.turns.sink) (g.K.Sink.faults c.turn.new.sink) c.turns.invariant.sink_later c.turn.ensures.sink.later; cause = λ is. rose_behind _ _ _ c.turns.invariant.sink_later (c.turn.ensures.sink.cause (residual_is c.from_residual.result c.turn.result _ _ c.in_err-turn.was c.from_residual.ensures.1 is)) }
+
+pub returns-in_err-turn-clause-offsets : goal.returns-in_err-turn-clause-offsets
+returns-in_err-turn-clause-offsets g c = record { later = later_on (g.D.Disk.faults (disk_of c.args.store.now)) (g.D.Disk.faults (disk_of c.turns.store)) (g.D.Disk.faults (disk_of c.turn.new.store)) c.turns.invariant.store_later c.turn.ensures.offsets.later; cause = λ is. rose_behind _ _ _ c.turns.invariant.store_later (c.turn.ensures.offsets.cause (residual_is c.from_residual.result c.turn.result _ _ c.in_err-turn.was c.from_residual.ensures.1 is)) }
+
+pub returns-then-branch-clause-source : goal.returns-then-branch-clause-source
+returns-then-branch-clause-source g c = record { later = later_on (g.S.Source.faults c.args.src.now) (g.S.Source.faults c.turns.src) (g.S.Source.faults c.turn.new.src) c.turns.invariant.source_later c.turn.ensures.source.later; cause = λ is. absurd (let i = is in cc) }
+
+pub returns-then-branch-clause-sink : goal.returns-then-branch-clause-sink
+returns-then-branch-clause-sink g c = record { later = later_on (g.K.Sink.faults c.args.sink.now) (g.K.Sink.faults c.turns.sink) (g.K.Sink.faults c.turn.new.sink) c.turns.invariant.sink_later c.turn.ensures.sink.later; cause = λ is. absurd (let i = is in cc) }
+
+pub returns-then-branch-clause-offsets : goal.returns-then-branch-clause-offsets
+returns-then-branch-clause-offsets g c = record { later = later_on (g.D.Disk.faults (disk_of c.args.store.now)) (g.D.Disk.faults (disk_of c.turns.store)) (g.D.Disk.faults (disk_of c.turn.new.store)) c.turns.invariant.store_later c.turn.ensures.offsets.later; cause = λ is. absurd (let i = is in cc) }
+
+pub returns-in_err-arm_next-clause-source : goal.returns-in_err-arm_next-clause-source
+returns-in_err-arm_next-clause-source g c = record { later = later_on (g.S.Source.faults c.args.src.now) (g.S.Source.faults c.turns.src) (g.S.Source.faults c.arm_next.new.src) c.turns.invariant.source_later c.arm_next.ensures.cause.later; cause = λ is. rose_behind (g.S.Source.faults c.args.src.now) (g.S.Source.faults c.turns.src) (g.S.Source.faults c.arm_next.new.src) c.turns.invariant.source_later (c.arm_next.ensures.cause.cause (residual_is c.from_residual-in_err-arm_next.result c.arm_next.result _ _ c.in_err-arm_next.was c.from_residual-in_err-arm_next.ensures.1 is)) }
+
+pub returns-in_err-arm_next-clause-sink : goal.returns-in_err-arm_next-clause-sink
+returns-in_err-arm_next-clause-sink g c = record { later = c.turns.invariant.sink_later; cause = λ is. absurd (c.arm_next.ensures.others.0 (residual_is c.from_residual-in_err-arm_next.result c.arm_next.result _ _ c.in_err-arm_next.was c.from_residual-in_err-arm_next.ensures.1 is)) }
+
+pub returns-in_err-arm_next-clause-offsets : goal.returns-in_err-arm_next-clause-offsets
+returns-in_err-arm_next-clause-offsets g c = record { later = c.turns.invariant.store_later; cause = λ is. absurd (c.arm_next.ensures.others.1 (residual_is c.from_residual-in_err-arm_next.result c.arm_next.result _ _ c.in_err-arm_next.was c.from_residual-in_err-arm_next.ensures.1 is)) }
+
+pub returns-in_err-settle-clause-source : goal.returns-in_err-settle-clause-source
+returns-in_err-settle-clause-source g c = record { later = later_on (g.S.Source.faults c.args.src.now) (g.S.Source.faults c.arm_next.new.src) (g.S.Source.faults c.settle.new.src) (later_on (g.S.Source.faults c.args.src.now) (g.S.Source.faults c.turns.src) (g.S.Source.faults c.arm_next.new.src) c.turns.invariant.source_later c.arm_next.ensures.cause.later) c.settle.ensures.source.later; cause = λ is. rose_behind (g.S.Source.faults c.args.src.now) (g.S.Source.faults c.arm_next.new.src) (g.S.Source.faults c.settle.new.src) (later_on (g.S.Source.faults c.args.src.now) (g.S.Source.faults c.turns.src) (g.S.Source.faults c.arm_next.new.src) c.turns.invariant.source_later c.arm_next.ensures.cause.later) (c.settle.ensures.source.cause (residual_is c.from_residual-in_err-settle.result c.settle.result _ _ c.in_err-settle.was c.from_residual-in_err-settle.ensures.1 is)) }
+
+pub returns-in_err-settle-clause-sink : goal.returns-in_err-settle-clause-sink
+returns-in_err-settle-clause-sink g c = record { later = c.turns.invariant.sink_later; cause = λ is. absurd (c.settle.ensures.sink (residual_is c.from_residual-in_err-settle.result c.settle.result _ _ c.in_err-settle.was c.from_residual-in_err-settle.ensures.1 is)) }
+
+pub returns-in_err-settle-clause-offsets : goal.returns-in_err-settle-clause-offsets
+returns-in_err-settle-clause-offsets g c = record { later = later_on (g.D.Disk.faults (disk_of c.args.store.now)) (g.D.Disk.faults (disk_of c.turns.store)) (g.D.Disk.faults (disk_of c.settle.new.store)) c.turns.invariant.store_later c.settle.ensures.offsets.later; cause = λ is. rose_behind _ _ _ c.turns.invariant.store_later (c.settle.ensures.offsets.cause (residual_is c.from_residual-in_err-settle.result c.settle.result _ _ c.in_err-settle.was c.from_residual-in_err-settle.ensures.1 is)) }
+
+pub returns-clause-source : goal.returns-clause-source
+returns-clause-source g c = record { later = later_on (g.S.Source.faults c.args.src.now) (g.S.Source.faults c.arm_next.new.src) (g.S.Source.faults c.settle.new.src) (later_on (g.S.Source.faults c.args.src.now) (g.S.Source.faults c.turns.src) (g.S.Source.faults c.arm_next.new.src) c.turns.invariant.source_later c.arm_next.ensures.cause.later) c.settle.ensures.source.later; cause = λ is. absurd (let i = is in cc) }
+
+pub returns-clause-sink : goal.returns-clause-sink
+returns-clause-sink g c = record { later = c.turns.invariant.sink_later; cause = λ is. absurd (let i = is in cc) }
+
+pub returns-clause-offsets : goal.returns-clause-offsets
+returns-clause-offsets g c = record { later = later_on (g.D.Disk.faults (disk_of c.args.store.now)) (g.D.Disk.faults (disk_of c.turns.store)) (g.D.Disk.faults (disk_of c.settle.new.store)) c.turns.invariant.store_later c.settle.ensures.offsets.later; cause = λ is. absurd (let i = is in cc) }

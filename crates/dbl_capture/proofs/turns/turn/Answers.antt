@@ -1,4 +1,4 @@
-use Rattle.std.proofs.Common.{◌∙◌, Bool, IsTrue, Ok, Option, Some, sym, ap, subst, arith, true}
+use Rattle.std.proofs.Common.{◌∙◌, Bool, IsTrue, Ok, Option, Some, sym, ap, subst, arith, true, le_refl}
 use Rattle.dbl_history.specs.Ranges.{IsMomentInRange}
 use Rattle.dbl_work.specs.declared.halt.Halt.TheVariants as halt
 use Rattle.dbl_work.specs.declared.report.Report.{Report}
@@ -206,53 +206,17 @@ returns-in-Some-false-clause-messages g c = omega (arith, (subst (λ (o : Option
 
 -- ---- counts, and what no call undoes
 
-pub returns-in_err-arm_next-clause-source : goal.returns-in_err-arm_next-clause-source
-returns-in_err-arm_next-clause-source g c is = c.arm_next.ensures.failed (residual_is c.from_residual.result c.arm_next.result _ _ c.in_err-arm_next.was c.from_residual.ensures.1 is)
-
-pub returns-in_err-arm_next-clause-sink : goal.returns-in_err-arm_next-clause-sink
-returns-in_err-arm_next-clause-sink g c is = absurd (c.arm_next.ensures.others.0 (residual_is c.from_residual.result c.arm_next.result _ _ c.in_err-arm_next.was c.from_residual.ensures.1 is))
-
-pub returns-in_err-arm_next-clause-offsets : goal.returns-in_err-arm_next-clause-offsets
-returns-in_err-arm_next-clause-offsets g c is = absurd (c.arm_next.ensures.others.1 (residual_is c.from_residual.result c.arm_next.result _ _ c.in_err-arm_next.was c.from_residual.ensures.1 is))
-
 pub returns-in_err-arm_next-clause-sink_comes : goal.returns-in_err-arm_next-clause-sink_comes
 returns-in_err-arm_next-clause-sink_comes g c = g.met.K.Sink.comes_self _
 
-pub returns-in_err-next-clause-source : goal.returns-in_err-next-clause-source
-returns-in_err-next-clause-source g c is = rose_behind (g.S.Source.faults c.args.src.now) (g.S.Source.faults c.arm_next.new.src) (g.S.Source.faults c.next.new.src) c.arm_next.ensures.later (c.next.ensures.source (residual_is c.from_residual-in_err-next.result c.next.result _ _ c.in_err-next.was c.from_residual-in_err-next.ensures.1 is))
-
-pub returns-in_err-next-clause-sink : goal.returns-in_err-next-clause-sink
-returns-in_err-next-clause-sink g c is = c.next.ensures.sink (residual_is c.from_residual-in_err-next.result c.next.result _ _ c.in_err-next.was c.from_residual-in_err-next.ensures.1 is)
-
-pub returns-in_err-next-clause-offsets : goal.returns-in_err-next-clause-offsets
-returns-in_err-next-clause-offsets g c is = absurd (c.next.ensures.offsets (residual_is c.from_residual-in_err-next.result c.next.result _ _ c.in_err-next.was c.from_residual-in_err-next.ensures.1 is))
-
 pub returns-in_err-next-clause-source_comes : goal.returns-in_err-next-clause-source_comes
 returns-in_err-next-clause-source_comes g c = g.met.S.Source.comes_on c.args.src.now c.arm_next.new.src c.next.new.src c.arm_next.ensures.comes c.next.ensures.source_comes
-
-pub returns-in_err-settle-in-Some-true-clause-source : goal.returns-in_err-settle-in-Some-true-clause-source
-returns-in_err-settle-in-Some-true-clause-source g c is = rose_behind (g.S.Source.faults c.args.src.now) (g.S.Source.faults c.next.new.src) (g.S.Source.faults c.settle.new.src) (later_on (g.S.Source.faults c.args.src.now) (g.S.Source.faults c.arm_next.new.src) (g.S.Source.faults c.next.new.src) c.arm_next.ensures.later c.next.ensures.source_later) (c.settle.ensures.source (residual_is c.from_residual-in_err-settle-in-Some-true.result c.settle.result _ _ c.in_err-settle-in-Some-true.was c.from_residual-in_err-settle-in-Some-true.ensures.1 is))
-
-pub returns-in_err-settle-in-Some-true-clause-sink : goal.returns-in_err-settle-in-Some-true-clause-sink
-returns-in_err-settle-in-Some-true-clause-sink g c is = absurd (c.settle.ensures.sink (residual_is c.from_residual-in_err-settle-in-Some-true.result c.settle.result _ _ c.in_err-settle-in-Some-true.was c.from_residual-in_err-settle-in-Some-true.ensures.1 is))
-
-pub returns-in_err-settle-in-Some-true-clause-offsets : goal.returns-in_err-settle-in-Some-true-clause-offsets
-returns-in_err-settle-in-Some-true-clause-offsets g c is = c.settle.ensures.offsets (residual_is c.from_residual-in_err-settle-in-Some-true.result c.settle.result _ _ c.in_err-settle-in-Some-true.was c.from_residual-in_err-settle-in-Some-true.ensures.1 is)
 
 pub returns-in_err-settle-in-Some-true-clause-source_comes : goal.returns-in_err-settle-in-Some-true-clause-source_comes
 returns-in_err-settle-in-Some-true-clause-source_comes g c = g.met.S.Source.comes_on c.args.src.now c.next.new.src c.settle.new.src (g.met.S.Source.comes_on c.args.src.now c.arm_next.new.src c.next.new.src c.arm_next.ensures.comes c.next.ensures.source_comes) c.settle.ensures.source_comes
 
 pub returns-in_ok-settle-in-Some-true-clause-source_comes : goal.returns-in_ok-settle-in-Some-true-clause-source_comes
 returns-in_ok-settle-in-Some-true-clause-source_comes g c = g.met.S.Source.comes_on c.args.src.now c.next.new.src c.settle.new.src (g.met.S.Source.comes_on c.args.src.now c.arm_next.new.src c.next.new.src c.arm_next.ensures.comes c.next.ensures.source_comes) c.settle.ensures.source_comes
-
-pub returns-in_err-end-in-None-clause-source : goal.returns-in_err-end-in-None-clause-source
-returns-in_err-end-in-None-clause-source g c is = rose_behind (g.S.Source.faults c.args.src.now) (g.S.Source.faults c.next.new.src) (g.S.Source.faults c.end.new.src) (later_on (g.S.Source.faults c.args.src.now) (g.S.Source.faults c.arm_next.new.src) (g.S.Source.faults c.next.new.src) c.arm_next.ensures.later c.next.ensures.source_later) (c.end.ensures.source (residual_is c.from_residual-in_err-end-in-None.result c.end.result _ _ c.in_err-end-in-None.was c.from_residual-in_err-end-in-None.ensures.1 is))
-
-pub returns-in_err-end-in-None-clause-sink : goal.returns-in_err-end-in-None-clause-sink
-returns-in_err-end-in-None-clause-sink g c is = absurd (c.end.ensures.sink (residual_is c.from_residual-in_err-end-in-None.result c.end.result _ _ c.in_err-end-in-None.was c.from_residual-in_err-end-in-None.ensures.1 is))
-
-pub returns-in_err-end-in-None-clause-offsets : goal.returns-in_err-end-in-None-clause-offsets
-returns-in_err-end-in-None-clause-offsets g c is = c.end.ensures.offsets (residual_is c.from_residual-in_err-end-in-None.result c.end.result _ _ c.in_err-end-in-None.was c.from_residual-in_err-end-in-None.ensures.1 is)
 
 pub returns-in_err-end-in-None-clause-source_comes : goal.returns-in_err-end-in-None-clause-source_comes
 returns-in_err-end-in-None-clause-source_comes g c = g.met.S.Source.comes_on c.args.src.now c.next.new.src c.end.new.src (g.met.S.Source.comes_on c.args.src.now c.arm_next.new.src c.next.new.src c.arm_next.ensures.comes c.next.ensures.source_comes) c.end.ensures.source_comes
@@ -298,17 +262,11 @@ next-requires-clause-reading g c = subst IsTrue (sym c.arm_next.ensures.reading)
 pub returns-in_err-next-clause-honest : goal.returns-in_err-next-clause-honest
 returns-in_err-next-clause-honest g c honest = c.arm_next.ensures.honest (c.next.ensures.honest honest)
 
-pub returns-in_err-next-clause-source_later : goal.returns-in_err-next-clause-source_later
-returns-in_err-next-clause-source_later g c = later_on (g.S.Source.faults c.args.src.now) (g.S.Source.faults c.arm_next.new.src) (g.S.Source.faults c.next.new.src) c.arm_next.ensures.later c.next.ensures.source_later
-
 pub returns-in_err-next-clause-reading : goal.returns-in_err-next-clause-reading
 returns-in_err-next-clause-reading g c = c.next.ensures.reading ∙ c.arm_next.ensures.reading
 
 pub returns-in-Some-false-clause-honest : goal.returns-in-Some-false-clause-honest
 returns-in-Some-false-clause-honest g c honest = c.arm_next.ensures.honest (c.next.ensures.honest honest)
-
-pub returns-in-Some-false-clause-source_later : goal.returns-in-Some-false-clause-source_later
-returns-in-Some-false-clause-source_later g c = later_on (g.S.Source.faults c.args.src.now) (g.S.Source.faults c.arm_next.new.src) (g.S.Source.faults c.next.new.src) c.arm_next.ensures.later c.next.ensures.source_later
 
 pub returns-in-Some-false-clause-reading : goal.returns-in-Some-false-clause-reading
 returns-in-Some-false-clause-reading g c = c.next.ensures.reading ∙ c.arm_next.ensures.reading
@@ -316,17 +274,11 @@ returns-in-Some-false-clause-reading g c = c.next.ensures.reading ∙ c.arm_next
 pub returns-in_err-settle-in-Some-true-clause-honest : goal.returns-in_err-settle-in-Some-true-clause-honest
 returns-in_err-settle-in-Some-true-clause-honest g c honest = c.arm_next.ensures.honest (c.next.ensures.honest (c.settle.ensures.honest honest))
 
-pub returns-in_err-settle-in-Some-true-clause-source_later : goal.returns-in_err-settle-in-Some-true-clause-source_later
-returns-in_err-settle-in-Some-true-clause-source_later g c = later_on (g.S.Source.faults c.args.src.now) (g.S.Source.faults c.next.new.src) (g.S.Source.faults c.settle.new.src) (later_on (g.S.Source.faults c.args.src.now) (g.S.Source.faults c.arm_next.new.src) (g.S.Source.faults c.next.new.src) c.arm_next.ensures.later c.next.ensures.source_later) c.settle.ensures.source_later
-
 pub returns-in_err-settle-in-Some-true-clause-reading : goal.returns-in_err-settle-in-Some-true-clause-reading
 returns-in_err-settle-in-Some-true-clause-reading g c = c.settle.ensures.reading ∙ (c.next.ensures.reading ∙ c.arm_next.ensures.reading)
 
 pub returns-in_ok-settle-in-Some-true-clause-honest : goal.returns-in_ok-settle-in-Some-true-clause-honest
 returns-in_ok-settle-in-Some-true-clause-honest g c honest = c.arm_next.ensures.honest (c.next.ensures.honest (c.settle.ensures.honest honest))
-
-pub returns-in_ok-settle-in-Some-true-clause-source_later : goal.returns-in_ok-settle-in-Some-true-clause-source_later
-returns-in_ok-settle-in-Some-true-clause-source_later g c = later_on (g.S.Source.faults c.args.src.now) (g.S.Source.faults c.next.new.src) (g.S.Source.faults c.settle.new.src) (later_on (g.S.Source.faults c.args.src.now) (g.S.Source.faults c.arm_next.new.src) (g.S.Source.faults c.next.new.src) c.arm_next.ensures.later c.next.ensures.source_later) c.settle.ensures.source_later
 
 pub returns-in_ok-settle-in-Some-true-clause-reading : goal.returns-in_ok-settle-in-Some-true-clause-reading
 returns-in_ok-settle-in-Some-true-clause-reading g c = c.settle.ensures.reading ∙ (c.next.ensures.reading ∙ c.arm_next.ensures.reading)
@@ -334,17 +286,11 @@ returns-in_ok-settle-in-Some-true-clause-reading g c = c.settle.ensures.reading 
 pub returns-in_err-end-in-None-clause-honest : goal.returns-in_err-end-in-None-clause-honest
 returns-in_err-end-in-None-clause-honest g c honest = c.arm_next.ensures.honest (c.next.ensures.honest (c.end.ensures.honest honest))
 
-pub returns-in_err-end-in-None-clause-source_later : goal.returns-in_err-end-in-None-clause-source_later
-returns-in_err-end-in-None-clause-source_later g c = later_on (g.S.Source.faults c.args.src.now) (g.S.Source.faults c.next.new.src) (g.S.Source.faults c.end.new.src) (later_on (g.S.Source.faults c.args.src.now) (g.S.Source.faults c.arm_next.new.src) (g.S.Source.faults c.next.new.src) c.arm_next.ensures.later c.next.ensures.source_later) c.end.ensures.source_later
-
 pub returns-in_err-end-in-None-clause-reading : goal.returns-in_err-end-in-None-clause-reading
 returns-in_err-end-in-None-clause-reading g c = c.end.ensures.reading ∙ (c.next.ensures.reading ∙ c.arm_next.ensures.reading)
 
 pub returns-in_ok-end-in-None-clause-honest : goal.returns-in_ok-end-in-None-clause-honest
 returns-in_ok-end-in-None-clause-honest g c honest = c.arm_next.ensures.honest (c.next.ensures.honest (c.end.ensures.honest honest))
-
-pub returns-in_ok-end-in-None-clause-source_later : goal.returns-in_ok-end-in-None-clause-source_later
-returns-in_ok-end-in-None-clause-source_later g c = later_on (g.S.Source.faults c.args.src.now) (g.S.Source.faults c.next.new.src) (g.S.Source.faults c.end.new.src) (later_on (g.S.Source.faults c.args.src.now) (g.S.Source.faults c.arm_next.new.src) (g.S.Source.faults c.next.new.src) c.arm_next.ensures.later c.next.ensures.source_later) c.end.ensures.source_later
 
 pub returns-in_ok-end-in-None-clause-reading : goal.returns-in_ok-end-in-None-clause-reading
 returns-in_ok-end-in-None-clause-reading g c = c.end.ensures.reading ∙ (c.next.ensures.reading ∙ c.arm_next.ensures.reading)
@@ -559,3 +505,68 @@ returns-in_err-end-in-None-clause-held g c held other = c.end.ensures.held held 
 
 pub returns-in_ok-end-in-None-clause-held : goal.returns-in_ok-end-in-None-clause-held
 returns-in_ok-end-in-None-clause-held g c held other = c.end.ensures.held held (λ is. not_both c.end.result _ halt.Offsets is c.in_ok-end-in-None.was)
+
+-- ---- whose fault it is
+
+pub returns-in_err-arm_next-clause-source : goal.returns-in_err-arm_next-clause-source
+returns-in_err-arm_next-clause-source g c = record { later = c.arm_next.ensures.cause.later; cause = λ is. c.arm_next.ensures.cause.cause (residual_is c.from_residual.result c.arm_next.result _ _ c.in_err-arm_next.was c.from_residual.ensures.1 is) }
+
+pub returns-in_err-arm_next-clause-sink : goal.returns-in_err-arm_next-clause-sink
+returns-in_err-arm_next-clause-sink g c = record { later = le_refl _; cause = λ is. absurd (c.arm_next.ensures.others.0 (residual_is c.from_residual.result c.arm_next.result _ _ c.in_err-arm_next.was c.from_residual.ensures.1 is)) }
+
+pub returns-in_err-arm_next-clause-offsets : goal.returns-in_err-arm_next-clause-offsets
+returns-in_err-arm_next-clause-offsets g c = record { later = le_refl _; cause = λ is. absurd (c.arm_next.ensures.others.1 (residual_is c.from_residual.result c.arm_next.result _ _ c.in_err-arm_next.was c.from_residual.ensures.1 is)) }
+
+pub returns-in_err-next-clause-source : goal.returns-in_err-next-clause-source
+returns-in_err-next-clause-source g c = record { later = later_on (g.S.Source.faults c.args.src.now) (g.S.Source.faults c.arm_next.new.src) (g.S.Source.faults c.next.new.src) c.arm_next.ensures.cause.later c.next.ensures.source.later; cause = λ is. rose_behind (g.S.Source.faults c.args.src.now) (g.S.Source.faults c.arm_next.new.src) (g.S.Source.faults c.next.new.src) c.arm_next.ensures.cause.later (c.next.ensures.source.cause (residual_is c.from_residual-in_err-next.result c.next.result _ _ c.in_err-next.was c.from_residual-in_err-next.ensures.1 is)) }
+
+pub returns-in_err-next-clause-sink : goal.returns-in_err-next-clause-sink
+returns-in_err-next-clause-sink g c = record { later = c.next.ensures.sink.later; cause = λ is. c.next.ensures.sink.cause (residual_is c.from_residual-in_err-next.result c.next.result _ _ c.in_err-next.was c.from_residual-in_err-next.ensures.1 is) }
+
+pub returns-in_err-next-clause-offsets : goal.returns-in_err-next-clause-offsets
+returns-in_err-next-clause-offsets g c = record { later = le_refl _; cause = λ is. absurd (c.next.ensures.offsets (residual_is c.from_residual-in_err-next.result c.next.result _ _ c.in_err-next.was c.from_residual-in_err-next.ensures.1 is)) }
+
+pub returns-in-Some-false-clause-source : goal.returns-in-Some-false-clause-source
+returns-in-Some-false-clause-source g c = record { later = later_on (g.S.Source.faults c.args.src.now) (g.S.Source.faults c.arm_next.new.src) (g.S.Source.faults c.next.new.src) c.arm_next.ensures.cause.later c.next.ensures.source.later; cause = λ is. absurd (let i = is in cc) }
+
+pub returns-in-Some-false-clause-sink : goal.returns-in-Some-false-clause-sink
+returns-in-Some-false-clause-sink g c = record { later = c.next.ensures.sink.later; cause = λ is. absurd (let i = is in cc) }
+
+pub returns-in-Some-false-clause-offsets : goal.returns-in-Some-false-clause-offsets
+returns-in-Some-false-clause-offsets g c = record { later = le_refl _; cause = λ is. absurd (let i = is in cc) }
+
+pub returns-in_err-settle-in-Some-true-clause-source : goal.returns-in_err-settle-in-Some-true-clause-source
+returns-in_err-settle-in-Some-true-clause-source g c = record { later = later_on (g.S.Source.faults c.args.src.now) (g.S.Source.faults c.next.new.src) (g.S.Source.faults c.settle.new.src) (later_on (g.S.Source.faults c.args.src.now) (g.S.Source.faults c.arm_next.new.src) (g.S.Source.faults c.next.new.src) c.arm_next.ensures.cause.later c.next.ensures.source.later) c.settle.ensures.source.later; cause = λ is. rose_behind (g.S.Source.faults c.args.src.now) (g.S.Source.faults c.next.new.src) (g.S.Source.faults c.settle.new.src) (later_on (g.S.Source.faults c.args.src.now) (g.S.Source.faults c.arm_next.new.src) (g.S.Source.faults c.next.new.src) c.arm_next.ensures.cause.later c.next.ensures.source.later) (c.settle.ensures.source.cause (residual_is c.from_residual-in_err-settle-in-Some-true.result c.settle.result _ _ c.in_err-settle-in-Some-true.was c.from_residual-in_err-settle-in-Some-true.ensures.1 is)) }
+
+pub returns-in_err-settle-in-Some-true-clause-sink : goal.returns-in_err-settle-in-Some-true-clause-sink
+returns-in_err-settle-in-Some-true-clause-sink g c = record { later = c.next.ensures.sink.later; cause = λ is. absurd (c.settle.ensures.sink (residual_is c.from_residual-in_err-settle-in-Some-true.result c.settle.result _ _ c.in_err-settle-in-Some-true.was c.from_residual-in_err-settle-in-Some-true.ensures.1 is)) }
+
+pub returns-in_err-settle-in-Some-true-clause-offsets : goal.returns-in_err-settle-in-Some-true-clause-offsets
+returns-in_err-settle-in-Some-true-clause-offsets g c = record { later = c.settle.ensures.offsets.later; cause = λ is. c.settle.ensures.offsets.cause (residual_is c.from_residual-in_err-settle-in-Some-true.result c.settle.result _ _ c.in_err-settle-in-Some-true.was c.from_residual-in_err-settle-in-Some-true.ensures.1 is) }
+
+pub returns-in_ok-settle-in-Some-true-clause-source : goal.returns-in_ok-settle-in-Some-true-clause-source
+returns-in_ok-settle-in-Some-true-clause-source g c = record { later = later_on (g.S.Source.faults c.args.src.now) (g.S.Source.faults c.next.new.src) (g.S.Source.faults c.settle.new.src) (later_on (g.S.Source.faults c.args.src.now) (g.S.Source.faults c.arm_next.new.src) (g.S.Source.faults c.next.new.src) c.arm_next.ensures.cause.later c.next.ensures.source.later) c.settle.ensures.source.later; cause = λ is. absurd (let i = is in cc) }
+
+pub returns-in_ok-settle-in-Some-true-clause-sink : goal.returns-in_ok-settle-in-Some-true-clause-sink
+returns-in_ok-settle-in-Some-true-clause-sink g c = record { later = c.next.ensures.sink.later; cause = λ is. absurd (let i = is in cc) }
+
+pub returns-in_ok-settle-in-Some-true-clause-offsets : goal.returns-in_ok-settle-in-Some-true-clause-offsets
+returns-in_ok-settle-in-Some-true-clause-offsets g c = record { later = c.settle.ensures.offsets.later; cause = λ is. absurd (let i = is in cc) }
+
+pub returns-in_err-end-in-None-clause-source : goal.returns-in_err-end-in-None-clause-source
+returns-in_err-end-in-None-clause-source g c = record { later = later_on (g.S.Source.faults c.args.src.now) (g.S.Source.faults c.next.new.src) (g.S.Source.faults c.end.new.src) (later_on (g.S.Source.faults c.args.src.now) (g.S.Source.faults c.arm_next.new.src) (g.S.Source.faults c.next.new.src) c.arm_next.ensures.cause.later c.next.ensures.source.later) c.end.ensures.source.later; cause = λ is. rose_behind (g.S.Source.faults c.args.src.now) (g.S.Source.faults c.next.new.src) (g.S.Source.faults c.end.new.src) (later_on (g.S.Source.faults c.args.src.now) (g.S.Source.faults c.arm_next.new.src) (g.S.Source.faults c.next.new.src) c.arm_next.ensures.cause.later c.next.ensures.source.later) (c.end.ensures.source.cause (residual_is c.from_residual-in_err-end-in-None.result c.end.result _ _ c.in_err-end-in-None.was c.from_residual-in_err-end-in-None.ensures.1 is)) }
+
+pub returns-in_err-end-in-None-clause-sink : goal.returns-in_err-end-in-None-clause-sink
+returns-in_err-end-in-None-clause-sink g c = record { later = c.next.ensures.sink.later; cause = λ is. absurd (c.end.ensures.sink (residual_is c.from_residual-in_err-end-in-None.result c.end.result _ _ c.in_err-end-in-None.was c.from_residual-in_err-end-in-None.ensures.1 is)) }
+
+pub returns-in_err-end-in-None-clause-offsets : goal.returns-in_err-end-in-None-clause-offsets
+returns-in_err-end-in-None-clause-offsets g c = record { later = c.end.ensures.offsets.later; cause = λ is. c.end.ensures.offsets.cause (residual_is c.from_residual-in_err-end-in-None.result c.end.result _ _ c.in_err-end-in-None.was c.from_residual-in_err-end-in-None.ensures.1 is) }
+
+pub returns-in_ok-end-in-None-clause-source : goal.returns-in_ok-end-in-None-clause-source
+returns-in_ok-end-in-None-clause-source g c = record { later = later_on (g.S.Source.faults c.args.src.now) (g.S.Source.faults c.next.new.src) (g.S.Source.faults c.end.new.src) (later_on (g.S.Source.faults c.args.src.now) (g.S.Source.faults c.arm_next.new.src) (g.S.Source.faults c.next.new.src) c.arm_next.ensures.cause.later c.next.ensures.source.later) c.end.ensures.source.later; cause = λ is. absurd (let i = is in cc) }
+
+pub returns-in_ok-end-in-None-clause-sink : goal.returns-in_ok-end-in-None-clause-sink
+returns-in_ok-end-in-None-clause-sink g c = record { later = c.next.ensures.sink.later; cause = λ is. absurd (let i = is in cc) }
+
+pub returns-in_ok-end-in-None-clause-offsets : goal.returns-in_ok-end-in-None-clause-offsets
+returns-in_ok-end-in-None-clause-offsets g c = record { later = c.end.ensures.offsets.later; cause = λ is. absurd (let i = is in cc) }

@@ -143,24 +143,24 @@ pub returns-in_err-ending-clause-source_counts : goal.returns-in_err-ending-clau
 returns-in_err-ending-clause-source_counts g c =
     residual c.from_residual-in_err-ending.result _ (λ (r : End). Counts g.W.Disk.faults store.Wal r c.args.source.now.journal.disk c.session.new.src.journal.disk) c.from_residual-in_err-ending.ensures.1
     (record {
-      later = c.session.ensures.source_later;
-      cause = λ is. c.session.ensures.source (c.in_err-ending.was ∙ ap (λ (h : Halt). Err h) (halt_fails _ store.Wal (let i = is in cc)));
+      later = c.session.ensures.source.later;
+      cause = λ is. c.session.ensures.source.cause (c.in_err-ending.was ∙ ap (λ (h : Halt). Err h) (halt_fails _ store.Wal (let i = is in cc)));
     })
 
 pub returns-in_err-ending-clause-log_counts : goal.returns-in_err-ending-clause-log_counts
 returns-in_err-ending-clause-log_counts g c =
     residual c.from_residual-in_err-ending.result _ (λ (r : End). Counts g.T.Disk.faults store.Topics r c.args.log.now.disk c.session.new.sink.disk) c.from_residual-in_err-ending.ensures.1
     (record {
-      later = c.session.ensures.sink_later;
-      cause = λ is. c.session.ensures.sink (c.in_err-ending.was ∙ ap (λ (h : Halt). Err h) (halt_fails _ store.Topics (let i = is in cc)));
+      later = c.session.ensures.sink.later;
+      cause = λ is. c.session.ensures.sink.cause (c.in_err-ending.was ∙ ap (λ (h : Halt). Err h) (halt_fails _ store.Topics (let i = is in cc)));
     })
 
 pub returns-in_err-ending-clause-store_counts : goal.returns-in_err-ending-clause-store_counts
 returns-in_err-ending-clause-store_counts g c =
     residual c.from_residual-in_err-ending.result _ (λ (r : End). Counts g.F.Disk.faults store.Offsets r (disk_of c.args.store.now) (disk_of c.session.new.offsets)) c.from_residual-in_err-ending.ensures.1
     (record {
-      later = c.session.ensures.store_later;
-      cause = λ is. c.session.ensures.offsets (c.in_err-ending.was ∙ ap (λ (h : Halt). Err h) (halt_fails _ store.Offsets (let i = is in cc)));
+      later = c.session.ensures.offsets.later;
+      cause = λ is. c.session.ensures.offsets.cause (c.in_err-ending.was ∙ ap (λ (h : Halt). Err h) (halt_fails _ store.Offsets (let i = is in cc)));
     })
 
 pub returns-in_err-ending-clause-source_bounded : goal.returns-in_err-ending-clause-source_bounded
@@ -219,13 +219,13 @@ returns-clause-spent g c =
     (λ is. (c.session.ensures.done (c.in_ok-ending.was ∙ ap (λ (e : Ending). Ok e) is)).3) (λ is. c.session.ensures.spent (c.in_ok-ending.was ∙ ap (λ (e : Ending). Ok e) is)) c.session.ensures.commits
 
 pub returns-clause-source_counts : goal.returns-clause-source_counts
-returns-clause-source_counts g c = record { later = c.session.ensures.source_later; cause = λ is. absurd (let i = is in cc) }
+returns-clause-source_counts g c = record { later = c.session.ensures.source.later; cause = λ is. absurd (let i = is in cc) }
 
 pub returns-clause-log_counts : goal.returns-clause-log_counts
-returns-clause-log_counts g c = record { later = c.session.ensures.sink_later; cause = λ is. absurd (let i = is in cc) }
+returns-clause-log_counts g c = record { later = c.session.ensures.sink.later; cause = λ is. absurd (let i = is in cc) }
 
 pub returns-clause-store_counts : goal.returns-clause-store_counts
-returns-clause-store_counts g c = record { later = c.session.ensures.store_later; cause = λ is. absurd (let i = is in cc) }
+returns-clause-store_counts g c = record { later = c.session.ensures.offsets.later; cause = λ is. absurd (let i = is in cc) }
 
 pub returns-clause-source_bounded : goal.returns-clause-source_bounded
 returns-clause-source_bounded g c = source_bounded g.W.Disk.seen g.W.Disk.may_leave g.T.Disk.seen g.T.Disk.may_leave g.F.Disk.seen g.F.Disk.may_leave c.args.source.now c.args.log.now c.args.store.now c.requires.source_opened c.requires.log_opened c.requires.store_opened c.session.new.src c.session.ensures.source_comes

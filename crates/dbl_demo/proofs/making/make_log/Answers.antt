@@ -17,7 +17,7 @@ returns-in-Ok-begin_log-clause-disk g c =
     let made = c.in-Ok.ensures in
     let begun = c.in-Ok-begin_log.ensures in
     begun_disk g.D.Disk.seen g.D.Disk.may_leave g.D.Disk.faults c.args.disk c.in-Ok.journal c.begin_log.new.journal (first_forms c.args.bytes.now c.args.prepared.now.rows) ⊥ c.requires.empty made.made made.small begun.grows
-    (first_small c.args.bytes.now c.args.prepared.now.rows c.requires.short c.requires.fits) made.later begun.later (λ never. absurd never) made.steady (λ no. begun.steady (λ is. let t = is in cc))
+    (first_small c.args.bytes.now c.args.prepared.now.rows c.requires.short c.requires.fits) made.later begun.cause.later (λ never. absurd never) made.steady (λ no. begun.steady (λ is. let t = is in cc))
 
 pub returns-in-Err-begin_log-clause-disk : goal.returns-in-Err-begin_log-clause-disk
 returns-in-Err-begin_log-clause-disk g c =
@@ -26,5 +26,5 @@ returns-in-Err-begin_log-clause-disk g c =
     let e = c.in-Err-begin_log.error in
     subst (λ (d : g.row.D.Denot). IsDiskBegun g.D.Disk.seen g.D.Disk.faults (IsFailed e) c.args.disk d) (sym c.into_disk.ensures)
     (begun_disk g.D.Disk.seen g.D.Disk.may_leave g.D.Disk.faults c.args.disk c.in-Ok.journal c.begin_log.new.journal (first_forms c.args.bytes.now c.args.prepared.now.rows) (IsFailed e) c.requires.empty made.made made.small begun.grows
-    (first_small c.args.bytes.now c.args.prepared.now.rows c.requires.short c.requires.fits) made.later begun.later (λ failed. begun.failed (c.in-Err-begin_log.is ∙ ap (λ (f : DemoError). Err f) failed)) made.steady
+    (first_small c.args.bytes.now c.args.prepared.now.rows c.requires.short c.requires.fits) made.later begun.cause.later (λ failed. begun.cause.cause (c.in-Err-begin_log.is ∙ ap (λ (f : DemoError). Err f) failed)) made.steady
     (λ no. begun.steady (λ is. no (let t = sym c.in-Err-begin_log.is ∙ is in cc))))

@@ -9,7 +9,7 @@ returns-in-Ok-eq0-clause-asks g c = record {
   asked = record {
     same = c.len.ensures.seen;
     crash = λ crashed may. (c.len.ensures.crash crashed).0 may;
-    later = c.len.ensures.later;
+    later = c.len.ensures.cause.later;
     cause = λ is. absurd (let t = is in cc);
     steady = λ no bytes told. c.in-Ok-eq0.ensures.steady bytes told;
   };
@@ -22,7 +22,7 @@ returns-in-Ok-clause-asks g c = record {
   asked = record {
     same = c.len.ensures.seen;
     crash = λ crashed may. (c.len.ensures.crash crashed).0 may;
-    later = c.len.ensures.later;
+    later = c.len.ensures.cause.later;
     cause = λ is. absurd (let t = is in cc);
     steady = λ no bytes told. c.in-Ok.ensures.steady bytes told;
   };
@@ -35,8 +35,8 @@ returns-in-Err-clause-asks g c = record {
   asked = record {
     same = c.len.ensures.seen;
     crash = λ crashed may. (c.len.ensures.crash crashed).0 may;
-    later = c.len.ensures.later;
-    cause = λ is. c.in-Err.ensures.cause;
+    later = c.len.ensures.cause.later;
+    cause = λ is. c.in-Err.ensures.cause.cause refl;
     steady = λ no. absurd (no refl);
   };
 }

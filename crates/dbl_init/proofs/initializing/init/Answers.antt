@@ -83,7 +83,7 @@ pub returns-in-Err-read_all-clause-offsets_stay : goal.returns-in-Err-read_all-c
 returns-in-Err-read_all-clause-offsets_stay g c = λ is. absurd (input_before c.in-Err-read_all.error c.from.result c.from.ensures (held c.from.result is))
 
 pub returns-in-Err-read_all-clause-input_failed : goal.returns-in-Err-read_all-clause-input_failed
-returns-in-Err-read_all-clause-input_failed g c = λ is. c.read_all.ensures.failed (c.in-Err-read_all.is ∙ ap (λ x. Err x) (input_failed c.in-Err-read_all.error c.from.result c.from.ensures (let t = is in cc)))
+returns-in-Err-read_all-clause-input_failed g c = λ is. c.read_all.ensures.cause.cause (c.in-Err-read_all.is ∙ ap (λ x. Err x) (input_failed c.in-Err-read_all.error c.from.result c.from.ensures (let t = is in cc)))
 
 pub returns-in-Err-read_all-clause-unwritten : goal.returns-in-Err-read_all-clause-unwritten
 returns-in-Err-read_all-clause-unwritten g c = λ held. (asked_at g.W.Disk.seen g.W.Disk.may_leave g.W.Disk.faults Wal c.args.wal _ c.from.result (input_disk c.in-Err-read_all.error c.from.result c.from.ensures Wal) c.in-Ok.ensures.wal, (asked_at g.T.Disk.seen g.T.Disk.may_leave g.T.Disk.faults Topics c.args.topics _ c.from.result (input_disk c.in-Err-read_all.error c.from.result c.from.ensures Topics) c.in-Ok.ensures.topics, asked_at g.F.Disk.seen g.F.Disk.may_leave g.F.Disk.faults Offsets c.args.offsets _ c.from.result (input_disk c.in-Err-read_all.error c.from.result c.from.ensures Offsets) c.in-Ok.ensures.offsets))

@@ -1,4 +1,4 @@
-use Rattle.std.proofs.Common.{◌≡◌, ◌+◌, ◌++◌, ◌∷◌, [], ◌∙◌, ℕ, List, length, ap, arith, sym, subst}
+use Rattle.std.proofs.Common.{◌≡◌, ◌+◌, ◌++◌, ◌∷◌, [], ◌∙◌, ℕ, List, length, ap, arith, sym, subst, refl}
 use Rattle.std.proofs.lemmas.List.{drop_all, append-nil, length_push}
 use Rattle.std.proofs.lemmas.List.Elements.{All-nil}
 use Rattle.std.proofs.lemmas.Result.{on_ok_weaker}
@@ -54,3 +54,14 @@ returns-clause-longest g c new was told =
 pub returns-clause-steady : goal.returns-clause-steady
 returns-clause-steady g c old told =
     on_ok_weaker c.sync.result (λ same. same ∙ c.in_ok-write_at.ensures.steady old told) (c.sync.ensures.steady (written old 0 c.args.bytes.now) (c.in_ok-write_at.ensures.written old told))
+
+pub returns-in_err-write_at-clause-cause : goal.returns-in_err-write_at-clause-cause
+returns-in_err-write_at-clause-cause g c = record { later = c.write_at.ensures.cause.later; cause = λ is. c.in_err-write_at.ensures.cause.cause refl }
+
+pub returns-clause-cause : goal.returns-clause-cause
+returns-clause-cause g c = record {
+  later = omega (arith, c.write_at.ensures.cause.later, c.sync.ensures.cause.later);
+  cause = λ is.
+      let rose = c.sync.ensures.cause.cause is in
+      omega (arith, c.write_at.ensures.cause.later, rose);
+}

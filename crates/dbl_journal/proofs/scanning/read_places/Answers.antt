@@ -47,5 +47,5 @@ entries-preserved g c =
       small = c.entries.invariant.small;
       few = omega (arith, c.entries.invariant.few, forward.0, ap length c.in_ok-push.ensures.items, length-append c.entries.places.items (c.in-Some.place ∷ []));
       steady = λ bytes told. c.in_ok-place.ensures.steady bytes (c.entries.invariant.seen ∙ told) (λ ok. cc) ∙ c.entries.invariant.steady bytes told;
-      later = omega (arith, c.entries.invariant.later, c.next_place.ensures.later);
+      later = omega (arith, c.entries.invariant.later, c.next_place.ensures.cause.later);
     }

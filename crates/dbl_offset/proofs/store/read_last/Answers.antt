@@ -30,7 +30,7 @@ loop-index-preserved g c =
       seen = c.entry.ensures.seen ∙ c.loop-index.invariant.seen;
       crash = λ crashed. (λ h. (c.loop-index.invariant.crash crashed).0 ((c.entry.ensures.crash crashed).0 h), λ h. (c.entry.ensures.crash crashed).1 ((c.loop-index.invariant.crash crashed).1 h));
       steady = λ bytes told. c.in_ok-bytes.ensures.steady (λ ok. cc) bytes (c.loop-index.invariant.seen ∙ told) ∙ c.loop-index.invariant.steady bytes told;
-      later = omega (arith, c.entry.ensures.later, c.loop-index.invariant.later);
+      later = omega (arith, c.entry.ensures.cause.later, c.loop-index.invariant.later);
     }
 
 pub returns-clause-each : goal.returns-clause-each

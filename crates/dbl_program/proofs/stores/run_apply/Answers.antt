@@ -29,7 +29,7 @@ returns-clause-not_input g c = rows_no_input c.finish.result (rows_status c.appl
 
 pub returns-clause-output_failed : goal.returns-clause-output_failed
 returns-clause-output_failed g c = λ is.
-    finished_output c.apply-applied.result.end _ _ _ c.apply-applied.ensures.output_failed c.apply-applied.ensures.output_later c.finish.ensures.later (c.finish.ensures.output_failed is)
+    finished_output c.apply-applied.result.end _ _ _ c.apply-applied.ensures.output.cause c.apply-applied.ensures.output.later c.finish.ensures.later (c.finish.ensures.output_failed is)
 
 pub returns-clause-topics_synced : goal.returns-clause-topics_synced
 returns-clause-topics_synced g c = λ opened. c.apply-applied.ensures.topics_stable (opened_topics c.apply-applied.result.end c.finish.result _ _ c.finish.ensures.finishes opened)

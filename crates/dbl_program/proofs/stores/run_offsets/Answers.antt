@@ -21,7 +21,7 @@ returns-clause-not_input g c = offsets_no_input c.finish.result (offsets_known c
 
 pub returns-clause-output_failed : goal.returns-clause-output_failed
 returns-clause-output_failed g c = λ is.
-    finished_output c.print_offset-ended.result.end _ _ _ c.print_offset-ended.ensures.output_failed c.print_offset-ended.ensures.output_later c.finish.ensures.later (c.finish.ensures.output_failed is)
+    finished_output c.print_offset-ended.result.end _ _ _ c.print_offset-ended.ensures.output.cause c.print_offset-ended.ensures.output.later c.finish.ensures.later (c.finish.ensures.output_failed is)
 
 pub returns-clause-offsets_synced : goal.returns-clause-offsets_synced
 returns-clause-offsets_synced g c = λ opened. c.print_offset-ended.ensures.stable (opened_offsets c.print_offset-ended.result.end c.finish.result _ _ c.finish.ensures.finishes opened)

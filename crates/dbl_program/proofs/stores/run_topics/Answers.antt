@@ -21,7 +21,7 @@ returns-clause-not_input g c = topics_no_input c.finish.result (topics_known c.p
 
 pub returns-clause-output_failed : goal.returns-clause-output_failed
 returns-clause-output_failed g c = λ is.
-    finished_output c.print_topics-ended.result.end _ _ _ c.print_topics-ended.ensures.output_failed c.print_topics-ended.ensures.output_later c.finish.ensures.later (c.finish.ensures.output_failed is)
+    finished_output c.print_topics-ended.result.end _ _ _ c.print_topics-ended.ensures.output.cause c.print_topics-ended.ensures.output.later c.finish.ensures.later (c.finish.ensures.output_failed is)
 
 pub returns-clause-topics_synced : goal.returns-clause-topics_synced
 returns-clause-topics_synced g c = λ opened. c.print_topics-ended.ensures.stable (opened_topics c.print_topics-ended.result.end c.finish.result _ _ c.finish.ensures.finishes opened)

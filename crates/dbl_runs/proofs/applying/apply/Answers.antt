@@ -1,4 +1,4 @@
-use Rattle.std.proofs.Common.{ap, subst, sym}
+use Rattle.std.proofs.Common.{ap, subst, sym, arith}
 use Rattle.dbl_runs.specs.Applying.{Applies}
 use Rattle.dbl_runs.specs.Ends.{IsSynced}
 use Rattle.dbl_runs.specs.declared.error.Store.TheVariants.{Topics, Offsets}
@@ -11,8 +11,8 @@ use Rattle.dbl_runs.proofs.applying.apply.Goals as goal
 pub returns-in-Err-clause-told : goal.returns-in-Err-clause-told
 returns-in-Err-clause-told g c = λ t f told other. no_log_run t f c.in-Err.field-0.error _ (c.in-Err.ensures.refused t told)
 
-pub returns-in-Err-clause-output_failed : goal.returns-in-Err-clause-output_failed
-returns-in-Err-clause-output_failed g c = λ e. absurd (no_output Topics c.in-Err.field-0.error c.in-Err.ensures.kinds (err_one c.in-Err.field-0.error _ e))
+pub returns-in-Err-clause-output : goal.returns-in-Err-clause-output
+returns-in-Err-clause-output g c = record { later = omega arith; cause = λ e. absurd (no_output Topics c.in-Err.field-0.error c.in-Err.ensures.kinds (err_one c.in-Err.field-0.error _ e)) }
 
 pub returns-in-Ok-open_offsets-clause-told : goal.returns-in-Ok-open_offsets-clause-told
 returns-in-Ok-open_offsets-clause-told g c = λ t f told other.
@@ -31,8 +31,8 @@ returns-in-Err-open_offsets-clause-told g c = λ t f told other.
 pub returns-in-Err-open_offsets-clause-unopened : goal.returns-in-Err-open_offsets-clause-unopened
 returns-in-Err-open_offsets-clause-unopened g c = λ t told none. let opened = c.in-Ok.ensures.opened t told in absurd (none opened.0 opened.1)
 
-pub returns-in-Err-open_offsets-clause-output_failed : goal.returns-in-Err-open_offsets-clause-output_failed
-returns-in-Err-open_offsets-clause-output_failed g c = λ e. absurd (no_output Offsets c.in-Err-open_offsets.field-0.error c.in-Err-open_offsets.ensures.kinds (err_one c.in-Err-open_offsets.field-0.error _ e))
+pub returns-in-Err-open_offsets-clause-output : goal.returns-in-Err-open_offsets-clause-output
+returns-in-Err-open_offsets-clause-output g c = record { later = omega arith; cause = λ e. absurd (no_output Offsets c.in-Err-open_offsets.field-0.error c.in-Err-open_offsets.ensures.kinds (err_one c.in-Err-open_offsets.field-0.error _ e)) }
 
 -- ---- a topics disk that holds no log
 

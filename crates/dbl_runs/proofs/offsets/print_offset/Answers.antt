@@ -1,4 +1,4 @@
-use Rattle.std.proofs.Common.{◌≡◌, Err, ap, subst, sym, inr}
+use Rattle.std.proofs.Common.{◌≡◌, Err, ap, subst, sym, inr, arith}
 use Rattle.dbl_runs.specs.Applying.{TellsOffset}
 use Rattle.dbl_runs.specs.Ends.{IsSynced, Keeps}
 use Rattle.dbl_runs.specs.declared.error.RunError.TheVariants.{Failed}
@@ -27,8 +27,8 @@ returns-in-Err-clause-keeps g c = keeps_told g.D.Disk.seen g.D.Disk.may_leave g.
 pub returns-in-Err-clause-kinds : goal.returns-in-Err-clause-kinds
 returns-in-Err-clause-kinds g c = inr (inr c.in-Err.ensures.kinds)
 
-pub returns-in-Err-clause-output_failed : goal.returns-in-Err-clause-output_failed
-returns-in-Err-clause-output_failed g c = λ e. absurd (no_output Offsets c.in-Err.field-0.error c.in-Err.ensures.kinds (err_one c.in-Err.field-0.error _ e))
+pub returns-in-Err-clause-output : goal.returns-in-Err-clause-output
+returns-in-Err-clause-output g c = record { later = omega arith; cause = λ e. absurd (no_output Offsets c.in-Err.field-0.error c.in-Err.ensures.kinds (err_one c.in-Err.field-0.error _ e)) }
 
 pub returns-in-Ok-clause-stable : goal.returns-in-Ok-clause-stable
 returns-in-Ok-clause-stable g c = λ other. subst (λ d. IsSynced g.D.Disk.seen g.D.Disk.may_leave c.args.disk d) (sym c.into_disk.ensures) c.in-Ok.ensures.stable

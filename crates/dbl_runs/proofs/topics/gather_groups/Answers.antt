@@ -29,7 +29,7 @@ each-preserved g c = record {
   puts = λ groups held.
       let found = c.in-Ok.ensures.found groups (c.each.invariant.holds groups held) in
       putting_more _ _ _ _ _ _ _ _ _ _ (c.each.invariant.puts groups held) (next_lines groups c.each.number c.in-Ok.group.items found) c.in-Ok-put_records.ensures.puts;
-  later = omega (arith, c.each.invariant.later, c.in-Ok-put_records.ensures.later);
+  later = omega (arith, c.each.invariant.later, c.in-Ok-put_records.ensures.cause.later);
 }
 
 pub returns-in-Err-clause-told : goal.returns-in-Err-clause-told
@@ -42,8 +42,8 @@ returns-in-Err-clause-keeps g c = keeps_then g.D.Disk.seen g.D.Disk.may_leave g.
 pub returns-in-Err-clause-kinds : goal.returns-in-Err-clause-kinds
 returns-in-Err-clause-kinds g c = inr c.in-Err.ensures.kinds
 
-pub returns-in-Err-clause-output_failed : goal.returns-in-Err-clause-output_failed
-returns-in-Err-clause-output_failed g c = λ e. absurd (no_output Topics c.in-Err.error c.in-Err.ensures.kinds (err_one c.in-Err.error _ e))
+pub returns-in-Err-clause-output : goal.returns-in-Err-clause-output
+returns-in-Err-clause-output g c = record { later = c.each.invariant.later; cause = λ e. absurd (no_output Topics c.in-Err.error c.in-Err.ensures.kinds (err_one c.in-Err.error _ e)) }
 
 pub returns-in-Err-put_records-clause-told : goal.returns-in-Err-put_records-clause-told
 returns-in-Err-put_records-clause-told g c groups held start begun =
@@ -60,10 +60,8 @@ returns-in-Err-put_records-clause-keeps g c =
 pub returns-in-Err-put_records-clause-kinds : goal.returns-in-Err-put_records-clause-kinds
 returns-in-Err-put_records-clause-kinds g c = print_kind_of Topics c.from.result (print_kind c.in-Err-put_records.error c.from.result c.from.ensures)
 
-pub returns-in-Err-put_records-clause-output_failed : goal.returns-in-Err-put_records-clause-output_failed
-returns-in-Err-put_records-clause-output_failed g c = λ e.
-    let rose = c.in-Err-put_records.ensures.failed (ap failed_with (print_failed c.in-Err-put_records.error c.from.result c.from.ensures (err_one c.from.result _ e))) in
-    omega (arith, c.each.invariant.later, rose)
+pub returns-in-Err-put_records-clause-output : goal.returns-in-Err-put_records-clause-output
+returns-in-Err-put_records-clause-output g c = record { later = omega (arith, c.each.invariant.later, c.in-Err-put_records.ensures.cause.later); cause = λ e. let rose = c.in-Err-put_records.ensures.cause.cause (ap failed_with (print_failed c.in-Err-put_records.error c.from.result c.from.ensures (err_one c.from.result _ e))) in omega (arith, c.each.invariant.later, rose) }
 
 pub returns-clause-told : goal.returns-clause-told
 returns-clause-told g c groups held start begun =

@@ -36,7 +36,7 @@ entries-preserved g c = record {
   seen = c.in_ok-_group.ensures.seen ∙ c.entries.invariant.seen;
   crash = λ crashed may. c.entries.invariant.crash crashed ((c.in_ok-_group.ensures.crash crashed).0 may);
   steady = λ bytes told. c.in_ok-_group.ensures.steady (λ ok. cc) bytes (c.entries.invariant.seen ∙ told) ∙ c.entries.invariant.steady bytes told;
-  later = omega (arith, c.entries.invariant.later, c.in_ok-_group.ensures.later);
+  later = omega (arith, c.entries.invariant.later, c.in_ok-_group.ensures.cause.later);
 }
 
 pub returns-clause-good : goal.returns-clause-good

@@ -64,13 +64,8 @@ pub returns-in_err-describe_table-clause-taken : goal.returns-in_err-describe_ta
 returns-in_err-describe_table-clause-taken g c =
     taken_on (g.S.Source.told c.args.src.now) (g.S.Source.told c.tables.src) (g.S.Source.told c.describe_table.new.src) c.tables.invariant.taken c.describe_table.ensures.taken
 
-pub returns-in_err-describe_table-clause-failed : goal.returns-in_err-describe_table-clause-failed
-returns-in_err-describe_table-clause-failed g c is =
-    let p = err_from_is_err_and c.from_residual-in_err-describe_table.result c.from_residual-in_err-describe_table.ensures.1 in
-    let both : Err p.0 ≡ Err halt.Source = sym p.1 ∙ is in
-    let halted : p.0 ≡ halt.Source = cc in
-    rose_behind (g.S.Source.faults c.args.src.now) (g.S.Source.faults c.tables.src) (g.S.Source.faults c.describe_table.new.src) c.tables.invariant.later
-    (c.in_err-describe_table.ensures.failed (ap (λ (h : Halt). Err h) (sym p.2 ∙ halted)))
+pub returns-in_err-describe_table-clause-cause : goal.returns-in_err-describe_table-clause-cause
+returns-in_err-describe_table-clause-cause g c = record { later = later_on (g.S.Source.faults c.args.src.now) (g.S.Source.faults c.tables.src) (g.S.Source.faults c.describe_table.new.src) c.tables.invariant.later c.describe_table.ensures.cause.later; cause = λ is. let p = err_from_is_err_and c.from_residual-in_err-describe_table.result c.from_residual-in_err-describe_table.ensures.1 in let both : Err p.0 ≡ Err halt.Source = sym p.1 ∙ is in let halted : p.0 ≡ halt.Source = cc in rose_behind (g.S.Source.faults c.args.src.now) (g.S.Source.faults c.tables.src) (g.S.Source.faults c.describe_table.new.src) c.tables.invariant.later (c.in_err-describe_table.ensures.cause.cause (ap (λ (h : Halt). Err h) (sym p.2 ∙ halted))) }
 
 pub returns-in_err-push-clause-left : goal.returns-in_err-push-clause-left
 returns-in_err-push-clause-left g c s l stands may =
@@ -119,7 +114,7 @@ tables-preserved g c =
       is_live = c.in_ok-describe_table.ensures.live;
       was_honest = λ honest. inv.was_honest (c.describe_table.ensures.honest honest);
       comes = g.met.S.Source.comes_on old mid new inv.comes c.describe_table.ensures.comes;
-      later = later_on (g.S.Source.faults old) (g.S.Source.faults mid) (g.S.Source.faults new) inv.later c.describe_table.ensures.later;
+      later = later_on (g.S.Source.faults old) (g.S.Source.faults mid) (g.S.Source.faults new) inv.later c.describe_table.ensures.cause.later;
     }
 
 -- ---- each was

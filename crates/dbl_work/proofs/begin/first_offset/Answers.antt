@@ -10,7 +10,7 @@ use Rattle.dbl_honest.specs.Told.{Head, Tells}
 use Rattle.dbl_reading.specs.declared.error.SourceError.{SourceError}
 use Rattle.dbl_work.specs.declared.halt.Halt.TheVariants as halt
 use Rattle.dbl_work.specs.Begins.{IsAbsentHalt}
-use Rattle.dbl_work.proofs.Exits.{moved_on, rose_behind, source_absent, source_failed, taken_on}
+use Rattle.dbl_work.proofs.Exits.{moved_on, rose_behind, source_absent, source_failed, taken_on, later_on}
 use Rattle.dbl_work.proofs.Describing.{first_is_for, first_is_offset, head_from, infos_described, rest_on}
 use Rattle.dbl_work.proofs.begin.first_offset.Goals as goal
 
@@ -42,14 +42,8 @@ pub returns-in_err-head-clause-taken : goal.returns-in_err-head-clause-taken
 returns-in_err-head-clause-taken g c =
     taken_on (g.S.Source.told c.args.src.now) (g.S.Source.told c.describe_tables.new.src) (g.S.Source.told c.head.new.self) c.describe_tables.ensures.taken c.head.ensures.taken
 
-pub returns-in_err-head-clause-failed : goal.returns-in_err-head-clause-failed
-returns-in_err-head-clause-failed g c is =
-    let p = err_from_is_err_and c.from_residual-in_err-head.result c.from_residual-in_err-head.ensures.1 in
-    let both : Err p.0 ≡ Err halt.Source = sym p.1 ∙ is in
-    let halted : p.0 ≡ halt.Source = cc in
-    let failed = source_failed c.in_err-head.field-0.0 (sym p.2 ∙ halted) in
-    rose_behind (g.S.Source.faults c.args.src.now) (g.S.Source.faults c.describe_tables.new.src) (g.S.Source.faults c.head.new.self) c.describe_tables.ensures.later
-    (c.head.ensures.failed (c.in_err-head.was ∙ ap (λ (e : SourceError). Err e) failed))
+pub returns-in_err-head-clause-cause : goal.returns-in_err-head-clause-cause
+returns-in_err-head-clause-cause g c = record { later = later_on (g.S.Source.faults c.args.src.now) (g.S.Source.faults c.describe_tables.new.src) (g.S.Source.faults c.head.new.self) c.describe_tables.ensures.cause.later c.head.ensures.cause.later; cause = λ is. let p = err_from_is_err_and c.from_residual-in_err-head.result c.from_residual-in_err-head.ensures.1 in let both : Err p.0 ≡ Err halt.Source = sym p.1 ∙ is in let halted : p.0 ≡ halt.Source = cc in let failed = source_failed c.in_err-head.field-0.0 (sym p.2 ∙ halted) in rose_behind (g.S.Source.faults c.args.src.now) (g.S.Source.faults c.describe_tables.new.src) (g.S.Source.faults c.head.new.self) c.describe_tables.ensures.cause.later (c.head.ensures.cause.cause (c.in_err-head.was ∙ ap (λ (e : SourceError). Err e) failed)) }
 
 pub returns-in_err-offset_at-clause-left : goal.returns-in_err-offset_at-clause-left
 returns-in_err-offset_at-clause-left g c s l stands may =

@@ -94,11 +94,8 @@ returns-in_err-put_group-clause-halt g c =
       | inr (inr long) ↦ inr (inr (long_group _ _ _ c.in_err-put_group.field-0.0 (next_begins _ _ _ _ _ _ _ _ _ _ (sym c.begins.ensures ∙ c.if-begins.true) here) here.short long.0 long.1))
     ])
 
-pub returns-in_err-put_group-clause-failed : goal.returns-in_err-put_group-clause-failed
-returns-in_err-put_group-clause-failed g c is =
-    let p = err_from_is_err_and c.from_residual-in_err-put_group.result c.from_residual-in_err-put_group.ensures.1 in
-    rose_behind (g.K.Sink.faults c.args.sink.now) (g.K.Sink.faults c.records.sink) (g.K.Sink.faults c.put_group.new.sink) c.records.invariant.later
-    (c.in_err-put_group.ensures.failed (ap (λ (x : Halt). Err x) (sym p.2 ∙ same_error _ _ _ p.1 is)))
+pub returns-in_err-put_group-clause-cause : goal.returns-in_err-put_group-clause-cause
+returns-in_err-put_group-clause-cause g c = record { later = later_on (g.K.Sink.faults c.args.sink.now) (g.K.Sink.faults c.records.sink) (g.K.Sink.faults c.put_group.new.sink) c.records.invariant.later c.put_group.ensures.cause.later; cause = λ is. let p = err_from_is_err_and c.from_residual-in_err-put_group.result c.from_residual-in_err-put_group.ensures.1 in rose_behind (g.K.Sink.faults c.args.sink.now) (g.K.Sink.faults c.records.sink) (g.K.Sink.faults c.put_group.new.sink) c.records.invariant.later (c.in_err-put_group.ensures.cause.cause (ap (λ (x : Halt). Err x) (sym p.2 ∙ same_error _ _ _ p.1 is))) }
 
 pub returns-in_err-gathered-2-clause-left : goal.returns-in_err-gathered-2-clause-left
 returns-in_err-gathered-2-clause-left g c groups left held may =
@@ -145,7 +142,7 @@ records-preserved-then-begins g c =
       counts = counts_stay _ _ _ _ _ _ _ _ _ (omega arith) there;
       is_live = c.in_ok-put_group.ensures.live;
       comes = g.met.K.Sink.comes_on c.args.sink.now c.records.sink c.put_group.new.sink c.records.invariant.comes c.put_group.ensures.comes;
-      later = later_on (g.K.Sink.faults c.args.sink.now) (g.K.Sink.faults c.records.sink) (g.K.Sink.faults c.put_group.new.sink) c.records.invariant.later c.put_group.ensures.later;
+      later = later_on (g.K.Sink.faults c.args.sink.now) (g.K.Sink.faults c.records.sink) (g.K.Sink.faults c.put_group.new.sink) c.records.invariant.later c.put_group.ensures.cause.later;
     }
 
 pub returns-in_err-gather-clause-left : goal.returns-in_err-gather-clause-left
@@ -239,11 +236,8 @@ returns-in_err-put_group-2-clause-halt g c =
       | inr (inr long) ↦ inr (inr (long_group _ _ _ c.in_err-put_group-2.field-0.0 (last_group _ _ _ _ _ _ _ _ here) here.short long.0 long.1))
     ])
 
-pub returns-in_err-put_group-2-clause-failed : goal.returns-in_err-put_group-2-clause-failed
-returns-in_err-put_group-2-clause-failed g c is =
-    let p = err_from_is_err_and c.from_residual-in_err-put_group-2.result c.from_residual-in_err-put_group-2.ensures.1 in
-    rose_behind (g.K.Sink.faults c.args.sink.now) (g.K.Sink.faults c.records.sink) (g.K.Sink.faults c.put_group-2.new.sink) c.records.invariant.later
-    (c.in_err-put_group-2.ensures.failed (ap (λ (x : Halt). Err x) (sym p.2 ∙ same_error _ _ _ p.1 is)))
+pub returns-in_err-put_group-2-clause-cause : goal.returns-in_err-put_group-2-clause-cause
+returns-in_err-put_group-2-clause-cause g c = record { later = later_on (g.K.Sink.faults c.args.sink.now) (g.K.Sink.faults c.records.sink) (g.K.Sink.faults c.put_group-2.new.sink) c.records.invariant.later c.put_group-2.ensures.cause.later; cause = λ is. let p = err_from_is_err_and c.from_residual-in_err-put_group-2.result c.from_residual-in_err-put_group-2.ensures.1 in rose_behind (g.K.Sink.faults c.args.sink.now) (g.K.Sink.faults c.records.sink) (g.K.Sink.faults c.put_group-2.new.sink) c.records.invariant.later (c.in_err-put_group-2.ensures.cause.cause (ap (λ (x : Halt). Err x) (sym p.2 ∙ same_error _ _ _ p.1 is))) }
 
 pub returns-clause-put : goal.returns-clause-put
 returns-clause-put g c groups held =

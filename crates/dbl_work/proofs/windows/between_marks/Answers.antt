@@ -8,7 +8,7 @@ use Rattle.dbl_window.specs.Selected.{IsCaptured}
 use Rattle.dbl_work.specs.Causes.{IsHonestFault, IsOfRows}
 use Rattle.dbl_work.specs.Windowed.{MayHaveMarks, WasLooked, WasWindowed}
 use Rattle.dbl_work.specs.Works.{IsChunkOf}
-use Rattle.dbl_work.proofs.Exits.{rose_behind, taken_on}
+use Rattle.dbl_work.proofs.Exits.{rose_behind, taken_on, later_on}
 use Rattle.dbl_work.proofs.Looking.{mark_left, marked_left, was_windowed}
 use Rattle.dbl_work.proofs.WindowFaults.{captured_on, mark_fault, mark_honest}
 use Rattle.dbl_work.proofs.windows.between_marks.Goals as goal
@@ -72,6 +72,5 @@ returns-clause-left g c s l stands may =
 pub returns-clause-taken : goal.returns-clause-taken
 returns-clause-taken g c = taken_on (g.S.Source.told c.args.src.now) (g.S.Source.told c.low.new.src) (g.S.Source.told c.rows_and_high.new.src) c.low.ensures.taken c.rows_and_high.ensures.taken
 
-pub returns-clause-failed : goal.returns-clause-failed
-returns-clause-failed g c is =
-    rose_behind (g.S.Source.faults c.args.src.now) (g.S.Source.faults c.low.new.src) (g.S.Source.faults c.rows_and_high.new.src) c.low.ensures.later (c.rows_and_high.ensures.failed is)
+pub returns-clause-cause : goal.returns-clause-cause
+returns-clause-cause g c = record { later = later_on (g.S.Source.faults c.args.src.now) (g.S.Source.faults c.low.new.src) (g.S.Source.faults c.rows_and_high.new.src) c.low.ensures.cause.later c.rows_and_high.ensures.cause.later; cause = λ is. rose_behind (g.S.Source.faults c.args.src.now) (g.S.Source.faults c.low.new.src) (g.S.Source.faults c.rows_and_high.new.src) c.low.ensures.cause.later (c.rows_and_high.ensures.cause.cause is) }

@@ -106,11 +106,8 @@ returns-in-Err-clause-never g c s infos plan stands honest planned captured =
     honest_halt plan stood infos info.name c.halt_of.result c.in-Err.error (ap (λ (i : TableInfo). i.name) (sym (plan_info work c.args.table info plan here planned))) c.halt_of.ensures
     (subst (λ (p : Plan). IsHonestFault p stood infos c.in-Err.error) same (c.in-Err.ensures.never s infos stands honest (subst (IsCaptured infos s.history) (sym same) captured)))
 
-pub returns-in-Err-clause-failed : goal.returns-in-Err-clause-failed
-returns-in-Err-clause-failed g c is =
-    let halted : c.halt_of.result ≡ halt.Source = cc in
-    let failed = halt_failed c.index-info.result.now.name c.halt_of.result c.in-Err.error c.halt_of.ensures halted in
-    c.between_marks.ensures.failed (c.in-Err.is ∙ ap (λ (e : WindowError). Err e) failed)
+pub returns-in-Err-clause-cause : goal.returns-in-Err-clause-cause
+returns-in-Err-clause-cause g c = record { later = c.between_marks.ensures.cause.later; cause = λ is. let halted : c.halt_of.result ≡ halt.Source = cc in let failed = halt_failed c.index-info.result.now.name c.halt_of.result c.in-Err.error c.halt_of.ensures halted in c.between_marks.ensures.cause.cause (c.in-Err.is ∙ ap (λ (e : WindowError). Err e) failed) }
 
 pub returns-in-Err-clause-left : goal.returns-in-Err-clause-left
 returns-in-Err-clause-left g c plan planned s l stands may =

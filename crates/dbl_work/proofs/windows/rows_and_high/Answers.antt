@@ -9,7 +9,7 @@ use Rattle.dbl_window.specs.Plans.{Chunk, Plan, high_text}
 use Rattle.dbl_work.specs.Causes.{IsHonestFault, IsOfRows}
 use Rattle.dbl_work.specs.Windowed.{MayHaveMarks, WasLooked}
 use Rattle.dbl_work.specs.Works.{IsChunkOf}
-use Rattle.dbl_work.proofs.Exits.{both_ok, rose_behind, taken_on}
+use Rattle.dbl_work.proofs.Exits.{both_ok, rose_behind, taken_on, later_on}
 use Rattle.dbl_work.proofs.Looking.{mark_left, moved_left, others_left, read_order, was_looked}
 use Rattle.dbl_work.proofs.WindowFaults.{mark_fault, mark_honest, rows_fault, select_honest}
 use Rattle.dbl_work.proofs.windows.rows_and_high.Goals as goal
@@ -73,6 +73,5 @@ returns-clause-taken g c = taken_on (g.S.Source.told c.args.src.now) (g.S.Source
 pub returns-clause-told : goal.returns-clause-told
 returns-clause-told g c = c.high.ensures.told
 
-pub returns-clause-failed : goal.returns-clause-failed
-returns-clause-failed g c is =
-    rose_behind (g.S.Source.faults c.args.src.now) (g.S.Source.faults c.select.new.src) (g.S.Source.faults c.high.new.src) c.select.ensures.later (c.high.ensures.failed is)
+pub returns-clause-cause : goal.returns-clause-cause
+returns-clause-cause g c = record { later = later_on (g.S.Source.faults c.args.src.now) (g.S.Source.faults c.select.new.src) (g.S.Source.faults c.high.new.src) c.select.ensures.cause.later c.high.ensures.cause.later; cause = λ is. rose_behind (g.S.Source.faults c.args.src.now) (g.S.Source.faults c.select.new.src) (g.S.Source.faults c.high.new.src) c.select.ensures.cause.later (c.high.ensures.cause.cause is) }

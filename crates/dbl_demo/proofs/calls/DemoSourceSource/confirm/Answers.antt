@@ -22,8 +22,7 @@ returns g c =
       dead = adds.dead;
       honest = λ u. u;
       comes = comes_held g.D.Disk.seen g.D.Disk.may_leave c.args.self.now c.answer_confirm.new.self _ _ c.answer_confirm.result c.requires adds.come adds.first adds.released adds.dead;
-      later = adds.later;
-      failed = adds.failed;
+      cause = record { later = adds.later; cause = adds.failed };
       group = adds.group;
       released = adds.released;
       first = adds.first;

@@ -21,8 +21,7 @@ returns g c =
       dead = adds.dead;
       honest = λ u. u;
       comes = read_comes g.D.Disk.seen g.D.Disk.may_leave g.D.Disk.faults c.args.self.now c.answer_read.new.self c.answer_read.result adds c.requires.reading c.requires.live;
-      later = adds.later;
-      failed = adds.failed;
+      cause = record { later = adds.later; cause = adds.failed };
       released = read_released g.D.Disk.seen g.D.Disk.may_leave g.D.Disk.faults c.args.self.now c.answer_read.new.self c.answer_read.result adds c.requires.reading;
       first = adds.first;
       all = adds.all;

@@ -27,7 +27,7 @@ invariant_of-self g c = record {
 pub returns-in_err-release-clause-added : goal.returns-in_err-release-clause-added
 returns-in_err-release-clause-added g c =
     let p = err_from_is_err_and c.from_residual.result c.from_residual.ensures.1 in
-    fails_from g.D.Disk.seen g.D.Disk.may_leave g.D.Disk.faults c.self.view_is c.release.new.self c.release.ensures.same c.release.ensures.crash c.release.ensures.comes c.release.ensures.later next_end (λ s. confirm_of s.confirmed c.args.upto) AnswersNothing c.from_residual.result p.0 p.1 (omega arith) (λ is. c.release.ensures.failed (c.in_err-release.was ∙ ap Err (sym p.2 ∙ is)))
+    fails_from g.D.Disk.seen g.D.Disk.may_leave g.D.Disk.faults c.self.view_is c.release.new.self c.release.ensures.same c.release.ensures.crash c.release.ensures.comes c.release.ensures.cause.later next_end (λ s. confirm_of s.confirmed c.args.upto) AnswersNothing c.from_residual.result p.0 p.1 (omega arith) (λ is. c.release.ensures.cause.cause (c.in_err-release.was ∙ ap Err (sym p.2 ∙ is)))
 
 pub returns-in_err-release-clause-starved : goal.returns-in_err-release-clause-starved
 returns-in_err-release-clause-starved g c = λ is. first_from g.D.Disk.seen g.D.Disk.may_leave g.D.Disk.faults c.self.view_is c.release.new.self c.release.ensures.crash
@@ -36,7 +36,7 @@ returns-in_err-release-clause-starved g c = λ is. first_from g.D.Disk.seen g.D.
 pub returns-in_err-entry-clause-added : goal.returns-in_err-entry-clause-added
 returns-in_err-entry-clause-added g c =
     let p = err_from_is_err_and c.from_residual-in_err-entry.result c.from_residual-in_err-entry.ensures.1 in
-    fails_from g.D.Disk.seen g.D.Disk.may_leave g.D.Disk.faults c.self.view_is c.release.new.self c.release.ensures.same c.release.ensures.crash c.release.ensures.comes c.release.ensures.later next_end (λ s. confirm_of s.confirmed c.args.upto) AnswersNothing c.from_residual-in_err-entry.result p.0 p.1 (omega arith) (λ is. absurd (let wrong : Memory ≡ Failed = sym p.2 ∙ is in cc))
+    fails_from g.D.Disk.seen g.D.Disk.may_leave g.D.Disk.faults c.self.view_is c.release.new.self c.release.ensures.same c.release.ensures.crash c.release.ensures.comes c.release.ensures.cause.later next_end (λ s. confirm_of s.confirmed c.args.upto) AnswersNothing c.from_residual-in_err-entry.result p.0 p.1 (omega arith) (λ is. absurd (let wrong : Memory ≡ Failed = sym p.2 ∙ is in cc))
 
 pub returns-in_err-entry-clause-starved : goal.returns-in_err-entry-clause-starved
 returns-in_err-entry-clause-starved g c = λ is. first_from g.D.Disk.seen g.D.Disk.may_leave g.D.Disk.faults c.self.view_is c.release.new.self c.release.ensures.crash
@@ -50,9 +50,9 @@ returns-in_err-log_confirm-clause-added g c =
     let p = err_from_is_err_and c.from_residual-in_err-log_confirm.result c.from_residual-in_err-log_confirm.ensures.1 in
     let log = c.log_confirm.ensures in
     let own = rises_so c.self.inside.confirmed c.args.upto (omega (arith, c.if-upto-self.false, ap (λ (d : Demo _). d.confirmed.0) (c.self-2.view_is ∙ c.release.ensures.same))) in
-    confirm_fails g.D.Disk.seen g.D.Disk.may_leave g.D.Disk.faults c.self.view_is c.release.new.self c.release.ensures.same c.in_ok-release.ensures.ran c.in_ok-release.ensures.end c.release.ensures.comes c.release.ensures.later log.small c.log_confirm.new.self log.comes log.later (drop 4 c.in_ok-entry.entry.items) log.left
+    confirm_fails g.D.Disk.seen g.D.Disk.may_leave g.D.Disk.faults c.self.view_is c.release.new.self c.release.ensures.same c.in_ok-release.ensures.ran c.in_ok-release.ensures.end c.release.ensures.comes c.release.ensures.cause.later log.small c.log_confirm.new.self log.comes log.cause.later (drop 4 c.in_ok-entry.entry.items) log.left
     c.args.upto c.in_ok-entry.ensures.entry (omega (arith, c.if-upto-self.false, ap (λ (d : Demo _). d.confirmed.0) c.self-2.view_is)) own log.same
-    c.from_residual-in_err-log_confirm.result p.0 p.1 (λ is. log.failed (c.in_err-log_confirm.was ∙ ap Err (sym p.2 ∙ is)))
+    c.from_residual-in_err-log_confirm.result p.0 p.1 (λ is. log.cause.cause (c.in_err-log_confirm.was ∙ ap Err (sym p.2 ∙ is)))
 
 pub returns-in_err-log_confirm-clause-starved : goal.returns-in_err-log_confirm-clause-starved
 returns-in_err-log_confirm-clause-starved g c = λ is.
@@ -66,7 +66,7 @@ returns-clause-added g c =
     let log = c.log_confirm.ensures in
     let own = rises_so c.self.inside.confirmed c.args.upto (omega (arith, c.if-upto-self.false, ap (λ (d : Demo _). d.confirmed.0) (c.self-2.view_is ∙ c.release.ensures.same))) in
     subst (λ (d : Demo _). Adds g.D.Disk.seen g.D.Disk.may_leave g.D.Disk.faults (next_end c.args.self.now) (confirm_of c.args.self.now.confirmed c.args.upto) (AnswersNothing c.args.self.now) c.args.self.now (answering d) (Ok tt)) (sym c.self-3.view_is)
-    (confirm_answers g.D.Disk.seen g.D.Disk.may_leave g.D.Disk.faults c.self.view_is c.release.new.self c.release.ensures.same c.in_ok-release.ensures.ran c.in_ok-release.ensures.end c.release.ensures.comes c.release.ensures.later log.small c.log_confirm.new.self log.comes log.later (drop 4 c.in_ok-entry.entry.items) log.left
+    (confirm_answers g.D.Disk.seen g.D.Disk.may_leave g.D.Disk.faults c.self.view_is c.release.new.self c.release.ensures.same c.in_ok-release.ensures.ran c.in_ok-release.ensures.end c.release.ensures.comes c.release.ensures.cause.later log.small c.log_confirm.new.self log.comes log.cause.later (drop 4 c.in_ok-entry.entry.items) log.left
     c.args.upto c.in_ok-entry.ensures.entry (omega (arith, c.if-upto-self.false, ap (λ (d : Demo _). d.confirmed.0) c.self-2.view_is)) own log.same c.in_ok-log_confirm.ensures.confirmed c.in_ok-log_confirm.ensures.added)
 
 -- a position that doesn't rise
@@ -74,4 +74,4 @@ pub returns-then-upto-self-clause-added : goal.returns-then-upto-self-clause-add
 returns-then-upto-self-clause-added g c =
     let own = rises_not c.self.inside.confirmed c.args.upto (omega (arith, c.if-upto-self.true, ap (λ (d : Demo _). d.confirmed.0) (c.self-2.view_is ∙ c.release.ensures.same))) in
     subst (λ (d : Demo _). Adds g.D.Disk.seen g.D.Disk.may_leave g.D.Disk.faults (next_end c.args.self.now) (confirm_of c.args.self.now.confirmed c.args.upto) (AnswersNothing c.args.self.now) c.args.self.now (answering d) (Ok tt)) (sym c.self-2.view_is)
-    (unrisen_answers g.D.Disk.seen g.D.Disk.may_leave g.D.Disk.faults c.self.view_is c.release.new.self c.release.ensures.same c.in_ok-release.ensures.ran c.in_ok-release.ensures.end c.release.ensures.crash c.release.ensures.comes c.release.ensures.later c.args.upto own)
+    (unrisen_answers g.D.Disk.seen g.D.Disk.may_leave g.D.Disk.faults c.self.view_is c.release.new.self c.release.ensures.same c.in_ok-release.ensures.ran c.in_ok-release.ensures.end c.release.ensures.crash c.release.ensures.comes c.release.ensures.cause.later c.args.upto own)

@@ -31,7 +31,7 @@ invariant_of-self g c = record {
 pub returns-in_err-release-clause-added : goal.returns-in_err-release-clause-added
 returns-in_err-release-clause-added g c =
     let p = err_from_is_err_and c.from_residual.result c.from_residual.ensures.1 in
-    fails_from g.D.Disk.seen g.D.Disk.may_leave g.D.Disk.faults c.self.view_is c.release.new.self c.release.ensures.same c.release.ensures.crash c.release.ensures.comes c.release.ensures.later next_end (λ s. mark_of c.args.value.now (next_end s)) AnswersNothing c.from_residual.result p.0 p.1 (omega arith) (λ is. c.release.ensures.failed (c.in_err-release.was ∙ ap Err (sym p.2 ∙ is)))
+    fails_from g.D.Disk.seen g.D.Disk.may_leave g.D.Disk.faults c.self.view_is c.release.new.self c.release.ensures.same c.release.ensures.crash c.release.ensures.comes c.release.ensures.cause.later next_end (λ s. mark_of c.args.value.now (next_end s)) AnswersNothing c.from_residual.result p.0 p.1 (omega arith) (λ is. c.release.ensures.cause.cause (c.in_err-release.was ∙ ap Err (sym p.2 ∙ is)))
 
 pub returns-in_err-release-clause-starved : goal.returns-in_err-release-clause-starved
 returns-in_err-release-clause-starved g c = λ is. first_from g.D.Disk.seen g.D.Disk.may_leave g.D.Disk.faults c.self.view_is c.release.new.self c.release.ensures.crash
@@ -40,7 +40,7 @@ returns-in_err-release-clause-starved g c = λ is. first_from g.D.Disk.seen g.D.
 pub returns-in_err-entry-clause-added : goal.returns-in_err-entry-clause-added
 returns-in_err-entry-clause-added g c =
     let p = err_from_is_err_and c.from_residual-in_err-entry.result c.from_residual-in_err-entry.ensures.1 in
-    fails_from g.D.Disk.seen g.D.Disk.may_leave g.D.Disk.faults c.self.view_is c.release.new.self c.release.ensures.same c.release.ensures.crash c.release.ensures.comes c.release.ensures.later next_end (λ s. mark_of c.args.value.now (next_end s)) AnswersNothing c.from_residual-in_err-entry.result p.0 p.1 (omega arith) (λ is. absurd (let wrong : Memory ≡ Failed = sym p.2 ∙ is in cc))
+    fails_from g.D.Disk.seen g.D.Disk.may_leave g.D.Disk.faults c.self.view_is c.release.new.self c.release.ensures.same c.release.ensures.crash c.release.ensures.comes c.release.ensures.cause.later next_end (λ s. mark_of c.args.value.now (next_end s)) AnswersNothing c.from_residual-in_err-entry.result p.0 p.1 (omega arith) (λ is. absurd (let wrong : Memory ≡ Failed = sym p.2 ∙ is in cc))
 
 pub returns-in_err-entry-clause-starved : goal.returns-in_err-entry-clause-starved
 returns-in_err-entry-clause-starved g c = λ is. first_from g.D.Disk.seen g.D.Disk.may_leave g.D.Disk.faults c.self.view_is c.release.new.self c.release.ensures.crash
@@ -60,8 +60,8 @@ returns-in_err-log_mark-clause-added g c =
     let p = err_from_is_err_and c.from_residual-in_err-log_mark.result c.from_residual-in_err-log_mark.ensures.1 in
     let log = c.log_mark.ensures in
     let spells = spelled c.release.new.self c.self-2.inside.done _ (drop 4 c.in_ok-entry.entry.items) c.args.value.now (ap (λ (d : Demo _). d.done) c.self-2.view_is) c.in_ok-release.ensures.end c.in_ok-entry.ensures.entry in
-    mark_fails g.D.Disk.seen g.D.Disk.may_leave g.D.Disk.faults c.self.view_is c.release.new.self c.release.ensures.same c.in_ok-release.ensures.ran c.in_ok-release.ensures.end c.release.ensures.comes c.release.ensures.later log.small c.log_mark.new.self log.comes log.later (drop 4 c.in_ok-entry.entry.items) log.left c.args.value.now spells log.same
-    c.from_residual-in_err-log_mark.result p.0 p.1 (λ is. log.failed (c.in_err-log_mark.was ∙ ap Err (sym p.2 ∙ is)))
+    mark_fails g.D.Disk.seen g.D.Disk.may_leave g.D.Disk.faults c.self.view_is c.release.new.self c.release.ensures.same c.in_ok-release.ensures.ran c.in_ok-release.ensures.end c.release.ensures.comes c.release.ensures.cause.later log.small c.log_mark.new.self log.comes log.cause.later (drop 4 c.in_ok-entry.entry.items) log.left c.args.value.now spells log.same
+    c.from_residual-in_err-log_mark.result p.0 p.1 (λ is. log.cause.cause (c.in_err-log_mark.was ∙ ap Err (sym p.2 ∙ is)))
 
 pub returns-in_err-log_mark-clause-starved : goal.returns-in_err-log_mark-clause-starved
 returns-in_err-log_mark-clause-starved g c = λ is.
@@ -75,5 +75,5 @@ returns-clause-added g c =
     let log = c.log_mark.ensures in
     let spells = spelled c.release.new.self c.self-2.inside.done _ (drop 4 c.in_ok-entry.entry.items) c.args.value.now (ap (λ (d : Demo _). d.done) c.self-2.view_is) c.in_ok-release.ensures.end c.in_ok-entry.ensures.entry in
     subst (λ (d : Demo _). Adds g.D.Disk.seen g.D.Disk.may_leave g.D.Disk.faults (next_end c.args.self.now) (mark_of c.args.value.now (next_end c.args.self.now)) (AnswersNothing c.args.self.now) c.args.self.now (answering d) (Ok tt)) (sym c.self-3.view_is)
-    (mark_answers g.D.Disk.seen g.D.Disk.may_leave g.D.Disk.faults c.self.view_is c.release.new.self c.release.ensures.same c.in_ok-release.ensures.ran c.in_ok-release.ensures.end c.release.ensures.comes c.release.ensures.later log.small c.log_mark.new.self log.comes log.later (drop 4 c.in_ok-entry.entry.items) log.left c.args.value.now spells log.same
+    (mark_answers g.D.Disk.seen g.D.Disk.may_leave g.D.Disk.faults c.self.view_is c.release.new.self c.release.ensures.same c.in_ok-release.ensures.ran c.in_ok-release.ensures.end c.release.ensures.comes c.release.ensures.cause.later log.small c.log_mark.new.self log.comes log.cause.later (drop 4 c.in_ok-entry.entry.items) log.left c.args.value.now spells log.same
     c.in_ok-log_mark.ensures.commits c.in_ok-log_mark.ensures.added)

@@ -29,12 +29,12 @@ invariant_of-self g c = record {
 pub returns-in_err-release-clause-added : goal.returns-in_err-release-clause-added
 returns-in_err-release-clause-added g c =
     let p = err_from_is_err_and c.from_residual.result c.from_residual.ensures.1 in
-    fails_from g.D.Disk.seen g.D.Disk.may_leave g.D.Disk.faults c.self.view_is c.release.new.self c.release.ensures.same c.release.ensures.crash c.release.ensures.comes c.release.ensures.later second_end (λ s. []) (λ s new rows. IsReaderKept s new) c.from_residual.result p.0 p.1 (end_later _ _) (λ is. c.release.ensures.failed (c.in_err-release.was ∙ ap Err (sym p.2 ∙ is)))
+    fails_from g.D.Disk.seen g.D.Disk.may_leave g.D.Disk.faults c.self.view_is c.release.new.self c.release.ensures.same c.release.ensures.crash c.release.ensures.comes c.release.ensures.cause.later second_end (λ s. []) (λ s new rows. IsReaderKept s new) c.from_residual.result p.0 p.1 (end_later _ _) (λ is. c.release.ensures.cause.cause (c.in_err-release.was ∙ ap Err (sym p.2 ∙ is)))
 
 pub returns-in_err-rows-clause-added : goal.returns-in_err-rows-clause-added
 returns-in_err-rows-clause-added g c =
     let p = err_from_is_err_and c.from_residual-in_err-rows.result c.from_residual-in_err-rows.ensures.1 in
-    fails_from g.D.Disk.seen g.D.Disk.may_leave g.D.Disk.faults c.self.view_is c.release.new.self c.release.ensures.same c.release.ensures.crash c.release.ensures.comes c.release.ensures.later second_end (λ s. []) (λ s new rows. IsReaderKept s new) c.from_residual-in_err-rows.result p.0 p.1 (end_later _ _) (λ is. absurd (let wrong : Memory ≡ Failed = sym c.in_err-rows.ensures.memory ∙ sym p.2 ∙ is in cc))
+    fails_from g.D.Disk.seen g.D.Disk.may_leave g.D.Disk.faults c.self.view_is c.release.new.self c.release.ensures.same c.release.ensures.crash c.release.ensures.comes c.release.ensures.cause.later second_end (λ s. []) (λ s new rows. IsReaderKept s new) c.from_residual-in_err-rows.result p.0 p.1 (end_later _ _) (λ is. absurd (let wrong : Memory ≡ Failed = sym c.in_err-rows.ensures.memory ∙ sym p.2 ∙ is in cc))
 
 pub release-requires-2-clause-live : goal.release-requires-2-clause-live
 release-requires-2-clause-live g c = c.in_ok-release.ensures.live
@@ -42,7 +42,7 @@ release-requires-2-clause-live g c = c.in_ok-release.ensures.live
 pub returns-in_err-release-2-clause-added : goal.returns-in_err-release-2-clause-added
 returns-in_err-release-2-clause-added g c =
     let p = err_from_is_err_and c.from_residual-in_err-release-2.result c.from_residual-in_err-release-2.ensures.1 in
-    fails_again g.D.Disk.seen g.D.Disk.may_leave g.D.Disk.faults c.self.view_is c.release.new.self c.release.ensures.same c.in_ok-release.ensures.ran c.in_ok-release.ensures.end c.release-2.new.self c.release-2.ensures.same c.release-2.ensures.crash c.release.ensures.comes c.release.ensures.later c.release-2.ensures.comes c.release-2.ensures.later (λ s new rows. IsReaderKept s new) c.from_residual-in_err-release-2.result p.0 p.1 (λ is. c.release-2.ensures.failed (c.in_err-release-2.was ∙ ap Err (sym p.2 ∙ is)))
+    fails_again g.D.Disk.seen g.D.Disk.may_leave g.D.Disk.faults c.self.view_is c.release.new.self c.release.ensures.same c.in_ok-release.ensures.ran c.in_ok-release.ensures.end c.release-2.new.self c.release-2.ensures.same c.release-2.ensures.crash c.release.ensures.comes c.release.ensures.cause.later c.release-2.ensures.comes c.release-2.ensures.cause.later (λ s new rows. IsReaderKept s new) c.from_residual-in_err-release-2.result p.0 p.1 (λ is. c.release-2.ensures.cause.cause (c.in_err-release-2.was ∙ ap Err (sym p.2 ∙ is)))
 
 -- whatever it answers, once it is live again
 live_again : {D T : Type 0} (seen : D → Option (List ℕ)) (may_leave : D → List ℕ → Type 0) (faults : D → ℕ) (upto : ℕ) (Answers : Demo D → T → Type 0) (old : Demo D) {inside new : Demo D} → inside ≡ new → (x : T) → Adds seen may_leave faults upto [] Answers old (answering new) (Ok x)
@@ -52,8 +52,8 @@ live_again seen may_leave faults upto Answers old is x adds = subst (λ (s : Dem
 pub returns-clause-added : goal.returns-clause-added
 returns-clause-added g c =
     live_again g.D.Disk.seen g.D.Disk.may_leave g.D.Disk.faults (second_end c.args.self.now) (λ new rows. IsReaderKept c.args.self.now new) c.args.self.now c.self-2.view_is _
-    (answers_again g.D.Disk.seen g.D.Disk.may_leave g.D.Disk.faults c.self.view_is c.release.new.self c.release.ensures.same c.in_ok-release.ensures.ran c.in_ok-release.ensures.end c.release-2.new.self c.release-2.ensures.same c.release-2.ensures.crash c.release.ensures.comes c.release.ensures.later c.release-2.ensures.comes c.release-2.ensures.later (λ s new rows. IsReaderKept s new) _ c.in_ok-release-2.ensures.ran c.in_ok-release-2.ensures.end
-    (kept_both g.D.Disk.seen g.D.Disk.may_leave g.D.Disk.faults c.self.view_is c.release.new.self c.release.ensures.same c.in_ok-release.ensures.ran c.in_ok-release.ensures.end c.release-2.new.self c.release-2.ensures.same c.release-2.ensures.crash c.release.ensures.comes c.release.ensures.later c.release-2.ensures.comes c.release-2.ensures.later))
+    (answers_again g.D.Disk.seen g.D.Disk.may_leave g.D.Disk.faults c.self.view_is c.release.new.self c.release.ensures.same c.in_ok-release.ensures.ran c.in_ok-release.ensures.end c.release-2.new.self c.release-2.ensures.same c.release-2.ensures.crash c.release.ensures.comes c.release.ensures.cause.later c.release-2.ensures.comes c.release-2.ensures.cause.later (λ s new rows. IsReaderKept s new) _ c.in_ok-release-2.ensures.ran c.in_ok-release-2.ensures.end
+    (kept_both g.D.Disk.seen g.D.Disk.may_leave g.D.Disk.faults c.self.view_is c.release.new.self c.release.ensures.same c.in_ok-release.ensures.ran c.in_ok-release.ensures.end c.release-2.new.self c.release-2.ensures.same c.release-2.ensures.crash c.release.ensures.comes c.release.ensures.cause.later c.release-2.ensures.comes c.release-2.ensures.cause.later))
 
 -- the rows are those of the store between the groups
 pub returns-clause-shown : goal.returns-clause-shown

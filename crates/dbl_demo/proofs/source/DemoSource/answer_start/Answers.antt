@@ -31,7 +31,7 @@ invariant_of-self g c = record {
 pub returns-in_err-release : goal.returns-in_err-release
 returns-in_err-release g c =
     let p = err_from_is_err_and c.from_residual.result c.from_residual.ensures.1 in
-    fails_from g.D.Disk.seen g.D.Disk.may_leave g.D.Disk.faults c.self.view_is c.release.new.self c.release.ensures.same c.release.ensures.crash c.release.ensures.comes c.release.ensures.later next_end (λ s. []) (AnswersStart c.args.after) c.from_residual.result p.0 p.1 (omega arith) (λ is. c.release.ensures.failed (c.in_err-release.was ∙ ap Err (sym p.2 ∙ is)))
+    fails_from g.D.Disk.seen g.D.Disk.may_leave g.D.Disk.faults c.self.view_is c.release.new.self c.release.ensures.same c.release.ensures.crash c.release.ensures.comes c.release.ensures.cause.later next_end (λ s. []) (AnswersStart c.args.after) c.from_residual.result p.0 p.1 (omega arith) (λ is. c.release.ensures.cause.cause (c.in_err-release.was ∙ ap Err (sym p.2 ∙ is)))
 
 -- the log is gone below the confirmed position, which no step moves
 pub returns-then-after-self : goal.returns-then-after-self
@@ -41,7 +41,7 @@ returns-then-after-self g c =
     let gone = Gone c.self-2.inside.confirmed in
     let says : gone ≡ started_at c.args.after c.self.inside.confirmed = sym (gone_so c.args.after c.self-2.inside.confirmed c.if-after-self.true) ∙ ap (started_at c.args.after) confirmed in
     subst (λ (d : Demo _). Adds g.D.Disk.seen g.D.Disk.may_leave g.D.Disk.faults (next_end c.args.self.now) [] (AnswersStart c.args.after c.args.self.now) c.args.self.now (reading d None) (Ok gone)) (sym at)
-    (starts_from g.D.Disk.seen g.D.Disk.may_leave g.D.Disk.faults c.self.view_is c.release.new.self c.release.ensures.crash c.release.ensures.comes c.release.ensures.later c.in_ok-release.ensures.ran c.in_ok-release.ensures.end c.args.after None c.forget_reader.new.self.described gone
+    (starts_from g.D.Disk.seen g.D.Disk.may_leave g.D.Disk.faults c.self.view_is c.release.new.self c.release.ensures.crash c.release.ensures.comes c.release.ensures.cause.later c.in_ok-release.ensures.ran c.in_ok-release.ensures.end c.args.after None c.forget_reader.new.self.described gone
     (λ tables log. gone_reader tables log c.forget_reader.new.self.described None) says refl)
 
 pub returns : goal.returns
@@ -51,6 +51,6 @@ returns g c =
     let says : Ready ≡ started_at c.args.after c.self.inside.confirmed = sym (ready_so c.args.after c.self-2.inside.confirmed c.if-after-self.false) ∙ ap (started_at c.args.after) confirmed in
     let first : Place = record { after = c.args.after; commits = 0; begun = false; change = 0; table = 0 } in
     subst (λ (d : Demo _). Adds g.D.Disk.seen g.D.Disk.may_leave g.D.Disk.faults (next_end c.args.self.now) [] (AnswersStart c.args.after c.args.self.now) c.args.self.now (reading d (Some first)) (Ok Ready)) (sym at)
-    (starts_from g.D.Disk.seen g.D.Disk.may_leave g.D.Disk.faults c.self.view_is c.release.new.self c.release.ensures.crash c.release.ensures.comes c.release.ensures.later c.in_ok-release.ensures.ran c.in_ok-release.ensures.end c.args.after
+    (starts_from g.D.Disk.seen g.D.Disk.may_leave g.D.Disk.faults c.self.view_is c.release.new.self c.release.ensures.crash c.release.ensures.comes c.release.ensures.cause.later c.in_ok-release.ensures.ran c.in_ok-release.ensures.end c.args.after
     (Some first) c.forget_reader.new.self.described Ready
     (λ tables log. begun_reader tables log c.args.after c.forget_reader.new.self.described (nothing_in c.forget_reader.new.self.described c.forget_reader.ensures.undescribed)) says refl)

@@ -40,7 +40,7 @@ pub steps-preserved : goal.steps-preserved
 steps-preserved g c =
     let steps : length c.self.inside.steps.items ≡ length c.steps.self.steps = ap (λ (s : Demo _). length s.steps) c.self.view_is in
     let left : c.steps.self.done < length c.steps.self.steps = omega (arith, steps, ap (λ (s : Demo _). s.done) c.self.view_is) in
-    group_goes g.D.Disk.seen g.D.Disk.may_leave g.D.Disk.faults c.args.self.now refl c.steps.invariant c.run_one.new.self left c.in_ok-run_one.ensures.ran c.in_ok-run_one.field-0 c.in_ok-run_one.ensures.ends c.if-branch.false c.in_ok-run_one.ensures.one c.in_ok-run_one.ensures.live c.run_one.ensures.same c.run_one.ensures.comes c.run_one.ensures.later
+    group_goes g.D.Disk.seen g.D.Disk.may_leave g.D.Disk.faults c.args.self.now refl c.steps.invariant c.run_one.new.self left c.in_ok-run_one.ensures.ran c.in_ok-run_one.field-0 c.in_ok-run_one.ensures.ends c.if-branch.false c.in_ok-run_one.ensures.one c.in_ok-run_one.ensures.live c.run_one.ensures.same c.run_one.ensures.comes c.run_one.ensures.cause.later
 
 -- no step is left
 pub returns-clause-ran : goal.returns-clause-ran

@@ -10,7 +10,7 @@ pub returns-in_err-release-clause-crash : goal.returns-in_err-release-clause-cra
 returns-in_err-release-clause-crash g c = λ wal place running at. first_left g.D.Disk.seen g.D.Disk.may_leave g.D.Disk.faults c.args.self.now c.release.new.self c.release.ensures.crash wal place running
 
 pub groups-init : goal.groups-init
-groups-init g c = let r = c.in_ok-release.ensures in reads_first g.D.Disk.seen g.D.Disk.may_leave g.D.Disk.faults c.args.self.now c.release.new.self r.ran r.end r.live r.same r.comes r.later
+groups-init g c = let r = c.in_ok-release.ensures in reads_first g.D.Disk.seen g.D.Disk.may_leave g.D.Disk.faults c.args.self.now c.release.new.self r.ran r.end r.live r.same r.comes r.cause.later
 
 -- a commit stands there to be read
 pub returns-then-has_unread-clause-ran : goal.returns-then-has_unread-clause-ran
@@ -33,7 +33,7 @@ returns-in_err-release-2-clause-comes g c = comes_on g.D.Disk.seen g.D.Disk.may_
 pub groups-preserved : goal.groups-preserved
 groups-preserved g c =
     let r = c.in_ok-release-2.ensures in
-    reads_on g.D.Disk.seen g.D.Disk.may_leave g.D.Disk.faults c.args.self.now c.groups.self c.groups.invariant c.release-in-groups.new.self (sym c.has_unread.ensures ∙ c.if-has_unread.false) r.ran r.end r.live r.same r.comes r.later
+    reads_on g.D.Disk.seen g.D.Disk.may_leave g.D.Disk.faults c.args.self.now c.groups.self c.groups.invariant c.release-in-groups.new.self (sym c.has_unread.ensures ∙ c.if-has_unread.false) r.ran r.end r.live r.same r.comes r.cause.later
 
 -- no step is left
 pub returns-clause-ran : goal.returns-clause-ran

@@ -18,8 +18,7 @@ returns c =
       dead = held.dead;
       honest = held.honest;
       comes = tt;
-      later = plays.later;
-      failed = held.failed;
+      cause = record { later = plays.later; cause = held.failed };
       planned = plays.planned;
       memory = plays.memory;
       played = head_played c.args.self.now c.play_head.new.self c.play_head.result plays;

@@ -19,8 +19,7 @@ returns c =
       dead = held.dead;
       honest = held.honest;
       comes = tt;
-      later = plays.later;
-      failed = held.failed;
+      cause = record { later = plays.later; cause = held.failed };
       planned = plays.planned;
       memory = plays.memory;
       played = plays.played;

@@ -20,8 +20,7 @@ returns c =
       dead = held.dead;
       honest = held.honest;
       comes = tt;
-      later = plays.later;
-      failed = held.failed;
+      cause = record { later = plays.later; cause = held.failed };
       planned = plays.planned;
       memory = plays.memory;
       played = read_played c.args.self.now c.play_read.new.self c.play_read.result c.requires.reading plays;

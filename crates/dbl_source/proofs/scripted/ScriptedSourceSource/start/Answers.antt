@@ -21,8 +21,7 @@ returns c =
       dead = held.dead;
       honest = held.honest;
       comes = tt;
-      later = plays.later;
-      failed = held.failed;
+      cause = record { later = plays.later; cause = held.failed };
       planned = plays.planned;
       memory = plays.memory;
       played = start_played c.args.after c.args.self.now c.play_start.new.self c.play_start.result plays;

@@ -58,8 +58,8 @@ returns-clause-honest g c = c.answered_rows.ensures.honest
 pub returns-clause-comes : goal.returns-clause-comes
 returns-clause-comes g c = c.answered_rows.ensures.comes
 
-pub returns-clause-later : goal.returns-clause-later
-returns-clause-later g c = c.answered_rows.ensures.later
+pub returns-clause-cause : goal.returns-clause-cause
+returns-clause-cause g c = record { later = c.answered_rows.ensures.cause.later; cause = λ is. absurd (c.holding.ensures.no_failure is) }
 
 pub returns-clause-live : goal.returns-clause-live
 returns-clause-live g c = on_ok c.holding.result c.in_ok-rows.ensures.live

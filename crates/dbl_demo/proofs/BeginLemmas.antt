@@ -16,7 +16,8 @@ use Rattle.dbl_workload.specs.Logs.{IsFailed}
 use Rattle.dbl_workload.specs.Steps.{FitAnEntry}
 use Rattle.dbl_running.specs.Made.{first_forms}
 use Rattle.dbl_running.proofs.MakeLemmas.{first_less, grew_once, grew_twice, none_small}
-use Rattle.dbl_demo.specs.Begun.{IsBeginFault, IsDiskBegun}
+use Rattle.dbl_demo.specs.Begun.{IsBeginFault, first_room}
+use Rattle.dbl_journal.specs.Calls.{Makes}
 
 -- ---- the fault of an entry that isn't too long
 
@@ -70,9 +71,9 @@ grown_twice script first second rows messages old mid new some is spells once ag
 
 -- the journal couldn't be made
 pub unmade_disk : {D : Type 0} (seen : D → Option (List ℕ)) (faults : D → ℕ) (old new : D) (e : DemoError) → ((bytes : List ℕ) → seen old ≡ Some [] → seen new ≡ Some bytes → length bytes ≤ size []) → faults old ≤ faults new → Rose (faults old) (faults new) → IsFailed e
-    → IsDiskBegun seen faults (IsFailed e) old new
+    → Makes seen faults first_room (IsFailed e) old new
 unmade_disk seen faults old new e short later rose failed = record {
-  small = λ told bytes is. omega (arith, none_small, short bytes told is);
+  small = λ bytes told is. omega (arith, none_small, short bytes told is);
   later = later;
   cause = λ again. rose;
   steady = λ no. absurd (no failed);
@@ -86,8 +87,8 @@ module _ {D : Type 0} (seen : D → Option (List ℕ)) (may_leave : D → List �
   abbrev IsMade : Type 0
   IsMade = seen disk ≡ Some [] → Lists seen may_leave first []
 
-  begun_small : IsMade → ((bytes : List ℕ) → seen disk ≡ Some [] → seen first.disk ≡ Some bytes → length bytes ≤ size []) → Grows → size all ≤ 2 ^ 30 → seen disk ≡ Some [] → (bytes : List ℕ) → seen last.disk ≡ Some bytes → length bytes ≤ 2 ^ 30
-  begun_small made once grows small told bytes is =
+  begun_small : IsMade → ((bytes : List ℕ) → seen disk ≡ Some [] → seen first.disk ≡ Some bytes → length bytes ≤ size []) → Grows → size all ≤ 2 ^ 30 → (bytes : List ℕ) → seen disk ≡ Some [] → seen last.disk ≡ Some bytes → length bytes ≤ 2 ^ 30
+  begun_small made once grows small bytes told is =
       let lists = made told in
       let short : length lists.bytes ≤ size [] = once lists.bytes told lists.told in
       omega (arith, small, none_small, short, grows lists.bytes bytes lists lists.told is)
@@ -98,7 +99,7 @@ module _ {D : Type 0} (seen : D → Option (List ℕ)) (may_leave : D → List �
       two lists.bytes lists.told ∙ one bytes told
 
   pub begun_disk : (failed : Type 0) → ((bytes : List ℕ) → seen disk ≡ Some bytes → bytes ≡ []) → IsMade → ((bytes : List ℕ) → seen disk ≡ Some [] → seen first.disk ≡ Some bytes → length bytes ≤ size []) → Grows → size all ≤ 2 ^ 30
-      → faults disk ≤ faults first.disk → faults first.disk ≤ faults last.disk → (failed → Rose (faults first.disk) (faults last.disk)) → IsSteady seen faults disk first.disk → ((failed → ⊥) → IsSteady seen faults first.disk last.disk) → IsDiskBegun seen faults failed disk last.disk
+      → faults disk ≤ faults first.disk → faults first.disk ≤ faults last.disk → (failed → Rose (faults first.disk) (faults last.disk)) → IsSteady seen faults disk first.disk → ((failed → ⊥) → IsSteady seen faults first.disk last.disk) → Makes seen faults first_room failed disk last.disk
   begun_disk failed empty made once grows small later on cause one two = record {
     small = begun_small made once grows small;
     later = omega (arith, later, on);

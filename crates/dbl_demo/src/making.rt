@@ -11,8 +11,9 @@ ghost use Rattle.dbl_running.specs.Made.{first_forms, IsFirst};
 ghost use Rattle.dbl_workload.specs.Logs.{IsFailed};
 ghost use Rattle.dbl_workload.specs.Ready.{IsReady};
 ghost use Rattle.dbl_workload.specs.Steps.{FitAnEntry};
-ghost use Rattle.dbl_demo.specs.Begun.{IsBeginFault, IsDiskBegun, numbers_of};
+ghost use Rattle.dbl_demo.specs.Begun.{IsBeginFault, numbers_of, first_room};
 ghost use Rattle.dbl_journal.specs.Form.{entry_limit};
+ghost use Rattle.dbl_journal.specs.Calls.{Makes};
 
 use crate::{DemoError, DemoSource};
 use dbl_base::Lsn;
@@ -89,8 +90,9 @@ pub(crate) fn make_log<D: Disk>(
         ≡ length (first_forms bytes.now prepared.now.rows)) }
     ensures kinds { IfErr result (λ refused. IsBeginFault refused.error) }
     ensures disk { MatchResult result
-        (λ journal. IsDiskBegun D.seen D.faults ⊥ disk journal.disk)
-        (λ refused. IsDiskBegun D.seen D.faults (IsFailed refused.error) disk refused.disk) }
+        (λ journal. Makes D.seen D.faults first_room ⊥ disk journal.disk)
+        (λ refused. Makes D.seen D.faults first_room
+        (IsFailed refused.error) disk refused.disk) }
 {
     let mut journal = match Journal::make(alloc, disk) {
         Ok(journal) => journal,

@@ -5,8 +5,9 @@ ghost use Rattle.dbl_journal.specs.Stored.{Lists};
 ghost use Rattle.dbl_sound.specs.Sound.{steps_in};
 ghost use Rattle.dbl_sound.specs.Wals.{IsFirstBad, Wal, forms_of};
 ghost use Rattle.dbl_running.specs.Demo.{IsDemo};
-ghost use Rattle.dbl_workload.specs.Logs.{IsDiskRead, IsFailed};
+ghost use Rattle.dbl_workload.specs.Logs.{IsFailed};
 ghost use Rattle.dbl_workload.specs.Ready.{AreTableNames};
+ghost use Rattle.dbl_journal.specs.Calls.{Keeps};
 
 use crate::{DemoError, DemoSource};
 use dbl_disk::{Disk, Refused};
@@ -34,8 +35,8 @@ pub(crate) fn open_journal<D: Disk>(
         (refused.error ≡ DemoError.Memory) ⊎ IsFailed refused.error
         ⊎ (index : ℕ) × (refused.error ≡ DemoError.BadEntry index)) }
     ensures read { MatchResult result
-        (λ source. IsDiskRead D.seen D.may_leave D.faults ⊥ journal.disk source.journal.disk)
-        (λ refused. IsDiskRead D.seen D.may_leave D.faults
+        (λ source. Keeps D.seen D.may_leave D.faults ⊥ journal.disk source.journal.disk)
+        (λ refused. Keeps D.seen D.may_leave D.faults
         (IsFailed refused.error) journal.disk refused.disk) }
 {
     let Checked {

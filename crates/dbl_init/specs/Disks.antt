@@ -11,14 +11,11 @@ use Rattle.dbl_init.specs.declared.error.Store.TheVariants.{Wal, Topics, Offsets
 use Rattle.dbl_init.specs.Answers.{End}
 use Rattle.dbl_init.specs.Fresh.{IsEmptyLog}
 use Rattle.dbl_demo.specs.Begun.{first_room}
+use Rattle.dbl_journal.specs.Calls.{Keeps}
 
 -- a disk that was asked for its length at the most
-pub record IsAsked {D : Type 0} (seen : D → Option (List ℕ)) (may_leave : D → List ℕ → Type 0) (faults : D → ℕ) (store : Store) (end : End) (old new : D) : Type 0 where
-  pub same : seen new ≡ seen old
-  pub crash : (crashed : List ℕ) → may_leave new crashed → may_leave old crashed
-  pub later : faults old ≤ faults new
-  pub cause : end ≡ Err (Failed store) → Rose (faults old) (faults new)
-  pub steady : end ≢ Err (Failed store) → IsSteady seen faults old new
+abbrev pub IsAsked : {D : Type 0} → (D → Option (List ℕ)) → (D → List ℕ → Type 0) → (D → ℕ) → Store → End → D → D → Type 0
+IsAsked seen may_leave faults store end old new = Keeps seen may_leave faults (end ≡ Err (Failed store)) old new
 
 -- It ended before a byte of this store's disk was written. The stores are made in their order, once the input was found to be a
 -- workload that can be run; only the source's log wants memory then.

@@ -4,3 +4,4 @@ pub mod Crashes
 pub mod Reading
 pub mod Scans
 pub mod Tears
+pub mod Calls

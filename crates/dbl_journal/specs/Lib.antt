@@ -1,4 +1,5 @@
 pub mod Form
 pub mod Steps
 pub mod Stored
+pub mod Calls
 pub mod Growth

@@ -1,9 +1,10 @@
 ghost use Rattle.std.specs.Prelude.{◌≡◌, ◌≢◌, ◌⊎◌, ◌↔◌, ℕ, ◌+◌, ◌<◌, ◌≤◌, ◌++◌, List, [], ◌∷◌, length, drop, max, false, Some, IsTrue, IfOk, IfErr, OnOk, OnErr, MatchResult, slice_get};
-ghost use Rattle.dbl_base.specs.Streams.{HasCause, Rose, raised};
+ghost use Rattle.dbl_base.specs.Streams.{HasCause, raised};
 ghost use Rattle.dbl_disk.specs.Disks.{Follows, IsOnly, Torn, disk_limit};
 ghost use Rattle.dbl_journal.specs.Form.{IsFaultAt, IsJournal, entry_limit};
 ghost use Rattle.dbl_journal.specs.Growth.{ComesOf};
 ghost use Rattle.dbl_journal.specs.Stored.{IsSteady, LeavesEntries, Lists, count_of, size};
+ghost use Rattle.dbl_journal.specs.Calls.{Keeps, Makes};
 
 use crate::JournalError;
 use crate::appending::{behind_room, open_gate, spell, stage, start};
@@ -52,17 +53,13 @@ impl<D: Disk> Journal<D> {
             IfOk result (λ journal. Lists D.seen D.may_leave journal []) }
         ensures live { IfOk result (λ journal. IsTrue journal.live) }
         ensures count { IfOk result (λ journal. count_of journal ≡ 0) }
-        ensures small { (bytes : List ℕ) → D.seen disk ≡ Some [] →
-            MatchResult result (λ journal. D.seen journal.disk ≡ Some bytes →
-            length bytes ≤ size []) (λ refused. D.seen refused.disk ≡ Some bytes →
-            length bytes ≤ size []) }
         ensures refused { IfErr result (λ refused. refused.error ≡ JournalError.Failed) }
-        ensures failed { IfErr result (λ refused. Rose (D.faults disk) (D.faults refused.disk)) }
         ensures left { IfErr result
             (λ refused. Follows (Torn 0 9) (D.may_leave disk) (D.may_leave refused.disk)) }
-        ensures later { MatchResult result (λ journal. D.faults disk ≤ D.faults journal.disk)
-            (λ refused. D.faults disk ≤ D.faults refused.disk) }
-        ensures steady { IfOk result (λ journal. IsSteady D.seen D.faults disk journal.disk) }
+        ensures makes { MatchResult result
+            (λ journal. Makes D.seen D.faults (size []) ⊥ disk journal.disk)
+            (λ refused. Makes D.seen D.faults (size [])
+            (refused.error ≡ JournalError.Failed) disk refused.disk) }
     {
         match start(&mut disk, b"DBLJRNL1\0") {
             Ok(()) => Ok(Journal {
@@ -98,18 +95,10 @@ impl<D: Disk> Journal<D> {
         ensures live { IfOk result (λ journal. IsTrue journal.live) }
         ensures short { IfErr result
             (λ refused. (len : ℕ) → refused.error ≢ JournalError.EntryTooLong len) }
-        ensures failed { IfErr result (λ refused. refused.error ≡ JournalError.Failed →
-            Rose (D.faults disk) (D.faults refused.disk)) }
-        ensures seen { MatchResult result (λ journal. D.seen journal.disk ≡ D.seen disk)
-            (λ refused. D.seen refused.disk ≡ D.seen disk) }
-        ensures crash { (crashed : List ℕ) → MatchResult result
-            (λ journal. D.may_leave journal.disk crashed → D.may_leave disk crashed)
-            (λ refused. D.may_leave refused.disk crashed → D.may_leave disk crashed) }
-        ensures later { MatchResult result (λ journal. D.faults disk ≤ D.faults journal.disk)
-            (λ refused. D.faults disk ≤ D.faults refused.disk) }
-        ensures steady { (bytes : List ℕ) → D.seen disk ≡ Some bytes →
-            MatchResult result (λ journal. D.faults journal.disk ≡ D.faults disk) (λ refused.
-            refused.error ≢ JournalError.Failed → D.faults refused.disk ≡ D.faults disk) }
+        ensures keeps { MatchResult result
+            (λ journal. Keeps D.seen D.may_leave D.faults ⊥ disk journal.disk)
+            (λ refused. Keeps D.seen D.may_leave D.faults
+            (refused.error ≡ JournalError.Failed) disk refused.disk) }
     {
         match scan(alloc, &mut disk) {
             Ok(found) => Ok(Journal {

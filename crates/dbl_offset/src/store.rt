@@ -1,6 +1,6 @@
 ghost use Rattle.std.specs.Prelude.{◌≡◌, ◌≢◌, ◌⊎◌, ◌↔◌, ℕ, ◌<◌, ◌≤◌, List, [], length, max, option_map, Option, Some, None, Ok, Err, IfOk, IfErr, IfSome, OnOk, OnErr, MatchResult, IsTrue, take, slice_get};
 ghost use Rattle.std.specs.List.{All};
-ghost use Rattle.dbl_base.specs.Streams.{HasCause, Rose};
+ghost use Rattle.dbl_base.specs.Streams.{HasCause};
 ghost use Rattle.dbl_disk.specs.Disks.{Follows, IsOnly};
 ghost use Rattle.dbl_journal.specs.Stored.{IsSteady, Lists};
 ghost use Rattle.dbl_offset.specs.declared.offset.Offset.{Offset};
@@ -9,6 +9,7 @@ ghost use Rattle.dbl_offset.specs.Measures.{capped};
 ghost use Rattle.dbl_offset.specs.Offsets.{IsEntry, IsOffset, Spells};
 ghost use Rattle.dbl_offset.specs.Stores.{BeginsTorn, ComesOf, HasBadOffset, Holds, IsLastOf, IsLive, IsNoStoreAt, IsStore, LeavesOffset, disk_of, least_room, room_of};
 ghost use Rattle.dbl_journal.specs.Form.{entry_limit};
+ghost use Rattle.dbl_journal.specs.Calls.{Keeps, Makes};
 
 use crate::decoding::decode;
 use crate::measuring::measure;
@@ -98,17 +99,13 @@ impl<D: Disk> OffsetStore<D> {
             IfOk result (λ store. Holds D.seen D.may_leave store None) }
         ensures live { IfOk result IsLive }
         ensures empty { IfOk result (λ store. store.offset ≡ None) }
-        ensures small { (bytes : List ℕ) → D.seen disk ≡ Some [] →
-            MatchResult result (λ store. D.seen (disk_of store) ≡ Some bytes →
-            length bytes ≤ least_room) (λ refused. D.seen refused.disk ≡ Some bytes →
-            length bytes ≤ least_room) }
         ensures refused { IfErr result (λ refused. refused.error ≡ OffsetError.Failed) }
-        ensures failed { IfErr result (λ refused. Rose (D.faults disk) (D.faults refused.disk)) }
         ensures left { IfErr result
             (λ refused. Follows BeginsTorn (D.may_leave disk) (D.may_leave refused.disk)) }
-        ensures later { MatchResult result (λ store. D.faults disk ≤ D.faults (disk_of store))
-            (λ refused. D.faults disk ≤ D.faults refused.disk) }
-        ensures steady { IfOk result (λ store. IsSteady D.seen D.faults disk (disk_of store)) }
+        ensures makes { MatchResult result
+            (λ store. Makes D.seen D.faults least_room ⊥ disk (disk_of store))
+            (λ refused. Makes D.seen D.faults least_room
+            (refused.error ≡ OffsetError.Failed) disk refused.disk) }
     {
         let journal = match Journal::make(alloc, disk) {
             Ok(journal) => journal,
@@ -137,22 +134,14 @@ impl<D: Disk> OffsetStore<D> {
         ensures short { IfErr result
             (λ refused. (len : ℕ) → refused.error ≢ OffsetError.TooLong len) }
         ensures live { IfOk result IsLive }
-        ensures failed { IfErr result (λ refused. refused.error ≡ OffsetError.Failed →
-            Rose (D.faults disk) (D.faults refused.disk)) }
-        ensures seen { MatchResult result (λ store. D.seen (disk_of store) ≡ D.seen disk)
-            (λ refused. D.seen refused.disk ≡ D.seen disk) }
-        ensures crash { (crashed : List ℕ) → MatchResult result
-            (λ store. D.may_leave (disk_of store) crashed → D.may_leave disk crashed)
-            (λ refused. D.may_leave refused.disk crashed → D.may_leave disk crashed) }
         ensures stable { (bytes : List ℕ) → D.seen disk ≡ Some bytes →
             MatchResult result (λ store. IsOnly bytes (D.may_leave (disk_of store)))
             (λ refused. refused.error ≢ OffsetError.Failed →
             IsOnly bytes (D.may_leave refused.disk)) }
-        ensures later { MatchResult result (λ store. D.faults disk ≤ D.faults (disk_of store))
-            (λ refused. D.faults disk ≤ D.faults refused.disk) }
-        ensures steady { MatchResult result (λ store. IsSteady D.seen D.faults disk (disk_of store))
-            (λ refused. refused.error ≢ OffsetError.Failed →
-            IsSteady D.seen D.faults disk refused.disk) }
+        ensures keeps { MatchResult result
+            (λ store. Keeps D.seen D.may_leave D.faults ⊥ disk (disk_of store))
+            (λ refused. Keeps D.seen D.may_leave D.faults
+            (refused.error ≡ OffsetError.Failed) disk refused.disk) }
     {
         let mut journal = match Journal::open(alloc, disk) {
             Ok(journal) => journal,

@@ -1,9 +1,9 @@
 -- What a run leaves of its disks.
 use Rattle.std.proofs.Common.{◌≡◌, ◌⊎◌, inl, inr, ℕ, ◌≤◌, Bool, true, false, Option, List, refl, sym, subst, arith}
 use Rattle.dbl_base.specs.Streams.{Rose}
-use Rattle.dbl_runs.specs.Ends.{Keeps}
 use Rattle.dbl_program.specs.Disks.{IsOnlyRead}
 use Rattle.dbl_saying.specs.Says.{IsCutShort}
+use Rattle.dbl_journal.specs.Calls.{Keeps}
 
 -- a count that rose before others grew, or behind them
 pub rose_before : (a b c : ℕ) → Rose a b → b ≤ c → Rose a c

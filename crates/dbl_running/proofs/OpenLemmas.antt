@@ -16,7 +16,7 @@ use Rattle.dbl_workload.specs.declared.error.DemoError.TheVariants as fault
 use Rattle.dbl_journal.specs.declared.error.JournalError.TheVariants as broken
 use Rattle.dbl_journal.specs.Form.{IsJournal}
 use Rattle.dbl_disk.specs.Disks.{IsOnly}
-use Rattle.dbl_workload.specs.Logs.{Fails, HasReadParts, IsDiskRead, IsFailed, IsLogRead, IsReadOnly, ReadsLog}
+use Rattle.dbl_workload.specs.Logs.{Fails, HasReadParts, IsFailed, IsLogRead, IsReadOnly, ReadsLog}
 use Rattle.std.specs.Prelude.{IsTrue}
 use Rattle.std.proofs.lemmas.List.{length-map}
 use Rattle.dbl_disk.specs.declared.extent.Extent.{Extent}
@@ -25,6 +25,7 @@ use Rattle.dbl_journal.proofs.Appends.{length-places}
 use Rattle.dbl_wal.specs.Entries.{entry_form}
 use Rattle.dbl_sound.specs.Wals.{Wal, forms_of}
 use Rattle.dbl_running.specs.Demo.{HasParts}
+use Rattle.dbl_journal.specs.Calls.{Keeps}
 
 -- ---- the source over it
 
@@ -102,7 +103,7 @@ bad_opened forms e index (inr (inr bad)) is =
     subst (IsFirstBad forms) same bad.2
 
 module _ {D : Type 0} (seen : D → Option (List ℕ)) (may_leave : D → List ℕ → Type 0) (faults : D → ℕ) (old new : OnDisk D) where
-  pub disk_read : {A : Type 0} (a : A) → IsReadOnly seen may_leave faults (Fails (Ok a)) old new → IsDiskRead seen may_leave faults ⊥ old.disk new.disk
+  pub disk_read : {A : Type 0} (a : A) → IsReadOnly seen may_leave faults (Fails (Ok a)) old new → Keeps seen may_leave faults ⊥ old.disk new.disk
   disk_read a read = record {
     same = read.disk.same;
     crash = read.disk.crash;
@@ -111,7 +112,7 @@ module _ {D : Type 0} (seen : D → Option (List ℕ)) (may_leave : D → List �
     steady = λ no. read.disk.steady (λ fails. absurd (let wrong : Ok a ≡ Err (fault.Journal broken.Failed) = fails in cc));
   }
 
-  pub disk_failed : {A : Type 0} (e : DemoError) → IsReadOnly seen may_leave faults (Fails {T = A} (Err e)) old new → IsDiskRead seen may_leave faults (IsFailed e) old.disk new.disk
+  pub disk_failed : {A : Type 0} (e : DemoError) → IsReadOnly seen may_leave faults (Fails {T = A} (Err e)) old new → Keeps seen may_leave faults (IsFailed e) old.disk new.disk
   disk_failed e read = record {
     same = read.disk.same;
     crash = read.disk.crash;

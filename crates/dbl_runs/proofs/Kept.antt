@@ -4,7 +4,7 @@ use Rattle.std.specs.Prelude.{◌↔◌}
 use Rattle.dbl_base.specs.Streams.{Rose}
 use Rattle.dbl_journal.specs.Stored.{IsSteady}
 use Rattle.dbl_runs.specs.declared.error.RunError.{RunError}
-use Rattle.dbl_runs.specs.Ends.{Keeps}
+use Rattle.dbl_journal.specs.Calls.{Keeps}
 
 abbrev pub failed_with : {T E : Type 0} → E → Result T E
 failed_with e = Err e

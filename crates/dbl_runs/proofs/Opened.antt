@@ -8,10 +8,11 @@ use Rattle.dbl_runs.specs.declared.error.RunError.{RunError}
 use Rattle.dbl_runs.specs.declared.error.RunError.TheVariants.{OutputFailed, Memory, Failed, NotStarted, NotAStore, BadEntry}
 use Rattle.dbl_runs.specs.declared.error.Store.{Store}
 use Rattle.dbl_runs.specs.declared.error.Store.TheVariants.{Topics, Offsets}
-use Rattle.dbl_runs.specs.Ends.{CutsLines, End, Ends, HasOpenedOffset, IsBehindOpening, IsErrorOf, IsRefusal, IsSynced, Keeps}
+use Rattle.dbl_runs.specs.Ends.{CutsLines, End, Ends, HasOpenedOffset, IsBehindOpening, IsErrorOf, IsRefusal, IsSynced}
 use Rattle.dbl_runs.specs.Errors.{print_error, topic_error}
 use Rattle.dbl_runs.proofs.ErrorLaws.{apart, print_kind}
 use Rattle.dbl_runs.proofs.Kept.{err_one}
+use Rattle.dbl_journal.specs.Calls.{Keeps}
 
 -- ---- errors behind the opening
 

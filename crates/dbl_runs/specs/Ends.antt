@@ -1,9 +1,7 @@
 -- How a command ends that only reads the stores: what it has written, and what it leaves of the disks. Source: own.
 use Rattle.std.specs.Prelude.{◌≡◌, ◌≢◌, ℕ, ◌≤◌, Option, Some, Result, Ok, Err, List, take}
 use Rattle.dbl_base.specs.Lines.{lines_text}
-use Rattle.dbl_base.specs.Streams.{Rose}
 use Rattle.dbl_disk.specs.Disks.{IsOnly}
-use Rattle.dbl_journal.specs.Stored.{IsSteady}
 use Rattle.dbl_lines.specs.Writing.{Wrote, WroteFront}
 use Rattle.dbl_runs.specs.declared.error.RunError.{RunError}
 use Rattle.dbl_runs.specs.declared.error.RunError.TheVariants.{OutputFailed, Memory, Failed, NotStarted, NotAStore, BadEntry}
@@ -81,19 +79,3 @@ HasOpenedOffset (Err error) = ⊥
 -- Of a disk that told its bytes a crash leaves these alone: it was synced, and only read since.
 abbrev pub IsSynced : {D : Type 0} → (D → Option (List ℕ)) → (D → List ℕ → Type 0) → D → D → Type 0
 IsSynced seen may_leave old new = (bytes : List ℕ) → seen old ≡ Some bytes → IsOnly bytes (may_leave new)
-
--- What is left of a disk that was only read. A read gives the same, and a crash leaves nothing that it couldn't leave before:
--- so it is no longer than it was. It is told to have failed only where its count of faults rose, and where it tells its bytes,
--- wherever the count rose.
-pub record Keeps
-    {D : Type 0}
-    (seen : D → Option (List ℕ))
-    (may_leave : D → List ℕ → Type 0)
-    (faults : D → ℕ)
-    (failed : Type 0)
-    (old new : D) : Type 0 where
-  pub same : seen new ≡ seen old
-  pub crash : (crashed : List ℕ) → may_leave new crashed → may_leave old crashed
-  pub later : faults old ≤ faults new
-  pub cause : failed → Rose (faults old) (faults new)
-  pub steady : ¬ failed → IsSteady seen faults old new

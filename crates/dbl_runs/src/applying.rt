@@ -10,7 +10,8 @@ ghost use Rattle.dbl_topic.specs.Logs.{IsLog};
 ghost use Rattle.dbl_offset.specs.declared.offset.Offset.{Offset};
 ghost use Rattle.dbl_runs.specs.Answers.{AnswersApply};
 ghost use Rattle.dbl_runs.specs.Applying.{Applies, AppliesGroups, PrintedRows};
-ghost use Rattle.dbl_runs.specs.Ends.{HasOpenedOffset, IsBehindOpening, IsErrorOf, IsRefusal, IsSynced, Keeps, Runs};
+ghost use Rattle.dbl_runs.specs.Ends.{HasOpenedOffset, IsBehindOpening, IsErrorOf, IsRefusal, IsSynced, Runs};
+ghost use Rattle.dbl_journal.specs.Calls.{Keeps};
 
 use crate::consuming::consume;
 use crate::opening::{open_offsets, open_topics};

@@ -9,7 +9,8 @@ ghost use Rattle.dbl_consume.specs.Holdings.{Took, placeholder_of};
 ghost use Rattle.dbl_topic.specs.Held.{HoldsGroups};
 ghost use Rattle.dbl_runs.specs.Answers.{accepts, first_refused, takes};
 ghost use Rattle.dbl_runs.specs.Consuming.{HasTaken, RefusesAt, readings_of};
-ghost use Rattle.dbl_runs.specs.Ends.{IsBehindOpening, IsErrorOf, Keeps};
+ghost use Rattle.dbl_runs.specs.Ends.{IsBehindOpening, IsErrorOf};
+ghost use Rattle.dbl_journal.specs.Calls.{Keeps};
 
 use crate::opening::read_group;
 use crate::{RunError, Store};

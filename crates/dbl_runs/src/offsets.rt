@@ -9,7 +9,8 @@ ghost use Rattle.dbl_offset.specs.Offsets.{IsOffset};
 ghost use Rattle.dbl_runs.specs.Answers.{AnswersOffsets, number_lines, offset_lines, table_line};
 ghost use Rattle.dbl_lines.specs.Writing.{Wrote, WroteFront};
 ghost use Rattle.dbl_runs.specs.Applying.{TellsOffset};
-ghost use Rattle.dbl_runs.specs.Ends.{Ends, IsErrorOf, IsRefusal, IsSynced, Keeps, Runs};
+ghost use Rattle.dbl_runs.specs.Ends.{Ends, IsErrorOf, IsRefusal, IsSynced, Runs};
+ghost use Rattle.dbl_journal.specs.Calls.{Keeps};
 
 use crate::opening::open_offsets;
 use crate::{Ended, RunError, Store};

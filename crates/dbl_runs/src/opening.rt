@@ -6,7 +6,8 @@ ghost use Rattle.dbl_topic.specs.Held.{HoldsGroups};
 ghost use Rattle.dbl_topic.specs.Logs.{IsLog};
 ghost use Rattle.dbl_offset.specs.Stores.{IsLive, IsStore, disk_of};
 ghost use Rattle.dbl_runs.specs.Answers.{HasNoOffset, IsNoLog};
-ghost use Rattle.dbl_runs.specs.Ends.{IsBehindOpening, IsErrorOf, IsOutside, IsSynced, Keeps};
+ghost use Rattle.dbl_runs.specs.Ends.{IsBehindOpening, IsErrorOf, IsOutside, IsSynced};
+ghost use Rattle.dbl_journal.specs.Calls.{Keeps};
 
 use crate::{RunError, Store};
 use dbl_disk::{Disk, Refused};

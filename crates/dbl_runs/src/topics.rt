@@ -5,7 +5,8 @@ ghost use Rattle.dbl_lines.specs.Gathering.{IsPut};
 ghost use Rattle.dbl_record.specs.declared.record.Record.{Record};
 ghost use Rattle.dbl_topic.specs.Held.{HoldsGroups};
 ghost use Rattle.dbl_runs.specs.Answers.{AnswersTopics, topic_lines};
-ghost use Rattle.dbl_runs.specs.Ends.{CutsLines, Ends, IsErrorOf, IsRefusal, IsSynced, Keeps, Runs};
+ghost use Rattle.dbl_runs.specs.Ends.{CutsLines, Ends, IsErrorOf, IsRefusal, IsSynced, Runs};
+ghost use Rattle.dbl_journal.specs.Calls.{Keeps};
 
 use crate::opening::{open_topics, read_group};
 use crate::{Ended, RunError, Store};

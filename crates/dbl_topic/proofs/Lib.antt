@@ -1,3 +1,4 @@
 pub mod LogLaws
 pub mod HeldLaws
 pub mod Groupings
+pub mod FaultLaws

@@ -1,5 +1,5 @@
 ghost use Rattle.std.specs.Prelude.{◌≡◌, ◌≢◌, ◌⊎◌, ◌↔◌, ℕ, ◌+◌, ◌<◌, ◌≤◌, ◌++◌, List, [], ◌∷◌, length, max, take, drop, false, Some, IsTrue, IsErr, IfOk, IfErr, OnOk, OnErr, MatchResult, slice_get};
-ghost use Rattle.dbl_base.specs.Streams.{HasCause, Rose};
+ghost use Rattle.dbl_base.specs.Streams.{HasCause};
 ghost use Rattle.dbl_disk.specs.Disks.{Follows, IsOnly, Torn};
 ghost use Rattle.dbl_journal.specs.Form.{IsFaultAt, IsJournal};
 ghost use Rattle.dbl_journal.specs.Stored.{IsSteady, Lists, count_of};
@@ -9,6 +9,7 @@ ghost use Rattle.dbl_record.specs.Groups.{group_form};
 ghost use Rattle.dbl_topic.specs.Held.{ComesOf, HoldsGroups, LeavesGroups, MayLeaveGroups};
 ghost use Rattle.dbl_topic.specs.Logs.{AreLogEntries, HasBadEntry, IsLog, IsLogEntry, log_size};
 ghost use Rattle.dbl_topic.specs.Sinks.{IsLeftByPut, IsLeftByWhole, told_length, group_limit};
+ghost use Rattle.dbl_journal.specs.Calls.{Keeps, Makes};
 
 use crate::{GROUP_LIMIT, Sink, SinkError, TopicError};
 use dbl_disk::{Disk, Refused};
@@ -144,17 +145,14 @@ impl<D: Disk> TopicLog<D> {
             IfOk result (λ log. HoldsGroups D.seen D.may_leave log []) }
         ensures live { IfOk result (λ log. IsTrue log.live) }
         ensures count { IfOk result (λ log. count_of log ≡ 0) }
-        ensures small { (bytes : List ℕ) → D.seen disk ≡ Some [] →
-            MatchResult result (λ log. D.seen log.disk ≡ Some bytes → length bytes ≤ log_size [])
-            (λ refused. D.seen refused.disk ≡ Some bytes → length bytes ≤ log_size []) }
         ensures refused { IfErr result
             (λ refused. refused.error ≡ TopicError.Journal JournalError.Failed) }
-        ensures failed { IfErr result (λ refused. Rose (D.faults disk) (D.faults refused.disk)) }
         ensures left { IfErr result
             (λ refused. Follows (Torn 0 9) (D.may_leave disk) (D.may_leave refused.disk)) }
-        ensures later { MatchResult result (λ log. D.faults disk ≤ D.faults log.disk)
-            (λ refused. D.faults disk ≤ D.faults refused.disk) }
-        ensures steady { IfOk result (λ log. IsSteady D.seen D.faults disk log.disk) }
+        ensures makes { MatchResult result
+            (λ log. Makes D.seen D.faults (log_size []) ⊥ disk log.disk)
+            (λ refused. Makes D.seen D.faults (log_size [])
+            (refused.error ≡ TopicError.Journal JournalError.Failed) disk refused.disk) }
     {
         match Journal::make(alloc, disk) {
             Ok(journal) => Ok(TopicLog { alloc, journal }),
@@ -181,24 +179,14 @@ impl<D: Disk> TopicLog<D> {
         ensures journal { IfErr result (λ refused. (fault : JournalError) →
             refused.error ≡ TopicError.Journal fault → (fault ≡ JournalError.Failed) ⊎
             ((at : ℕ) × (fault ≡ JournalError.NotAJournal at))) }
-        ensures failed { IfErr result (λ refused.
-            refused.error ≡ TopicError.Journal JournalError.Failed →
-            Rose (D.faults disk) (D.faults refused.disk)) }
-        ensures seen { MatchResult result (λ log. D.seen log.disk ≡ D.seen disk)
-            (λ refused. D.seen refused.disk ≡ D.seen disk) }
-        ensures crash { (crashed : List ℕ) →
-            MatchResult result (λ log. D.may_leave log.disk crashed →
-            D.may_leave disk crashed) (λ refused. D.may_leave refused.disk crashed →
-            D.may_leave disk crashed) }
         ensures stable { (bytes : List ℕ) → D.seen disk ≡ Some bytes →
             MatchResult result (λ log. IsOnly bytes (D.may_leave log.disk))
             (λ refused. refused.error ≢ TopicError.Journal JournalError.Failed →
             IsOnly bytes (D.may_leave refused.disk)) }
-        ensures later { MatchResult result (λ log. D.faults disk ≤ D.faults log.disk)
-            (λ refused. D.faults disk ≤ D.faults refused.disk) }
-        ensures steady { MatchResult result (λ log. IsSteady D.seen D.faults disk log.disk)
-            (λ refused. refused.error ≢ TopicError.Journal JournalError.Failed →
-            IsSteady D.seen D.faults disk refused.disk) }
+        ensures keeps { MatchResult result
+            (λ log. Keeps D.seen D.may_leave D.faults ⊥ disk log.disk)
+            (λ refused. Keeps D.seen D.may_leave D.faults
+            (refused.error ≡ TopicError.Journal JournalError.Failed) disk refused.disk) }
     {
         match Journal::open(alloc, disk) {
             Ok(journal) => check_log(alloc, journal),
@@ -273,22 +261,13 @@ fn check_log<D: Disk>(
     ensures journal { IfErr result (λ refused. (fault : JournalError) →
         refused.error ≡ TopicError.Journal fault → fault ≡ JournalError.Failed) }
     ensures live { IfOk result (λ log. IsTrue log.live) }
-    ensures seen { MatchResult result (λ log. D.seen log.disk ≡ D.seen journal.disk)
-        (λ refused. D.seen refused.disk ≡ D.seen journal.disk) }
-    ensures crash { (crashed : List ℕ) → MatchResult result (λ log. D.may_leave log.disk crashed →
-        D.may_leave journal.disk crashed) (λ refused. D.may_leave refused.disk crashed →
-        D.may_leave journal.disk crashed) }
     ensures stable { (bytes : List ℕ) → IsOnly bytes (D.may_leave journal.disk) →
         MatchResult result (λ log. IsOnly bytes (D.may_leave log.disk))
         (λ refused. IsOnly bytes (D.may_leave refused.disk)) }
-    ensures failed { IfErr result (λ refused. refused.error ≡
-        TopicError.Journal JournalError.Failed →
-        Rose (D.faults journal.disk) (D.faults refused.disk)) }
-    ensures later { MatchResult result (λ log. D.faults journal.disk ≤ D.faults log.disk)
-        (λ refused. D.faults journal.disk ≤ D.faults refused.disk) }
-    ensures steady { MatchResult result (λ log. IsSteady D.seen D.faults journal.disk log.disk)
-        (λ refused. refused.error ≢ TopicError.Journal JournalError.Failed →
-        IsSteady D.seen D.faults journal.disk refused.disk) }
+    ensures keeps { MatchResult result
+        (λ log. Keeps D.seen D.may_leave D.faults ⊥ journal.disk log.disk)
+        (λ refused. Keeps D.seen D.may_leave D.faults
+        (refused.error ≡ TopicError.Journal JournalError.Failed) journal.disk refused.disk) }
 {
     match check_entries(alloc, &mut journal) {
         Ok(()) => Ok(TopicLog { alloc, journal }),

@@ -1,8 +1,7 @@
 -- For private clauses: how a log is opened.
 use Rattle.std.specs.Prelude.{◌≡◌, ◌≢◌, ◌⊎◌, ℕ, ◌≤◌, ◌<◌, Option, Result, Ok, Err, List, [], ◌∷◌, length}
 use Rattle.std.specs.List.{All}
-use Rattle.dbl_base.specs.Streams.{Rose}
-use Rattle.dbl_journal.specs.Stored.{IsSteady, Lists, OnDisk}
+use Rattle.dbl_journal.specs.Stored.{Lists, OnDisk}
 use Rattle.dbl_journal.specs.declared.error.JournalError.TheVariants as journal
 use Rattle.dbl_wal.specs.Entries.{workload_form}
 use Rattle.dbl_sound.specs.Workloads.{Workload, IsWorkload}
@@ -13,6 +12,7 @@ use Rattle.dbl_workload.specs.declared.error.DemoError.TheVariants as demo
 use Rattle.dbl_workload.specs.Checking.{CanGoOn, IsChecked}
 use Rattle.dbl_workload.specs.Ready.{IsReady}
 use Rattle.dbl_workload.specs.declared.preparing.Prepared.{Prepared}
+use Rattle.dbl_journal.specs.Calls.{Keeps}
 
 -- the first entry is of a workload that gives this
 abbrev pub IsBegun : List ℕ → Prepared → Type 0
@@ -37,17 +37,9 @@ Fails result = result ≡ Err (demo.Journal journal.Failed)
 abbrev pub IsReadFault : DemoError → Type 0
 IsReadFault e = (e ≡ demo.Memory) ⊎ (IsFailed e ⊎ ((index : ℕ) × (e ≡ demo.BadEntry index)))
 
--- what is left of a disk that was only read, in a call that tells that it failed, or doesn't
-pub record IsDiskRead {D : Type 0} (seen : D → Option (List ℕ)) (may_leave : D → List ℕ → Type 0) (faults : D → ℕ) (failed : Type 0) (old new : D) : Type 0 where
-  pub same : seen new ≡ seen old
-  pub crash : (crashed : List ℕ) → may_leave new crashed → may_leave old crashed
-  pub later : faults old ≤ faults new
-  pub cause : failed → Rose (faults old) (faults new)
-  pub steady : ¬ failed → IsSteady seen faults old new
-
--- and of its journal
+-- what is left of a journal that was only read, in a call that tells that its disk failed, or doesn't
 pub record IsReadOnly {D : Type 0} (seen : D → Option (List ℕ)) (may_leave : D → List ℕ → Type 0) (faults : D → ℕ) (failed : Type 0) (old new : OnDisk D) : Type 0 where
-  pub disk : IsDiskRead seen may_leave faults failed old.disk new.disk
+  pub disk : Keeps seen may_leave faults failed old.disk new.disk
   pub same : new ≡ record old { disk = new.disk }
   pub lists : (forms : List (List ℕ)) → Lists seen may_leave old forms → Lists seen may_leave new forms
 

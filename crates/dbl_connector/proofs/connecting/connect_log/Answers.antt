@@ -16,7 +16,7 @@ use Rattle.dbl_connector.proofs.connecting.connect_log.Goals as goal
 
 pub returns-in-Err-clause-answers : goal.returns-in-Err-clause-answers
 returns-in-Err-clause-answers g c =
-    answers_stay g.W.Disk.seen g.W.Disk.may_leave g.T.Disk.seen g.T.Disk.may_leave g.F.Disk.seen g.F.Disk.may_leave g.met.W.Disk.seen_may_be_left g.met.T.Disk.seen_may_be_left g.met.F.Disk.seen_may_be_left c.args.source.journal.disk c.into_disk-in-Err.result c.args.log.disk c.into_disk-in-Err-2.result c.args.offsets c.in-Err.field-0.disk (ap g.W.Disk.seen c.into_disk-in-Err.ensures) (ap g.T.Disk.seen c.into_disk-in-Err-2.ensures) c.in-Err.ensures.seen (moved_crash g.W.Disk.may_leave c.args.source.journal.disk c.into_disk-in-Err.result c.into_disk-in-Err.ensures) (moved_crash g.T.Disk.may_leave c.args.log.disk c.into_disk-in-Err-2.result c.into_disk-in-Err-2.ensures) c.in-Err.ensures.crash
+    answers_stay g.W.Disk.seen g.W.Disk.may_leave g.T.Disk.seen g.T.Disk.may_leave g.F.Disk.seen g.F.Disk.may_leave g.met.W.Disk.seen_may_be_left g.met.T.Disk.seen_may_be_left g.met.F.Disk.seen_may_be_left c.args.source.journal.disk c.into_disk-in-Err.result c.args.log.disk c.into_disk-in-Err-2.result c.args.offsets c.in-Err.field-0.disk (ap g.W.Disk.seen c.into_disk-in-Err.ensures) (ap g.T.Disk.seen c.into_disk-in-Err-2.ensures) c.in-Err.ensures.keeps.same (moved_crash g.W.Disk.may_leave c.args.source.journal.disk c.into_disk-in-Err.result c.into_disk-in-Err.ensures) (moved_crash g.T.Disk.may_leave c.args.log.disk c.into_disk-in-Err-2.result c.into_disk-in-Err-2.ensures) c.in-Err.ensures.keeps.crash
     c.args.asked c.args.now_ms c.from.result (subst IsUnhalted (sym c.from.ensures) (offset_kind c.in-Err.field-0.error).1)
     (λ w t f told_w told_t told_f. subst (λ (x : ConnectError). IsOutside x ⊎ IsRefused c.args.asked w t f x) (sym c.from.ensures)
     (offset_ends c.args.asked w t f (c.requires.source_opened w told_w).wal (c.requires.log_opened t told_t).groups (c.requires.source_opened w told_w).is (c.requires.log_opened t told_t).is c.in-Err.field-0.error (λ index is. c.in-Err.ensures.bad_offset f index told_f is) (λ at is. c.in-Err.ensures.not_a_store f at told_f is)))
@@ -34,7 +34,7 @@ pub returns-in-Err-clause-topics_read : goal.returns-in-Err-clause-topics_read
 returns-in-Err-clause-topics_read g c = λ refusal. only_same g.T.Disk.seen g.T.Disk.may_leave c.args.log.disk c.into_disk-in-Err-2.result c.into_disk-in-Err-2.ensures
 
 pub returns-in-Err-clause-offsets_read : goal.returns-in-Err-clause-offsets_read
-returns-in-Err-clause-offsets_read g c = λ refusal. record { same = c.in-Err.ensures.seen; crash = c.in-Err.ensures.crash }
+returns-in-Err-clause-offsets_read g c = λ refusal. record { same = c.in-Err.ensures.keeps.same; crash = c.in-Err.ensures.keeps.crash }
 
 pub returns-in-Err-clause-wal_counts : goal.returns-in-Err-clause-wal_counts
 returns-in-Err-clause-wal_counts g c = counts_same g.W.Disk.faults store.Wal _ c.args.source.journal.disk c.into_disk-in-Err.result c.into_disk-in-Err.ensures (λ is. (let wrong = (offset_fails c.in-Err.field-0.error store.Wal (sym c.from.ensures ∙ (let i = is in cc))).0 in cc))
@@ -43,7 +43,7 @@ pub returns-in-Err-clause-topics_count : goal.returns-in-Err-clause-topics_count
 returns-in-Err-clause-topics_count g c = counts_same g.T.Disk.faults store.Topics _ c.args.log.disk c.into_disk-in-Err-2.result c.into_disk-in-Err-2.ensures (λ is. (let wrong = (offset_fails c.in-Err.field-0.error store.Topics (sym c.from.ensures ∙ (let i = is in cc))).0 in cc))
 
 pub returns-in-Err-clause-offsets_count : goal.returns-in-Err-clause-offsets_count
-returns-in-Err-clause-offsets_count g c = counts_by g.F.Disk.faults store.Offsets c.from.result c.args.offsets c.in-Err.field-0.disk c.in-Err.ensures.later (λ is. c.in-Err.ensures.failed (offset_fails c.in-Err.field-0.error store.Offsets (sym c.from.ensures ∙ is)).1)
+returns-in-Err-clause-offsets_count g c = counts_by g.F.Disk.faults store.Offsets c.from.result c.args.offsets c.in-Err.field-0.disk c.in-Err.ensures.keeps.later (λ is. c.in-Err.ensures.keeps.cause (offset_fails c.in-Err.field-0.error store.Offsets (sym c.from.ensures ∙ is)).1)
 
 pub returns-in-Err-clause-wal_bounded : goal.returns-in-Err-clause-wal_bounded
 returns-in-Err-clause-wal_bounded g c = bounded_same g.W.Disk.seen g.W.Disk.may_leave c.args.source.journal.disk c.into_disk-in-Err.result (ap g.W.Disk.seen c.into_disk-in-Err.ensures)
@@ -52,16 +52,16 @@ pub returns-in-Err-clause-topics_bounded : goal.returns-in-Err-clause-topics_bou
 returns-in-Err-clause-topics_bounded g c = bounded_same g.T.Disk.seen g.T.Disk.may_leave c.args.log.disk c.into_disk-in-Err-2.result (ap g.T.Disk.seen c.into_disk-in-Err-2.ensures)
 
 pub returns-in-Err-clause-offsets_bounded : goal.returns-in-Err-clause-offsets_bounded
-returns-in-Err-clause-offsets_bounded g c = bounded_same g.F.Disk.seen g.F.Disk.may_leave c.args.offsets c.in-Err.field-0.disk c.in-Err.ensures.seen
+returns-in-Err-clause-offsets_bounded g c = bounded_same g.F.Disk.seen g.F.Disk.may_leave c.args.offsets c.in-Err.field-0.disk c.in-Err.ensures.keeps.same
 
 -- ---- the session
 
 pub run_session-end-requires-clause-store_opened : goal.run_session-end-requires-clause-store_opened
-run_session-end-requires-clause-store_opened g c = λ bytes told. record { told = told; is = c.in-Ok.ensures.opened bytes (sym c.in-Ok.ensures.seen ∙ told); holds = c.in-Ok.ensures.holds bytes (sym c.in-Ok.ensures.seen ∙ told) }
+run_session-end-requires-clause-store_opened g c = λ bytes told. record { told = told; is = c.in-Ok.ensures.opened bytes (sym c.in-Ok.ensures.keeps.same ∙ told); holds = c.in-Ok.ensures.holds bytes (sym c.in-Ok.ensures.keeps.same ∙ told) }
 
 pub returns-in-Ok-clause-answers : goal.returns-in-Ok-clause-answers
 returns-in-Ok-clause-answers g c =
-    answers_before g.W.Disk.seen g.W.Disk.may_leave g.T.Disk.seen g.T.Disk.may_leave g.F.Disk.seen g.F.Disk.may_leave g.met.W.Disk.seen_may_be_left g.met.T.Disk.seen_may_be_left g.met.F.Disk.seen_may_be_left c.args.source.journal.disk c.args.source.journal.disk c.args.log.disk c.args.log.disk c.args.offsets (disk_of c.in-Ok.store) refl refl c.in-Ok.ensures.seen (λ i m. m) (λ i m. m) c.in-Ok.ensures.crash
+    answers_before g.W.Disk.seen g.W.Disk.may_leave g.T.Disk.seen g.T.Disk.may_leave g.F.Disk.seen g.F.Disk.may_leave g.met.W.Disk.seen_may_be_left g.met.T.Disk.seen_may_be_left g.met.F.Disk.seen_may_be_left c.args.source.journal.disk c.args.source.journal.disk c.args.log.disk c.args.log.disk c.args.offsets (disk_of c.in-Ok.store) refl refl c.in-Ok.ensures.keeps.same (λ i m. m) (λ i m. m) c.in-Ok.ensures.keeps.crash
     c.args.asked c.args.now_ms c.into_disk.result c.into_disk-in-Ok.result c.into_disk-in-Ok-2.result c.run_session-end.result
     (answers_moved g.W.Disk.seen g.W.Disk.may_leave g.T.Disk.seen g.T.Disk.may_leave g.F.Disk.seen g.F.Disk.may_leave c.args.asked c.args.now_ms c.args.source.journal.disk c.run_session-end.new.source.journal.disk c.into_disk.result c.args.log.disk c.run_session-end.new.log.disk c.into_disk-in-Ok.result (disk_of c.in-Ok.store) (disk_of c.run_session-end.new.store) c.into_disk-in-Ok-2.result c.run_session-end.result
     c.into_disk.ensures c.into_disk-in-Ok.ensures c.into_disk-in-Ok-2.ensures
@@ -78,7 +78,7 @@ returns-in-Ok-clause-topics_read g c = read_stayed g.T.Disk.seen g.T.Disk.may_le
 
 pub returns-in-Ok-clause-offsets_read : goal.returns-in-Ok-clause-offsets_read
 returns-in-Ok-clause-offsets_read g c =
-    read_on g.F.Disk.seen g.F.Disk.may_leave c.run_session-end.result c.args.offsets (disk_of c.in-Ok.store) c.into_disk-in-Ok-2.result c.in-Ok.ensures.seen c.in-Ok.ensures.crash
+    read_on g.F.Disk.seen g.F.Disk.may_leave c.run_session-end.result c.args.offsets (disk_of c.in-Ok.store) c.into_disk-in-Ok-2.result c.in-Ok.ensures.keeps.same c.in-Ok.ensures.keeps.crash
     (read_stayed g.F.Disk.seen g.F.Disk.may_leave disk_of c.run_session-end.result c.in-Ok.store c.run_session-end.new.store c.into_disk-in-Ok-2.result c.into_disk-in-Ok-2.ensures c.run_session-end.ensures.store_stays)
 
 pub returns-in-Ok-clause-wal_counts : goal.returns-in-Ok-clause-wal_counts
@@ -89,7 +89,7 @@ returns-in-Ok-clause-topics_count g c = moved_to (Counts g.T.Disk.faults store.T
 
 pub returns-in-Ok-clause-offsets_count : goal.returns-in-Ok-clause-offsets_count
 returns-in-Ok-clause-offsets_count g c =
-    counts_on g.F.Disk.faults store.Offsets c.run_session-end.result c.args.offsets (disk_of c.in-Ok.store) c.into_disk-in-Ok-2.result c.in-Ok.ensures.later
+    counts_on g.F.Disk.faults store.Offsets c.run_session-end.result c.args.offsets (disk_of c.in-Ok.store) c.into_disk-in-Ok-2.result c.in-Ok.ensures.keeps.later
     (moved_to (Counts g.F.Disk.faults store.Offsets c.run_session-end.result (disk_of c.in-Ok.store)) (disk_of c.run_session-end.new.store) c.into_disk-in-Ok-2.result c.into_disk-in-Ok-2.ensures c.run_session-end.ensures.store_counts)
 
 pub returns-in-Ok-clause-wal_bounded : goal.returns-in-Ok-clause-wal_bounded
@@ -100,5 +100,5 @@ returns-in-Ok-clause-topics_bounded g c = moved_to (λ d. IsBounded (g.T.Disk.se
 
 pub returns-in-Ok-clause-offsets_bounded : goal.returns-in-Ok-clause-offsets_bounded
 returns-in-Ok-clause-offsets_bounded g c =
-    bounded_on g.F.Disk.seen c.args.offsets (disk_of c.in-Ok.store) c.into_disk-in-Ok-2.result c.in-Ok.ensures.seen
+    bounded_on g.F.Disk.seen c.args.offsets (disk_of c.in-Ok.store) c.into_disk-in-Ok-2.result c.in-Ok.ensures.keeps.same
     (moved_to (λ d. IsBounded (g.F.Disk.seen (disk_of c.in-Ok.store)) (g.F.Disk.seen d)) (disk_of c.run_session-end.new.store) c.into_disk-in-Ok-2.result c.into_disk-in-Ok-2.ensures c.run_session-end.ensures.store_bounded)

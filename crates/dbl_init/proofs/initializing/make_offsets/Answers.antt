@@ -12,7 +12,7 @@ returns-in-Ok-clause-makes g c = record {
   untouched = λ no. absurd no;
   leaves =
       subst (λ (d : g.row.D.Denot). Leaves g.D.Disk.seen g.D.Disk.faults Offsets _ c.args.disk d) (sym c.into_disk.ensures)
-      (leaves_none g.D.Disk.seen g.D.Disk.faults Offsets _ c.args.disk _ c.requires c.in-Ok.ensures.later (λ is. let t = is in cc) (λ no. c.in-Ok.ensures.steady) c.in-Ok.ensures.small);
+      (leaves_none g.D.Disk.seen g.D.Disk.faults Offsets _ c.args.disk _ c.requires c.in-Ok.ensures.makes.later (λ is. let t = is in cc) (λ no. c.in-Ok.ensures.makes.steady (λ never. never)) c.in-Ok.ensures.makes.small);
 }
 
 pub returns-in-Err-clause-kinds : goal.returns-in-Err-clause-kinds
@@ -25,8 +25,8 @@ returns-in-Err-clause-makes g c =
       made = λ told. tt;
       untouched = λ unwritten. absurd (subst (λ (e : InitError). IsUnwritten Offsets (Err e)) is unwritten);
       leaves =
-          leaves_none g.D.Disk.seen g.D.Disk.faults Offsets _ c.args.disk _ c.requires c.in-Err.ensures.later (λ failed. c.in-Err.ensures.failed)
-          (λ no. absurd (no (ap (λ (e : InitError). Err e) is))) c.in-Err.ensures.small;
+          leaves_none g.D.Disk.seen g.D.Disk.faults Offsets _ c.args.disk _ c.requires c.in-Err.ensures.makes.later (λ failed. c.in-Err.ensures.makes.cause c.in-Err.ensures.refused)
+          (λ no. absurd (no (ap (λ (e : InitError). Err e) is))) c.in-Err.ensures.makes.small;
     }
 
 pub returns-in-Err-clause-torn : goal.returns-in-Err-clause-torn

@@ -3,8 +3,8 @@ use Rattle.dbl_journal.specs.Stored.{count_of}
 use Rattle.dbl_record.specs.declared.record.Record.{Record}
 use Rattle.dbl_topic.specs.Held.{HoldsGroups}
 use Rattle.dbl_consume.specs.Holdings.{placeholder_of}
-use Rattle.dbl_runs.specs.Ends.{Keeps}
 use Rattle.dbl_runs.proofs.Consumed.{IsConsuming}
+use Rattle.dbl_journal.specs.Calls.{Keeps}
 use Rattle.dbl_runs.proofs.consuming.take_groups.Given as goal
 
 abbrev pub invariant-each : goal.invariant-each

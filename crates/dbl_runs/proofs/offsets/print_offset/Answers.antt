@@ -1,11 +1,12 @@
 use Rattle.std.proofs.Common.{◌≡◌, Err, ap, subst, sym, inr, arith}
 use Rattle.dbl_runs.specs.Applying.{TellsOffset}
-use Rattle.dbl_runs.specs.Ends.{IsSynced, Keeps}
+use Rattle.dbl_runs.specs.Ends.{IsSynced}
 use Rattle.dbl_runs.specs.declared.error.RunError.TheVariants.{Failed}
 use Rattle.dbl_runs.specs.declared.error.Store.TheVariants.{Offsets}
 use Rattle.dbl_runs.proofs.Answering.{no_offsets_run, offset_run}
 use Rattle.dbl_runs.proofs.ErrorLaws.{no_output}
 use Rattle.dbl_runs.proofs.Kept.{err_one, failed_with, keeps_never, keeps_told}
+use Rattle.dbl_journal.specs.Calls.{Keeps}
 use Rattle.dbl_runs.proofs.offsets.print_offset.Goals as goal
 
 pub returns-in-Ok-clause-told : goal.returns-in-Ok-clause-told

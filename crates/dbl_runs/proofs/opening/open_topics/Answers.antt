@@ -9,13 +9,13 @@ pub returns-in-Err-clause-kinds : goal.returns-in-Err-clause-kinds
 returns-in-Err-clause-kinds g c = topic_kind c.in-Err.field-0.error c.from.result c.from.ensures
 
 pub returns-in-Ok-clause-keeps : goal.returns-in-Ok-clause-keeps
-returns-in-Ok-clause-keeps g c =
-    keeps_failed g.D.Disk.seen g.D.Disk.may_leave g.D.Disk.faults ⊥ c.args.disk c.in-Ok.log.disk c.in-Ok.ensures.seen c.in-Ok.ensures.crash c.in-Ok.ensures.later (λ f. absurd f) (λ n. c.in-Ok.ensures.steady)
+returns-in-Ok-clause-keeps g c = c.in-Ok.ensures.keeps
 
 pub returns-in-Err-clause-keeps : goal.returns-in-Err-clause-keeps
 returns-in-Err-clause-keeps g c =
-    keeps_failed g.D.Disk.seen g.D.Disk.may_leave g.D.Disk.faults _ c.args.disk c.in-Err.field-0.disk c.in-Err.ensures.seen c.in-Err.ensures.crash c.in-Err.ensures.later
-    (λ f. c.in-Err.ensures.failed (topic_failed c.in-Err.field-0.error c.from.result c.from.ensures f)) (λ n. c.in-Err.ensures.steady (λ e. n (topic_tells c.in-Err.field-0.error c.from.result c.from.ensures e)))
+    let k = c.in-Err.ensures.keeps in
+    keeps_failed g.D.Disk.seen g.D.Disk.may_leave g.D.Disk.faults _ c.args.disk c.in-Err.field-0.disk k.same k.crash k.later (λ f. k.cause (topic_failed c.in-Err.field-0.error c.from.result c.from.ensures f))
+    (λ n. k.steady (λ e. n (topic_tells c.in-Err.field-0.error c.from.result c.from.ensures e)))
 
 pub returns-in-Err-clause-stable : goal.returns-in-Err-clause-stable
 returns-in-Err-clause-stable g c = λ other bytes told. c.in-Err.ensures.stable bytes told (λ e. other (topic_tells c.in-Err.field-0.error c.from.result c.from.ensures e))

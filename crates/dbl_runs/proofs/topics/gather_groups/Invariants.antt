@@ -4,7 +4,7 @@ use Rattle.dbl_record.specs.declared.record.Record.{Record}
 use Rattle.dbl_lines.proofs.PutLemmas.{IsPutting}
 use Rattle.dbl_topic.specs.Held.{HoldsGroups}
 use Rattle.dbl_runs.specs.Answers.{topic_lines}
-use Rattle.dbl_runs.specs.Ends.{Keeps}
+use Rattle.dbl_journal.specs.Calls.{Keeps}
 use Rattle.dbl_runs.proofs.topics.gather_groups.Given as goal
 
 abbrev pub invariant-each : goal.invariant-each

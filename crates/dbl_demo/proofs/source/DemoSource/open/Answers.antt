@@ -26,34 +26,34 @@ returns-in-Ok-clause-kinds g c =
 
 pub returns-in-Ok-clause-failed : goal.returns-in-Ok-clause-failed
 returns-in-Ok-clause-failed g c =
-    let later = c.in-Ok.ensures.later in
+    let later = c.in-Ok.ensures.keeps.later in
     MatchResult-weaker c.open_journal.result c.open_journal.ensures.read (λ source read. tt) (λ refused read is. omega (arith, later, read.cause is))
 
 pub returns-in-Ok-clause-seen : goal.returns-in-Ok-clause-seen
 returns-in-Ok-clause-seen g c =
-    MatchResult-weaker c.open_journal.result c.open_journal.ensures.read (λ source read. read.same ∙ c.in-Ok.ensures.seen) (λ refused read. read.same ∙ c.in-Ok.ensures.seen)
+    MatchResult-weaker c.open_journal.result c.open_journal.ensures.read (λ source read. read.same ∙ c.in-Ok.ensures.keeps.same) (λ refused read. read.same ∙ c.in-Ok.ensures.keeps.same)
 
 pub returns-in-Ok-clause-crash : goal.returns-in-Ok-clause-crash
 returns-in-Ok-clause-crash g c = λ crashed.
-    MatchResult-weaker c.open_journal.result c.open_journal.ensures.read (λ source read may. c.in-Ok.ensures.crash crashed (read.crash crashed may)) (λ refused read may. c.in-Ok.ensures.crash crashed (read.crash crashed may))
+    MatchResult-weaker c.open_journal.result c.open_journal.ensures.read (λ source read may. c.in-Ok.ensures.keeps.crash crashed (read.crash crashed may)) (λ refused read may. c.in-Ok.ensures.keeps.crash crashed (read.crash crashed may))
 
 pub returns-in-Ok-clause-stable : goal.returns-in-Ok-clause-stable
 returns-in-Ok-clause-stable g c = λ bytes told.
     let opened = c.in-Ok.ensures.opened bytes told in
-    let is : Some opened.2.bytes ≡ Some bytes = sym opened.2.told ∙ c.in-Ok.ensures.seen ∙ told in
+    let is : Some opened.2.bytes ≡ Some bytes = sym opened.2.told ∙ c.in-Ok.ensures.keeps.same ∙ told in
     let same : opened.2.bytes ≡ bytes = cc in
     MatchResult-weaker c.open_journal.result c.open_journal.ensures.read (λ source read crashed may. opened.2.only crashed (read.crash crashed may) ∙ same) (λ refused read no crashed may. opened.2.only crashed (read.crash crashed may) ∙ same)
 
 pub returns-in-Ok-clause-later : goal.returns-in-Ok-clause-later
 returns-in-Ok-clause-later g c =
-    let later = c.in-Ok.ensures.later in
+    let later = c.in-Ok.ensures.keeps.later in
     MatchResult-weaker c.open_journal.result c.open_journal.ensures.read (λ source read. omega (arith, later, read.later)) (λ refused read. omega (arith, later, read.later))
 
 pub returns-in-Ok-clause-steady : goal.returns-in-Ok-clause-steady
 returns-in-Ok-clause-steady g c =
     MatchResult-weaker c.open_journal.result c.open_journal.ensures.read
-    (λ source read bytes told. read.steady (λ never. never) bytes (c.in-Ok.ensures.seen ∙ told) ∙ c.in-Ok.ensures.steady bytes told)
-    (λ refused read no bytes told. read.steady no bytes (c.in-Ok.ensures.seen ∙ told) ∙ c.in-Ok.ensures.steady bytes told)
+    (λ source read bytes told. read.steady (λ never. never) bytes (c.in-Ok.ensures.keeps.same ∙ told) ∙ c.in-Ok.ensures.keeps.steady (λ never. never) bytes told)
+    (λ refused read no bytes told. read.steady no bytes (c.in-Ok.ensures.keeps.same ∙ told) ∙ c.in-Ok.ensures.keeps.steady (λ never. never) bytes told)
 
 -- ---- the journal couldn't be opened
 
@@ -67,10 +67,19 @@ pub returns-in-Err-clause-kinds : goal.returns-in-Err-clause-kinds
 returns-in-Err-clause-kinds g c = journal_kind c.in-Err.field-0.error c.from.result c.from.ensures c.in-Err.ensures.short
 
 pub returns-in-Err-clause-failed : goal.returns-in-Err-clause-failed
-returns-in-Err-clause-failed g c = λ is. c.in-Err.ensures.failed (as_failed c.in-Err.field-0.error c.from.result c.from.ensures is)
+returns-in-Err-clause-failed g c = λ is. c.in-Err.ensures.keeps.cause (as_failed c.in-Err.field-0.error c.from.result c.from.ensures is)
 
 pub returns-in-Err-clause-stable : goal.returns-in-Err-clause-stable
 returns-in-Err-clause-stable g c = λ bytes told no. c.in-Err.ensures.stable bytes told (λ is. no (is_failed c.in-Err.field-0.error c.from.result c.from.ensures is))
 
 pub returns-in-Err-clause-steady : goal.returns-in-Err-clause-steady
-returns-in-Err-clause-steady g c = λ no bytes told. c.in-Err.ensures.steady bytes told (λ is. no (is_failed c.in-Err.field-0.error c.from.result c.from.ensures is))
+returns-in-Err-clause-steady g c = λ no bytes told. c.in-Err.ensures.keeps.steady (λ is. no (is_failed c.in-Err.field-0.error c.from.result c.from.ensures is)) bytes told
+
+pub returns-in-Err-clause-seen : goal.returns-in-Err-clause-seen
+returns-in-Err-clause-seen g c = c.in-Err.ensures.keeps.same
+
+pub returns-in-Err-clause-crash : goal.returns-in-Err-clause-crash
+returns-in-Err-clause-crash g c = c.in-Err.ensures.keeps.crash
+
+pub returns-in-Err-clause-later : goal.returns-in-Err-clause-later
+returns-in-Err-clause-later g c = c.in-Err.ensures.keeps.later

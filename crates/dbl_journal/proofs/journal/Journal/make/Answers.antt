@@ -12,8 +12,18 @@ returns-in-Ok-clause-made g c told =
     let made = c.in-Ok.ensures.stored told in
     record { live = refl; bytes = made.0; told = made.1; only = made.2; spelled = made.3; gate = sym (ap length front-nil ∙ length-magic); places = c.new.ensures.items }
 
-pub returns-in-Ok-clause-small : goal.returns-in-Ok-clause-small
-returns-in-Ok-clause-small g c bytes empty told = omega (arith, c.in-Ok.ensures.longest bytes empty told, ap length front-nil, length-magic)
+pub returns-in-Ok-clause-makes : goal.returns-in-Ok-clause-makes
+returns-in-Ok-clause-makes g c = record {
+  small = λ bytes empty told. omega (arith, c.in-Ok.ensures.longest bytes empty told, ap length front-nil, length-magic);
+  later = c.in-Ok.ensures.cause.later;
+  cause = λ never. absurd never;
+  steady = λ no bytes told. c.in-Ok.ensures.steady bytes told;
+}
 
-pub returns-in-Err-clause-small : goal.returns-in-Err-clause-small
-returns-in-Err-clause-small g c bytes empty told = omega (arith, c.start.ensures.longest bytes empty told, ap length front-nil, length-magic)
+pub returns-in-Err-clause-makes : goal.returns-in-Err-clause-makes
+returns-in-Err-clause-makes g c = record {
+  small = λ bytes empty told. omega (arith, c.start.ensures.longest bytes empty told, ap length front-nil, length-magic);
+  later = c.start.ensures.cause.later;
+  cause = λ is. c.in-Err.ensures.cause.cause refl;
+  steady = λ no. absurd (no refl);
+}

@@ -1,10 +1,10 @@
-ghost use Rattle.std.specs.Prelude.{◌≡◌, ◌≢◌, ◌⊎◌, ◌↔◌, ℕ, ◌+◌, ◌<◌, ◌≤◌, ◌++◌, List, [], ◌∷◌, length, drop, max, false, Some, IsTrue, IfOk, IfErr, OnOk, OnErr, MatchResult, slice_get};
+ghost use Rattle.std.specs.Prelude.{◌≡◌, ◌≢◌, ◌⊎◌, ◌↔◌, ℕ, ◌+◌, ◌<◌, ◌≤◌, ◌++◌, List, [], ◌∷◌, length, drop, max, Some, IsTrue, IfOk, IfErr, OnOk, OnErr, MatchResult, slice_get};
 ghost use Rattle.dbl_base.specs.Streams.{HasCause, raised};
 ghost use Rattle.dbl_disk.specs.Disks.{Follows, IsOnly, Torn, disk_limit};
 ghost use Rattle.dbl_journal.specs.Form.{IsFaultAt, IsJournal, entry_limit};
 ghost use Rattle.dbl_journal.specs.Growth.{ComesOf};
 ghost use Rattle.dbl_journal.specs.Stored.{IsSteady, LeavesEntries, Lists, count_of, size};
-ghost use Rattle.dbl_journal.specs.Calls.{Keeps, Makes};
+ghost use Rattle.dbl_journal.specs.Calls.{Keeps, Makes, PutLeaves};
 
 use crate::JournalError;
 use crate::appending::{behind_room, open_gate, spell, stage, start};
@@ -126,19 +126,14 @@ impl<D: Disk> Journal<D> {
             D.seen self.new.disk ≡ Some new →
             length new ≤ max (length old) (size (entries ++ entry.now ∷ [])) }
         ensures comes { ComesOf D.seen D.may_leave self.old self.new }
-        ensures told { (old : List ℕ) → D.seen self.old.disk ≡ Some old → (new : List ℕ) ×
-            (D.seen self.new.disk ≡ Some new) }
+        ensures puts { PutLeaves D.seen D.faults (result ≡ Err JournalError.Failed)
+            self.old self.new }
         ensures live { OnOk result (IsTrue self.new.live) }
         ensures count { OnOk result (count_of self.new ≡ count_of self.old + 1) }
         ensures too_long { (len : ℕ) → (result ≡ Err (JournalError.EntryTooLong len)) ↔
             ((entry_limit < length entry.now) × (len ≡ length entry.now)) }
-        ensures cause { HasCause (result ≡ Err JournalError.Failed)
-            (D.faults self.old.disk) (D.faults self.new.disk) }
-        ensures dead { result ≡ Err JournalError.Failed → self.new.live ≡ false }
         ensures journal { (at : ℕ) → result ≢ Err (JournalError.NotAJournal at) }
         ensures unchanged { OnErr result (result ≢ Err JournalError.Failed → self.new ≡ self.old) }
-        ensures steady { result ≢ Err JournalError.Failed →
-            IsSteady D.seen D.faults self.old.disk self.new.disk }
     {
         if entry.len() > ENTRY_LIMIT {
             return Err(JournalError::EntryTooLong {
@@ -164,19 +159,14 @@ impl<D: Disk> Journal<D> {
             D.seen self.new.disk ≡ Some new →
             length new ≤ max (length old) (size (entries ++ drop 4 bytes.items ∷ [])) }
         ensures comes { ComesOf D.seen D.may_leave self.old self.new }
-        ensures told { (old : List ℕ) → D.seen self.old.disk ≡ Some old → (new : List ℕ) ×
-            (D.seen self.new.disk ≡ Some new) }
+        ensures puts { PutLeaves D.seen D.faults (result ≡ Err JournalError.Failed)
+            self.old self.new }
         ensures live { OnOk result (IsTrue self.new.live) }
         ensures count { OnOk result (count_of self.new ≡ count_of self.old + 1) }
         ensures too_long { (len : ℕ) → (result ≡ Err (JournalError.EntryTooLong len)) ↔
             ((entry_limit < length (drop 4 bytes.items)) × (len ≡ length (drop 4 bytes.items))) }
-        ensures cause { HasCause (result ≡ Err JournalError.Failed)
-            (D.faults self.old.disk) (D.faults self.new.disk) }
-        ensures dead { result ≡ Err JournalError.Failed → self.new.live ≡ false }
         ensures journal { (at : ℕ) → result ≢ Err (JournalError.NotAJournal at) }
         ensures unchanged { OnErr result (result ≢ Err JournalError.Failed → self.new ≡ self.old) }
-        ensures steady { result ≢ Err JournalError.Failed →
-            IsSteady D.seen D.faults self.old.disk self.new.disk }
     {
         let len = (bytes.len() - ENTRY_ROOM) as u64;
         if len > ENTRY_LIMIT as u64 {

@@ -156,6 +156,13 @@ not_long (journal_error.NotAJournal at) f len short gives is = let contra : erro
 not_long (journal_error.EntryTooLong n) f len short gives is = short n refl
 not_long journal_error.Memory f len short gives is = let contra : error.Memory ≡ error.TooLong len = sym gives ∙ is in cc
 
+-- the store failed where its journal did
+pub failed_of : (e : JournalError) (f : OffsetError) → f ≡ as_offset_error e → f ≡ error.Failed → e ≡ journal_error.Failed
+failed_of journal_error.Failed f gives is = refl
+failed_of (journal_error.NotAJournal at) f gives is = (let contra : error.NotAStore at ≡ error.Failed = sym gives ∙ is in cc)
+failed_of (journal_error.EntryTooLong len) f gives is = (let contra : error.TooLong len ≡ error.Failed = sym gives ∙ is in cc)
+failed_of journal_error.Memory f gives is = (let contra : error.Memory ≡ error.Failed = sym gives ∙ is in cc)
+
 abbrev failed : {T E : Type 0} → E → Result T E
 failed e = Err e
 

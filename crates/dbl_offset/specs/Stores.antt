@@ -12,6 +12,7 @@ use Rattle.dbl_offset.specs.declared.error.OffsetError.{OffsetError}
 use Rattle.dbl_offset.specs.declared.error.OffsetError.TheVariants as error
 use Rattle.dbl_offset.specs.Entries.{spelling}
 use Rattle.dbl_offset.specs.Offsets.{Spells, IsEntry}
+use Rattle.dbl_journal.specs.Calls as calls
 
 -- a last entry, and the offset that it spells
 pub record EndsWith (entries : List (List ℕ)) (offset : Offset) : Type 0 where
@@ -81,6 +82,10 @@ BeginsTorn old new = Torn 0 9 old new
 -- of them count, and they become fewer than 2^30 past those, unless they were more before.
 abbrev pub ComesOf : {D : Type 0} → (D → Option (List ℕ)) → (D → List ℕ → Type 0) → StoreOn D → StoreOn D → Type 0
 ComesOf seen may_leave old new = growth.ComesOf seen may_leave old.journal new.journal
+
+-- What a put leaves of a store's disk, in a call that tells this failure, or another thing.
+abbrev pub PutLeaves : {D : Type 0} → (D → Option (List ℕ)) → (D → ℕ) → Type 0 → StoreOn D → StoreOn D → Type 0
+PutLeaves seen faults failed old new = calls.PutLeaves seen faults failed old.journal new.journal
 
 -- The store holds this offset: it can be used, its disk tells its bytes, which are a store of the offset, and a crash leaves
 -- nothing else.

@@ -7,7 +7,7 @@ ghost use Rattle.dbl_offset.specs.declared.offset.Offset.{Offset};
 ghost use Rattle.dbl_offset.specs.Entries.{spelling};
 ghost use Rattle.dbl_offset.specs.Measures.{capped};
 ghost use Rattle.dbl_offset.specs.Offsets.{IsEntry, IsOffset, Spells};
-ghost use Rattle.dbl_offset.specs.Stores.{BeginsTorn, ComesOf, HasBadOffset, Holds, IsLastOf, IsLive, IsNoStoreAt, IsStore, LeavesOffset, disk_of, least_room, room_of};
+ghost use Rattle.dbl_offset.specs.Stores.{BeginsTorn, ComesOf, HasBadOffset, Holds, IsLastOf, IsLive, IsNoStoreAt, IsStore, LeavesOffset, disk_of, least_room, room_of, PutLeaves};
 ghost use Rattle.dbl_journal.specs.Form.{entry_limit};
 ghost use Rattle.dbl_journal.specs.Calls.{Keeps, Makes};
 
@@ -186,21 +186,16 @@ impl<D: Disk> OffsetStore<D> {
             D.seen (disk_of self.new) ≡ Some after →
             length after ≤ max (length before) (room_of self.old offset) }
         ensures comes { ComesOf D.seen D.may_leave self.old self.new }
-        ensures told { (before : List ℕ) → D.seen (disk_of self.old) ≡ Some before →
-            (after : List ℕ) × (D.seen (disk_of self.new) ≡ Some after) }
+        ensures puts { PutLeaves D.seen D.faults (result ≡ Err OffsetError.Failed)
+            self.old self.new }
         ensures loads { OnOk result (self.new.offset ≡ Some offset) }
         ensures keeps { OnErr result (self.new.offset ≡ self.old.offset) }
         ensures live { OnOk result (IsLive self.new) }
         ensures too_long { (len : ℕ) → (result ≡ Err (OffsetError.TooLong len)) ↔
             ((entry_limit < length (spelling offset)) × (len ≡ capped (length (spelling offset)))) }
-        ensures cause { HasCause (result ≡ Err OffsetError.Failed)
-            (D.faults (disk_of self.old)) (D.faults (disk_of self.new)) }
-        ensures dead { result ≡ Err OffsetError.Failed → ¬ IsLive self.new }
         ensures unchanged { OnErr result (result ≢ Err OffsetError.Failed → self.new ≡ self.old) }
         ensures a_store { (at : ℕ) → result ≢ Err (OffsetError.NotAStore at) }
         ensures no_bad_offset { (index : ℕ) → result ≢ Err (OffsetError.BadOffset index) }
-        ensures steady { result ≢ Err OffsetError.Failed →
-            IsSteady D.seen D.faults (disk_of self.old) (disk_of self.new) }
     {
         let count = measure(&offset);
         if count > ENTRY_LIMIT as u64 {

@@ -85,3 +85,10 @@ too_long_of journal.Failed len e = absurd cc
 too_long_of (journal.NotAJournal at) len e = absurd cc
 too_long_of (journal.EntryTooLong l) len e = cc
 too_long_of journal.Memory len e = absurd cc
+
+-- a sink failed where its journal did
+pub failed_of_sink : (fault : JournalError) → ((at : ℕ) → fault ≡ journal.NotAJournal at → ⊥) → sink_fault fault ≡ sink.Failed → fault ≡ journal.Failed
+failed_of_sink journal.Failed never e = refl
+failed_of_sink (journal.NotAJournal at) never e = absurd (never at refl)
+failed_of_sink (journal.EntryTooLong l) never e = absurd cc
+failed_of_sink journal.Memory never e = absurd cc

@@ -9,7 +9,7 @@ ghost use Rattle.dbl_record.specs.Groups.{group_form};
 ghost use Rattle.dbl_topic.specs.Held.{ComesOf, HoldsGroups, LeavesGroups, MayLeaveGroups};
 ghost use Rattle.dbl_topic.specs.Logs.{AreLogEntries, HasBadEntry, IsLog, IsLogEntry, log_size};
 ghost use Rattle.dbl_topic.specs.Sinks.{IsLeftByPut, IsLeftByWhole, told_length, group_limit};
-ghost use Rattle.dbl_journal.specs.Calls.{Keeps, Makes};
+ghost use Rattle.dbl_journal.specs.Calls.{Keeps, Makes, PutLeaves};
 
 use crate::{GROUP_LIMIT, Sink, SinkError, TopicError};
 use dbl_disk::{Disk, Refused};
@@ -345,15 +345,13 @@ impl<D: Disk> Sink for TopicLog<D> {
             HoldsGroups D.seen D.may_leave self.old groups → D.seen self.old.disk ≡ Some old →
             D.seen self.new.disk ≡ Some new →
             length new ≤ max (length old) (log_size (groups ++ group.now.items ∷ [])) }
-        ensures told { (old : List ℕ) → D.seen self.old.disk ≡ Some old → (new : List ℕ) ×
-            (D.seen self.new.disk ≡ Some new) }
+        ensures puts { PutLeaves D.seen D.faults (result ≡ Err SinkError.Failed)
+            self.old self.new }
         ensures exactly { (len : ℕ) → (result ≡ Err (SinkError.TooLong len)) ↔
             ((group_limit < length (group_form group.now.items)) ×
             (len ≡ told_length group.now.items)) }
         ensures count { OnOk result (count_of self.new ≡ count_of self.old + 1) }
         ensures unchanged { OnErr result (result ≢ Err SinkError.Failed → self.new ≡ self.old) }
-        ensures steady { result ≢ Err SinkError.Failed →
-            IsSteady D.seen D.faults self.old.disk self.new.disk }
     {
         let len = group_length(group);
         if len > GROUP_LIMIT {

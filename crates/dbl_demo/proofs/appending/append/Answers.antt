@@ -15,7 +15,7 @@ returns-in-Err-clause-kept g c = λ forms lists is.
 
 pub returns-in-Err-clause-stays : goal.returns-in-Err-clause-stays
 returns-in-Err-clause-stays g c =
-    append_stays c.args.journal.now c.append_built.new.self c.in-Err.error (λ failed. c.in-Err.ensures.dead (ap (λ (e : JournalError). Err e) failed)) (λ other. c.in-Err.ensures.unchanged (λ failed. other (let f = failed in cc)))
+    append_stays c.args.journal.now c.append_built.new.self c.in-Err.error (λ failed. c.in-Err.ensures.puts.dead (ap (λ (e : JournalError). Err e) failed)) (λ other. c.in-Err.ensures.unchanged (λ failed. other (let f = failed in cc)))
 
 pub returns-in-Err-clause-cause : goal.returns-in-Err-clause-cause
-returns-in-Err-clause-cause g c = record { later = c.in-Err.ensures.cause.later; cause = λ is. let failed : source_error c.in-Err.error ≡ source.Failed = (let told = c.source_error.ensures in let t = is in cc) in c.in-Err.ensures.cause.cause (ap (λ (e : JournalError). Err e) (was_failed c.in-Err.error failed)) }
+returns-in-Err-clause-cause g c = record { later = c.in-Err.ensures.puts.later; cause = λ is. let failed : source_error c.in-Err.error ≡ source.Failed = (let told = c.source_error.ensures in let t = is in cc) in c.in-Err.ensures.puts.cause (ap (λ (e : JournalError). Err e) (was_failed c.in-Err.error failed)) }

@@ -40,7 +40,7 @@ returns-in_err-append_built-in-Some-clause-kinds g c =
 
 pub returns-in_err-append_built-in-Some-clause-grows : goal.returns-in_err-append_built-in-Some-clause-grows
 returns-in_err-append_built-in-Some-clause-grows g c = λ old new lists was is.
-    let told = c.append_built.ensures.told old was in
+    let told = c.append_built.ensures.puts.told old was in
     let some : c.args.prepared.now.rows ≡ Some c.in-Some.rows = search rules in
     let same : c.as_slice.result.now ≡ c.in-Some.rows = c.as_slice.ensures.value ∙ c.items.ensures in
     let spells = subst (λ (ms : List Message). Spells (drop 4 c.in_ok-commit_entry-in-Some.field-0.items) (Commits 0 ms)) same c.in_ok-commit_entry-in-Some.ensures.entry in
@@ -54,7 +54,7 @@ returns-in_ok-append_built-in-Some-clause-count g c =
 
 pub returns-in_ok-append_built-in-Some-clause-grows : goal.returns-in_ok-append_built-in-Some-clause-grows
 returns-in_ok-append_built-in-Some-clause-grows g c = λ old new lists was is.
-    let told = c.append_built.ensures.told old was in
+    let told = c.append_built.ensures.puts.told old was in
     let some : c.args.prepared.now.rows ≡ Some c.in-Some.rows = search rules in
     let same : c.as_slice.result.now ≡ c.in-Some.rows = c.as_slice.ensures.value ∙ c.items.ensures in
     let spells = subst (λ (ms : List Message). Spells (drop 4 c.in_ok-commit_entry-in-Some.field-0.items) (Commits 0 ms)) same c.in_ok-commit_entry-in-Some.ensures.entry in

@@ -1,9 +1,11 @@
-use Rattle.std.proofs.Common.{◌≡◌, ◌≤◌, ◌+◌, IsTrue, ℕ, ◌-◌, ◌∙◌, List, Option, length, false, true, drop, refl, sym, ap, subst, arith, inl}
+use Rattle.std.proofs.Common.{◌≡◌, ◌≤◌, ◌+◌, IsTrue, ℕ, ◌-◌, ◌∙◌, List, Option, length, false, true, drop, refl, sym, ap, subst, arith, inl, Err}
 use Rattle.std.proofs.lemmas.List.{length-drop, length_push}
 use Rattle.dbl_journal.specs.Form.{IsEntry}
 use Rattle.dbl_journal.specs.Stored.{Lists, OnDisk}
 use Rattle.dbl_journal.proofs.Appends.{places-add, size-push}
 use Rattle.dbl_journal.proofs.Growth.{comes_by_append}
+use Rattle.std.proofs.lemmas.Result.{err_from_is_err_and}
+use Rattle.dbl_journal.specs.declared.error.JournalError.{JournalError}
 use Rattle.dbl_journal.proofs.journal.Journal.append_built.Goals as goal
 
 -- a journal with the same parts
@@ -114,8 +116,46 @@ returns-clause-comes g c =
     (returns-clause-grows g c)
     (λ before told. (let staged = c.stage.ensures.told before (ap (λ (j : OnDisk _). g.D.Disk.seen j.disk) c.self.view_is ∙ told) in c.open_gate.ensures.told staged.0 staged.1))
 
-pub returns-clause-steady : goal.returns-clause-steady
-returns-clause-steady g c answered before told =
-    let was = ap (λ (j : OnDisk _). g.D.Disk.seen j.disk) c.self.view_is ∙ told in
-    let staged = c.stage.ensures.told before was in
-    c.in_ok-open_gate.ensures.steady staged.0 staged.1 ∙ c.in_ok-stage.ensures.steady before was ∙ ap (λ (j : OnDisk _). g.D.Disk.faults j.disk) c.self.view_is
+pub returns-in_err-stage-clause-puts : goal.returns-in_err-stage-clause-puts
+returns-in_err-stage-clause-puts g c = record {
+  told = λ before told. c.stage.ensures.told before (ap (λ (j : OnDisk _). g.D.Disk.seen j.disk) c.self.view_is ∙ told);
+  later = (let same = ap (λ (j : OnDisk _). g.D.Disk.faults j.disk) c.self.view_is in omega (arith, c.stage.ensures.cause.later, same));
+  cause = λ is.
+      let rose = c.in_err-stage.ensures.cause.cause refl in
+      let same = ap (λ (j : OnDisk _). g.D.Disk.faults j.disk) c.self.view_is in
+      omega (arith, rose, same);
+  dead = λ is. refl;
+  steady = λ no.
+      let p = err_from_is_err_and c.from_residual-in_err-stage.result c.from_residual-in_err-stage.ensures.1 in
+      absurd (no (p.1 ∙ ap (λ (e : JournalError). Err e) p.2));
+}
+
+pub returns-in_err-open_gate-clause-puts : goal.returns-in_err-open_gate-clause-puts
+returns-in_err-open_gate-clause-puts g c = record {
+  told = λ before told.
+      let staged = c.stage.ensures.told before (ap (λ (j : OnDisk _). g.D.Disk.seen j.disk) c.self.view_is ∙ told) in
+      c.open_gate.ensures.told staged.0 staged.1;
+  later = (let same = ap (λ (j : OnDisk _). g.D.Disk.faults j.disk) c.self.view_is in omega (arith, c.stage.ensures.cause.later, c.open_gate.ensures.cause.later, same));
+  cause = λ is.
+      let rose = c.in_err-open_gate.ensures.cause.cause refl in
+      let same = ap (λ (j : OnDisk _). g.D.Disk.faults j.disk) c.self.view_is in
+      omega (arith, c.stage.ensures.cause.later, rose, same);
+  dead = λ is. refl;
+  steady = λ no.
+      let p = err_from_is_err_and c.from_residual-in_err-open_gate.result c.from_residual-in_err-open_gate.ensures.1 in
+      absurd (no (p.1 ∙ ap (λ (e : JournalError). Err e) p.2));
+}
+
+pub returns-clause-puts : goal.returns-clause-puts
+returns-clause-puts g c = record {
+  told = λ before told.
+      let staged = c.stage.ensures.told before (ap (λ (j : OnDisk _). g.D.Disk.seen j.disk) c.self.view_is ∙ told) in
+      c.open_gate.ensures.told staged.0 staged.1;
+  later = (let same = ap (λ (j : OnDisk _). g.D.Disk.faults j.disk) c.self.view_is in omega (arith, c.stage.ensures.cause.later, c.open_gate.ensures.cause.later, same));
+  cause = λ is. absurd (let i = is in cc);
+  dead = λ is. absurd (let i = is in cc);
+  steady = λ answered before told.
+      let was = ap (λ (j : OnDisk _). g.D.Disk.seen j.disk) c.self.view_is ∙ told in
+      let staged = c.stage.ensures.told before was in
+      c.in_ok-open_gate.ensures.steady staged.0 staged.1 ∙ c.in_ok-stage.ensures.steady before was ∙ ap (λ (j : OnDisk _). g.D.Disk.faults j.disk) c.self.view_is;
+}

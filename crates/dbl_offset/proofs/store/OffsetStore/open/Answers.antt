@@ -1,11 +1,11 @@
-use Rattle.std.proofs.Common.{◌≡◌, ◌∙◌, Some, Err, ap, refl, subst, sym}
+use Rattle.std.proofs.Common.{◌≡◌, ◌∙◌, Some, Err, ap, subst, sym}
 use Rattle.dbl_journal.specs.Calls.{Keeps}
-use Rattle.dbl_journal.specs.declared.error.JournalError.{JournalError}
 use Rattle.dbl_journal.specs.declared.error.JournalError.TheVariants as journal
 use Rattle.dbl_journal.proofs.Calls.{keeps_on, keeps_told_as}
 use Rattle.dbl_offset.specs.declared.error.OffsetError.{OffsetError}
 use Rattle.dbl_offset.specs.declared.error.OffsetError.TheVariants as error
 use Rattle.dbl_offset.specs.Stores.{as_offset_error}
+use Rattle.dbl_offset.proofs.StoreLaws.{failed_of}
 use Rattle.dbl_offset.proofs.store.OffsetStore.open.Goals as goal
 
 pub returns-in-Err-read_last-clause-bad_offset : goal.returns-in-Err-read_last-clause-bad_offset
@@ -27,13 +27,6 @@ returns-in-Err-read_last-clause-stable g c bytes told failed =
     let is : Some opened.2.bytes ≡ Some bytes = sym opened.2.told ∙ c.in-Ok.ensures.keeps.same ∙ told in
     let same : opened.2.bytes ≡ bytes = cc in
     λ crashed may. opened.2.only crashed ((c.read_last.ensures.crash crashed).0 (subst (λ (d : g.row.D.Denot). g.D.Disk.may_leave d crashed) c.into_disk.ensures may)) ∙ same
-
--- the journal's failure is the store's
-failed_of : (e : JournalError) (f : OffsetError) → f ≡ as_offset_error e → f ≡ error.Failed → e ≡ journal.Failed
-failed_of journal.Failed f is failed = refl
-failed_of journal.Memory f is failed = cc
-failed_of (journal.NotAJournal at) f is failed = cc
-failed_of (journal.EntryTooLong len) f is failed = cc
 
 pub returns-in-Err-clause-keeps : goal.returns-in-Err-clause-keeps
 returns-in-Err-clause-keeps g c =

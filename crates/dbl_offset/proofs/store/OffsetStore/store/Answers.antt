@@ -5,10 +5,13 @@ use Rattle.dbl_journal.specs.declared.error.JournalError.TheVariants as journal_
 use Rattle.dbl_offset.specs.declared.error.OffsetError.TheVariants as error
 use Rattle.dbl_offset.specs.Entries.{spelling}
 use Rattle.dbl_offset.specs.Offsets.{Spells, IsEntry}
-use Rattle.dbl_offset.specs.Stores.{StoreOn, Holds}
+use Rattle.dbl_offset.specs.Stores.{StoreOn, Holds, as_offset_error}
 use Rattle.dbl_journal.proofs.Growth.{comes_at}
 use Rattle.dbl_offset.proofs.OffsetLaws.{same_long}
-use Rattle.dbl_offset.proofs.StoreLaws.{err_one, leaves, not_long, roomy}
+use Rattle.dbl_offset.proofs.StoreLaws.{err_one, leaves, not_long, roomy, failed_of}
+use Rattle.dbl_base.specs.Streams.{Rose}
+use Rattle.dbl_journal.specs.declared.error.JournalError.{JournalError}
+use Rattle.dbl_offset.specs.declared.error.OffsetError.{OffsetError}
 use Rattle.dbl_offset.proofs.store.OffsetStore.store.Goals as goal
 
 pub measure-count-requires : goal.measure-count-requires
@@ -69,12 +72,26 @@ pub returns-clause-comes : goal.returns-clause-comes
 returns-clause-comes g c =
     comes_at g.D.Disk.seen g.D.Disk.may_leave c.self.inside.journal c.args.self.now.journal c.append_built.new.self (ap (λ (s : StoreOn _). s.journal) c.self.view_is) c.append_built.ensures.comes
 
-pub returns-in_err-append_built-clause-told : goal.returns-in_err-append_built-clause-told
-returns-in_err-append_built-clause-told g c before told_before = c.append_built.ensures.told before (ap (λ (s : StoreOn _). g.D.Disk.seen s.journal.disk) c.self.view_is ∙ told_before)
+pub returns-in_err-append_built-clause-puts : goal.returns-in_err-append_built-clause-puts
+returns-in_err-append_built-clause-puts g c =
+    let p = err_from_is_err_and c.from_residual-in_err-append_built.result c.from_residual-in_err-append_built.ensures.1 in
+    let on = λ (is : p.0 ≡ error.Failed). failed_of c.in_err-append_built.field-0.0 p.0 p.2 is in
+    record {
+      told = λ before told. c.append_built.ensures.puts.told before (ap (λ (s : StoreOn _). g.D.Disk.seen s.journal.disk) c.self.view_is ∙ told);
+      later = subst (λ (n : ℕ). n ≤ g.D.Disk.faults c.append_built.new.self.disk) (ap (λ (s : StoreOn _). g.D.Disk.faults s.journal.disk) c.self.view_is) c.append_built.ensures.puts.later;
+      cause = λ is.
+          subst (λ (n : ℕ). Rose n (g.D.Disk.faults c.append_built.new.self.disk)) (ap (λ (s : StoreOn _). g.D.Disk.faults s.journal.disk) c.self.view_is) (c.in_err-append_built.ensures.puts.cause (ap (λ (e : JournalError). Err e) (on (err_one p.0 error.Failed (sym p.1 ∙ is)))));
+      dead = λ is. c.in_err-append_built.ensures.puts.dead (ap (λ (e : JournalError). Err e) (on (err_one p.0 error.Failed (sym p.1 ∙ is))));
+      steady = λ no before told.
+          c.in_err-append_built.ensures.puts.steady (λ is. no (p.1 ∙ ap (λ (e : OffsetError). Err e) (p.2 ∙ ap as_offset_error (err_one c.in_err-append_built.field-0.0 journal_error.Failed is)))) before (ap (λ (s : StoreOn _). g.D.Disk.seen s.journal.disk) c.self.view_is ∙ told) ∙ ap (λ (s : StoreOn _). g.D.Disk.faults s.journal.disk) c.self.view_is;
+    }
 
-pub returns-clause-told : goal.returns-clause-told
-returns-clause-told g c before told_before = c.append_built.ensures.told before (ap (λ (s : StoreOn _). g.D.Disk.seen s.journal.disk) c.self.view_is ∙ told_before)
-
-pub returns-clause-steady : goal.returns-clause-steady
-returns-clause-steady g c answered before told =
-    c.in_ok-append_built.ensures.steady (λ ok. cc) before (ap (λ (s : StoreOn _). g.D.Disk.seen s.journal.disk) c.self.view_is ∙ told) ∙ ap (λ (s : StoreOn _). g.D.Disk.faults s.journal.disk) c.self.view_is
+pub returns-clause-puts : goal.returns-clause-puts
+returns-clause-puts g c = record {
+  told = λ before told. c.append_built.ensures.puts.told before (ap (λ (s : StoreOn _). g.D.Disk.seen s.journal.disk) c.self.view_is ∙ told);
+  later = subst (λ (n : ℕ). n ≤ g.D.Disk.faults c.append_built.new.self.disk) (ap (λ (s : StoreOn _). g.D.Disk.faults s.journal.disk) c.self.view_is) c.append_built.ensures.puts.later;
+  cause = λ is. absurd (let i = is in cc);
+  dead = λ is. absurd (let i = is in cc);
+  steady = λ answered before told.
+      c.in_ok-append_built.ensures.puts.steady (λ ok. cc) before (ap (λ (s : StoreOn _). g.D.Disk.seen s.journal.disk) c.self.view_is ∙ told) ∙ ap (λ (s : StoreOn _). g.D.Disk.faults s.journal.disk) c.self.view_is;
+}

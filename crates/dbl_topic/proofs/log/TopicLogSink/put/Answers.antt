@@ -1,4 +1,4 @@
-use Rattle.std.proofs.Common.{◌≡◌, ◌≤◌, ◌^◌, ℕ, List, Result, Err, length, drop, ap, subst, sym, ◌∙◌, inl, arith}
+use Rattle.std.proofs.Common.{◌≡◌, ◌≤◌, ◌^◌, ℕ, List, Result, Err, length, drop, ap, subst, sym, ◌∙◌, inl, arith, le_refl, refl}
 use Rattle.std.specs.Prelude.{max}
 use Rattle.std.proofs.lemmas.Result.{err_from_is_err_and}
 use Rattle.dbl_journal.specs.declared.error.JournalError.{JournalError}
@@ -10,9 +10,12 @@ use Rattle.dbl_topic.specs.declared.error.SinkError.TheVariants.{TooLong}
 use Rattle.dbl_topic.specs.Held.{HoldsGroups, LeavesGroups}
 use Rattle.dbl_topic.specs.SinkLaws.{may_leave_held, only_held}
 use Rattle.dbl_topic.specs.Sinks.{IsLeftByWhole}
-use Rattle.dbl_topic.proofs.HeldLaws.{leaves_any, leaves_put, left_by_put, some_left, still_there, too_long_of}
+use Rattle.dbl_topic.proofs.HeldLaws.{leaves_any, leaves_put, left_by_put, some_left, still_there, too_long_of, failed_of_sink}
 use Rattle.dbl_journal.proofs.Growth.{comes_at}
 use Rattle.dbl_topic.proofs.LogLaws.{entries-push, size_of}
+use Rattle.dbl_base.specs.Streams.{Rose}
+use Rattle.dbl_topic.specs.Faults.{sink_fault}
+use Rattle.dbl_topic.specs.declared.error.SinkError.TheVariants as sink
 use Rattle.dbl_topic.proofs.log.TopicLogSink.put.Goals as goal
 
 pub returns-then-len-gt-GROUP_LIMIT-clause-left : goal.returns-then-len-gt-GROUP_LIMIT-clause-left
@@ -68,12 +71,6 @@ returns-in_err-append_built-clause-grows g c groups old new holds told_old told_
     let told = ap (λ (log : OnDisk _). g.D.Disk.seen log.disk) c.self.view_is ∙ told_old in
     subst (λ (n : ℕ). length new ≤ max (length old) n) (size_of held.entries groups (drop 4 c.in_ok-bytes.bytes.items) c.args.group.now.items held.are c.in_ok-bytes.ensures.entry) (c.in_err-append_built.ensures.grows held.entries old new held.lists told told_new)
 
-pub returns-in_err-append_built-clause-told : goal.returns-in_err-append_built-clause-told
-returns-in_err-append_built-clause-told g c old told = c.append_built.ensures.told old (ap (λ (log : OnDisk _). g.D.Disk.seen log.disk) c.self.view_is ∙ told)
-
-pub returns-clause-told : goal.returns-clause-told
-returns-clause-told g c old told = c.append_built.ensures.told old (ap (λ (log : OnDisk _). g.D.Disk.seen log.disk) c.self.view_is ∙ told)
-
 pub returns-clause-grows : goal.returns-clause-grows
 returns-clause-grows g c groups old new holds told_old told_new =
     let held = subst (λ (log : OnDisk _). HoldsGroups g.D.Disk.seen g.D.Disk.may_leave log groups) (sym c.self.view_is) holds in
@@ -111,13 +108,13 @@ returns-in_err-bytes-clause-some g c groups held = (groups, may_leave_held g.D.D
 pub returns-in_err-append_built-clause-some : goal.returns-in_err-append_built-clause-some
 returns-in_err-append_built-clause-some g c groups holds =
     let held = subst (λ (log : OnDisk _). HoldsGroups g.D.Disk.seen g.D.Disk.may_leave log groups) (sym c.self.view_is) holds in
-    let told = c.append_built.ensures.told held.lists.bytes held.lists.told in
+    let told = c.append_built.ensures.puts.told held.lists.bytes held.lists.told in
     some_left g.D.Disk.seen g.D.Disk.may_leave g.met.D.Disk.seen_may_be_left c.append_built.new.self.disk told.0 told.1 (IsLeftByWhole groups c.args.group.now.items) (returns-in_err-append_built-clause-one_of g c groups holds)
 
 pub returns-clause-some : goal.returns-clause-some
 returns-clause-some g c groups holds =
     let held = subst (λ (log : OnDisk _). HoldsGroups g.D.Disk.seen g.D.Disk.may_leave log groups) (sym c.self.view_is) holds in
-    let told = c.append_built.ensures.told held.lists.bytes held.lists.told in
+    let told = c.append_built.ensures.puts.told held.lists.bytes held.lists.told in
     some_left g.D.Disk.seen g.D.Disk.may_leave g.met.D.Disk.seen_may_be_left c.append_built.new.self.disk told.0 told.1 (IsLeftByWhole groups c.args.group.now.items) (returns-clause-one_of g c groups holds)
 
 abbrev failure : JournalError → Result (Unit {0}) JournalError
@@ -142,7 +139,7 @@ returns-in_err-append_built-clause-comes g c = record {
         holds = λ live. (
           held.0,
           still_there (λ (log : OnDisk _). HoldsGroups g.D.Disk.seen g.D.Disk.may_leave log held.0) c.in_err-append_built.field-0.0 c.self.inside.journal c.append_built.new.self
-              (λ is. c.in_err-append_built.ensures.dead (ap (λ (e : JournalError). Err e) is)) (λ not. c.in_err-append_built.ensures.unchanged (λ is. not (failure_is _ _ is))) live inside,
+              (λ is. c.in_err-append_built.ensures.puts.dead (ap (λ (e : JournalError). Err e) is)) (λ not. c.in_err-append_built.ensures.unchanged (λ is. not (failure_is _ _ is))) live inside,
         );
         leaves = returns-in_err-append_built-clause-whole g c held.0 held.1;
       };
@@ -156,6 +153,47 @@ returns-clause-comes g c = record {
       record { holds = λ live. (_, returns-clause-added g c held.0 held.1); leaves = returns-clause-whole g c held.0 held.1 };
 }
 
-pub returns-clause-steady : goal.returns-clause-steady
-returns-clause-steady g c answered old told =
-    c.in_ok-append_built.ensures.steady (λ ok. cc) old (ap (λ (log : OnDisk _). g.D.Disk.seen log.disk) c.self.view_is ∙ told) ∙ ap (λ (log : OnDisk _). g.D.Disk.faults log.disk) c.self.view_is
+pub returns-then-len-gt-GROUP_LIMIT-clause-puts : goal.returns-then-len-gt-GROUP_LIMIT-clause-puts
+returns-then-len-gt-GROUP_LIMIT-clause-puts g c = record {
+  told = λ old told. (old, told);
+  later = le_refl _;
+  cause = λ is. absurd (let i = is in cc);
+  dead = λ is. absurd (let i = is in cc);
+  steady = λ no old told. refl;
+}
+
+pub returns-in_err-bytes-clause-puts : goal.returns-in_err-bytes-clause-puts
+returns-in_err-bytes-clause-puts g c =
+    let p = err_from_is_err_and c.from_residual.result c.from_residual.ensures.1 in
+    record {
+      told = λ old told. (old, told);
+      later = le_refl _;
+      cause = λ is. absurd (let a = p.1 in let b = p.2 in let m = c.in_err-bytes.ensures.memory in let i = is in cc);
+      dead = λ is. absurd (let a = p.1 in let b = p.2 in let m = c.in_err-bytes.ensures.memory in let i = is in cc);
+      steady = λ no old told. refl;
+    }
+
+pub returns-in_err-append_built-clause-puts : goal.returns-in_err-append_built-clause-puts
+returns-in_err-append_built-clause-puts g c =
+    let p = err_from_is_err_and c.from_residual-in_err-append_built.result c.from_residual-in_err-append_built.ensures.1 in
+    let on = λ (is : c.from_residual-in_err-append_built.result ≡ failed sink.Failed).
+    failed_of_sink c.in_err-append_built.field-0.0 (λ at no. c.in_err-append_built.ensures.journal at (ap (λ (e : JournalError). Err e) no)) (sym p.2 ∙ failed_is p.0 sink.Failed (sym p.1 ∙ is)) in
+    record {
+      told = λ old told. c.append_built.ensures.puts.told old (ap (λ (log : OnDisk _). g.D.Disk.seen log.disk) c.self.view_is ∙ told);
+      later = subst (λ (n : ℕ). n ≤ g.D.Disk.faults c.append_built.new.self.disk) (ap (λ (log : OnDisk _). g.D.Disk.faults log.disk) c.self.view_is) c.append_built.ensures.puts.later;
+      cause = λ is.
+          subst (λ (n : ℕ). Rose n (g.D.Disk.faults c.append_built.new.self.disk)) (ap (λ (log : OnDisk _). g.D.Disk.faults log.disk) c.self.view_is) (c.in_err-append_built.ensures.puts.cause (ap (λ (e : JournalError). Err e) (on is)));
+      dead = λ is. c.in_err-append_built.ensures.puts.dead (ap (λ (e : JournalError). Err e) (on is));
+      steady = λ no old told.
+          c.in_err-append_built.ensures.puts.steady (λ is. no (p.1 ∙ ap (λ (e : SinkError). Err e) (p.2 ∙ ap sink_fault (failure_is _ _ is)))) old (ap (λ (log : OnDisk _). g.D.Disk.seen log.disk) c.self.view_is ∙ told) ∙ ap (λ (log : OnDisk _). g.D.Disk.faults log.disk) c.self.view_is;
+    }
+
+pub returns-clause-puts : goal.returns-clause-puts
+returns-clause-puts g c = record {
+  told = λ old told. c.append_built.ensures.puts.told old (ap (λ (log : OnDisk _). g.D.Disk.seen log.disk) c.self.view_is ∙ told);
+  later = subst (λ (n : ℕ). n ≤ g.D.Disk.faults c.append_built.new.self.disk) (ap (λ (log : OnDisk _). g.D.Disk.faults log.disk) c.self.view_is) c.append_built.ensures.puts.later;
+  cause = λ is. absurd (let i = is in cc);
+  dead = λ is. absurd (let i = is in cc);
+  steady = λ answered old told.
+      c.in_ok-append_built.ensures.puts.steady (λ ok. cc) old (ap (λ (log : OnDisk _). g.D.Disk.seen log.disk) c.self.view_is ∙ told) ∙ ap (λ (log : OnDisk _). g.D.Disk.faults log.disk) c.self.view_is;
+}

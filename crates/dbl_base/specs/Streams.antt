@@ -15,7 +15,7 @@ pub record HasCause (failed : Type 0) (before now : ℕ) : Type 0 where
   pub cause : failed → Rose before now
 
 -- the first n of the bytes left were moved to the front of the buffer
-pub record MovesFront (n : ℕ) (bytes buffer : List ℕ) (left : Option (List ℕ)) : Type 0 where
+pub record MovesToStart (n : ℕ) (bytes buffer : List ℕ) (left : Option (List ℕ)) : Type 0 where
   pub moved : take n buffer ≡ take n bytes
   pub left_are : left ≡ Some (drop n bytes)
 

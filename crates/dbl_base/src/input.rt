@@ -1,5 +1,5 @@
 ghost use Rattle.std.specs.Prelude.{◌≡◌, ◌≢◌, ℕ, ◌+◌, ◌<◌, ◌≤◌, ◌++◌, List, [], length, take, drop, Option, Some, Ok, Err, IfOk, OnOk, OnErr, IsErr};
-ghost use Rattle.dbl_base.specs.Streams.{HasCause, MovesFront, raised, input_limit};
+ghost use Rattle.dbl_base.specs.Streams.{HasCause, MovesToStart, raised, input_limit};
 
 use crate::{Bytes, Failed};
 use std::alloc::{AllocError, AllocFailed, Global};
@@ -26,7 +26,7 @@ pub trait Input {
     fn read(&mut self, buffer: &mut [u8]) -> Result<usize, Failed>
         ensures bound { IfOk result (λ n. n ≤ length buffer.old) }
         ensures moves { (bytes : List ℕ) → left self.old ≡ Some bytes →
-            IfOk result (λ n. MovesFront n bytes buffer.new (left self.new)) }
+            IfOk result (λ n. MovesToStart n bytes buffer.new (left self.new)) }
         ensures end { (bytes : List ℕ) → left self.old ≡ Some bytes → 0 < length buffer.old →
             result ≡ Ok 0 → bytes ≡ [] }
         ensures kept { (bytes : List ℕ) → left self.old ≡ Some bytes →

@@ -1,5 +1,5 @@
 ghost use Rattle.std.specs.Prelude.{◌≡◌, ◌<◌, ◌≤◌, ◌++◌, ◌↔◌, ℕ, List, [], Some, Ok, length, drop, take, min, IsErr, OnOk, OnErr, IfOk, Contains};
-ghost use Rattle.dbl_base.specs.Streams.{HasCause, MovesFront, raised};
+ghost use Rattle.dbl_base.specs.Streams.{HasCause, MovesToStart, raised};
 ghost use Rattle.dbl_base.specs.Memory.{new_plan};
 
 use crate::{Failed, FaultPlan, Input, Output};
@@ -48,7 +48,7 @@ impl Input for MemInput {
     fn read(&mut self, buffer: &mut [u8]) -> Result<usize, Failed>
         ensures bound { IfOk result (λ n. n ≤ length buffer.old) }
         ensures moves { (bytes : List ℕ) → Some self.old.left ≡ Some bytes →
-            IfOk result (λ n. MovesFront n bytes buffer.new (Some self.new.left)) }
+            IfOk result (λ n. MovesToStart n bytes buffer.new (Some self.new.left)) }
         ensures end { (bytes : List ℕ) → Some self.old.left ≡ Some bytes → 0 < length buffer.old →
             result ≡ Ok 0 → bytes ≡ [] }
         ensures kept { (bytes : List ℕ) → Some self.old.left ≡ Some bytes →
@@ -121,7 +121,7 @@ impl Output for MemOutput {
     fn write(&mut self, piece: &[u8]) -> Result<(), Failed>
         ensures ok { (bytes : List ℕ) → Some self.old.written ≡ Some bytes →
             OnOk result (Some self.new.written ≡ Some (bytes ++ piece.now)) }
-        ensures front { (bytes : List ℕ) → Some self.old.written ≡ Some bytes →
+        ensures prefix { (bytes : List ℕ) → Some self.old.written ≡ Some bytes →
             OnErr result ((n : ℕ) × (Some self.new.written ≡ Some (bytes ++ take n piece.now))) }
         ensures cause { HasCause (IsErr result) self.old.plan.faults self.new.plan.faults }
 

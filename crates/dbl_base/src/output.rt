@@ -15,7 +15,7 @@ pub trait Output {
     fn write(&mut self, piece: &[u8]) -> Result<(), Failed>
         ensures ok { (bytes : List ℕ) → written self.old ≡ Some bytes →
             OnOk result (written self.new ≡ Some (bytes ++ piece.now)) }
-        ensures front { (bytes : List ℕ) → written self.old ≡ Some bytes →
+        ensures prefix { (bytes : List ℕ) → written self.old ≡ Some bytes →
             OnErr result ((n : ℕ) × (written self.new ≡ Some (bytes ++ take n piece.now))) }
         ensures cause { HasCause (IsErr result) (faults self.old) (faults self.new) };
 }

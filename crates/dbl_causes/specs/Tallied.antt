@@ -28,7 +28,7 @@ IsLeftOutBy (Ok ending) n = n ≡ 0
 IsLeftOutBy (Err h) n = IsLeftOut h n
 
 -- Behind the earlier messages such a one ends a commit, and of its records these are some first ones, but not all.
-pub record IsFront (by : Making) (earlier : List Message) (such : Message → Type 0) (part : List Record) : Type 0 where
+pub record IsFirstPart (by : Making) (earlier : List Message) (such : Message → Type 0) (part : List Record) : Type 0 where
   pub message : Message
   pub is : such message
   pub commit : Commit
@@ -42,7 +42,7 @@ pub record IsFront (by : Making) (earlier : List Message) (such : Message → Ty
 -- What was put of the newest message, where it is left out: nothing, or not all records of the commit that it ends.
 abbrev pub IsPartOf : {A : Type 0} → Making → List Message → (A → Message → Type 0) → List A → List Record → Type 0
 IsPartOf by earlier such [] part = part ≡ []
-IsPartOf by earlier such (newest ∷ []) part = (part ≡ []) ⊎ IsFront by earlier (such newest) part
+IsPartOf by earlier such (newest ∷ []) part = (part ≡ []) ⊎ IsFirstPart by earlier (such newest) part
 IsPartOf by earlier such (newest ∷ (other ∷ more)) part = ⊥
 
 -- ---- what is

@@ -1,23 +1,23 @@
 -- Journals that come of one another.
 use Rattle.std.proofs.Common.{◌≡◌, ◌⊎◌, ◌∙◌, inl, inr, ℕ, ◌+◌, ◌^◌, ◌≤◌, List, [], ◌∷◌, ◌++◌, length, Option, Some, sym, ap, subst, arith}
 use Rattle.std.specs.Prelude.{IsTrue, max}
-use Rattle.dbl_journal.specs.Form.{IsEntry, IsJournal, front}
+use Rattle.dbl_journal.specs.Form.{IsEntry, IsJournal, up_to_gate}
 use Rattle.dbl_journal.specs.Stored.{LeavesEntries, Lists, OnDisk, size}
 use Rattle.dbl_journal.specs.Growth.{ComesOf, HasCome, ReachesFrom}
-use Rattle.dbl_journal.proofs.Appends.{length-front-push}
+use Rattle.dbl_journal.proofs.Appends.{length-up_to_gate-push}
 use Rattle.dbl_journal.proofs.Reading.{one_journal}
 
-no_more : (gate most : ℕ) (before entries left : List (List ℕ)) (entry old new : List ℕ) → IsEntry entry → before ≡ entries → gate ≤ length (front before) → length old ≤ max most (length (front before) + 2 ^ 30)
-    → length new ≤ max (length old) (size (entries ++ entry ∷ [])) → (left ≡ entries) ⊎ (left ≡ entries ++ entry ∷ []) → (gate ≤ length (front left)) × (length new ≤ max most (length (front left) + 2 ^ 30))
+no_more : (gate most : ℕ) (before entries left : List (List ℕ)) (entry old new : List ℕ) → IsEntry entry → before ≡ entries → gate ≤ length (up_to_gate before) → length old ≤ max most (length (up_to_gate before) + 2 ^ 30)
+    → length new ≤ max (length old) (size (entries ++ entry ∷ [])) → (left ≡ entries) ⊎ (left ≡ entries ++ entry ∷ []) → (gate ≤ length (up_to_gate left)) × (length new ≤ max most (length (up_to_gate left) + 2 ^ 30))
 no_more gate most before entries left entry old new short same on was now (inl e) =
-    let first = ap (λ (es : List (List ℕ)). length (front es)) same in
-    let second = ap (λ (es : List (List ℕ)). length (front es)) e in
-    let push = length-front-push entries entry in
+    let first = ap (λ (es : List (List ℕ)). length (up_to_gate es)) same in
+    let second = ap (λ (es : List (List ℕ)). length (up_to_gate es)) e in
+    let push = length-up_to_gate-push entries entry in
     (omega (arith, on, first, second), omega (arith, was, now, first, second, push, short))
 no_more gate most before entries left entry old new short same on was now (inr e) =
-    let first = ap (λ (es : List (List ℕ)). length (front es)) same in
-    let second = ap (λ (es : List (List ℕ)). length (front es)) e in
-    let push = length-front-push entries entry in
+    let first = ap (λ (es : List (List ℕ)). length (up_to_gate es)) same in
+    let second = ap (λ (es : List (List ℕ)). length (up_to_gate es)) e in
+    let push = length-up_to_gate-push entries entry in
     (omega (arith, on, first, second, push), omega (arith, was, now, first, second, push, short))
 
 module _ {D : Type 0} (seen : D → Option (List ℕ)) (may_leave : D → List ℕ → Type 0) where
@@ -69,9 +69,9 @@ module _ {D : Type 0} (seen : D → Option (List ℕ)) (may_leave : D → List �
 
   -- the bytes of a journal that comes of one with entries
   pub grown_from : (old new : OnDisk D) (entries : List (List ℕ)) (before after : List ℕ) → ComesOf seen may_leave old new → Lists seen may_leave old entries → seen old.disk ≡ Some before → seen new.disk ≡ Some after
-      → ReachesFrom (length (front entries)) (length before) after
+      → ReachesFrom (length (up_to_gate entries)) (length before) after
   grown_from old new entries before after comes lists was told =
-      let has : HasCome seen may_leave (length (front entries)) (length before) old =
+      let has : HasCome seen may_leave (length (up_to_gate entries)) (length before) old =
       record {
         lists = λ live. (entries, lists);
         told = (before, was);
@@ -82,4 +82,4 @@ module _ {D : Type 0} (seen : D → Option (List ℕ)) (may_leave : D → List �
             let same : bytes ≡ before = cc in
             record { entries = entries; journal = subst (λ (b : List ℕ). IsJournal b entries) is lists.spelled; on = omega arith; short = omega (arith, ap length same) };
       } in
-      (comes (length (front entries)) (length before) has).reaches after told
+      (comes (length (up_to_gate entries)) (length before) has).reaches after told

@@ -6,7 +6,7 @@ use Rattle.std.proofs.lemmas.Nat.{from_be_bytes-to_be_bytes_4}
 use Rattle.std.proofs.lemmas.Bool.{cases_lt}
 use Rattle.std.specs.Int.{to_be_bytes, from_be_bytes, w32}
 use Rattle.std.specs.List.{All, flat_map}
-use Rattle.dbl_journal.specs.Form.{IsJournal, IsClosed, IsBroken, IsEntry, IsFaultAt, HasBadMagic, body, frame, front, magic}
+use Rattle.dbl_journal.specs.Form.{IsJournal, IsClosed, IsBroken, IsEntry, IsFaultAt, HasBadMagic, body, frame, up_to_gate, magic}
 
 same_parts : (a b x y : List ℕ) → length a ≡ length b → a ++ x ≡ b ++ y → (a ≡ b) × (x ≡ y)
 same_parts a b x y long is = (
@@ -55,8 +55,8 @@ one_walk (x ∷ xs) (y ∷ ys) r s ax ay is cr cs =
     let rest = one_walk xs ys r s (All-tail IsEntry x xs ax) (All-tail IsEntry y ys ay) parts.1 cr cs in
     (ap (λ (e : List ℕ). e ∷ xs) parts.0 ∙ ap (λ (l : List (List ℕ)). y ∷ l) rest.0, rest.1)
 
-one_front : (bytes : List ℕ) (xs ys : List (List ℕ)) (r s : List ℕ) → bytes ≡ front xs ++ r → bytes ≡ front ys ++ s → All IsEntry xs → All IsEntry ys → HasNoFrame r → HasNoFrame s → (xs ≡ ys) × (r ≡ s)
-unfolding front
+one_front : (bytes : List ℕ) (xs ys : List (List ℕ)) (r s : List ℕ) → bytes ≡ up_to_gate xs ++ r → bytes ≡ up_to_gate ys ++ s → All IsEntry xs → All IsEntry ys → HasNoFrame r → HasNoFrame s → (xs ≡ ys) × (r ≡ s)
+unfolding up_to_gate
 one_front bytes xs ys r s x_is y_is ax ay cr cs =
     one_walk xs ys r s ax ay
     (same_parts magic magic (flat_map frame xs ++ r) (flat_map frame ys ++ s) refl
@@ -67,8 +67,8 @@ pub one_journal : (bytes : List ℕ) (xs ys : List (List ℕ)) → IsJournal byt
 one_journal bytes xs ys a b = (one_front bytes xs ys a.rest b.rest a.spelled b.spelled a.each b.each (none_if_closed a.rest a.closed) (none_if_closed b.rest b.closed)).0
 
 -- what begins with a front begins with the magic
-has_magic : (bytes : List ℕ) (entries : List (List ℕ)) (rest : List ℕ) (n : ℕ) → n ≤ 8 → bytes ≡ front entries ++ rest → take n bytes ≡ take n magic
-unfolding front magic
+has_magic : (bytes : List ℕ) (entries : List (List ℕ)) (rest : List ℕ) (n : ℕ) → n ≤ 8 → bytes ≡ up_to_gate entries ++ rest → take n bytes ≡ take n magic
+unfolding up_to_gate magic
 has_magic bytes entries rest n short is =
     ap (λ (l : List ℕ). take n l) (is ∙ append_assoc magic (flat_map frame entries) rest) ∙ take-append-le n magic (flat_map frame entries ++ rest) (omega arith)
 
@@ -94,4 +94,4 @@ one_fault bytes m n (inl a) (inr b) = absurd (a.differs (has_magic bytes b.entri
 one_fault bytes m n (inr a) (inl b) = absurd (b.differs (has_magic bytes a.entries a.rest (n + 1) (omega (arith, b.within)) a.spelled))
 one_fault bytes m n (inr a) (inr b) =
     let same = one_front bytes a.entries b.entries a.rest b.rest a.spelled b.spelled a.each b.each (none_if_broken a.rest a.broken) (none_if_broken b.rest b.broken) in
-    a.place ∙ ap (λ (l : List (List ℕ)). length (front l)) same.0 ∙ sym b.place
+    a.place ∙ ap (λ (l : List (List ℕ)). length (up_to_gate l)) same.0 ∙ sym b.place

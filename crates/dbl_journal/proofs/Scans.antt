@@ -6,10 +6,10 @@ use Rattle.std.proofs.lemmas.Nat.{from_be_bytes-to_be_bytes_4}
 use Rattle.std.specs.Int.{to_be_bytes, from_be_bytes, w32}
 use Rattle.std.specs.List.{flat_map}
 use Rattle.dbl_disk.specs.declared.extent.Extent.{Extent}
-use Rattle.dbl_journal.specs.Form.{HasBadMagic, HasNoBody, IsBroken, IsClosed, IsEntry, IsJournal, body, frame, front, magic}
+use Rattle.dbl_journal.specs.Form.{HasBadMagic, HasNoBody, IsBroken, IsClosed, IsEntry, IsJournal, body, frame, up_to_gate, magic}
 use Rattle.dbl_journal.specs.Steps.{AreRead, IsStep}
 use Rattle.dbl_journal.specs.Stored.{places_from}
-use Rattle.dbl_journal.proofs.Appends.{front-nil, front-push, length-body, length-front-push, length-magic, places-push}
+use Rattle.dbl_journal.proofs.Appends.{up_to_gate-nil, up_to_gate-push, length-body, length-up_to_gate-push, length-magic, places-push}
 
 -- the five bytes at the gate
 module _ (bytes head : List ℕ) (gate got len : ℕ) (long : length head ≡ 5) (got_is : got ≡ min 5 (length bytes - gate)) (moved : take got head ≡ take got (drop gate bytes)) (is_open : head ≡ 1 ∷ to_be_bytes w32 len) (fits : len < 2 ^ 32) where
@@ -71,9 +71,9 @@ module _ (bytes head : List ℕ) (gate got len : ℕ) (long : length head ≡ 5)
 pub reading_begins : (bytes : List ℕ) → bytes ≡ magic ++ drop 8 bytes → AreRead bytes 8 []
 reading_begins bytes is = record {
   entries = [];
-  spelled = is ∙ ap (λ (l : List ℕ). l ++ drop 8 bytes) (sym front-nil);
+  spelled = is ∙ ap (λ (l : List ℕ). l ++ drop 8 bytes) (sym up_to_gate-nil);
   each = All-nil IsEntry;
-  gate_is = sym (ap length front-nil ∙ length-magic);
+  gate_is = sym (ap length up_to_gate-nil ∙ length-magic);
   places_are = refl;
 }
 
@@ -84,12 +84,12 @@ reading_goes_on bytes gate places place read step =
     record {
       entries = read.entries ++ entry ∷ [];
       spelled =
-          read.spelled ∙ ap (λ (l : List ℕ). front read.entries ++ l) step.2
-          ∙ sym (append_assoc (front read.entries) (frame entry) (drop (gate + 5 + length entry) bytes))
-          ∙ ap (λ (l : List ℕ). l ++ drop (gate + 5 + length entry) bytes) (sym (front-push read.entries entry))
-          ∙ ap (λ (n : ℕ). front (read.entries ++ entry ∷ []) ++ drop n bytes) (sym next);
+          read.spelled ∙ ap (λ (l : List ℕ). up_to_gate read.entries ++ l) step.2
+          ∙ sym (append_assoc (up_to_gate read.entries) (frame entry) (drop (gate + 5 + length entry) bytes))
+          ∙ ap (λ (l : List ℕ). l ++ drop (gate + 5 + length entry) bytes) (sym (up_to_gate-push read.entries entry))
+          ∙ ap (λ (n : ℕ). up_to_gate (read.entries ++ entry ∷ []) ++ drop n bytes) (sym next);
       each = All-push IsEntry read.entries entry read.each step.1;
-      gate_is = omega (arith, next, read.gate_is, length-front-push read.entries entry);
+      gate_is = omega (arith, next, read.gate_is, length-up_to_gate-push read.entries entry);
       places_are =
           ap (λ (l : List Extent). l ++ place ∷ []) read.places_are
           ∙ ap (λ (p : Extent). places_from 8 read.entries ++ p ∷ []) step.3
@@ -149,7 +149,7 @@ place_of bytes before rest (e ∷ entries) at (suc i) d is long below =
     (omega arith)
 
 pub has_place : (bytes : List ℕ) (entries : List (List ℕ)) (i : ℕ) (d : Extent) → IsJournal bytes entries → i < length entries → HasPlace bytes (get_or (places_from 8 entries) i d) (get_or entries i [])
-unfolding front
+unfolding up_to_gate
 has_place bytes entries i d journal below =
     place_of bytes magic journal.rest entries 8 i d (journal.spelled ∙ append_assoc magic (flat_map frame entries) journal.rest) length-magic below
 

@@ -16,8 +16,8 @@ abbrev pub frame : List ℕ → List ℕ
 frame entry = 1 ∷ body entry
 
 -- the bytes up to the gate that stands behind these entries
-unfoldable pub front : List (List ℕ) → List ℕ
-front entries = magic ++ flat_map frame entries
+unfoldable pub up_to_gate : List (List ℕ) → List ℕ
+up_to_gate entries = magic ++ flat_map frame entries
 
 -- an entry holds at most so many bytes
 abbrev pub entry_limit : ℕ
@@ -35,7 +35,7 @@ IsClosed (gate ∷ rest) = gate ≢ 1
 -- the bytes are a journal of these entries
 pub record IsJournal (bytes : List ℕ) (entries : List (List ℕ)) : Type 0 where
   pub rest : List ℕ
-  pub spelled : bytes ≡ front entries ++ rest
+  pub spelled : bytes ≡ up_to_gate entries ++ rest
   pub closed : IsClosed rest
   pub each : All IsEntry entries
 
@@ -58,9 +58,9 @@ pub record HasBadMagic (bytes : List ℕ) (at : ℕ) : Type 0 where
 pub record HasBadGate (bytes : List ℕ) (at : ℕ) : Type 0 where
   pub entries : List (List ℕ)
   pub rest : List ℕ
-  pub spelled : bytes ≡ front entries ++ rest
+  pub spelled : bytes ≡ up_to_gate entries ++ rest
   pub each : All IsEntry entries
-  pub place : at ≡ length (front entries)
+  pub place : at ≡ length (up_to_gate entries)
   pub broken : IsBroken rest
 
 -- the bytes are no journal, and this place tells why

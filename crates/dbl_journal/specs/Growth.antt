@@ -1,6 +1,6 @@
 -- What no call of a journal undoes. Source: own.
 use Rattle.std.specs.Prelude.{◌≡◌, ℕ, ◌+◌, ◌^◌, ◌≤◌, IsTrue, Option, Some, List, length, max}
-use Rattle.dbl_journal.specs.Form.{IsJournal, front}
+use Rattle.dbl_journal.specs.Form.{IsJournal, up_to_gate}
 use Rattle.dbl_journal.specs.Stored.{Lists, OnDisk}
 
 -- so many bytes at most stand past the closed gate, where appends alone put them there: more than one append writes
@@ -12,8 +12,8 @@ growth_room = 2 ^ 30
 pub record ReachesFrom (gate most : ℕ) (bytes : List ℕ) : Type 0 where
   pub entries : List (List ℕ)
   pub journal : IsJournal bytes entries
-  pub on : gate ≤ length (front entries)
-  pub short : length bytes ≤ max most (length (front entries) + growth_room)
+  pub on : gate ≤ length (up_to_gate entries)
+  pub short : length bytes ≤ max most (length (up_to_gate entries) + growth_room)
 
 -- A journal has come so far: if it can be used, it lists some entries; its disk tells its bytes; and these reach from there.
 pub record HasCome

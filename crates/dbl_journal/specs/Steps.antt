@@ -3,7 +3,7 @@ use Rattle.std.specs.Prelude.{◌≡◌, ◌≢◌, ℕ, ◌+◌, Option, Some, 
 use Rattle.std.specs.List.{All}
 use Rattle.dbl_disk.specs.Disks.{IsOnly}
 use Rattle.dbl_disk.specs.declared.extent.Extent.{Extent}
-use Rattle.dbl_journal.specs.Form.{IsClosed, IsEntry, body, frame, front}
+use Rattle.dbl_journal.specs.Form.{IsClosed, IsEntry, body, frame, up_to_gate}
 use Rattle.dbl_journal.specs.Stored.{places_from}
 
 -- at the gate stands a closed one, or an open one and an entry, whose place is told
@@ -14,16 +14,16 @@ IsStep bytes gate (Some place) = (entry : List ℕ) × IsEntry entry × (drop ga
 -- these entries were read, up to the gate
 pub record AreRead (bytes : List ℕ) (gate : ℕ) (places : List Extent) : Type 0 where
   pub entries : List (List ℕ)
-  pub spelled : bytes ≡ front entries ++ drop gate bytes
+  pub spelled : bytes ≡ up_to_gate entries ++ drop gate bytes
   pub each : All IsEntry entries
-  pub gate_is : gate ≡ length (front entries)
+  pub gate_is : gate ≡ length (up_to_gate entries)
   pub places_are : places ≡ places_from 8 entries
 
 -- behind the closed gate stands an entry and the next gate, closed
 pub record IsStaged (bytes : List ℕ) (entries : List (List ℕ)) (entry : List ℕ) : Type 0 where
   pub gate : ℕ
   pub tail : List ℕ
-  pub spelled : bytes ≡ front entries ++ gate ∷ (body entry ++ 0 ∷ tail)
+  pub spelled : bytes ≡ up_to_gate entries ++ gate ∷ (body entry ++ 0 ∷ tail)
   pub closed : gate ≢ 1
   pub each : All IsEntry entries
 

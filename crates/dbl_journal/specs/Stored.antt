@@ -2,7 +2,7 @@
 use Rattle.std.specs.Prelude.{◌≡◌, ℕ, ◌+◌, ◌<◌, ◌≤◌, Bool, IsTrue, Option, Some, List, [], ◌∷◌, length}
 use Rattle.dbl_disk.specs.Disks.{IsOnly, disk_limit}
 use Rattle.dbl_disk.specs.declared.extent.Extent.{Extent}
-use Rattle.dbl_journal.specs.Form.{IsJournal, front}
+use Rattle.dbl_journal.specs.Form.{IsJournal, up_to_gate}
 
 -- the disk, the place of the last gate, where what each entry holds stands, and whether the journal can be used
 pub record OnDisk (D : Type 0) : Type 0 where
@@ -17,7 +17,7 @@ count_of journal = length journal.places
 
 -- how many bytes a journal of these entries takes, up to its last gate and with it
 abbrev pub size : List (List ℕ) → ℕ
-size entries = length (front entries) + 1
+size entries = length (up_to_gate entries) + 1
 
 -- where what these entries hold stands, the first one's gate being at this place
 abbrev pub places_from : ℕ → List (List ℕ) → List Extent
@@ -32,7 +32,7 @@ pub record Lists {D : Type 0} (seen : D → Option (List ℕ)) (may_leave : D �
   pub told : seen journal.disk ≡ Some bytes
   pub only : IsOnly bytes (may_leave journal.disk)
   pub spelled : IsJournal bytes entries
-  pub gate : journal.gate ≡ length (front entries)
+  pub gate : journal.gate ≡ length (up_to_gate entries)
   pub places : journal.places ≡ places_from 8 entries
 
 -- A disk that tells its bytes has counted no fault since then: no call of it failed and was made again.

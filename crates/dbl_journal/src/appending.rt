@@ -2,7 +2,7 @@ ghost use Rattle.std.specs.Prelude.{◌≡◌, ◌⊎◌, ℕ, ◌+◌, ◌<◌,
 ghost use Rattle.std.specs.Int.{to_be_bytes, w32};
 ghost use Rattle.dbl_base.specs.Streams.{HasCause};
 ghost use Rattle.dbl_disk.specs.Disks.{Follows, IsOnly, Torn, disk_limit};
-ghost use Rattle.dbl_journal.specs.Form.{IsEntry, IsJournal, body, front, entry_limit};
+ghost use Rattle.dbl_journal.specs.Form.{IsEntry, IsJournal, body, up_to_gate, entry_limit};
 ghost use Rattle.dbl_journal.specs.Steps.{Stages};
 ghost use Rattle.dbl_journal.specs.Stored.{LeavesEntries};
 
@@ -51,11 +51,11 @@ pub(crate) fn stage<D: Disk>(disk: &mut D, gate: u64, bytes: &[u8]) -> Result<()
     requires there { (old : List ℕ) → D.seen disk.old ≡ Some old → gate < length old }
     ensures room { OnOk result (gate + 1 + length bytes.now < disk_limit) }
     ensures kept { (old : List ℕ) (entries : List (List ℕ)) → IsOnly old (D.may_leave disk.old) →
-        IsJournal old entries → gate ≡ length (front entries) →
+        IsJournal old entries → gate ≡ length (up_to_gate entries) →
         LeavesEntries D.may_leave disk.new (λ left. left ≡ entries) }
     ensures staged { (old : List ℕ) (entries : List (List ℕ)) (entry : List ℕ) →
         D.seen disk.old ≡ Some old → IsOnly old (D.may_leave disk.old) → IsJournal old entries →
-        gate ≡ length (front entries) → bytes.now ≡ body entry ++ 0 ∷ [] →
+        gate ≡ length (up_to_gate entries) → bytes.now ≡ body entry ++ 0 ∷ [] →
         OnOk result (Stages D.seen D.may_leave disk.new entries entry) }
     ensures reaches { (new : List ℕ) → D.seen disk.new ≡ Some new →
         OnOk result (gate + 1 + length bytes.now ≤ length new) }
@@ -76,12 +76,12 @@ pub(crate) fn stage<D: Disk>(disk: &mut D, gate: u64, bytes: &[u8]) -> Result<()
 pub(crate) fn open_gate<D: Disk>(disk: &mut D, gate: u64) -> Result<(), Failed>
     requires { gate + 1 < disk_limit }
     ensures one_of { (entries : List (List ℕ)) (entry : List ℕ) →
-        Stages D.seen D.may_leave disk.old entries entry → gate ≡ length (front entries) →
+        Stages D.seen D.may_leave disk.old entries entry → gate ≡ length (up_to_gate entries) →
         IsEntry entry →
         LeavesEntries D.may_leave disk.new (λ left. (left ≡ entries) ⊎
         (left ≡ entries ++ entry ∷ [])) }
     ensures opened { (entries : List (List ℕ)) (entry : List ℕ) →
-        Stages D.seen D.may_leave disk.old entries entry → gate ≡ length (front entries) →
+        Stages D.seen D.may_leave disk.old entries entry → gate ≡ length (up_to_gate entries) →
         IsEntry entry →
         OnOk result ((new : List ℕ) × (D.seen disk.new ≡ Some new) ×
         IsOnly new (D.may_leave disk.new) × IsJournal new (entries ++ entry ∷ [])) }
@@ -101,7 +101,7 @@ pub(crate) fn open_gate<D: Disk>(disk: &mut D, gate: u64) -> Result<(), Failed>
 
 // Writes the magic and a closed gate on an empty disk.
 pub(crate) fn start<D: Disk>(disk: &mut D, bytes: &[u8]) -> Result<(), Failed>
-    requires { bytes.now ≡ front [] ++ 0 ∷ [] }
+    requires { bytes.now ≡ up_to_gate [] ++ 0 ∷ [] }
     ensures stored { D.seen disk.old ≡ Some [] → OnOk result ((new : List ℕ) ×
         (D.seen disk.new ≡ Some new) × IsOnly new (D.may_leave disk.new) × IsJournal new []) }
     ensures crash { Follows (Torn 0 9) (D.may_leave disk.old) (D.may_leave disk.new) }

@@ -2,7 +2,7 @@ ghost use Rattle.std.specs.Prelude.{◌≡◌, ◌≢◌, ◌↔◌, ℕ, ◌+�
 ghost use Rattle.std.specs.Int.{to_be_bytes, w32};
 ghost use Rattle.dbl_base.specs.Streams.{HasCause, raised};
 ghost use Rattle.dbl_disk.specs.Disks.{IsOnly, disk_limit};
-ghost use Rattle.dbl_journal.specs.Form.{IsBroken, IsFaultAt, IsJournal, front, magic};
+ghost use Rattle.dbl_journal.specs.Form.{IsBroken, IsFaultAt, IsJournal, up_to_gate, magic};
 ghost use Rattle.dbl_journal.specs.Steps.{AreRead, IsStep};
 ghost use Rattle.dbl_journal.specs.Stored.{places_from};
 
@@ -113,7 +113,7 @@ fn read_places<D: Disk>(alloc: Global, disk: &mut D, total: u64) -> Result<Found
     ensures read { (bytes : List ℕ) → D.seen disk.old ≡ Some bytes → total ≡ length bytes →
         bytes ≡ magic ++ drop 8 bytes → IfOk result
         (λ found. (entries : List (List ℕ)) × IsJournal bytes entries ×
-        (found.gate ≡ length (front entries)) × (found.places.items ≡ places_from 8 entries)) }
+        (found.gate ≡ length (up_to_gate entries)) × (found.places.items ≡ places_from 8 entries)) }
     ensures broken { (bytes : List ℕ) (at : ℕ) → D.seen disk.old ≡ Some bytes →
         total ≡ length bytes → bytes ≡ magic ++ drop 8 bytes →
         result ≡ Err (JournalError.NotAJournal at) → IsFaultAt bytes at }
@@ -145,7 +145,7 @@ fn read_places<D: Disk>(alloc: Global, disk: &mut D, total: u64) -> Result<Found
 pub(crate) fn scan<D: Disk>(alloc: Global, disk: &mut D) -> Result<Found, JournalError>
     ensures read { (bytes : List ℕ) → D.seen disk.old ≡ Some bytes →
         IfOk result (λ found. (entries : List (List ℕ)) × IsJournal bytes entries ×
-        (found.gate ≡ length (front entries)) × (found.places.items ≡ places_from 8 entries)) }
+        (found.gate ≡ length (up_to_gate entries)) × (found.places.items ≡ places_from 8 entries)) }
     ensures only { (bytes : List ℕ) → D.seen disk.old ≡ Some bytes →
         result ≢ Err JournalError.Failed → IsOnly bytes (D.may_leave disk.new) }
     ensures first { (bytes : List ℕ) (calls : ℕ) → D.seen disk.old ≡ Some bytes →

@@ -6,7 +6,7 @@ use Rattle.std.proofs.lemmas.List.Sums.{length-filter, count_by-le-length}
 use Rattle.dbl_record.specs.declared.record.Record.{Record}
 use Rattle.dbl_record.specs.Acts.{is_progress}
 use Rattle.dbl_record.specs.Cuts.{joined}
-use Rattle.dbl_journal.specs.Form.{body, frame, front, magic}
+use Rattle.dbl_journal.specs.Form.{body, frame, up_to_gate, magic}
 use Rattle.dbl_topic.specs.Logs.{AreLogEntries}
 use Rattle.dbl_faithful.specs.Kinds.{is_row}
 use Rattle.dbl_work.specs.Groups.{counted}
@@ -17,8 +17,8 @@ frames : (entries : List (List ℕ)) → length entries ≤ length (flat_map fra
 frames [] = omega arith
 frames (entry ∷ entries) = omega (arith, frames entries, length-append (body entry) (flat_map frame entries))
 
-few_entries : (entries : List (List ℕ)) → length entries ≤ length (front entries)
-unfolding front
+few_entries : (entries : List (List ℕ)) → length entries ≤ length (up_to_gate entries)
+unfolding up_to_gate
 few_entries entries = omega (arith, frames entries, length-append magic (flat_map frame entries))
 
 -- and each of a topic log has at most 1,000 records
@@ -36,7 +36,7 @@ fewer p records most few = omega (arith, length-filter p records, count_by-le-le
 
 pub small_logs_are_counted : SmallLogsAreCounted
 small_logs_are_counted bytes groups old more report log small is are =
-    let long : length bytes ≡ length (front log.entries) + length log.journal.rest = ap length log.journal.spelled ∙ length-append (front log.entries) log.journal.rest in
+    let long : length bytes ≡ length (up_to_gate log.entries) + length log.journal.rest = ap length log.journal.spelled ∙ length-append (up_to_gate log.entries) log.journal.rest in
     let most : length log.entries < 2 ^ 40 = omega (arith, long, few_entries log.entries, small) in
     let parts : length (joined groups) ≡ length (joined old) + length (joined more) =
     ap (λ (gs : List (List Record)). length (joined gs)) is ∙ ap length (flat_map-append (λ (group : List Record). group) old more) ∙ length-append (joined old) (joined more) in

@@ -1,6 +1,6 @@
 -- How many marks a session writes, and how long a disk becomes. Source: own.
 use Rattle.std.specs.Prelude.{◌≡◌, ◌⊎◌, ℕ, ◌+◌, ◌≤◌, max, Option, Some, List, length}
-use Rattle.dbl_journal.specs.Form.{IsJournal, front}
+use Rattle.dbl_journal.specs.Form.{IsJournal, up_to_gate}
 use Rattle.dbl_table.specs.declared.config.Config.{Config}
 use Rattle.dbl_table.specs.declared.table.TableInfo.{TableInfo}
 use Rattle.dbl_session.specs.Outcomes.{HasFewMarks}
@@ -31,7 +31,7 @@ AddsReportedMarks ending chunks old new = AddsExactly chunks (marks_more ending 
 pub record IsShort (before now : List ℕ) : Type 0 where
   pub entries : List (List ℕ)
   pub journal : IsJournal now entries
-  pub short : length now ≤ max (length before) (length (front entries) + growth_room)
+  pub short : length now ≤ max (length before) (length (up_to_gate entries) + growth_room)
 
 -- It goes on telling its bytes; these are the same, or so short.
 pub record IsBounded (told_before told_now : Option (List ℕ)) : Type 0 where

@@ -7,7 +7,7 @@ use Rattle.dbl_base.specs.Lines.{lines_text}
 use Rattle.dbl_base.proofs.LineLemmas.{lines_text-append}
 use Rattle.dbl_lines.specs.declared.error.PrintError.{PrintError}
 use Rattle.dbl_lines.specs.declared.error.PrintError.TheVariants.{OutputFailed, Memory}
-use Rattle.dbl_lines.specs.Writing.{Wrote, WroteFront, PrintFails, Prints}
+use Rattle.dbl_lines.specs.Writing.{Wrote, WrotePrefix, PrintFails, Prints}
 use Rattle.dbl_lines.specs.Gathering.{IsPut, Puts, PutFails, PutsLines, StaysPut}
 use Rattle.dbl_lines.proofs.WritingLemmas.{wrote_none, wrote_then, front_then, fails_more}
 
@@ -47,8 +47,8 @@ gathered_written start now next gathered emptied lines none wrote h =
     record { written = lines; kept = []; wrote = all_written start now next gathered lines wrote h; gathered_are = none; all_are = append-nil lines }
 
 -- the output failed while it was being written
-pub gathered_fails : (start now next : Option (List ℕ)) (gathered : List ℕ) (lines : List (List ℕ)) → WroteFront now next gathered → IsPut start now gathered lines → WroteFront start next (lines_text lines)
-gathered_fails start now next gathered lines front h = subst (WroteFront start next) (put_text start now gathered lines h) (front_then start now next (lines_text h.written) gathered h.wrote front)
+pub gathered_fails : (start now next : Option (List ℕ)) (gathered : List ℕ) (lines : List (List ℕ)) → WrotePrefix now next gathered → IsPut start now gathered lines → WrotePrefix start next (lines_text lines)
+gathered_fails start now next gathered lines front h = subst (WrotePrefix start next) (put_text start now gathered lines h) (front_then start now next (lines_text h.written) gathered h.wrote front)
 
 -- memory ran out: the first lines are written
 pub memory_fails : (start now : Option (List ℕ)) (gathered : List ℕ) (lines more : List (List ℕ)) → IsPut start now gathered lines → PrintFails (lines ++ more) Memory start now
@@ -59,7 +59,7 @@ memory_fails start now gathered lines more h =
 
 -- what is gathered was to be written at last
 pub finishes : (start now next : Option (List ℕ)) (gathered : List ℕ) (lines : List (List ℕ)) (result : Result (Unit {0}) PrintError) → IsPut start now gathered lines
-    → OnOk result (Wrote now next gathered) → IfErr result (λ error. (error ≡ OutputFailed) × WroteFront now next gathered) → Prints lines result start next
+    → OnOk result (Wrote now next gathered) → IfErr result (λ error. (error ≡ OutputFailed) × WrotePrefix now next gathered) → Prints lines result start next
 finishes start now next gathered lines (Ok done) h wrote front = all_written start now next gathered lines wrote h
 finishes start now next gathered lines (Err error) h wrote front = subst (λ e. PrintFails lines e start next) (sym front.0) (gathered_fails start now next gathered lines front.1 h)
 
@@ -119,7 +119,7 @@ putting_starves all left gathered later before after so_far =
 -- ---- where nothing was gathered at first
 
 pub put_prints : (lines : List (List ℕ)) (gathered later : List ℕ) (before now after : Option (List ℕ)) (result : Result (Unit {0}) PrintError) → gathered ≡ [] → Puts lines gathered later before now
-    → OnOk result (Wrote now after later) → IfErr result (λ error. (error ≡ OutputFailed) × WroteFront now after later) → Prints lines result before after
+    → OnOk result (Wrote now after later) → IfErr result (λ error. (error ≡ OutputFailed) × WrotePrefix now after later) → Prints lines result before after
 put_prints lines gathered later before now after result none puts = finishes before now after later lines result (puts before [] (none_put before gathered none))
 
 pub put_fails_prints : (lines : List (List ℕ)) (gathered : List ℕ) (error : PrintError) (before after : Option (List ℕ)) → gathered ≡ [] → PutFails lines gathered error before after → PrintFails lines error before after
@@ -142,7 +142,7 @@ put_line line gathered filled later (Err error) before after is stays = λ start
 pub line_starves : (lines : List (List ℕ)) (gathered : List ℕ) (error : PrintError) (before : Option (List ℕ)) → error ≡ Memory → PutFails lines gathered error before before
 line_starves lines gathered error before is = subst (λ e. PutFails lines gathered e before before) (sym is) (λ start earlier h. memory_fails start before gathered earlier lines h)
 
-pub stays_put : (gathered later : List ℕ) (result : Result (Unit {0}) PrintError) (before after : Option (List ℕ)) → OnOk result (Wrote before after gathered) → OnOk result (later ≡ []) → IfErr result (λ error. (error ≡ OutputFailed) × WroteFront before after gathered)
+pub stays_put : (gathered later : List ℕ) (result : Result (Unit {0}) PrintError) (before after : Option (List ℕ)) → OnOk result (Wrote before after gathered) → OnOk result (later ≡ []) → IfErr result (λ error. (error ≡ OutputFailed) × WrotePrefix before after gathered)
     → StaysPut result gathered later before after
 stays_put gathered later (Ok done) before after wrote none front = λ start lines h. gathered_written start before after gathered later lines none wrote h
 stays_put gathered later (Err error) before after wrote none front = λ start lines h. subst (λ e. PrintFails lines e start after) (sym front.0) (gathered_fails start before after gathered lines front.1 h)

@@ -9,12 +9,12 @@ abbrev pub Wrote : Option (List ℕ) → Option (List ℕ) → List ℕ → Type
 Wrote before after text = (bytes : List ℕ) → before ≡ Some bytes → after ≡ Some (bytes ++ text)
 
 -- a prefix of the text was appended
-abbrev pub WroteFront : Option (List ℕ) → Option (List ℕ) → List ℕ → Type 0
-WroteFront before after text = (bytes : List ℕ) → before ≡ Some bytes → (n : ℕ) × (after ≡ Some (bytes ++ take n text))
+abbrev pub WrotePrefix : Option (List ℕ) → Option (List ℕ) → List ℕ → Type 0
+WrotePrefix before after text = (bytes : List ℕ) → before ≡ Some bytes → (n : ℕ) × (after ≡ Some (bytes ++ take n text))
 
 -- where lines aren't written, or not all, a prefix of their text was, and where memory runs out some first lines
 abbrev pub PrintFails : List (List ℕ) → PrintError → Option (List ℕ) → Option (List ℕ) → Type 0
-PrintFails lines OutputFailed before after = WroteFront before after (lines_text lines)
+PrintFails lines OutputFailed before after = WrotePrefix before after (lines_text lines)
 PrintFails lines Memory before after = (n : ℕ) × Wrote before after (lines_text (take n lines))
 
 -- the lines were written, or why not

@@ -3,7 +3,7 @@ ghost use Rattle.std.specs.Prelude.{◌≡◌, ◌++◌, ◌∷◌, ℕ, List, [
 ghost use Rattle.dbl_base.specs.Streams.{HasCause};
 ghost use Rattle.dbl_record.specs.Line.{line_of};
 ghost use Rattle.dbl_lines.specs.declared.error.PrintError.TheVariants.{OutputFailed, Memory};
-ghost use Rattle.dbl_lines.specs.Writing.{Wrote, WroteFront, Prints};
+ghost use Rattle.dbl_lines.specs.Writing.{Wrote, WrotePrefix, Prints};
 ghost use Rattle.dbl_lines.specs.Gathering.{IsPut, PutsLines, StaysPut};
 
 use crate::{Line, PrintError};
@@ -86,8 +86,8 @@ impl LineWriter {
             IsPut start (O.written output.old) self lines →
             Prints lines result start (O.written output.new) }
         ensures wrote { OnOk result (Wrote (O.written output.old) (O.written output.new) self) }
-        ensures front { IfErr result (λ error. (error ≡ OutputFailed) ×
-            WroteFront (O.written output.old) (O.written output.new) self) }
+        ensures prefix { IfErr result (λ error. (error ≡ OutputFailed) ×
+            WrotePrefix (O.written output.old) (O.written output.new) self) }
         ensures cause { HasCause (result ≡ Err OutputFailed)
             (O.faults output.old) (O.faults output.new) }
     {
@@ -129,8 +129,8 @@ fn flush<O: Output>(output: &mut O, gathered: &mut Vec<u8>) -> Result<(), PrintE
     ensures wrote { OnOk result
         (Wrote (O.written output.old) (O.written output.new) gathered.old.items) }
     ensures emptied { OnOk result (gathered.new.items ≡ []) }
-    ensures front { IfErr result (λ error. (error ≡ OutputFailed) ×
-        WroteFront (O.written output.old) (O.written output.new) gathered.old.items) }
+    ensures prefix { IfErr result (λ error. (error ≡ OutputFailed) ×
+        WrotePrefix (O.written output.old) (O.written output.new) gathered.old.items) }
     ensures cause { HasCause (result ≡ Err OutputFailed)
         (O.faults output.old) (O.faults output.new) }
 {

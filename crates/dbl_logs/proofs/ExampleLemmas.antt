@@ -11,7 +11,7 @@ use Rattle.dbl_table.specs.declared.table.TableInfo.{TableInfo}
 use Rattle.dbl_table.specs.Infos.{IsInfoOf}
 use Rattle.dbl_table.specs.Made.{table_fault}
 use Rattle.dbl_table.proofs.Capturable.{capturable}
-use Rattle.dbl_journal.specs.Form.{IsEntry, front}
+use Rattle.dbl_journal.specs.Form.{IsEntry, up_to_gate}
 use Rattle.dbl_script.specs.declared.line.Line.{Line}
 use Rattle.dbl_script.specs.declared.line.Line.TheVariants.{Table}
 use Rattle.dbl_script.specs.declared.script.Script.{Script}
@@ -144,7 +144,7 @@ pub a_wal : AWalStands
 unfolding wal
 a_wal = (
   wal,
-  front (forms_of wal) ++ 0 ∷ [],
+  up_to_gate (forms_of wal) ++ 0 ∷ [],
   record {
     is = record { forms = forms_of wal; journal = record { rest = 0 ∷ []; spelled = refl; closed = λ e. cc; each = short_each }; are = is_wal; few = omega arith };
     script = refl;

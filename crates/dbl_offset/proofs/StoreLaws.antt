@@ -6,9 +6,9 @@ use Rattle.std.proofs.lemmas.List.{length-take, get_or-take, take_more, take_all
 use Rattle.std.proofs.lemmas.List.Elements.{All-get_or, All-push}
 use Rattle.std.proofs.lemmas.Bool.{cases_lt}
 use Rattle.std.proofs.lemmas.Option.{slice_get_within, get_or_from_slice_get}
-use Rattle.dbl_journal.specs.Form.{IsJournal, IsFaultAt, front}
+use Rattle.dbl_journal.specs.Form.{IsJournal, IsFaultAt, up_to_gate}
 use Rattle.dbl_journal.specs.Stored.{LeavesEntries, size}
-use Rattle.dbl_journal.proofs.Appends.{length-front-push}
+use Rattle.dbl_journal.proofs.Appends.{length-up_to_gate-push}
 use Rattle.dbl_journal.proofs.Growth.{grown_from}
 use Rattle.dbl_journal.proofs.Reading.{one_journal, journal_or_fault}
 use Rattle.dbl_journal.specs.declared.error.JournalError.{JournalError}
@@ -102,8 +102,8 @@ leaves may_leave disk entries entry old offset each last spells left crashed may
     ]
 
 -- how many bytes are taken where an offset is stored behind the entries
-pub roomy : (entries : List (List ℕ)) (entry spelled : List ℕ) (gate old new : ℕ) → gate ≡ length (front entries) → entry ≡ spelled → new ≤ max old (size (entries ++ entry ∷ [])) → new ≤ max old (gate + 6 + length spelled)
-roomy entries entry spelled gate old new gate_is is most = omega (arith, most, gate_is, ap length is, length-front-push entries entry)
+pub roomy : (entries : List (List ℕ)) (entry spelled : List ℕ) (gate old new : ℕ) → gate ≡ length (up_to_gate entries) → entry ≡ spelled → new ≤ max old (size (entries ++ entry ∷ [])) → new ≤ max old (gate + 6 + length spelled)
+roomy entries entry spelled gate old new gate_is is most = omega (arith, most, gate_is, ap length is, length-up_to_gate-push entries entry)
 
 -- ---- stores that come of one another
 

@@ -33,9 +33,9 @@ pub fn spelled_or_faulty()
 pub fn truncated_bytes()
     ensures place { (bytes : List ℕ) (at : ℕ) → IsFault bytes (MsgError.Truncated at) →
         at ≡ length bytes }
-    ensures front { (front rest : List ℕ) (message : Message) → AreBytes front →
-        length front ≤ message_limit → FitsFields message → front ++ rest ≡ spelling message →
-        rest ≢ [] → IsFault front (MsgError.Truncated (length front)) }
+    ensures cut { (bytes rest : List ℕ) (message : Message) → AreBytes bytes →
+        length bytes ≤ message_limit → FitsFields message → bytes ++ rest ≡ spelling message →
+        rest ≢ [] → IsFault bytes (MsgError.Truncated (length bytes)) }
 {}
 
 /// Bytes trail exactly where a spelling is a beginning of them, but not all. Their place is that spelling's length.

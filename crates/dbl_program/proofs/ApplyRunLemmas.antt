@@ -7,7 +7,7 @@ use Rattle.dbl_record.specs.Acts.{Reading}
 use Rattle.dbl_record.specs.Consumers.{HeldCells, consumer_of}
 use Rattle.dbl_consume.specs.declared.consumer.Consumer.{Consumer}
 use Rattle.dbl_lines.specs.declared.error.PrintError.TheVariants as print_error
-use Rattle.dbl_lines.specs.Writing.{Wrote, WroteFront}
+use Rattle.dbl_lines.specs.Writing.{Wrote, WrotePrefix}
 use Rattle.dbl_consume.specs.Holdings.{Took, placeholder_of}
 use Rattle.dbl_consume.specs.Printing.{row_line, PrintsRows}
 use Rattle.dbl_replay.specs.declared.apply.FaultAt.{FaultAt}
@@ -97,7 +97,7 @@ rows_apply placeholder bytes status before after within none printed = answered 
 pub lines_printed : (lines : List (List ℕ)) (before after : Option (List ℕ)) → Wrote before after (lines_text lines) → EndsAs (done lines) 0 before after
 lines_printed lines before after wrote = record { ended = record { wanted = 0; text = lines_text lines; may = whole refl refl; writes = inl (refl, wrote) }; told = inr refl }
 
-pub lines_cut : (lines : List (List ℕ)) (status : ℕ) (before after : Option (List ℕ)) → status ≡ output_failed_status → WroteFront before after (lines_text lines) → EndsAs (done lines) status before after
+pub lines_cut : (lines : List (List ℕ)) (status : ℕ) (before after : Option (List ℕ)) → status ≡ output_failed_status → WrotePrefix before after (lines_text lines) → EndsAs (done lines) status before after
 lines_cut lines status before after is front = record { ended = record { wanted = 0; text = lines_text lines; may = whole refl refl; writes = inr (is, front) }; told = inl (inr (inl is)) }
 
 pub lines_starved : (lines : List (List ℕ)) (n : ℕ) (status : ℕ) (before middle after : Option (List ℕ)) → Wrote before middle (lines_text (take n lines)) → Says Memory status middle after → EndsAs (done lines) status before after

@@ -1,7 +1,7 @@
 -- Disks that a run leaves as they are stay kept, and fresh stores are kept.
 use Rattle.std.proofs.Common.{◌≡◌, ◌≢◌, ◌⊎◌, inl, inr, ◌∙◌, ℕ, true, false, Option, Some, None, IsSome, List, [], ◌∷◌, ◌++◌, length, refl, sym, ap, subst, arith, length-append}
 use Rattle.std.specs.Prelude.{is_some}
-use Rattle.dbl_journal.specs.Form.{IsClosed, IsJournal, front}
+use Rattle.dbl_journal.specs.Form.{IsClosed, IsJournal, up_to_gate}
 use Rattle.dbl_table.specs.declared.config.Config.{Config}
 use Rattle.dbl_cli.specs.declared.commands.Command.{Command}
 use Rattle.dbl_cli.specs.declared.commands.Command.TheVariants as command
@@ -100,7 +100,7 @@ module _ {W T F : Type 0} (seen_wal : W → Option (List ℕ)) (wals : W → Lis
       closed_bytes bytes first (gate ∷ rest) is closed none = absurd (omega (arith, length-append first (gate ∷ rest), ap length is, ap length none))
 
       has_bytes : (bytes : List ℕ) (entries : List (List ℕ)) → IsJournal bytes entries → bytes ≢ []
-      has_bytes bytes entries journal = closed_bytes bytes (front entries) journal.rest journal.spelled journal.closed
+      has_bytes bytes entries journal = closed_bytes bytes (up_to_gate entries) journal.rest journal.spelled journal.closed
 
 -- ---- one disk
 

@@ -1,7 +1,7 @@
 -- How a run of a command over the stores ends, from how the command ended and what was written behind it.
 use Rattle.std.proofs.Common.{◌≡◌, ◌⊎◌, inl, inr, ℕ, Option, Ok, Err, IfErr, List, [], ◌∷◌, ◌++◌, take, refl, sym, ap, subst}
 use Rattle.dbl_base.specs.Lines.{lines_text}
-use Rattle.dbl_lines.specs.Writing.{Wrote, WroteFront}
+use Rattle.dbl_lines.specs.Writing.{Wrote, WrotePrefix}
 use Rattle.dbl_runs.specs.declared.error.RunError.{RunError}
 use Rattle.dbl_runs.specs.declared.error.RunError.TheVariants as error
 use Rattle.dbl_runs.specs.declared.error.Store.{Store}
@@ -123,7 +123,7 @@ module _ (failed : Store → Type 0) where
     told = inr (inr (sym is));
   }
 
-  fails_with : (lines : List (List ℕ)) (status : ℕ) (before after : Option (List ℕ)) → status ≡ output_failed_status → WroteFront before after (lines_text lines) → EndsWith failed (done lines) status before after
+  fails_with : (lines : List (List ℕ)) (status : ℕ) (before after : Option (List ℕ)) → status ≡ output_failed_status → WrotePrefix before after (lines_text lines) → EndsWith failed (done lines) status before after
   fails_with lines status before after is front = record {
     ended = inl (record { wanted = 0; text = lines_text lines; may = whole refl refl; writes = inr (is, front) });
     told = inl (inr (inl is));

@@ -4,7 +4,7 @@ use Rattle.dbl_base.specs.Lines.{lines_text}
 use Rattle.dbl_base.proofs.LineLemmas.{lines_text-append}
 use Rattle.dbl_lines.specs.declared.error.PrintError.{PrintError}
 use Rattle.dbl_lines.specs.declared.error.PrintError.TheVariants as print_error
-use Rattle.dbl_lines.specs.Writing.{WroteFront, PrintFails}
+use Rattle.dbl_lines.specs.Writing.{WrotePrefix, PrintFails}
 use Rattle.dbl_lines.specs.Gathering.{IsPut, PutFails}
 use Rattle.dbl_lines.proofs.WritingLemmas.{front_more}
 use Rattle.dbl_lines.proofs.PutLemmas.{none_put, put_fails_prints, putting_starves}
@@ -17,7 +17,7 @@ use Rattle.dbl_replay.proofs.LogLemmas.{log_one}
 -- not all lines were put
 pub fails_log : (lines : List (List ℕ)) (end : Option LogFault) (gathered : List ℕ) (error : PrintError) (before after : Option (List ℕ)) → gathered ≡ [] → PutFails lines gathered error before after → LogFails lines end error before after
 fails_log lines end gathered print_error.OutputFailed before after none fails =
-    subst (WroteFront before after) (sym (lines_text-append lines (end_lines end))) (front_more before after (lines_text lines) (lines_text (end_lines end)) (put_fails_prints lines gathered print_error.OutputFailed before after none fails))
+    subst (WrotePrefix before after) (sym (lines_text-append lines (end_lines end))) (front_more before after (lines_text lines) (lines_text (end_lines end)) (put_fails_prints lines gathered print_error.OutputFailed before after none fails))
 fails_log lines end gathered print_error.Memory before after none fails = put_fails_prints lines gathered print_error.Memory before after none fails
 
 -- ---- the line of the fault
@@ -59,8 +59,8 @@ pub cuts_log : (options : ReplayOptions) (now : ℤ) (bs : List (List ℕ)) (gat
     → (lines : List (List ℕ)) (end : Option LogFault) → LogWrites options now [] bs lines end → LogFails lines end print_error.OutputFailed before after
 cuts_log options now bs gathered later fault before between after none is fails lines end writes =
     let same = log_one options now [] bs is.lines lines fault end is.writes writes in
-    let cut : WroteFront before after (lines_text (is.lines ++ end_lines fault)) = fails before is.lines (is.puts before [] (none_put before gathered none)) in
-    subst (WroteFront before after) (ap₂ (λ (l : List (List ℕ)) (e : Option LogFault). lines_text (l ++ end_lines e)) same.lines same.end) cut
+    let cut : WrotePrefix before after (lines_text (is.lines ++ end_lines fault)) = fails before is.lines (is.puts before [] (none_put before gathered none)) in
+    subst (WrotePrefix before after) (ap₂ (λ (l : List (List ℕ)) (e : Option LogFault). lines_text (l ++ end_lines e)) same.lines same.end) cut
 
 pub ended_log : (options : ReplayOptions) (now : ℤ) (bs : List (List ℕ)) (gathered later : List ℕ) (fault : Option LogFault) (result : Result ℕ PrintError) (before between after : Option (List ℕ)) → gathered ≡ [] → IsLogPut options now bs gathered later fault before between
     → FinishesLog fault later result between after → PrintsLog options now bs result before after

@@ -3,7 +3,7 @@ use Rattle.std.specs.Prelude.{◌≡◌, ℕ, ℤ, List, [], ◌∷◌, ◌++◌
 use Rattle.dbl_base.specs.Lines.{lines_text}
 use Rattle.dbl_lines.specs.declared.error.PrintError.{PrintError}
 use Rattle.dbl_lines.specs.declared.error.PrintError.TheVariants.{OutputFailed, Memory}
-use Rattle.dbl_lines.specs.Writing.{Wrote, WroteFront}
+use Rattle.dbl_lines.specs.Writing.{Wrote, WrotePrefix}
 use Rattle.dbl_lines.specs.Gathering.{IsPut, Puts, PutFails}
 use Rattle.dbl_pgmsg.specs.declared.messages.Message.{Message}
 use Rattle.dbl_table.specs.declared.table.TableInfo.{TableInfo}
@@ -71,7 +71,7 @@ pub record IsLogPrinted (options : ReplayOptions) (now : ℤ) (bs : List (List �
 
 -- or a part was, where the output failed or memory ran out
 abbrev pub LogFails : List (List ℕ) → Option LogFault → PrintError → Option (List ℕ) → Option (List ℕ) → Type 0
-LogFails lines end OutputFailed before after = WroteFront before after (lines_text (lines ++ end_lines end))
+LogFails lines end OutputFailed before after = WrotePrefix before after (lines_text (lines ++ end_lines end))
 LogFails lines end Memory before after = (n : ℕ) × Wrote before after (lines_text (take n lines))
 
 abbrev pub PrintsLog : ReplayOptions → ℤ → List (List ℕ) → Result ℕ PrintError → Option (List ℕ) → Option (List ℕ) → Type 0
@@ -81,7 +81,7 @@ PrintsLog options now bs (Err error) before after = (lines : List (List ℕ)) (e
 -- the line of the fault was put behind the others, and all were written, or a prefix of their text where the output failed, and
 -- nothing more where memory ran out
 abbrev pub EndFails : Option LogFault → List ℕ → PrintError → Option (List ℕ) → Option (List ℕ) → Type 0
-EndFails fault gathered OutputFailed before after = (start : Option (List ℕ)) (lines : List (List ℕ)) → IsPut start before gathered lines → WroteFront start after (lines_text (lines ++ end_lines fault))
+EndFails fault gathered OutputFailed before after = (start : Option (List ℕ)) (lines : List (List ℕ)) → IsPut start before gathered lines → WrotePrefix start after (lines_text (lines ++ end_lines fault))
 EndFails fault gathered Memory before after = after ≡ before
 
 abbrev pub FinishesLog : Option LogFault → List ℕ → Result ℕ PrintError → Option (List ℕ) → Option (List ℕ) → Type 0

@@ -4,7 +4,7 @@ use Rattle.std.specs.Prelude.{IfSome, IsTrue, option_to_list}
 use Rattle.std.specs.List.{AllByRecursion}
 use Rattle.dbl_pgmsg.specs.declared.messages.Message.{Message}
 use Rattle.dbl_journal.specs.Stored.{Lists, OnDisk, size}
-use Rattle.dbl_journal.proofs.Appends.{front-nil, length-front-push, length-magic}
+use Rattle.dbl_journal.proofs.Appends.{up_to_gate-nil, length-up_to_gate-push, length-magic}
 use Rattle.dbl_feed.specs.declared.logged.LogTable.{LogTable}
 use Rattle.dbl_feed.specs.declared.logged.Logged.{Logged}
 use Rattle.dbl_feed.specs.declared.place.Place.{Place}
@@ -134,10 +134,10 @@ module _ {D : Type 0} (seen : D → Option (List ℕ)) (may_leave : D → List �
 -- ---- how long it is
 
 size_one : (a : List ℕ) → size (a ∷ []) ≡ 14 + length a
-size_one a = omega (arith, length-front-push [] a, ap (λ (l : List ℕ). length l) front-nil, length-magic)
+size_one a = omega (arith, length-up_to_gate-push [] a, ap (λ (l : List ℕ). length l) up_to_gate-nil, length-magic)
 
 size_two : (a b : List ℕ) → size (a ∷ b ∷ []) ≡ 19 + length a + length b
-size_two a b = omega (arith, length-front-push (a ∷ []) b, size_one a)
+size_two a b = omega (arith, length-up_to_gate-push (a ∷ []) b, size_one a)
 
 workload_size : (script : List ℕ) → length (workload_form script) ≡ 1 + length script
 unfolding workload_form
@@ -156,7 +156,7 @@ first_small script (Some messages) short fits =
 
 -- an empty journal is shorter
 pub none_small : size [] ≤ 2 ^ 30
-none_small = omega (arith, ap (λ (l : List ℕ). length l) front-nil, length-magic)
+none_small = omega (arith, ap (λ (l : List ℕ). length l) up_to_gate-nil, length-magic)
 
 -- what grew twice, the first time less far
 pub grew_twice : (old mid new first all : ℕ) → mid ≤ max old first → new ≤ max mid all → first ≤ all → new ≤ max old all

@@ -11,7 +11,7 @@ use Rattle.dbl_table.specs.Infos.{key_types}
 use Rattle.dbl_table.specs.Tables.{full_name}
 use Rattle.dbl_history.specs.declared.cursor.Cursor.{Cursor}
 use Rattle.dbl_history.specs.Fit.{AreOf, IsKeyOf}
-use Rattle.dbl_lines.specs.Writing.{Wrote, WroteFront}
+use Rattle.dbl_lines.specs.Writing.{Wrote, WrotePrefix}
 use Rattle.dbl_runs.specs.declared.error.RunError.TheVariants.{OutputFailed}
 use Rattle.dbl_runs.specs.Answers.{last_text, state_text, table_line}
 use Rattle.dbl_runs.specs.Ends.{CutsLines, End, Ends}
@@ -67,6 +67,6 @@ lines_go old new total tables i t within there is so_far =
 
 -- ---- the whole text
 
-pub text_ends : (lines : List (List ℕ)) (text : List ℕ) (end : End) (before after : Option (List ℕ)) → text ≡ lines_text lines → OnOk end (Wrote before after text) → IfErr end (λ error. (error ≡ OutputFailed) × WroteFront before after text) → Ends (Ok lines) end before after
+pub text_ends : (lines : List (List ℕ)) (text : List ℕ) (end : End) (before after : Option (List ℕ)) → text ≡ lines_text lines → OnOk end (Wrote before after text) → IfErr end (λ error. (error ≡ OutputFailed) × WrotePrefix before after text) → Ends (Ok lines) end before after
 text_ends lines text (Ok done) before after is wrote front = subst (Wrote before after) is wrote
-text_ends lines text (Err error) before after is wrote front = subst (λ e. CutsLines lines e before after) (sym front.0) (subst (WroteFront before after) is front.1)
+text_ends lines text (Err error) before after is wrote front = subst (λ e. CutsLines lines e before after) (sym front.0) (subst (WrotePrefix before after) is front.1)

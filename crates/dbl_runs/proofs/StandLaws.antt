@@ -17,7 +17,7 @@ use Rattle.dbl_record.proofs.FieldLaws.{IsBytes}
 use Rattle.dbl_record.proofs.GroupLaws.{either, not_both, one_group}
 use Rattle.dbl_consume.specs.Printing.{row_line}
 use Rattle.dbl_consume.proofs.StandLemmas.{rows_stand}
-use Rattle.dbl_journal.specs.Form.{HasBadMagic, HasNoBody, IsBroken, IsClosed, IsEntry, IsFaultAt, IsJournal, body, frame, front, magic}
+use Rattle.dbl_journal.specs.Form.{HasBadMagic, HasNoBody, IsBroken, IsClosed, IsEntry, IsFaultAt, IsJournal, body, frame, up_to_gate, magic}
 use Rattle.dbl_journal.proofs.Appends.{length-body, length-magic}
 use Rattle.dbl_journal.proofs.Scans.{differs_at, has_magic}
 use Rattle.dbl_topic.specs.Logs.{AreLogEntries, IsLog, IsLogEntry}
@@ -148,7 +148,7 @@ magic_or_bad k (suc n) bytes all same =
     ]
 
 journal_stands : (bytes : List ℕ) → AreBytes bytes → ((entries : List (List ℕ)) × IsJournal bytes entries) ⊎ ((at : ℕ) × IsFaultAt bytes at)
-unfolding front
+unfolding up_to_gate
 journal_stands bytes fit =
     elim (magic_or_bad 0 8 bytes refl refl) [
       | inl bad ↦ inr (bad.0, inl bad.1)
@@ -157,7 +157,7 @@ journal_stands bytes fit =
           elim (walk (length (drop 8 bytes)) (drop 8 bytes) (all_right magic (drop 8 bytes) (subst AreBytes is fit)) (omega arith)) [
             | inl w ↦ inl (w.entries, record { rest = w.rest; spelled = is ∙ ap (λ bs. magic ++ bs) w.spelled ∙ sym (append_assoc magic (flat_map frame w.entries) w.rest); closed = w.ends; each = w.each })
             | inr w ↦ inr (
-              length (front w.entries),
+              length (up_to_gate w.entries),
               inr (record { entries = w.entries; rest = w.rest; spelled = is ∙ ap (λ bs. magic ++ bs) w.spelled ∙ sym (append_assoc magic (flat_map frame w.entries) w.rest); each = w.each; place = refl; broken = w.ends }),
             )
           ]
@@ -173,7 +173,7 @@ entries_fit (entry ∷ entries) rest fit =
     (all_right (to_be_bytes w32 (length entry)) entry (all_left (frame entry) (flat_map frame entries ++ rest) parts).1, entries_fit entries rest (all_right (frame entry) (flat_map frame entries ++ rest) parts))
 
 journal_fits : (bytes : List ℕ) (entries : List (List ℕ)) → AreBytes bytes → IsJournal bytes entries → AllByRecursion AreBytes entries
-unfolding front
+unfolding up_to_gate
 journal_fits bytes entries fit journal =
     entries_fit entries journal.rest (all_right magic (flat_map frame entries ++ journal.rest) (subst AreBytes (journal.spelled ∙ append_assoc magic (flat_map frame entries) journal.rest) fit))
 

@@ -2,7 +2,7 @@
 use Rattle.std.specs.Prelude.{◌≡◌, ◌≢◌, ℕ, ◌≤◌, Option, Some, Result, Ok, Err, List, take}
 use Rattle.dbl_base.specs.Lines.{lines_text}
 use Rattle.dbl_disk.specs.Disks.{IsOnly}
-use Rattle.dbl_lines.specs.Writing.{Wrote, WroteFront}
+use Rattle.dbl_lines.specs.Writing.{Wrote, WrotePrefix}
 use Rattle.dbl_runs.specs.declared.error.RunError.{RunError}
 use Rattle.dbl_runs.specs.declared.error.RunError.TheVariants.{OutputFailed, Memory, Failed, NotStarted, NotAStore, BadEntry}
 use Rattle.dbl_runs.specs.declared.error.Store.{Store}
@@ -20,7 +20,7 @@ WroteFirst lines before after = (n : ℕ) × Wrote before after (lines_text (tak
 -- lines were being written when this error came: the output may have taken a prefix of their text, and where memory ran out
 -- or a disk failed, it has some first lines
 abbrev pub CutsLines : List (List ℕ) → RunError → Option (List ℕ) → Option (List ℕ) → Type 0
-CutsLines lines OutputFailed before after = WroteFront before after (lines_text lines)
+CutsLines lines OutputFailed before after = WrotePrefix before after (lines_text lines)
 CutsLines lines Memory before after = WroteFirst lines before after
 CutsLines lines (Failed store) before after = WroteFirst lines before after
 CutsLines lines error before after = ⊥

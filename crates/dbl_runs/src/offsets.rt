@@ -7,7 +7,7 @@ ghost use Rattle.dbl_base.specs.Streams.{HasCause};
 ghost use Rattle.dbl_history.specs.Cursors.{AreCursorsOf, IsCursorOf};
 ghost use Rattle.dbl_offset.specs.Offsets.{IsOffset};
 ghost use Rattle.dbl_runs.specs.Answers.{AnswersOffsets, number_lines, offset_lines, table_line};
-ghost use Rattle.dbl_lines.specs.Writing.{Wrote, WroteFront};
+ghost use Rattle.dbl_lines.specs.Writing.{Wrote, WrotePrefix};
 ghost use Rattle.dbl_runs.specs.Applying.{TellsOffset};
 ghost use Rattle.dbl_runs.specs.Ends.{Ends, IsErrorOf, IsRefusal, IsSynced, Runs};
 ghost use Rattle.dbl_journal.specs.Calls.{Keeps};
@@ -98,9 +98,9 @@ fn print_text<O: Output>(alloc: Global, offset: &Offset, output: &mut O) -> Resu
 
 fn write_text<O: Output>(text: &str, output: &mut O) -> Result<(), RunError>
     ensures wrote { OnOk result (Wrote (O.written output.old) (O.written output.new) text.now) }
-    ensures front { IfErr result
+    ensures prefix { IfErr result
         (λ error. (error ≡ RunError.OutputFailed) ×
-        WroteFront (O.written output.old) (O.written output.new) text.now) }
+        WrotePrefix (O.written output.old) (O.written output.new) text.now) }
     ensures output { HasCause (result ≡ Err RunError.OutputFailed)
         (O.faults output.old) (O.faults output.new) }
 {

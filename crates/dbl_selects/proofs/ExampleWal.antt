@@ -12,7 +12,7 @@ use Rattle.dbl_table.specs.Keys.{same_key}
 use Rattle.dbl_table.proofs.KeyLemmas.{same_key-is}
 use Rattle.dbl_value.specs.declared.value.Val.TheVariants as val
 use Rattle.dbl_value.specs.Types.{type_of}
-use Rattle.dbl_journal.specs.Form.{IsEntry, front}
+use Rattle.dbl_journal.specs.Form.{IsEntry, up_to_gate}
 use Rattle.dbl_script.specs.Scripts.{first_bad, script_of}
 use Rattle.dbl_feed.specs.declared.logged.Logged.{Logged}
 use Rattle.dbl_feed.specs.declared.logged.Logged.TheVariants.{Changes}
@@ -108,7 +108,7 @@ four : (a b c d : List ℕ) → IsEntry a → IsEntry b → IsEntry c → IsEntr
 four a b c d p q r s = All-cons IsEntry a (b ∷ c ∷ d ∷ []) p (All-cons IsEntry b (c ∷ d ∷ []) q (All-cons IsEntry c (d ∷ []) r (All-cons IsEntry d [] s (All-nil IsEntry))))
 
 abbrev bytes : List ℕ
-bytes = front (forms_of left) ++ 0 ∷ []
+bytes = up_to_gate (forms_of left) ++ 0 ∷ []
 
 is_left : IsWalOf (forms_of left) left
 is_left = record {

@@ -1,7 +1,7 @@
 -- Stores of a workload of which nothing was done are kept, and as the connector promises.
 use Rattle.std.proofs.Common.{◌≡◌, ◌∙◌, ℕ, ◌≤◌, Option, Some, None, IsSome, List, [], ◌∷◌, ◌++◌, length, refl, sym, ap, subst, arith, length-append}
 use Rattle.std.specs.List.{flat_map}
-use Rattle.dbl_journal.specs.Form.{IsClosed, frame, front, magic}
+use Rattle.dbl_journal.specs.Form.{IsClosed, frame, up_to_gate, magic}
 use Rattle.dbl_journal.proofs.Appends.{length-body, length-magic}
 use Rattle.dbl_table.specs.declared.config.Config.{Config}
 use Rattle.dbl_offset.specs.declared.offset.Offset.{Offset}
@@ -104,21 +104,21 @@ closed_some first (gate ∷ rest) closed = omega (arith, length-append first (ga
 
 pub nothing_is_no_store : (offset : Option Offset) → IsStore [] offset → ⊥
 nothing_is_no_store offset store =
-    let some = closed_some (front store.entries) store.journal.rest store.journal.closed in
-    let none : 0 ≡ length (front store.entries ++ store.journal.rest) = ap length store.journal.spelled in
+    let some = closed_some (up_to_gate store.entries) store.journal.rest store.journal.closed in
+    let none : 0 ≡ length (up_to_gate store.entries ++ store.journal.rest) = ap length store.journal.spelled in
     omega (arith, some, none)
 
 -- an entry takes more bytes than a store without one
-entry_long : (entry : List ℕ) (entries : List (List ℕ)) → 10 ≤ length (front (entry ∷ entries))
-unfolding front
+entry_long : (entry : List ℕ) (entries : List (List ℕ)) → 10 ≤ length (up_to_gate (entry ∷ entries))
+unfolding up_to_gate
 entry_long entry entries =
     omega (arith, length-append magic (flat_map frame (entry ∷ entries)), length-append (frame entry) (flat_map frame entries), length-body entry, length-magic)
 
-few_entries : (entries : List (List ℕ)) (rest bytes : List ℕ) → bytes ≡ front entries ++ rest → length bytes ≤ 9 → entries ≡ []
+few_entries : (entries : List (List ℕ)) (rest bytes : List ℕ) → bytes ≡ up_to_gate entries ++ rest → length bytes ≤ 9 → entries ≡ []
 few_entries [] rest bytes is few = refl
 few_entries (entry ∷ entries) rest bytes is few =
     let long = entry_long entry entries in
-    let sum = length-append (front (entry ∷ entries)) rest in
+    let sum = length-append (up_to_gate (entry ∷ entries)) rest in
     let same = ap length is in
     absurd (omega (arith, long, sum, same, few))
 

@@ -17,7 +17,7 @@ use Rattle.dbl_wal.proofs.EntryLaws.{one_entry, form_spells}
 use Rattle.dbl_wal.proofs.EntryLaws as first
 use Rattle.dbl_sound.specs.Workloads.{Workload, IsTableOf, IsWorkload}
 use Rattle.dbl_sound.specs.Sound.{HasBegun, IsNext, AreNext}
-use Rattle.dbl_sound.specs.Wals.{Wal, forms_of, IsFront, IsWalOf, IsWal, HasNoWorkload, HasNoRows, HasNoNext, IsFirstBad, HasBadEntry}
+use Rattle.dbl_sound.specs.Wals.{Wal, forms_of, IsPrefix, IsWalOf, IsWal, HasNoWorkload, HasNoRows, HasNoNext, IsFirstBad, HasBadEntry}
 use Rattle.dbl_sound.specs.Wals.IsFirstBad.{no_workload, no_rows, no_next}
 use Rattle.dbl_sound.proofs.ListLemmas.{fits_take, there_in_map, there_in_take}
 
@@ -72,7 +72,7 @@ one_wal bytes a b of_a of_b =
     let forms = one_journal bytes of_a.forms of_b.forms of_a.journal of_b.journal in
     one_front a b (sym of_a.are.are ∙ forms ∙ of_b.are.are) of_a.are.workload of_b.are.workload of_a.are.fits of_b.are.fits
 
-front_of : (forms : List (List ℕ)) (wal : Wal) → IsWalOf forms wal → IsFront forms wal
+front_of : (forms : List (List ℕ)) (wal : Wal) → IsWalOf forms wal → IsPrefix forms wal
 front_of forms wal is = record { are = is.are; workload = is.workload; fits = is.fits; each = is.sound.each }
 
 -- ---- entries that may stand where they do are no fault
@@ -100,7 +100,7 @@ entry_there wal k form fits there =
 abbrev cut : Wal → ℕ → Wal
 cut wal k = record wal { entries = take k wal.entries }
 
-pub next_stands : (forms : List (List ℕ)) (wal : Wal) (m : ℕ) → IsFront forms wal → HasNoNext forms m → ⊥
+pub next_stands : (forms : List (List ℕ)) (wal : Wal) (m : ℕ) → IsPrefix forms wal → HasNoNext forms m → ⊥
 next_stands forms wal zero front bad =
     let empty : [] ≡ forms_of bad.wal = bad.front.are in
     let contra : [] ≡ workload_form bad.wal.script ∷ map entry_form bad.wal.entries = empty in
@@ -114,7 +114,7 @@ next_stands forms wal (suc k) front bad =
     let next : IsNext wal.workload (take k wal.entries) at.entry = next_at wal.workload [] wal.entries k at.entry front.each at.there in
     bad.none at.entry at.spells (subst (λ (x : Wal). IsNext x.workload x.entries at.entry) (sym same) next)
 
-workload_stands : (forms : List (List ℕ)) (wal : Wal) → IsFront forms wal → HasNoWorkload forms → ⊥
+workload_stands : (forms : List (List ℕ)) (wal : Wal) → IsPrefix forms wal → HasNoWorkload forms → ⊥
 workload_stands forms wal front bad = bad.none wal.script wal.workload front.workload (ap (λ (fs : List (List ℕ)). slice_get fs 0) front.are)
 
 rows_stand : (forms : List (List ℕ)) (wal : Wal) (m : ℕ) → IsWalOf forms wal → HasNoRows forms m → ⊥
@@ -144,7 +144,7 @@ not_both bytes at index fault bad = journal_or_fault bytes bad.forms at bad.jour
 shorter : (forms : List (List ℕ)) (m n : ℕ) → m < n → HasNoNext forms m → HasNoNext (take n forms) m
 shorter forms m n lt bad = record {
   wal = bad.wal;
-  front = subst (λ (fs : List (List ℕ)). IsFront fs bad.wal) (sym (take-take m n forms (omega (arith, lt)))) bad.front;
+  front = subst (λ (fs : List (List ℕ)). IsPrefix fs bad.wal) (sym (take-take m n forms (omega (arith, lt)))) bad.front;
   entry = bad.entry;
   there = there_in_take forms m n bad.entry lt bad.there;
   none = bad.none;

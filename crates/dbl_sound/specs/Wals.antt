@@ -25,7 +25,7 @@ pub record IsWalOf (forms : List (List ℕ)) (wal : Wal) : Type 0 where
   pub sound : IsSound wal.workload wal.entries
 
 -- The same of the first entries of a wal, among which the commit of the rows may be wanting.
-pub record IsFront (forms : List (List ℕ)) (wal : Wal) : Type 0 where
+pub record IsPrefix (forms : List (List ℕ)) (wal : Wal) : Type 0 where
   pub are : forms ≡ forms_of wal
   pub workload : IsWorkload wal.script wal.workload
   pub fits : AllByRecursion FitsEntry wal.entries
@@ -47,14 +47,14 @@ pub record HasNoWorkload (forms : List (List ℕ)) : Type 0 where
 -- the commit of the rows is missing at the end
 pub record HasNoRows (forms : List (List ℕ)) (index : ℕ) : Type 0 where
   pub wal : Wal
-  pub front : IsFront forms wal
+  pub front : IsPrefix forms wal
   pub missing : ¬ HasBegun wal.workload wal.entries
   pub place : index ≡ length forms
 
 -- behind entries that follow one another the one with this number spells none that may stand there
 pub record HasNoNext (forms : List (List ℕ)) (index : ℕ) : Type 0 where
   pub wal : Wal
-  pub front : IsFront (take index forms) wal
+  pub front : IsPrefix (take index forms) wal
   pub entry : List ℕ
   pub there : slice_get forms index ≡ Some entry
   pub none : (e : Entry) → Spells entry e → ¬ IsNext wal.workload wal.entries e

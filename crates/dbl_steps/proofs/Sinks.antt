@@ -26,7 +26,7 @@ use Rattle.dbl_work.specs.Works.{AreShort, IsArmedWork, IsBegun, IsOpenTable, ne
 use Rattle.dbl_causes.specs.Gained.{AreCounted, Gains, HasCounted, HasCountedBefore, IsReported}
 use Rattle.dbl_causes.specs.Underway.{IsOfFirst}
 use Rattle.dbl_causes.specs.Reported.{IsLeftOut}
-use Rattle.dbl_causes.specs.Tallied.{IsFront}
+use Rattle.dbl_causes.specs.Tallied.{IsFirstPart}
 use Rattle.dbl_causes.specs.Carried.{Beginning, IsNewestCause, StandsAt}
 use Rattle.dbl_causes.proofs.Carried.{of_next}
 use Rattle.dbl_causes.proofs.Ended.{cause_left}
@@ -248,7 +248,7 @@ module _ {S K : Type 0} (stands : S → Standing → Type 0) (holds may_leave : 
       tallied_stood = λ x. newest_stood stands holds groups at found b stored old before report src src2 told told2 sink sink2 u bytes h few messages commits (take kept.count items) part kept.held took same;
     }
       where
-        part : (take kept.count items ≡ []) ⊎ IsFront (making_at old) u.way.messages (Spells bytes) (take kept.count items)
+        part : (take kept.count items ≡ []) ⊎ IsFirstPart (making_at old) u.way.messages (Spells bytes) (take kept.count items)
         part = part_so holds may_leave had sink2 b.first.lsn u.way.messages bytes commit old next counting report u.way.is.is.is w leaves may kept
 
     -- a put failed: some records of its group may be there

@@ -25,7 +25,7 @@ use Rattle.dbl_work.specs.Takes.{IsLeftByStep, WasTaken}
 use Rattle.dbl_work.specs.Works.{IsWork, next_of}
 use Rattle.dbl_causes.specs.Gained.{IsGained, Making, making_of}
 use Rattle.dbl_causes.specs.Reported.{IsLeftOut}
-use Rattle.dbl_causes.specs.Tallied.{IsFront, IsLeftOutBy, IsTallied, IsTalliedBehind, Tallies}
+use Rattle.dbl_causes.specs.Tallied.{IsFirstPart, IsLeftOutBy, IsTallied, IsTalliedBehind, Tallies}
 use Rattle.dbl_causes.specs.Underway.{IsOfFirst}
 use Rattle.dbl_causes.specs.Carried.{Beginning, IsBehind, StandsAt}
 use Rattle.dbl_causes.proofs.Reported.{has_stored, read_behind, read_is, same_many, taken_more}
@@ -63,7 +63,7 @@ module _ {K A : Type 0} (holds : K → List (List Record) → Type 0) (groups : 
   }
 
   -- one message more isn't
-  newest_tallied : (newest : A) (part : List Record) → IsLeftOutBy result 1 → (part ≡ []) ⊎ IsFront (making_at work) ms (such newest) part → holds sink ((groups ++ cut records) ++ cut part)
+  newest_tallied : (newest : A) (part : List Record) → IsLeftOutBy result 1 → (part ≡ []) ⊎ IsFirstPart (making_at work) ms (such newest) part → holds sink ((groups ++ cut records) ++ cut part)
       → Tallies holds groups sink (making_at work) after stored such (newest ∷ read) commits result
   newest_tallied newest part few part_is held = record {
     newest = newest ∷ [];
@@ -138,7 +138,7 @@ one_more : (k n m : ℕ) → k ≡ n + 1 → m ≡ n → suc m ≡ k
 one_more k n m one two = omega (arith, one, two)
 
 -- the bytes spell one message
-front_of : (by : Making) (ms : List Message) (bytes : List ℕ) (m : Message) (part : List Record) → Spells bytes m → (part ≡ []) ⊎ IsFront by ms (Spells bytes) part → (part ≡ []) ⊎ IsFront by ms (λ (n : Message). m ≡ n) part
+front_of : (by : Making) (ms : List Message) (bytes : List ℕ) (m : Message) (part : List Record) → Spells bytes m → (part ≡ []) ⊎ IsFirstPart by ms (Spells bytes) part → (part ≡ []) ⊎ IsFirstPart by ms (λ (n : Message). m ≡ n) part
 front_of by ms bytes m part spells (inl none) = inl none
 front_of by ms bytes m part spells (inr f) = inr (record {
   message = f.message;
@@ -155,7 +155,7 @@ front_of by ms bytes m part spells (inr f) = inr (record {
 module _ {S K : Type 0} (stands : S → Standing → Type 0) (holds : K → List (List Record) → Type 0) (groups : List (List Record)) (at : Option Standing) (found : Option Told) (b : Beginning)
     (stored : Option Offset) (work : Work) (before report : Report) (src src2 : S) (told told2 : Option Told) (sink sink2 : K) (u : IsPutting stands holds groups at found b stored work before src told sink)
     (bytes : List ℕ) (h : Halt) (few : IsLeftOut h 1) (messages : report.messages ≡ before.messages + 1) (commits : report.commits ≡ before.commits)
-    (part : List Record) (part_is : (part ≡ []) ⊎ IsFront (making_at work) u.way.messages (Spells bytes) part) (held : holds sink2 ((groups ++ cut u.put.records) ++ cut part)) where
+    (part : List Record) (part_is : (part ≡ []) ⊎ IsFirstPart (making_at work) u.way.messages (Spells bytes) part) (held : holds sink2 ((groups ++ cut u.put.records) ++ cut part)) where
   pub newest_told : IsTakenBy (bytes ∷ []) told told2 → IsTallied holds groups b.config b.now b.held stored report told2 sink2 (Err h)
   newest_told one = at_stored b u.way.messages stored stored work before u.way.is.is (λ (x : Option Offset). IsTallied holds groups b.config b.now b.held x report told2 sink2 (Err h))
       (λ o of upto. told_tallied holds groups sink2 (Err h) b o work of report told2 (bytes ∷ u.way.tells.read)
@@ -186,10 +186,10 @@ module _ {K : Type 0} (holds may_leave : K → List (List Record) → Type 0) (f
   abbrev pub part_put : List Record
   part_put = take put.count (records_by next.follower commit next.now_ms)
 
-  pub part_so : (part_put ≡ []) ⊎ IsFront (making_at old) ms (Spells bytes) part_put
+  pub part_so : (part_put ≡ []) ⊎ IsFirstPart (making_at old) ms (Spells bytes) part_put
   part_so = by put.few
     where
-      some_left : put.count < length (records_by next.follower commit next.now_ms) → IsLeftByStep commit next found (found ++ cut part_put) → (part_put ≡ []) ⊎ IsFront (making_at old) ms (Spells bytes) part_put
+      some_left : put.count < length (records_by next.follower commit next.now_ms) → IsLeftByStep commit next found (found ++ cut part_put) → (part_put ≡ []) ⊎ IsFirstPart (making_at old) ms (Spells bytes) part_put
       some_left few (inl same) = inl (none_cut part_put (none_behind found (cut part_put) same))
       some_left few (inr step) = inr (record {
         message = w.message;
@@ -203,6 +203,6 @@ module _ {K : Type 0} (holds may_leave : K → List (List Record) → Type 0) (f
         part_is = refl;
       })
 
-      by : (put.count ≡ 0) ⊎ (put.count < length (records_by next.follower commit next.now_ms)) → (part_put ≡ []) ⊎ IsFront (making_at old) ms (Spells bytes) part_put
+      by : (put.count ≡ 0) ⊎ (put.count < length (records_by next.follower commit next.now_ms)) → (part_put ≡ []) ⊎ IsFirstPart (making_at old) ms (Spells bytes) part_put
       by (inl none) = inl (none_first put.count (records_by next.follower commit next.now_ms) none)
       by (inr few) = some_left few (leaves (found ++ cut part_put) (may (found ++ cut part_put) put.held))

@@ -1,7 +1,7 @@
 //! Laws of topic logs. The functions do nothing: their contracts are the laws.
 
 ghost use Rattle.std.specs.Prelude.{◌≡◌, ◌⊎◌, ◌+◌, ◌≤◌, ◌++◌, ◌∷◌, [], ℕ, Some, IsTrue, List, length, max};
-ghost use Rattle.dbl_journal.specs.Form.{IsFaultAt, IsJournal, front};
+ghost use Rattle.dbl_journal.specs.Form.{IsFaultAt, IsJournal, up_to_gate};
 ghost use Rattle.dbl_journal.specs.Stored.{OnDisk, count_of, size};
 ghost use Rattle.dbl_record.specs.declared.record.Record.{Record};
 ghost use Rattle.dbl_topic.specs.Held.{ComesOf, HoldsGroups, LeavesGroups, MayLeaveGroups};
@@ -66,7 +66,7 @@ pub fn logs_come_of_logs<D: Disk>()
         ComesOf D.seen D.may_leave old new → HoldsGroups D.seen D.may_leave old groups →
         D.seen old.disk ≡ Some before → D.seen new.disk ≡ Some after →
         (entries : List (List ℕ)) × IsJournal after entries × (log_size groups ≤ size entries) ×
-        (length after ≤ max (length before) (length (front entries) + growth_room)) }
+        (length after ≤ max (length before) (length (up_to_gate entries) + growth_room)) }
     ensures holds { (old new : OnDisk D) (groups : List (List Record)) →
         ComesOf D.seen D.may_leave old new → HoldsGroups D.seen D.may_leave old groups →
         IsTrue new.live → (now : List (List Record)) × HoldsGroups D.seen D.may_leave new now }

@@ -8,7 +8,7 @@ use Rattle.dbl_wal.specs.declared.entry.Entry.{Entry}
 use Rattle.dbl_wal.specs.Entries.{entry_form, workload_form, FitsEntry}
 use Rattle.dbl_sound.specs.Workloads.{Workload, acts_at, log_at}
 use Rattle.dbl_sound.specs.Sound.{HasBegun, IsSilent, committed_in}
-use Rattle.dbl_sound.specs.Wals.{Wal, forms_of, IsFront, IsFirstBad}
+use Rattle.dbl_sound.specs.Wals.{Wal, forms_of, IsPrefix, IsFirstBad}
 use Rattle.dbl_sound.specs.Wals.IsFirstBad.{no_rows, no_next}
 use Rattle.dbl_sound.specs.Left.{with_entries}
 use Rattle.dbl_sound.proofs.ListLemmas.{fits_push}
@@ -36,10 +36,10 @@ module _ (first : List ℕ) (checked : Checked) (script : List ℕ) (w : Workloa
   abbrev wal : Wal
   wal = record { script = script; workload = w; entries = [] }
 
-  pub opens_first : IsFront (workload_form script ∷ []) wal → checked.done ≡ 0 → checked.commits.items ≡ [] → checked.confirmed ≡ record { 0 = 0 } → IsOpened (first ∷ []) checked
+  pub opens_first : IsPrefix (workload_form script ∷ []) wal → checked.done ≡ 0 → checked.commits.items ≡ [] → checked.confirmed ≡ record { 0 = 0 } → IsOpened (first ∷ []) checked
   opens_first front none commits confirmed = record {
     wal = wal;
-    front = subst (λ (form : List ℕ). IsFront (form ∷ []) wal) (sym is) front;
+    front = subst (λ (form : List ℕ). IsPrefix (form ∷ []) wal) (sym is) front;
     checked = record {
       names = ready.names;
       tables = ready.tables;

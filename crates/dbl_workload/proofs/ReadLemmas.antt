@@ -13,7 +13,7 @@ use Rattle.dbl_journal.specs.Stored.{IsSteady, Lists, OnDisk, count_of}
 use Rattle.dbl_journal.proofs.Appends.{length-places}
 use Rattle.dbl_wal.specs.Entries.{workload_form}
 use Rattle.dbl_sound.specs.Workloads.{IsWorkload, Workload}
-use Rattle.dbl_sound.specs.Wals.{IsFirstBad, IsFront, Wal}
+use Rattle.dbl_sound.specs.Wals.{IsFirstBad, IsPrefix, Wal}
 use Rattle.dbl_sound.specs.Wals.IsFirstBad.{no_workload}
 use Rattle.dbl_workload.specs.declared.checking.Checked.{Checked}
 use Rattle.dbl_workload.specs.declared.error.DemoError.{DemoError}
@@ -39,7 +39,7 @@ pub first_read : (forms : List (List ℕ)) (first : List ℕ) (checked : Checked
 first_read forms first checked there b fits none commits confirmed =
     let head = head_is forms first there in
     let wal : Wal = record { script = b.0; workload = b.1; entries = [] } in
-    let front : IsFront (workload_form b.0 ∷ []) wal = record { are = refl; workload = b.3; fits = tt; each = tt } in
+    let front : IsPrefix (workload_form b.0 ∷ []) wal = record { are = refl; workload = b.3; fits = tt; each = tt } in
     (first, head.0, head.1, opens_first first checked b.0 b.1 b.2 b.4 fits front none commits confirmed)
 
 pub first_parts : (first : List ℕ) (checked : Checked) → IsBegun first checked.prepared → IfSome checked.prepared.rows FitAnEntry → checked.done ≡ 0 → checked.commits.items ≡ [] → HasReadParts 1 checked

@@ -5,7 +5,7 @@ use Rattle.dbl_journal.specs.Stored.{Lists, OnDisk}
 use Rattle.dbl_journal.specs.declared.error.JournalError.TheVariants as journal
 use Rattle.dbl_wal.specs.Entries.{workload_form}
 use Rattle.dbl_sound.specs.Workloads.{Workload, IsWorkload}
-use Rattle.dbl_sound.specs.Wals.{Wal, IsFront, IsWalOf, IsFirstBad}
+use Rattle.dbl_sound.specs.Wals.{Wal, IsPrefix, IsWalOf, IsFirstBad}
 use Rattle.dbl_workload.specs.declared.checking.Checked.{Checked}
 use Rattle.dbl_workload.specs.declared.error.DemoError.{DemoError}
 use Rattle.dbl_workload.specs.declared.error.DemoError.TheVariants as demo
@@ -46,7 +46,7 @@ pub record IsReadOnly {D : Type 0} (seen : D → Option (List ℕ)) (may_leave :
 -- the entries so far are a wal's first ones, and this is what they come to
 pub record IsOpened (forms : List (List ℕ)) (state : Checked) : Type 0 where
   pub wal : Wal
-  pub front : IsFront forms wal
+  pub front : IsPrefix forms wal
   pub checked : IsChecked wal.workload wal.entries state
 
 abbrev pub ReadsFirst : List (List ℕ) → Result Checked DemoError → Type 0

@@ -3,13 +3,13 @@ use Rattle.std.proofs.lemmas.List.{drop_all, append-nil, length_push}
 use Rattle.std.proofs.lemmas.List.Elements.{All-nil}
 use Rattle.std.proofs.lemmas.Result.{on_ok_weaker}
 use Rattle.dbl_disk.specs.Disks.{Torn, written}
-use Rattle.dbl_journal.specs.Form.{IsEntry, IsJournal, front, magic}
-use Rattle.dbl_journal.proofs.Appends.{front-nil, length-magic}
+use Rattle.dbl_journal.specs.Form.{IsEntry, IsJournal, up_to_gate, magic}
+use Rattle.dbl_journal.proofs.Appends.{up_to_gate-nil, length-magic}
 use Rattle.dbl_journal.proofs.Crashes.{longest_done, longest_torn, on_ok, reaches}
 use Rattle.dbl_journal.proofs.appending.start.Goals as goal
 
-nine : (bytes : List ℕ) → bytes ≡ front [] ++ 0 ∷ [] → length bytes ≡ 9
-nine bytes is = ap length (is ∙ ap (λ (l : List ℕ). l ++ 0 ∷ []) front-nil) ∙ length_push magic 0 ∙ omega (arith, length-magic)
+nine : (bytes : List ℕ) → bytes ≡ up_to_gate [] ++ 0 ∷ [] → length bytes ≡ 9
+nine bytes is = ap length (is ∙ ap (λ (l : List ℕ). l ++ 0 ∷ []) up_to_gate-nil) ∙ length_push magic 0 ∙ omega (arith, length-magic)
 
 pub write_at-requires : goal.write_at-requires
 write_at-requires g c old told beyond = let long = nine c.args.bytes.now c.requires in omega (arith, long)
@@ -29,7 +29,7 @@ returns-clause-stored g c told =
     let bytes : List ℕ = c.args.bytes.now in
     let file : List ℕ = written [] 0 bytes in
     let now = c.in_ok-write_at.ensures.written [] told in
-    let is : file ≡ front [] ++ 0 ∷ [] = ap (λ (l : List ℕ). bytes ++ l) (drop_all (0 + length bytes) [] (omega arith)) ∙ append-nil bytes ∙ c.requires in
+    let is : file ≡ up_to_gate [] ++ 0 ∷ [] = ap (λ (l : List ℕ). bytes ++ l) (drop_all (0 + length bytes) [] (omega arith)) ∙ append-nil bytes ∙ c.requires in
     let journal : IsJournal file [] = record { rest = 0 ∷ []; spelled = is; closed = λ (e : 0 ≡ 1). cc; each = All-nil IsEntry } in
     on_ok_weaker c.sync.result (λ stable. (file, c.sync.ensures.seen ∙ now, stable, journal)) (c.sync.ensures.stable file now)
 

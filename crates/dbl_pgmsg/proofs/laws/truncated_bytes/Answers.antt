@@ -4,5 +4,5 @@ use Rattle.dbl_pgmsg.proofs.laws.truncated_bytes.Goals as goal
 pub returns-clause-place : goal.returns-clause-place
 returns-clause-place c = truncated_at_end
 
-pub returns-clause-front : goal.returns-clause-front
-returns-clause-front c = truncated_front
+pub returns-clause-cut : goal.returns-clause-cut
+returns-clause-cut c = truncated_front

@@ -12,5 +12,5 @@ returns-in-Err-clause-ends g c = end_cut c.args.fault.now c.args.lines c.in-Err.
 
 pub returns-in-Err-finish-clause-ends : goal.returns-in-Err-finish-clause-ends
 returns-in-Err-finish-clause-ends g c =
-    finish_cut c.args.fault.now c.args.lines c.in-Err-finish.error _ _ c.in-Err-finish.ensures.front.0
+    finish_cut c.args.fault.now c.args.lines c.in-Err-finish.error _ _ c.in-Err-finish.ensures.prefix.0
     (λ start earlier begun. c.in-Err-finish.ensures.prints start (earlier ++ end_lines c.args.fault.now) (c.in-Ok.ensures.puts start earlier begun))

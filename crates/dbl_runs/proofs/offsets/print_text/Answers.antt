@@ -5,7 +5,7 @@ use Rattle.dbl_runs.proofs.Writing.{none_written}
 use Rattle.dbl_runs.proofs.offsets.print_text.Goals as goal
 
 pub returns-in-Ok-clause-told : goal.returns-in-Ok-clause-told
-returns-in-Ok-clause-told g c = text_ends (offset_lines c.args.offset.now) c.as_str.result.now c.write_text.result _ _ (c.as_str.ensures.value ∙ c.in-Ok.ensures) c.write_text.ensures.wrote c.write_text.ensures.front
+returns-in-Ok-clause-told g c = text_ends (offset_lines c.args.offset.now) c.as_str.result.now c.write_text.result _ _ (c.as_str.ensures.value ∙ c.in-Ok.ensures) c.write_text.ensures.wrote c.write_text.ensures.prefix
 
 pub returns-in-Err-clause-told : goal.returns-in-Err-clause-told
 returns-in-Err-clause-told g c = none_written (offset_lines c.args.offset.now) _ _ refl

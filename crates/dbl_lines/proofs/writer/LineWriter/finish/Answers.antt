@@ -14,4 +14,4 @@ returns-then-is_empty-clause-prints g c = λ start lines h.
 pub returns-clause-prints : goal.returns-clause-prints
 returns-clause-prints g c =
     subst (λ text. (start : Option (List ℕ)) (lines : List (List ℕ)) → IsPut start (g.O.Output.written c.args.output.now) text lines → Prints lines c.flush.result start (g.O.Output.written c.flush.new.output)) c.self.view_is
-    (λ start lines h. finishes start _ _ c.self.inside.gathered.items lines c.flush.result h c.flush.ensures.wrote c.flush.ensures.front)
+    (λ start lines h. finishes start _ _ c.self.inside.gathered.items lines c.flush.result h c.flush.ensures.wrote c.flush.ensures.prefix)

@@ -1,5 +1,7 @@
 //! How the cells of a consumer age as records are delivered to it.
-ghost use Rattle.dbl_ageing.specs.ChangeLaws.{RecordsOfAChangeKeepAge, PartsOfCommitsKeepAge, ChangesMoveAge, CommitsMoveAge, SilentCommitsMoveAge, AgeGoesBack, AgeStaysAsHistoriesGrow};
+ghost use Rattle.dbl_ageing.specs.ChangeLaws.{RecordsOfAChangeKeepAge, PartsOfCommitsKeepAge, ChangesMoveAge};
+ghost use Rattle.dbl_ageing.specs.ChangeLaws.{CommitsMoveAge, SilentCommitsMoveAge, AgeGoesBack};
+ghost use Rattle.dbl_ageing.specs.ChangeLaws.{AgeStaysAsHistoriesGrow};
 ghost use Rattle.dbl_ageing.specs.SnapshotLaws.{PartsOfSnapshotsKeepAge, AgedCellsAgree, AgedRecordsAgree};
 ghost use Rattle.dbl_ageing.specs.RowLaws.{NoRecordsAreAged};
 

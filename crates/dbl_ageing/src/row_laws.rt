@@ -1,5 +1,7 @@
 //! What aged cells come to for whole rows.
-ghost use Rattle.dbl_ageing.specs.RowLaws.{LackedRowsWereAbsent, UnknownRowsWereThere, KnownCellsWereSo, EventsKeepNames, SnapshotsKeepNames, NoRecordsAreNamed, RecordsOfHistoriesAreNamed, RecordsOfHistoriesAgree};
+ghost use Rattle.dbl_ageing.specs.RowLaws.{LackedRowsWereAbsent, UnknownRowsWereThere, KnownCellsWereSo};
+ghost use Rattle.dbl_ageing.specs.RowLaws.{EventsKeepNames, SnapshotsKeepNames, NoRecordsAreNamed};
+ghost use Rattle.dbl_ageing.specs.RowLaws.{RecordsOfHistoriesAreNamed, RecordsOfHistoriesAgree};
 
 /// A known key whose row a consumer lacks, or in whose row a cell is unknown, had no row at some moment of the span.
 pub fn lacked_rows_were_absent()

@@ -7,7 +7,8 @@ ghost use Rattle.dbl_history.specs.Fit.{IsKeyOf};
 ghost use Rattle.dbl_event.specs.Snapshots.{progress_topic, progress_key, progress_data};
 ghost use Rattle.dbl_agreement.specs.Prints.{Tells};
 ghost use Rattle.dbl_ageing.specs.KnownKeys.{IsTold};
-ghost use Rattle.dbl_ages.specs.Told.{Tests, IsProgress, IsBeside, IsAlike, IsOfTable, IsToldBy, IsUnlisted, IsToldIn, AreUnlisted, AreUnlistedOf};
+ghost use Rattle.dbl_ages.specs.Told.{Tests, IsProgress, IsBeside, IsAlike, IsOfTable, IsToldBy, IsUnlisted, IsToldIn};
+ghost use Rattle.dbl_ages.specs.Told.{AreUnlisted, AreUnlistedOf};
 
 use dbl_ageing::covers;
 use dbl_base::{Lsn, Text};

@@ -1,10 +1,13 @@
 //! What one record does to a consumer, and what it tells.
 ghost use Rattle.dbl_agreement.specs.Cells.{CellsGoAlone, ConsumersHoldCells, EventsChangeCells};
-ghost use Rattle.dbl_agreement.specs.Snapshots.{ReadRowsAreHeld, ReadRowsLeaveOthers, ReadRowsChangeCells, ProgressChangesNothing, ProgressChangesNoCell};
-ghost use Rattle.dbl_agreement.specs.Clashes.{FitChangesAreWide, FittingChangesAreWide, CommitsLackPlaceholders, HistoriesLackPlaceholders, SnapshotsLackPlaceholders};
+ghost use Rattle.dbl_agreement.specs.Snapshots.{ReadRowsAreHeld, ReadRowsLeaveOthers, ReadRowsChangeCells};
+ghost use Rattle.dbl_agreement.specs.Snapshots.{ProgressChangesNothing, ProgressChangesNoCell};
+ghost use Rattle.dbl_agreement.specs.Clashes.{FitChangesAreWide, FittingChangesAreWide, CommitsLackPlaceholders};
+ghost use Rattle.dbl_agreement.specs.Clashes.{HistoriesLackPlaceholders, SnapshotsLackPlaceholders};
 ghost use Rattle.dbl_agreement.specs.Effects.{ChangesChangeCells};
 ghost use Rattle.dbl_agreement.specs.Letters.{EventsHaveLetters, ReadRowsHaveTheirLetter};
-ghost use Rattle.dbl_agreement.specs.Prints.{PairsNameEvents, RecordsTellOneEvent, ProgressRecordsTell, TableTopicsTellNone, ProgressIsReadOnce};
+ghost use Rattle.dbl_agreement.specs.Prints.{PairsNameEvents, RecordsTellOneEvent, ProgressRecordsTell};
+ghost use Rattle.dbl_agreement.specs.Prints.{TableTopicsTellNone, ProgressIsReadOnce};
 
 /// What a record leaves of a cell hangs on the record and on what was held of that cell alone.
 pub fn cells_go_alone()

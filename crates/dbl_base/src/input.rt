@@ -1,4 +1,5 @@
-ghost use Rattle.std.specs.Prelude.{◌≡◌, ◌≢◌, ℕ, ◌+◌, ◌<◌, ◌≤◌, ◌++◌, List, [], length, take, drop, Option, Some, Ok, Err, IfOk, OnOk, OnErr, IsErr};
+ghost use Rattle.std.specs.Prelude.{◌≡◌, ◌≢◌, ℕ, ◌+◌, ◌<◌, ◌≤◌, ◌++◌, List, [], length, take, drop, Option, Some, Ok};
+ghost use Rattle.std.specs.Prelude.{Err, IfOk, OnOk, OnErr, IsErr};
 ghost use Rattle.dbl_base.specs.Streams.{HasCause, MovesToStart, raised, input_limit};
 
 use crate::{Bytes, Failed};

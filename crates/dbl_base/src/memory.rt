@@ -1,4 +1,5 @@
-ghost use Rattle.std.specs.Prelude.{◌≡◌, ◌<◌, ◌≤◌, ◌++◌, ◌↔◌, ℕ, List, [], Some, Ok, length, drop, take, min, IsErr, OnOk, OnErr, IfOk, Contains};
+ghost use Rattle.std.specs.Prelude.{◌≡◌, ◌<◌, ◌≤◌, ◌++◌, ◌↔◌, ℕ, List, [], Some, Ok, length, drop, take, min, IsErr};
+ghost use Rattle.std.specs.Prelude.{OnOk, OnErr, IfOk, Contains};
 ghost use Rattle.dbl_base.specs.Streams.{HasCause, MovesToStart, raised};
 ghost use Rattle.dbl_base.specs.Memory.{new_plan};
 

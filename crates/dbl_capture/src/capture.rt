@@ -16,7 +16,8 @@ ghost use Rattle.dbl_work.specs.Begins.{IsAbsentHalt, IsExhausted, IsOffsetFor, 
 ghost use Rattle.dbl_work.specs.Works.{IsBegun};
 ghost use Rattle.dbl_exits.specs.Closed.{HasClosedRead};
 ghost use Rattle.dbl_exits.specs.Ends.{AreAllDone, IsAtPosition, LeavesComplete, StaysHeld};
-ghost use Rattle.dbl_exits.specs.Found.{BeganAt, BeginsAt, Found, HasStored, IsAsked, IsEntryOf, IsFirstAtHead, IsFirstStored, IsFound, entry_at, position_of};
+ghost use Rattle.dbl_exits.specs.Found.{BeganAt, BeginsAt, Found, HasStored, IsAsked, IsEntryOf, IsFirstAtHead};
+ghost use Rattle.dbl_exits.specs.Found.{IsFirstStored, IsFound, entry_at, position_of};
 ghost use Rattle.dbl_exits.specs.Sessions.{AddsFew, InSession, LeavesBy, LeavesGoing};
 ghost use Rattle.dbl_causes.specs.Gained.{Gains, IsReported};
 ghost use Rattle.dbl_causes.specs.Halted.{IsHalt};

@@ -1,6 +1,7 @@
 //! The turns of a session, each of which reads one message.
 
-ghost use Rattle.std.specs.Prelude.{◌≡◌, ◌≢◌, ◌+◌, ◌^◌, ◌≤◌, ◌<◌, false, true, List, Option, Some, None, Ok, Bool, IfErr, IfOk, IsTrue, MatchBool, OnErr, OnOk, ℕ};
+ghost use Rattle.std.specs.Prelude.{◌≡◌, ◌≢◌, ◌+◌, ◌^◌, ◌≤◌, ◌<◌, false, true, List, Option, Some, None, Ok, Bool};
+ghost use Rattle.std.specs.Prelude.{IfErr, IfOk, IsTrue, MatchBool, OnErr, OnOk, ℕ};
 ghost use Rattle.dbl_base.specs.Streams.{HasCause};
 ghost use Rattle.dbl_record.specs.declared.record.Record.{Record as SpecRecord};
 ghost use Rattle.dbl_history.specs.Ranges.{IsMomentInRange};

@@ -7,7 +7,8 @@ ghost use Rattle.std.specs.Str.Parse.{digits_value};
 ghost use Rattle.dbl_table.specs.Tables.{is_name_byte, is_name, are_distinct, same_name};
 ghost use Rattle.dbl_table.specs.Identities.{default_placeholder};
 ghost use Rattle.dbl_cli.specs.Names.{texts};
-ghost use Rattle.dbl_cli.specs.Values.{is_number, number_or, passes, is_placeholder, is_comma, table_in, is_table, are_tables, key_in, is_column, is_key, tables_in, are_keys};
+ghost use Rattle.dbl_cli.specs.Values.{is_number, number_or, passes, is_placeholder, is_comma, table_in, is_table};
+ghost use Rattle.dbl_cli.specs.Values.{are_tables, key_in, is_column, is_key, tables_in, are_keys};
 ghost use Rattle.dbl_cli.specs.Reads.{Reads, ReadsBy};
 
 use crate::CliError;

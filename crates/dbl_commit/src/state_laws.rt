@@ -2,7 +2,8 @@
 
 ghost use Rattle.std.specs.Prelude.{List};
 ghost use Rattle.dbl_table.specs.declared.table.TableInfo.{TableInfo};
-ghost use Rattle.dbl_commit.specs.Blocks.{BlocksStateOneList, RestsAreOne, RestsAreOpen, AcceptedAreBlocks, FaultlessAreBlocks, LaterTablesChangeNothing};
+ghost use Rattle.dbl_commit.specs.Blocks.{BlocksStateOneList, RestsAreOne, RestsAreOpen, AcceptedAreBlocks};
+ghost use Rattle.dbl_commit.specs.Blocks.{FaultlessAreBlocks, LaterTablesChangeNothing};
 ghost use Rattle.dbl_commit.specs.StatedFits.{StatedChangesFit};
 
 /// However messages are taken apart into transactions, these state one list of commits: the one that looking back gives.

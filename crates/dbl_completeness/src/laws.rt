@@ -1,7 +1,11 @@
 //! Laws of when a run must succeed. The functions do nothing: their contracts are the laws.
 
-ghost use Rattle.dbl_completeness.specs.Budgets.{FewMessagesAreSent, GeneratedBudgetsSuffice, GenerousBudgetsSuffice, GenerousBudgetsSufficeAgain, SentMessagesAreFew};
-ghost use Rattle.dbl_completeness.specs.Laws.{GeneratedInitsSucceed, GeneratedStatusesTellBudgets, OtherRunsSucceed, PrintedWorkloadsSucceed, StatusesTellBudgets, SupportedGeneratedRunsSucceed, SupportedRunsSucceed, SupportedSessionsSucceed};
+ghost use Rattle.dbl_completeness.specs.Budgets.{FewMessagesAreSent, GeneratedBudgetsSuffice, GenerousBudgetsSuffice};
+ghost use Rattle.dbl_completeness.specs.Budgets.{GenerousBudgetsSufficeAgain, SentMessagesAreFew};
+ghost use Rattle.dbl_completeness.specs.Laws.{GeneratedInitsSucceed, GeneratedStatusesTellBudgets, OtherRunsSucceed};
+ghost use Rattle.dbl_completeness.specs.Laws.{PrintedWorkloadsSucceed, StatusesTellBudgets};
+ghost use Rattle.dbl_completeness.specs.Laws.{SupportedGeneratedRunsSucceed, SupportedRunsSucceed};
+ghost use Rattle.dbl_completeness.specs.Laws.{SupportedSessionsSucceed};
 
 use dbl_disk::Disk;
 

@@ -7,7 +7,8 @@ ghost use Rattle.dbl_kept.specs.Kept.{AreKept};
 ghost use Rattle.dbl_offset.specs.Stores.{IsLive, disk_of};
 ghost use Rattle.dbl_workload.specs.Ready.{AreTableNames};
 ghost use Rattle.dbl_connector.specs.Asked.{IsWithin, asks_in, budget_of};
-ghost use Rattle.dbl_connector.specs.Ends.{AddsFew, Counts, EndsBefore, GainsRecords, HasBegun, HasRun, IsComplete, IsKeptError, IsReported, IsSpent, IsWrongSource, OnlyRead};
+ghost use Rattle.dbl_connector.specs.Ends.{AddsFew, Counts, EndsBefore, GainsRecords, HasBegun, HasRun, IsComplete};
+ghost use Rattle.dbl_connector.specs.Ends.{IsKeptError, IsReported, IsSpent, IsWrongSource, OnlyRead};
 ghost use Rattle.dbl_connector.specs.Errors.{IsBefore, IsBehindOpening, IsConnectError, IsRefusal};
 ghost use Rattle.dbl_connector.specs.Steps.{Answers, IsOpenedLog, IsOpenedSource, IsOpenedStore};
 

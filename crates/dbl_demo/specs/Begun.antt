@@ -1,5 +1,5 @@
 -- For private clauses: a log that begins.
-use Rattle.std.specs.Prelude.{◌≡◌, ◌⊎◌, ℕ, ◌≤◌, ◌^◌, Bool, true, false, Option, Some, List, [], ◌∷◌, length}
+use Rattle.std.specs.Prelude.{◌≡◌, ◌⊎◌, ℕ, ◌^◌, Bool, true, false, List, [], ◌∷◌}
 use Rattle.dbl_workload.specs.declared.error.DemoError.{DemoError}
 use Rattle.dbl_workload.specs.declared.error.DemoError.TheVariants as demo
 use Rattle.dbl_workload.specs.Logs.{IsFailed}

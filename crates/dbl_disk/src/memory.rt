@@ -1,4 +1,6 @@
-ghost use Rattle.std.specs.Prelude.{◌≡◌, ◌↔◌, ◌⊎◌, ℕ, ◌+◌, ◌-◌, ◌<◌, ◌≤◌, ◌++◌, List, [], ◌∷◌, length, take, drop, replicate, min, slice_index, Some, None, Ok, Err, IsErr, IfOk, OnOk, OnErr, Contains};
+ghost use Rattle.std.specs.Prelude.{◌≡◌, ◌↔◌, ◌⊎◌, ℕ, ◌+◌, ◌-◌, ◌<◌, ◌≤◌, ◌++◌, List, [], ◌∷◌, length, take, drop};
+ghost use Rattle.std.specs.Prelude.{replicate, min, slice_index, Some, None, Ok, Err, IsErr, IfOk, OnOk, OnErr};
+ghost use Rattle.std.specs.Prelude.{Contains};
 ghost use Rattle.std.specs.List.{All};
 ghost use Rattle.dbl_base.specs.Streams.{HasCause, raised};
 ghost use Rattle.dbl_base.specs.Memory.{new_plan};
@@ -32,7 +34,7 @@ pub struct MemDisk {
 }
 
 impl Model for MemDisk {
-    ghost use Rattle.std.specs.Prelude.{length, ◌<◌, ◌^◌};
+    ghost use Rattle.std.specs.Prelude.{length, ◌<◌};
     ghost use Rattle.dbl_disk.specs.Memory.{Platter, IsKept};
 
     ghost Value = { Platter };

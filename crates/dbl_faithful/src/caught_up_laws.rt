@@ -1,5 +1,8 @@
 //! What a session keeps of its log, step by step.
-ghost use Rattle.dbl_faithful.specs.CaughtUpLaws.{StartsAreCaughtUp, PutLogsAreCaughtUp, SentRecordsAreCaughtUp, CommitsAreCaughtUp, SilentCommitsAreCaughtUp, SnapshotsAreCaughtUp, LongerHistoriesAreCaughtUp, CaughtUpLogsAreRight, DeliveredEventsArePut};
+ghost use Rattle.dbl_faithful.specs.CaughtUpLaws.{StartsAreCaughtUp, PutLogsAreCaughtUp, SentRecordsAreCaughtUp};
+ghost use Rattle.dbl_faithful.specs.CaughtUpLaws.{CommitsAreCaughtUp, SilentCommitsAreCaughtUp, SnapshotsAreCaughtUp};
+ghost use Rattle.dbl_faithful.specs.CaughtUpLaws.{LongerHistoriesAreCaughtUp, CaughtUpLogsAreRight};
+ghost use Rattle.dbl_faithful.specs.CaughtUpLaws.{DeliveredEventsArePut};
 
 /// A first session begins with it.
 pub fn starts_are_caught_up()

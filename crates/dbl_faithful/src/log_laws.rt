@@ -1,7 +1,8 @@
 //! What exact logs and right snapshots come to.
 ghost use Rattle.dbl_faithful.specs.Controls.{CellsMissEmptyRows, TornWindowsAreSpoilt};
 ghost use Rattle.dbl_faithful.specs.ExactLaws.{NewsAreFresh, NewsRise, ExactLogsHaveOneCount, RepeatsAreEarlier, GapsSpoilExactLogs};
-ghost use Rattle.dbl_faithful.specs.CaughtUpLaws.{PositionsEndOnce, SnapshotRowsOverwriteNothing, DoneLogsAreImages, DoneLogsHaveImages, CompleteLogsAreImages};
+ghost use Rattle.dbl_faithful.specs.CaughtUpLaws.{PositionsEndOnce, SnapshotRowsOverwriteNothing, DoneLogsAreImages};
+ghost use Rattle.dbl_faithful.specs.CaughtUpLaws.{DoneLogsHaveImages, CompleteLogsAreImages};
 ghost use Rattle.dbl_faithful.specs.TornExample.{TornWindowsStand};
 
 /// The news of a log are its fresh records of changes.

@@ -1,5 +1,8 @@
 //! What a session keeps of its records, step by step.
-ghost use Rattle.dbl_faithful.specs.CaughtLaws.{StartsAreCaught, EarlierMomentsAreCaught, PartsOfCommitsAreCaught, PrintsAreCaught, AllPrintsAreCaught, CommitsAreCaught, SilentCommitsAreCaught, PartsOfSnapshotsAreCaught, LongerHistoriesAreCaught};
+ghost use Rattle.dbl_faithful.specs.CaughtLaws.{StartsAreCaught, EarlierMomentsAreCaught, PartsOfCommitsAreCaught};
+ghost use Rattle.dbl_faithful.specs.CaughtLaws.{PrintsAreCaught, AllPrintsAreCaught, CommitsAreCaught};
+ghost use Rattle.dbl_faithful.specs.CaughtLaws.{SilentCommitsAreCaught, PartsOfSnapshotsAreCaught};
+ghost use Rattle.dbl_faithful.specs.CaughtLaws.{LongerHistoriesAreCaught};
 
 /// A first session begins with it.
 pub fn starts_are_caught()

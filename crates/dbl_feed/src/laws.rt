@@ -1,6 +1,8 @@
 //! Laws of logs, of their histories and of what is read of them. The functions do nothing: their contracts are the laws.
 
-ghost use Rattle.dbl_feed.specs.Laws.{ChangesStateThemselves, FitLogsHaveFitHistories, FitLogsHaveTheirRows, FairLogsAreReadRight, ReadersAtTheEndHaveReadAll, ReadMessagesStay, LogsThatGrowHaveHistoriesThatGrow, ReadersReadWhatIsSent, SentMessagesStay};
+ghost use Rattle.dbl_feed.specs.Laws.{ChangesStateThemselves, FitLogsHaveFitHistories, FitLogsHaveTheirRows};
+ghost use Rattle.dbl_feed.specs.Laws.{FairLogsAreReadRight, ReadersAtTheEndHaveReadAll, ReadMessagesStay};
+ghost use Rattle.dbl_feed.specs.Laws.{LogsThatGrowHaveHistoriesThatGrow, ReadersReadWhatIsSent, SentMessagesStay};
 
 /// A change message without a fault states the changes that the history has for it.
 pub fn changes_state_themselves()

@@ -1,4 +1,5 @@
-ghost use Rattle.dbl_history.specs.Laws.{PositionsAreMoments, MomentsAreChanges, KeyTextsNameKeys, RowsHaveOneImage, FitRowsAreRows, TypedCommitsAreInRange, InfosAreInRange, FitChangesFitInfos};
+ghost use Rattle.dbl_history.specs.Laws.{PositionsAreMoments, MomentsAreChanges, KeyTextsNameKeys, RowsHaveOneImage};
+ghost use Rattle.dbl_history.specs.Laws.{FitRowsAreRows, TypedCommitsAreInRange, InfosAreInRange, FitChangesFitInfos};
 
 /// Where LSNs rise, the LSN of a commit names the moment after it, and 0 the first moment.
 pub fn positions_are_moments()

@@ -1,6 +1,10 @@
 //! Laws of histories that grow, and of what is read of them. The functions do nothing: their contracts are the laws.
 
-ghost use Rattle.dbl_honest.specs.Laws.{GrownHistoriesGrow, GrownHistoriesKeepRows, RowsBehindAreRows, OthersWriteNoMark, MarksAreWrittenOnce, FailedMarksMayStand, ReadMessagesAreBlocks, HistoriesPartAtAnLsn, ReadersGoOn, AllReadIsAllStated, AnswersAtAPlaceAreOne, NoRowsBeforeTheFirstCommit, RowsOfNoPlaceAreUnanswered, StandingRowsAreAnswered};
+ghost use Rattle.dbl_honest.specs.Laws.{GrownHistoriesGrow, GrownHistoriesKeepRows, RowsBehindAreRows};
+ghost use Rattle.dbl_honest.specs.Laws.{OthersWriteNoMark, MarksAreWrittenOnce, FailedMarksMayStand};
+ghost use Rattle.dbl_honest.specs.Laws.{ReadMessagesAreBlocks, HistoriesPartAtAnLsn, ReadersGoOn, AllReadIsAllStated};
+ghost use Rattle.dbl_honest.specs.Laws.{AnswersAtAPlaceAreOne, NoRowsBeforeTheFirstCommit, RowsOfNoPlaceAreUnanswered};
+ghost use Rattle.dbl_honest.specs.Laws.{StandingRowsAreAnswered};
 
 /// A history that grew and grew again has grown.
 pub fn grown_histories_grow()

@@ -1,5 +1,5 @@
 -- What the calls of a store leave, call by call.
-use Rattle.std.proofs.Common.{◌≡◌, ◌∙◌, ℕ, List, Option, arith}
+use Rattle.std.proofs.Common.{◌∙◌, ℕ, List, Option, arith}
 use Rattle.dbl_journal.specs.Calls.{Keeps}
 
 module _ {D : Type 0} (seen : D → Option (List ℕ)) (may_leave : D → List ℕ → Type 0) (faults : D → ℕ) where

@@ -1,7 +1,9 @@
 //! Laws of what the disks hold. The functions do nothing: their contracts are the laws.
 
 ghost use Rattle.dbl_kept.specs.Applied.{CompleteRunsAreApplied, KeptLogsArePrinted};
-ghost use Rattle.dbl_kept.specs.Laws.{CompleteRunsLeaveTablesEqual, DisksAreReadOnce, FreshStoresAreKept, KeptRunsArePromised, RunsArePromised, SessionsGoOn, SettledReportsAreRight, SmallLogsAreCounted, WhatStaysGoesOn, WorkloadsHaveTables};
+ghost use Rattle.dbl_kept.specs.Laws.{CompleteRunsLeaveTablesEqual, DisksAreReadOnce, FreshStoresAreKept};
+ghost use Rattle.dbl_kept.specs.Laws.{KeptRunsArePromised, RunsArePromised, SessionsGoOn, SettledReportsAreRight};
+ghost use Rattle.dbl_kept.specs.Laws.{SmallLogsAreCounted, WhatStaysGoesOn, WorkloadsHaveTables};
 
 use dbl_disk::Disk;
 

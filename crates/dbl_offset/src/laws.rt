@@ -4,7 +4,8 @@ ghost use Rattle.std.specs.Prelude.{◌≡◌, ◌⊎◌, ℕ, ◌+◌, ◌≤�
 ghost use Rattle.dbl_offset.specs.declared.offset.Offset.{Offset};
 ghost use Rattle.dbl_offset.specs.Entries.{Fits, spelling};
 ghost use Rattle.dbl_offset.specs.Offsets.{IsOffset, Spells};
-ghost use Rattle.dbl_offset.specs.Stores.{ComesOf, Counts, HasBadOffset, Holds, IsNoStoreAt, IsStore, LeavesOffset, MayLeaveOffset, StoreOn, disk_of};
+ghost use Rattle.dbl_offset.specs.Stores.{ComesOf, Counts, HasBadOffset, Holds, IsNoStoreAt, IsStore, LeavesOffset};
+ghost use Rattle.dbl_offset.specs.Stores.{MayLeaveOffset, StoreOn, disk_of};
 ghost use Rattle.dbl_journal.specs.Growth.{growth_room};
 
 use dbl_disk::Disk;

@@ -4,7 +4,8 @@ ghost use Rattle.std.specs.Prelude.{◌≡◌, ◌<◌, ◌^◌, length, FitsSig
 ghost use Rattle.std.specs.Int.{w64};
 ghost use Rattle.std.specs.List.{AllByRecursion, flat_map, zip};
 ghost use Rattle.dbl_record.specs.Fields.{IsStored, number32, text_form};
-ghost use Rattle.dbl_offset.specs.Entries.{Fits, FitsCell, FitsColumn, FitsCursor, FitsEntry, FitsNames, FitsTable, cell, column, counted, cursor, entry, names, spelling, table};
+ghost use Rattle.dbl_offset.specs.Entries.{Fits, FitsCell, FitsColumn, FitsCursor, FitsEntry, FitsNames, FitsTable};
+ghost use Rattle.dbl_offset.specs.Entries.{cell, column, counted, cursor, entry, names, spelling, table};
 ghost use Rattle.dbl_offset.specs.Measures.{Measures};
 
 use crate::offset::Offset;

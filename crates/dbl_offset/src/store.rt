@@ -1,4 +1,6 @@
-ghost use Rattle.std.specs.Prelude.{◌≡◌, ◌≢◌, ◌⊎◌, ◌↔◌, ℕ, ◌<◌, ◌≤◌, List, [], length, max, option_map, Option, Some, None, Ok, Err, IfOk, IfErr, IfSome, OnOk, OnErr, MatchResult, IsTrue, take, slice_get};
+ghost use Rattle.std.specs.Prelude.{◌≡◌, ◌≢◌, ◌⊎◌, ◌↔◌, ℕ, ◌<◌, ◌≤◌, List, [], length, max, option_map, Option, Some};
+ghost use Rattle.std.specs.Prelude.{None, Ok, Err, IfOk, IfErr, IfSome, OnOk, OnErr, MatchResult, IsTrue, take};
+ghost use Rattle.std.specs.Prelude.{slice_get};
 ghost use Rattle.std.specs.List.{All};
 ghost use Rattle.dbl_base.specs.Streams.{HasCause};
 ghost use Rattle.dbl_disk.specs.Disks.{Follows, IsOnly};
@@ -7,7 +9,8 @@ ghost use Rattle.dbl_offset.specs.declared.offset.Offset.{Offset};
 ghost use Rattle.dbl_offset.specs.Entries.{spelling};
 ghost use Rattle.dbl_offset.specs.Measures.{capped};
 ghost use Rattle.dbl_offset.specs.Offsets.{IsEntry, IsOffset, Spells};
-ghost use Rattle.dbl_offset.specs.Stores.{BeginsTorn, ComesOf, HasBadOffset, Holds, IsLastOf, IsLive, IsNoStoreAt, IsStore, LeavesOffset, disk_of, least_room, room_of, PutLeaves};
+ghost use Rattle.dbl_offset.specs.Stores.{BeginsTorn, ComesOf, HasBadOffset, Holds, IsLastOf, IsLive, IsNoStoreAt};
+ghost use Rattle.dbl_offset.specs.Stores.{IsStore, LeavesOffset, disk_of, least_room, room_of, PutLeaves};
 ghost use Rattle.dbl_journal.specs.Form.{entry_limit};
 ghost use Rattle.dbl_journal.specs.Calls.{Keeps, Makes};
 

@@ -3,7 +3,8 @@
 ghost use Rattle.std.specs.Prelude.{◌≡◌, ◌<◌, ◌≤◌, ◌^◌, length, drop, IfOk, OnOk};
 ghost use Rattle.std.specs.List.{AllByRecursion, flat_map, zip};
 ghost use Rattle.dbl_record.specs.Fields.{Extends, number32};
-ghost use Rattle.dbl_offset.specs.Entries.{Fits, FitsCell, FitsColumn, FitsCursor, FitsEntry, FitsNames, FitsTable, cell, column, counted, cursor, entry, last_key, names, spelling, table};
+ghost use Rattle.dbl_offset.specs.Entries.{Fits, FitsCell, FitsColumn, FitsCursor, FitsEntry, FitsNames, FitsTable};
+ghost use Rattle.dbl_offset.specs.Entries.{cell, column, counted, cursor, entry, last_key, names, spelling, table};
 ghost use Rattle.dbl_journal.specs.Form.{entry_limit};
 
 use crate::decoding::VERSION;

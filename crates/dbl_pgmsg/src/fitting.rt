@@ -3,7 +3,9 @@
 ghost use Rattle.std.specs.Prelude.{◌≡◌, ◌<◌, ◌≤◌, ◌↔◌, ◌+◌, ◌*◌, ◌^◌, List, IsTrue, length, flat_map};
 ghost use Rattle.std.specs.List.{AllByRecursion};
 ghost use Rattle.std.specs.Option.{SomeIff};
-ghost use Rattle.dbl_pgmsg.specs.Grammar.{string, cell, tuple, old_tuple, optional_tuple, column, spelling, is_identity, IsString, FitsCell, FitsTuple, FitsOld, FitsOptional, FitsColumn, FitsFields, Fits};
+ghost use Rattle.dbl_pgmsg.specs.Grammar.{string, cell, tuple, old_tuple, optional_tuple, column, spelling};
+ghost use Rattle.dbl_pgmsg.specs.Grammar.{is_identity, IsString, FitsCell, FitsTuple, FitsOld, FitsOptional};
+ghost use Rattle.dbl_pgmsg.specs.Grammar.{FitsColumn, FitsFields, Fits};
 ghost use Rattle.dbl_pgmsg.specs.Room.{Leaves};
 
 use crate::decoding::LIMIT;

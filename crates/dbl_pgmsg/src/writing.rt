@@ -2,7 +2,8 @@
 
 ghost use Rattle.std.specs.Prelude.{◌≡◌, ◌≤◌, ◌++◌, List, length, flat_map, OnOk, OnErr};
 ghost use Rattle.std.specs.List.{AllByRecursion};
-ghost use Rattle.dbl_pgmsg.specs.Grammar.{int16, int32, int64, signed32, signed64, string, cell, tuple, old_tuple, optional_tuple, column, FitsCell, FitsTuple, FitsOld, FitsOptional};
+ghost use Rattle.dbl_pgmsg.specs.Grammar.{int16, int32, int64, signed32, signed64, string, cell, tuple, old_tuple};
+ghost use Rattle.dbl_pgmsg.specs.Grammar.{optional_tuple, column, FitsCell, FitsTuple, FitsOld, FitsOptional};
 ghost use Rattle.dbl_pgmsg.specs.Room.{Appends, Begins};
 
 use crate::{OldTuple, RelationColumn, Tuple, TupleCell};

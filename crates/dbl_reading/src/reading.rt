@@ -1,6 +1,7 @@
 //! The next message of a commit that is being read, and how far its reader is behind it.
 
-ghost use Rattle.std.specs.Prelude.{◌≡◌, ◌⊎◌, ◌+◌, ◌<◌, ◌^◌, ℕ, List, ◌∷◌, take, false, true, Some, None, IfOk, IfErr, OnOk, OnErr, MatchOption, slice_get};
+ghost use Rattle.std.specs.Prelude.{◌≡◌, ◌⊎◌, ◌+◌, ◌<◌, ◌^◌, ℕ, List, ◌∷◌, take, false, true, Some, None, IfOk, IfErr};
+ghost use Rattle.std.specs.Prelude.{OnOk, OnErr, MatchOption, slice_get};
 ghost use Rattle.dbl_pgmsg.specs.declared.messages.Message.{Message};
 ghost use Rattle.dbl_pgmsg.specs.Grammar.{Fits, Spells};
 ghost use Rattle.dbl_feed.specs.declared.logged.LogTable.{LogTable};

@@ -1,6 +1,7 @@
 //! The loop over the messages of a log: the lines of the commits that they end are put one behind the other, up to the first
 //! fault, and then that fault's line.
-ghost use Rattle.std.specs.Prelude.{◌≡◌, ◌≢◌, Some, ◌+◌, ◌∷◌, List, [], length, map, None, option_and_then, All, IfSome, IfOk, IfErr, OnOk, Err};
+ghost use Rattle.std.specs.Prelude.{◌≡◌, ◌≢◌, Some, ◌+◌, ◌∷◌, List, [], length, map, None, option_and_then, All};
+ghost use Rattle.std.specs.Prelude.{IfSome, IfOk, IfErr, OnOk, Err};
 ghost use Rattle.dbl_base.specs.Streams.{HasCause};
 ghost use Rattle.dbl_lines.specs.Gathering.{PutsLines};
 ghost use Rattle.dbl_pgmsg.specs.declared.messages.Message.{Message};

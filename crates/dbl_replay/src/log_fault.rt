@@ -2,7 +2,8 @@
 
 ghost use Rattle.std.specs.Prelude.{◌≡◌, IfOk};
 ghost use Rattle.std.specs.String.{string_bytes};
-ghost use Rattle.dbl_replay.specs.LogFaults.{message_text, value_words, transaction_text, table_text, log_line, log_status, transaction_status, transaction_line};
+ghost use Rattle.dbl_replay.specs.LogFaults.{message_text, value_words, transaction_text, table_text, log_line};
+ghost use Rattle.dbl_replay.specs.LogFaults.{log_status, transaction_status, transaction_line};
 
 use dbl_base::Text;
 use dbl_commit::TxnError;

@@ -1,7 +1,8 @@
 //! Any number of sessions and crashes. The functions do nothing: their contracts are the laws.
 
 ghost use Rattle.dbl_restarts.specs.Example.{ThreeSessionsStand};
-ghost use Rattle.dbl_restarts.specs.Laws.{RulesKeepPromises, RestartsStayFaithful, FirstSessionsAreFaithful, RestartsGoOn, CompletedRestartsAreImages};
+ghost use Rattle.dbl_restarts.specs.Laws.{RulesKeepPromises, RestartsStayFaithful, FirstSessionsAreFaithful};
+ghost use Rattle.dbl_restarts.specs.Laws.{RestartsGoOn, CompletedRestartsAreImages};
 ghost use Rattle.dbl_restarts.specs.Telling.{LogsTellTheSource};
 
 /// Sessions that go by the rules keep their promise.

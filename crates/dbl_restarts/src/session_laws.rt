@@ -1,6 +1,8 @@
 //! One session that begins with what others left. The functions do nothing: their contracts are the laws.
 
-ghost use Rattle.dbl_restarts.specs.Laws.{FaithfulEntriesAreKnown, StoredOffsetsBeginAgain, RunsKeepGoing, StopsFollow, RepeatsAreCounted, FewCommitsAreReadAgain, OldMarksAreOthers, OldMarksDoNothing};
+ghost use Rattle.dbl_restarts.specs.Laws.{FaithfulEntriesAreKnown, StoredOffsetsBeginAgain, RunsKeepGoing, StopsFollow};
+ghost use Rattle.dbl_restarts.specs.Laws.{RepeatsAreCounted, FewCommitsAreReadAgain, OldMarksAreOthers};
+ghost use Rattle.dbl_restarts.specs.Laws.{OldMarksDoNothing};
 
 /// Where it finds faithful stores, it finds all that promises on its answers ask of it.
 pub fn faithful_entries_are_known()

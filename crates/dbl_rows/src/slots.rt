@@ -6,7 +6,8 @@ ghost use Rattle.std.specs.BTreeMap.{get};
 ghost use Rattle.dbl_table.specs.declared.row.Key.{Key};
 ghost use Rattle.dbl_table.specs.Keys.{key_cmp};
 ghost use Rattle.dbl_rows.specs.Views.{committed_in, held_in, is_owner};
-ghost use Rattle.dbl_rows.specs.Changing.{HasSlot, IsInvisible, Writes, Settles, Releases, settled_slot, released_slot, is_empty_slot, is_empty_there};
+ghost use Rattle.dbl_rows.specs.Changing.{HasSlot, IsInvisible, Writes, Settles, Releases, settled_slot, released_slot};
+ghost use Rattle.dbl_rows.specs.Changing.{is_empty_slot, is_empty_there};
 
 use dbl_base::Text;
 use dbl_table::{Key, RawRow};

@@ -1,6 +1,8 @@
 //! The functions do nothing: their contracts are the laws.
 
-ghost use Rattle.dbl_running.specs.Laws.{CallsUndoNothing, EntriesAreWrittenAsPromised, GroupsAnswerAsPromised, ReadsAnswerAsPromised, SelectsAnswerAsPromised, SourcesStandWell, CrashesLeaveWhatFollows};
+ghost use Rattle.dbl_running.specs.Laws.{CallsUndoNothing, EntriesAreWrittenAsPromised, GroupsAnswerAsPromised};
+ghost use Rattle.dbl_running.specs.Laws.{ReadsAnswerAsPromised, SelectsAnswerAsPromised, SourcesStandWell};
+ghost use Rattle.dbl_running.specs.Laws.{CrashesLeaveWhatFollows};
 
 use dbl_disk::Disk;
 

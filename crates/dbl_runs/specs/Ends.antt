@@ -1,5 +1,5 @@
 -- How a command ends that only reads the stores: what it has written, and what it leaves of the disks. Source: own.
-use Rattle.std.specs.Prelude.{◌≡◌, ◌≢◌, ℕ, ◌≤◌, Option, Some, Result, Ok, Err, List, take}
+use Rattle.std.specs.Prelude.{◌≡◌, ◌≢◌, ℕ, Option, Some, Result, Ok, Err, List, take}
 use Rattle.dbl_base.specs.Lines.{lines_text}
 use Rattle.dbl_disk.specs.Disks.{IsOnly}
 use Rattle.dbl_lines.specs.Writing.{Wrote, WrotePrefix}

@@ -1,5 +1,6 @@
 //! A consumer of a topic log's records.
-ghost use Rattle.std.specs.Prelude.{◌≡◌, ◌≢◌, ◌⊎◌, ◌++◌, ◌∷◌, ℕ, List, [], Err, Some, None, true, false, codes, map, IfErr, IfOk, OnOk, MatchResult, IsTrue};
+ghost use Rattle.std.specs.Prelude.{◌≡◌, ◌≢◌, ◌⊎◌, ◌++◌, ◌∷◌, ℕ, List, [], Err, Some, None, true, false, codes, map};
+ghost use Rattle.std.specs.Prelude.{IfErr, IfOk, OnOk, MatchResult, IsTrue};
 ghost use Rattle.dbl_record.specs.declared.record.Record.{Record};
 ghost use Rattle.dbl_record.specs.declared.acts.ConsumeError.TheVariants.{Memory};
 ghost use Rattle.dbl_record.specs.Acts.{Reading, reading_of};

@@ -7,7 +7,8 @@ ghost use Rattle.dbl_topic.specs.Held.{HoldsGroups};
 ghost use Rattle.dbl_offset.specs.declared.offset.Offset.{Offset};
 ghost use Rattle.dbl_offset.specs.Stores.{Holds, StoreOn, disk_of};
 ghost use Rattle.dbl_runs.specs.Stores.{ReadAs};
-ghost use Rattle.dbl_runs.specs.Laws.{ApplyAnswersOnce, ApplyAnswersStand, OffsetsAnswerOnce, OffsetsAnswersStand, StoresAreReadOnce, TopicsAnswerOnce, TopicsAnswersStand};
+ghost use Rattle.dbl_runs.specs.Laws.{ApplyAnswersOnce, ApplyAnswersStand, OffsetsAnswerOnce, OffsetsAnswersStand};
+ghost use Rattle.dbl_runs.specs.Laws.{StoresAreReadOnce, TopicsAnswerOnce, TopicsAnswersStand};
 
 use dbl_disk::Disk;
 

@@ -6,7 +6,9 @@ ghost use Rattle.std.specs.Char.{is_ascii_digit};
 ghost use Rattle.std.specs.Str.Parse.{digits_value};
 ghost use Rattle.dbl_script.specs.Words.{parts_at};
 ghost use Rattle.dbl_script.specs.Reads.{Reads, Gives};
-ghost use Rattle.dbl_script.specs.Texts.{utf8_text, name_of, table_name_of, is_session_byte, session_of, is_column_byte, column_name_of, number_of, measured_oid_of, listed_oid_of, oid_of, escape_of, escapes_of, unescaped_bytes, text_of};
+ghost use Rattle.dbl_script.specs.Texts.{utf8_text, name_of, table_name_of, is_session_byte, session_of};
+ghost use Rattle.dbl_script.specs.Texts.{is_column_byte, column_name_of, number_of, measured_oid_of, listed_oid_of};
+ghost use Rattle.dbl_script.specs.Texts.{oid_of, escape_of, escapes_of, unescaped_bytes, text_of};
 
 use crate::fault::Fault;
 use crate::parts::{Parts, cut};

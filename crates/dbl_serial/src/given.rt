@@ -5,7 +5,9 @@ ghost use Rattle.std.specs.BTreeMap.{IsEmpty};
 ghost use Rattle.dbl_value.specs.Values.{value_of};
 ghost use Rattle.dbl_table.specs.Tables.{are_distinct};
 ghost use Rattle.dbl_table.specs.Infos.{catalogue_of};
-ghost use Rattle.dbl_serial.specs.Cells.{cell_named, text_given, row_given, key_texts, text_set, row_set, key_texts_set, spells_cell, is_readable, are_each_readable, are_of_key, keep_key, has_key_texts};
+ghost use Rattle.dbl_serial.specs.Cells.{cell_named, text_given, row_given, key_texts, text_set, row_set};
+ghost use Rattle.dbl_serial.specs.Cells.{key_texts_set, spells_cell, is_readable, are_each_readable, are_of_key};
+ghost use Rattle.dbl_serial.specs.Cells.{keep_key, has_key_texts};
 ghost use Rattle.dbl_serial.specs.Given.{HasCells, HasColumns, names_of};
 
 use crate::columns::is_key_name;

@@ -7,7 +7,9 @@ ghost use Rattle.dbl_table.specs.Infos.{raw_column, catalogue_of};
 ghost use Rattle.dbl_value.specs.Types.{is_column_type};
 ghost use Rattle.dbl_commit.specs.Tuples.{is_fixed};
 ghost use Rattle.dbl_serial.specs.Cells.{is_key_name};
-ghost use Rattle.dbl_serial.specs.Sending.{raw_of, sent_cell, whole_tuple, key_tuple, is_unsent_text, new_cells, old_tuple, optional_old, insert_message, update_message, delete_message, moves};
+ghost use Rattle.dbl_serial.specs.Sending.{raw_of, sent_cell, whole_tuple, key_tuple, is_unsent_text, new_cells};
+ghost use Rattle.dbl_serial.specs.Sending.{old_tuple, optional_old, insert_message, update_message, delete_message};
+ghost use Rattle.dbl_serial.specs.Sending.{moves};
 ghost use Rattle.dbl_serial.specs.Given.{IsUtf8Cell, IsUtf8Change, cells_before};
 
 use crate::columns::{is_key_name, key_in};

@@ -1,6 +1,7 @@
 //! What a session may leave. The functions do nothing: their contracts are the laws.
 
-ghost use Rattle.dbl_session.specs.Exits.{UnreadSessionsFollow, FirstOffsetsFollow, SourcesMayEnd, SinksMayEnd, StoresMayEnd, FewMarksAreWritten, WindowsAreRead, ReadSessionsAreComplete};
+ghost use Rattle.dbl_session.specs.Exits.{UnreadSessionsFollow, FirstOffsetsFollow, SourcesMayEnd, SinksMayEnd};
+ghost use Rattle.dbl_session.specs.Exits.{StoresMayEnd, FewMarksAreWritten, WindowsAreRead, ReadSessionsAreComplete};
 
 /// Before its first store it leaves faithful stores.
 pub fn unread_sessions_follow()

@@ -1,6 +1,7 @@
 //! The steps of a session. The functions do nothing: their contracts are the laws.
 
-ghost use Rattle.dbl_session.specs.Steps.{SessionsBegin, OthersKeepGoing, ConfirmsKeepGoing, MessagesKeepGoing, WindowsKeepGoing, CommitsKeepGoing, StoresKeepGoing};
+ghost use Rattle.dbl_session.specs.Steps.{SessionsBegin, OthersKeepGoing, ConfirmsKeepGoing, MessagesKeepGoing};
+ghost use Rattle.dbl_session.specs.Steps.{WindowsKeepGoing, CommitsKeepGoing, StoresKeepGoing};
 
 /// Where others alone have committed, a session begins with what it keeps.
 pub fn sessions_begin()

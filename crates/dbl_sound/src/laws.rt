@@ -3,7 +3,9 @@
 ghost use Rattle.std.specs.Prelude.{◌≡◌, ℕ, List};
 ghost use Rattle.dbl_journal.specs.Form.{IsFaultAt};
 ghost use Rattle.dbl_sound.specs.Contents.{GoodScriptsHaveFewTables, ScriptsAreFilled};
-ghost use Rattle.dbl_sound.specs.Laws.{CommitsStay, SoundLogsRelease, SoundWalsAreSerial, SoundWalsGoOn, WalsAreFair, WalsAreFit, WalsAreReadOnce, WalsHaveFitHistories, WorkloadsAreInRange, WorkloadsAreReadOnce};
+ghost use Rattle.dbl_sound.specs.Laws.{CommitsStay, SoundLogsRelease, SoundWalsAreSerial, SoundWalsGoOn, WalsAreFair};
+ghost use Rattle.dbl_sound.specs.Laws.{WalsAreFit, WalsAreReadOnce, WalsHaveFitHistories, WorkloadsAreInRange};
+ghost use Rattle.dbl_sound.specs.Laws.{WorkloadsAreReadOnce};
 ghost use Rattle.dbl_sound.specs.Wals.{HasBadEntry, IsWal, Wal};
 
 /// Bytes are of one workload at most, and of one log of it.

@@ -1,7 +1,8 @@
 //! How a source plays its script: what a call begins with, what it does and what it answers. How each function ends is told by
 //! the state that it leads to; what a source promises of its calls is told of those of the trait.
 
-ghost use Rattle.std.specs.Prelude.{◌≡◌, ◌+◌, ◌≤◌, ◌<◌, ◌++◌, ◌∷◌, [], false, length, max, Option, option_copied, Err, IsErr, IfOk, IfErr, OnOk, OnErr};
+ghost use Rattle.std.specs.Prelude.{◌≡◌, ◌+◌, ◌≤◌, ◌<◌, ◌++◌, ◌∷◌, [], false, length, max, Option, option_copied, Err};
+ghost use Rattle.std.specs.Prelude.{IsErr, IfOk, IfErr, OnOk, OnErr};
 ghost use Rattle.dbl_history.specs.History.{entry_of};
 ghost use Rattle.dbl_feed.specs.declared.logged.Logged.TheVariants.{Mark};
 ghost use Rattle.dbl_feed.specs.Histories.{history_of};
@@ -9,7 +10,9 @@ ghost use Rattle.dbl_feed.specs.Numbers.{lsn_of, commit_limit};
 ghost use Rattle.dbl_reading.specs.declared.error.SourceError.TheVariants.{Failed, Memory};
 ghost use Rattle.dbl_source.specs.Exits.{Plays, AnswersEntry, AnswersHead, AnswersStart, HasRead, AnswersRead, AnswersRows};
 ghost use Rattle.dbl_source.specs.Moves.{HasRoom};
-ghost use Rattle.dbl_source.specs.Played.{entry_at, before_of, inside_of, IsListed, IsFullBy, past_move, counted, committed, released, with_fault, FailsAsPlanned, with_answer, with_mark, with_confirmed, started_at, place_of, next_rows, question_of};
+ghost use Rattle.dbl_source.specs.Played.{entry_at, before_of, inside_of, IsListed, IsFullBy, past_move, counted};
+ghost use Rattle.dbl_source.specs.Played.{committed, released, with_fault, FailsAsPlanned, with_answer, with_mark};
+ghost use Rattle.dbl_source.specs.Played.{with_confirmed, started_at, place_of, next_rows, question_of};
 ghost use Rattle.dbl_source.specs.Steps.{IsKept, IsBehind, AddedFirst, HasFailed, IsUnfit, ReadsOn, IsReadBy, FailsToRead};
 
 use crate::asked::{Last, question, rows_at};

@@ -1,4 +1,6 @@
-ghost use Rattle.std.specs.Prelude.{◌≡◌, ◌≢◌, ◌+◌, ◌≤◌, ◌<◌, ◌++◌, ◌∷◌, [], ℕ, length, map, Option, Some, None, false, is_some, is_none, option_copied, Err, IsTrue, IfSome, IfOk, IfErr, OnOk, OnErr, MatchOption};
+ghost use Rattle.std.specs.Prelude.{◌≡◌, ◌≢◌, ◌+◌, ◌≤◌, ◌<◌, ◌++◌, ◌∷◌, [], ℕ, length, map, Option, Some, None, false};
+ghost use Rattle.std.specs.Prelude.{is_some, is_none, option_copied, Err, IsTrue, IfSome, IfOk, IfErr, OnOk, OnErr};
+ghost use Rattle.std.specs.Prelude.{MatchOption};
 ghost use Rattle.std.specs.List.{AllByRecursion};
 ghost use Rattle.dbl_base.specs.Streams.{HasCause};
 ghost use Rattle.dbl_pgmsg.specs.declared.messages.Message.{Message};
@@ -13,7 +15,9 @@ ghost use Rattle.dbl_honest.specs.Told.{Described, Head, Began, Read, Selected, 
 ghost use Rattle.dbl_feed.specs.Relations.{catalogue, all_relations, oid_limit};
 ghost use Rattle.dbl_source.specs.declared.asked.Last.TheVariants as answers;
 ghost use Rattle.dbl_reading.specs.declared.error.SourceError.TheVariants.{Failed, Memory};
-ghost use Rattle.dbl_source.specs.Played.{keyed_table, new_played, told_of, before_of, inside_of, IsListed, past_move, released, FailsAsPlanned, with_answer, with_mark, with_confirmed, started_at, with_start, with_head, next_rows, with_select};
+ghost use Rattle.dbl_source.specs.Played.{keyed_table, new_played, told_of, before_of, inside_of, IsListed, past_move};
+ghost use Rattle.dbl_source.specs.Played.{released, FailsAsPlanned, with_answer, with_mark, with_confirmed, started_at};
+ghost use Rattle.dbl_source.specs.Played.{with_start, with_head, next_rows, with_select};
 ghost use Rattle.dbl_source.specs.Steps.{AddedFirst, StandsFor, MayLeave, WasFair, IsUnfit, IsAtEnd};
 
 use crate::asked::{Asked, Last};

@@ -1,6 +1,7 @@
 //! How a session begins with faithful stores, and leaves them faithful.
 ghost use Rattle.dbl_stores.specs.Complete.{CompleteStoresAreImages};
-ghost use Rattle.dbl_stores.specs.Laws.{FaithfulStoresAreCaughtUp, CursorsWereTold, FaithfulRecordsStand, CaughtUpStoresAreFaithful, FirstOffsetsAreFaithful};
+ghost use Rattle.dbl_stores.specs.Laws.{FaithfulStoresAreCaughtUp, CursorsWereTold, FaithfulRecordsStand};
+ghost use Rattle.dbl_stores.specs.Laws.{CaughtUpStoresAreFaithful, FirstOffsetsAreFaithful};
 
 /// A session goes on from faithful stores: its log has all records of the commits up to the offset.
 pub fn faithful_stores_are_caught_up()

@@ -1,5 +1,7 @@
 //! What keeps stores faithful beside a session's records.
-ghost use Rattle.dbl_stores.specs.Kept.{LongerHistoriesStayFaithful, LongerHistoriesKeepOffsets, MoreRecordsKeepOffsets, StartOffsetsAreBehind, ConfirmsStayFaithful, LaterSessionsStayFaithful};
+ghost use Rattle.dbl_stores.specs.Kept.{LongerHistoriesStayFaithful, LongerHistoriesKeepOffsets};
+ghost use Rattle.dbl_stores.specs.Kept.{MoreRecordsKeepOffsets, StartOffsetsAreBehind, ConfirmsStayFaithful};
+ghost use Rattle.dbl_stores.specs.Kept.{LaterSessionsStayFaithful};
 
 /// A history that grew keeps stores faithful, also where no offset is stored.
 pub fn longer_histories_stay_faithful()

@@ -1,5 +1,6 @@
 //! Positions of a history, and how far an offset is behind its log.
-ghost use Rattle.dbl_stores.specs.Stores.{TopPositionsAreTops, EmptyLogsHaveNoLag, LagsAreBounded, LaterOffsetsLagLess, RepeatedCommitsStandTogether};
+ghost use Rattle.dbl_stores.specs.Stores.{TopPositionsAreTops, EmptyLogsHaveNoLag, LagsAreBounded, LaterOffsetsLagLess};
+ghost use Rattle.dbl_stores.specs.Stores.{RepeatedCommitsStandTogether};
 
 /// The greatest position is that of the greatest place.
 pub fn top_positions_are_tops()

@@ -6,7 +6,8 @@ ghost use Rattle.std.specs.BTreeMap.{IsEmpty, get_by};
 ghost use Rattle.dbl_table.specs.declared.error.ModelError.TheVariants.{FloatColumn};
 ghost use Rattle.dbl_table.specs.Tables.{type_at, is_key_type, are_typed, is_unfit};
 ghost use Rattle.dbl_table.specs.Infos.{raw_column, name_at, IsInfoOf};
-ghost use Rattle.dbl_table.specs.Made.{raw_names, place_of, first_repeated, first_float, has_key, column_fault, key_type_fault, table_fault};
+ghost use Rattle.dbl_table.specs.Made.{raw_names, place_of, first_repeated, first_float, has_key, column_fault};
+ghost use Rattle.dbl_table.specs.Made.{key_type_fault, table_fault};
 
 use crate::ModelError;
 use crate::table::{Column, RawColumn, RawTable, TableInfo, TableName};

@@ -1,6 +1,7 @@
 //! Selects: committed rows in key order, whoever is changing them.
 
-ghost use Rattle.std.specs.Prelude.{◌≡◌, ◌++◌, ◌↔◌, List, Some, None, IfOk, IfSome, IsTrue, OnOk, option_copied, option_to_list, filter_map, take, length, nat_le};
+ghost use Rattle.std.specs.Prelude.{◌≡◌, ◌++◌, ◌↔◌, List, Some, None, IfOk, IfSome, IsTrue, OnOk, option_copied};
+ghost use Rattle.std.specs.Prelude.{option_to_list, filter_map, take, length, nat_le};
 ghost use Rattle.std.specs.BTreeMap.{IsOrdered};
 ghost use Rattle.dbl_table.specs.Keys.{key_cmp};
 ghost use Rattle.dbl_history.specs.Fit.{IsKeyOf};

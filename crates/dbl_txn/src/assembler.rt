@@ -1,4 +1,5 @@
-ghost use Rattle.std.specs.Prelude.{◌≡◌, ◌||◌, ℕ, ℤ, List, [], ◌∷◌, ◌++◌, Option, Ok, OnOk, OnErr, IfOk, IfErr, Bool, if◌then◌else◌, is_some, nat_eq, slice_get, not, ◌&&◌};
+ghost use Rattle.std.specs.Prelude.{◌≡◌, ◌||◌, ℕ, ℤ, List, [], ◌∷◌, ◌++◌, Option, Ok, OnOk, OnErr, IfOk, IfErr, Bool};
+ghost use Rattle.std.specs.Prelude.{if◌then◌else◌, is_some, nat_eq, slice_get, not, ◌&&◌};
 ghost use Rattle.std.specs.List.{list_any};
 ghost use Rattle.indexmap.specs.IndexMap.{get};
 ghost use Rattle.dbl_base.specs.declared.lsn.Lsn.{Lsn};
@@ -9,7 +10,8 @@ ghost use Rattle.dbl_table.specs.declared.change.Commit.{Commit};
 ghost use Rattle.dbl_table.specs.declared.table.TableInfo.{TableInfo};
 ghost use Rattle.dbl_commit.specs.Past.{Begun, begin_of, second_text, mark_in, HasNoRelation};
 ghost use Rattle.dbl_commit.specs.Tuples.{refuse_if};
-ghost use Rattle.dbl_commit.specs.Stated.{is_empty, has_some, in_table, row_stated, targets_at, is_the_watermark, clears, truncate_stated, truncated_tables, commit_of};
+ghost use Rattle.dbl_commit.specs.Stated.{is_empty, has_some, in_table, row_stated, targets_at, is_the_watermark};
+ghost use Rattle.dbl_commit.specs.Stated.{clears, truncate_stated, truncated_tables, commit_of};
 ghost use Rattle.dbl_commit.specs.Blocks.{onto, States};
 ghost use Rattle.dbl_txn.specs.Stands.{message_of, IsBlock, Recalls, Stands, StandsWhole, Moves, Says, Takes};
 ghost use Rattle.dbl_txn.specs.Answers.{Gives};

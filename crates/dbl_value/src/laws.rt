@@ -1,6 +1,8 @@
-ghost use Rattle.dbl_value.specs.Forms.{TimeTextsAreClocks, StampTextsAreMoments, InstantTextsAreInstants, DateTextsAreDays, DaysAreDates, ByteTextsAreHex, UuidTextsAreGroups};
+ghost use Rattle.dbl_value.specs.Forms.{TimeTextsAreClocks, StampTextsAreMoments, InstantTextsAreInstants};
+ghost use Rattle.dbl_value.specs.Forms.{DateTextsAreDays, DaysAreDates, ByteTextsAreHex, UuidTextsAreGroups};
 ghost use Rattle.dbl_value.specs.KindOrder.{KindsAreInOrder};
-ghost use Rattle.dbl_value.specs.Laws.{DateRangesSpellNoValue, OidsNameTypes, TextsSpellOneValue, DecimalsSpellIntegers, TextsReadBack, JsonTellsCells, ValuesAreOrdered};
+ghost use Rattle.dbl_value.specs.Laws.{DateRangesSpellNoValue, OidsNameTypes, TextsSpellOneValue};
+ghost use Rattle.dbl_value.specs.Laws.{DecimalsSpellIntegers, TextsReadBack, JsonTellsCells, ValuesAreOrdered};
 
 /// An OID is that of at most one type that a column can have, and each such type has one.
 pub fn oids_name_types()

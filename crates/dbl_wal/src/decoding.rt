@@ -4,7 +4,8 @@
 ghost use Rattle.std.specs.Prelude.{◌≡◌, ℕ, Ok, Err, IfOk};
 ghost use Rattle.dbl_record.specs.GroupReading.{Gives, many_at};
 ghost use Rattle.dbl_wal.specs.Entries.{IsEntry, Spells};
-ghost use Rattle.dbl_wal.specs.Reading.{change_at, change_in, changes_at, commit_at, confirm_at, entry_at, is_change, mark_at, refusal, spelled_change, whole};
+ghost use Rattle.dbl_wal.specs.Reading.{change_at, change_in, changes_at, commit_at, confirm_at, entry_at, is_change};
+ghost use Rattle.dbl_wal.specs.Reading.{mark_at, refusal, spelled_change, whole};
 
 use crate::{Entry, EntryError};
 use dbl_base::{Lsn, Seq};

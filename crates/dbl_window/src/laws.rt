@@ -2,7 +2,9 @@
 
 ghost use Rattle.dbl_window.specs.ClosingLaws.{ClosedWindowsKeepTheirPromise, RowsAboveAreInOrder};
 ghost use Rattle.dbl_window.specs.RightLaws.{WindowsAreRight};
-ghost use Rattle.dbl_window.specs.Laws.{ClearsLeaveNothing, FaultsAreFirst, LeftRowsAreOne, LeftRowsGoOn, OtherTablesLeaveRows, ReadRowsAreAnswered, SelectedRowsStay, SelectedRowsWereGiven};
+ghost use Rattle.dbl_window.specs.Laws.{ClearsLeaveNothing, FaultsAreFirst, LeftRowsAreOne, LeftRowsGoOn};
+ghost use Rattle.dbl_window.specs.Laws.{OtherTablesLeaveRows, ReadRowsAreAnswered, SelectedRowsStay};
+ghost use Rattle.dbl_window.specs.Laws.{SelectedRowsWereGiven};
 
 /// What changes leave of rows is one list in key order.
 pub fn left_rows_are_one()

@@ -1,6 +1,7 @@
 //! What a change leaves of the rows that a window holds.
 
-ghost use Rattle.std.specs.Prelude.{◌≡◌, ◌+◌, ◌≤◌, ◌++◌, ◌∷◌, [], Option, length, slice_set, option_map, is_some, if◌then◌else◌, true, None, IfOk, IfSome, OnOk};
+ghost use Rattle.std.specs.Prelude.{◌≡◌, ◌+◌, ◌≤◌, ◌++◌, ◌∷◌, [], Option, length, slice_set, option_map, is_some};
+ghost use Rattle.std.specs.Prelude.{if◌then◌else◌, true, None, IfOk, IfSome, OnOk};
 ghost use Rattle.std.specs.List.{AllByRecursion};
 ghost use Rattle.dbl_table.specs.declared.row.Key.{Key as SpecKey};
 ghost use Rattle.dbl_table.specs.declared.table.TableInfo.{TableInfo as SpecInfo};

@@ -1,6 +1,7 @@
 //! How a session begins: with the first offset of a connector, or with the stored one.
 
-ghost use Rattle.std.specs.Prelude.{◌≡◌, ◌≢◌, ◌⊎◌, ◌^◌, ◌<◌, ◌≤◌, ◌∷◌, [], Contains, Option, None, Some, IfOk, IfErr, IfSome, IsTrue, OnOk, OnErr, length, map};
+ghost use Rattle.std.specs.Prelude.{◌≡◌, ◌≢◌, ◌⊎◌, ◌^◌, ◌<◌, ◌≤◌, ◌∷◌, [], Contains, Option, None, Some, IfOk, IfErr};
+ghost use Rattle.std.specs.Prelude.{IfSome, IsTrue, OnOk, OnErr, length, map};
 ghost use Rattle.dbl_base.specs.Streams.{HasCause};
 ghost use Rattle.dbl_table.specs.Configs.{IsGoodConfig};
 ghost use Rattle.dbl_history.specs.Fit.{AreInfosOf};
@@ -13,7 +14,9 @@ ghost use Rattle.dbl_offset.specs.Entries.{spelling};
 ghost use Rattle.dbl_offset.specs.Measures.{capped};
 ghost use Rattle.dbl_offset.specs.Offsets.{IsOffset};
 ghost use Rattle.dbl_offset.specs.Stores.{ComesOf, Holds, IsLive, LeavesOffset, disk_of};
-ghost use Rattle.dbl_work.specs.Begins.{AreDescribed, AreUnread, IsAbsentHalt, IsAgain, IsDescribedAs, IsExhausted, IsFaultless, IsFirst, IsGoneFrom, IsModelFault, IsOffsetFor, IsTooLong, MayRest};
+ghost use Rattle.dbl_work.specs.Begins.{AreDescribed, AreUnread, IsAbsentHalt, IsAgain, IsDescribedAs, IsExhausted};
+ghost use Rattle.dbl_work.specs.Begins.{IsFaultless, IsFirst, IsGoneFrom, IsModelFault, IsOffsetFor, IsTooLong};
+ghost use Rattle.dbl_work.specs.Begins.{MayRest};
 
 use crate::Halt;
 use dbl_base::{Lsn, Seq};

@@ -1,6 +1,7 @@
 //! Records in groups, as a sink takes them.
 
-ghost use Rattle.std.specs.Prelude.{◌≡◌, ◌≢◌, ◌⊎◌, ◌<◌, ◌++◌, ◌∷◌, [], ℕ, Some, List, length, slice_get, IfErr, IfOk, IsErr, IsTrue, OnOk, OnErr};
+ghost use Rattle.std.specs.Prelude.{◌≡◌, ◌≢◌, ◌⊎◌, ◌<◌, ◌++◌, ◌∷◌, [], ℕ, Some, List, length, slice_get, IfErr, IfOk};
+ghost use Rattle.std.specs.Prelude.{IsErr, IsTrue, OnOk, OnErr};
 ghost use Rattle.dbl_base.specs.Streams.{HasCause};
 ghost use Rattle.dbl_record.specs.declared.record.Record.{Record as SpecRecord};
 ghost use Rattle.dbl_record.specs.Cuts.{IsHandful, begins_behind, cut};

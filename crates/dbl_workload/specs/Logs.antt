@@ -1,5 +1,5 @@
 -- For private clauses: how a log is opened.
-use Rattle.std.specs.Prelude.{◌≡◌, ◌≢◌, ◌⊎◌, ℕ, ◌≤◌, ◌<◌, Option, Result, Ok, Err, List, [], ◌∷◌, length}
+use Rattle.std.specs.Prelude.{◌≡◌, ◌≢◌, ◌⊎◌, ℕ, ◌<◌, Option, Result, Ok, Err, List, [], ◌∷◌, length}
 use Rattle.std.specs.List.{All}
 use Rattle.dbl_journal.specs.Stored.{Lists, OnDisk}
 use Rattle.dbl_journal.specs.declared.error.JournalError.TheVariants as journal

@@ -3,7 +3,8 @@
 ghost use Rattle.std.specs.Prelude.{◌≡◌, ◌↔◌, ◌+◌, ◌⊎◌, Err, IfOk, IfErr, IfSome, OnOk, OnErr, IsTrue};
 ghost use Rattle.dbl_wal.specs.declared.entry.Entry.TheVariants.{Commits};
 ghost use Rattle.dbl_wal.specs.Entries.{entry_form};
-ghost use Rattle.dbl_workload.specs.Checking.{CanGoOn, Checks, ChecksAt, ChecksCommit, NextCommit, RanAlone, RunsTo, TakesConfirm, TakesMark};
+ghost use Rattle.dbl_workload.specs.Checking.{CanGoOn, Checks, ChecksAt, ChecksCommit, NextCommit, RanAlone, RunsTo};
+ghost use Rattle.dbl_workload.specs.Checking.{TakesConfirm, TakesMark};
 ghost use Rattle.dbl_workload.specs.Logs.{HasReadParts};
 ghost use Rattle.dbl_workload.specs.Steps.{FitAnEntry};
 

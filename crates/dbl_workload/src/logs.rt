@@ -2,7 +2,8 @@
 
 ghost use Rattle.std.specs.Prelude.{◌≡◌, ◌⊎◌, ℕ, ◌<◌, List, Some, Err, IfOk, IfErr, IfSome, OnOk, IsTrue, None, slice_get};
 ghost use Rattle.dbl_journal.specs.Stored.{Lists, count_of};
-ghost use Rattle.dbl_workload.specs.Logs.{ChecksAll, Fails, HasReadParts, IsBegun, IsFailed, IsReadFault, IsReadOnly, NoWorkload, ReadsFirst, ReadsLog, workload_error};
+ghost use Rattle.dbl_workload.specs.Logs.{ChecksAll, Fails, HasReadParts, IsBegun, IsFailed, IsReadFault, IsReadOnly};
+ghost use Rattle.dbl_workload.specs.Logs.{NoWorkload, ReadsFirst, ReadsLog, workload_error};
 ghost use Rattle.dbl_workload.specs.Ready.{AreTableNames};
 ghost use Rattle.dbl_workload.specs.Steps.{FitAnEntry};
 ghost use Rattle.dbl_disk.specs.Disks.{disk_limit};

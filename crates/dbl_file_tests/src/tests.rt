@@ -25,7 +25,10 @@ fn a_writer_may_take_short_pieces(rt: HostRuntime) -> Result<(), Fail> {
     let mut output = StdOutput::make(&mut writer);
     assert!(rt; output.write(b"some ").is_ok());
     assert!(rt; output.write(b"bytes").is_ok());
-    assert_eq!(rt; writer.written_bytes()?.as_slice(), b"some bytes".as_slice());
+    assert_eq!(rt;
+        writer.written_bytes()?.as_slice(),
+        b"some bytes".as_slice()
+    );
     Ok(())
 }
 

@@ -4,7 +4,7 @@
 mod laws;
 
 pub use laws::{
-    calls_undo_nothing, entries_are_written_as_promised, groups_answer_as_promised,
-    reads_answer_as_promised, selects_answer_as_promised, sources_stand_well,
-    crashes_leave_what_follows,
+    calls_undo_nothing, crashes_leave_what_follows, entries_are_written_as_promised,
+    groups_answer_as_promised, reads_answer_as_promised, selects_answer_as_promised,
+    sources_stand_well,
 };

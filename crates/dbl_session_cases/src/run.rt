@@ -91,7 +91,10 @@ fn first_left(source: &mut ScriptedSource) -> Option<u64>
 }
 
 // The position that the source is confirmed to, behind an ending without a halt.
-fn confirmed_lsn(ended: &std::result::Result<Ending, Halt>, source: &mut ScriptedSource) -> Option<u64>
+fn confirmed_lsn(
+    ended: &std::result::Result<Ending, Halt>,
+    source: &mut ScriptedSource,
+) -> Option<u64>
     requires { OnOk ended.now (IsTrue source.old.live) }
 {
     match ended {

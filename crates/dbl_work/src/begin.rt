@@ -29,7 +29,11 @@ use dbl_table::{Config, TableInfo, TableName};
 use std::alloc::{AllocError, Global};
 
 // What is captured of a table, as the catalogue describes it.
-fn describe_table<S: Source>(alloc: Global, src: &mut S, name: &TableName) -> Result<TableInfo, Halt>
+fn describe_table<S: Source>(
+    alloc: Global,
+    src: &mut S,
+    name: &TableName,
+) -> Result<TableInfo, Halt>
     requires { IsTrue (S.is_live src.old) }
     ensures described { Leads S.stands src.old src.new result (IsDescribedAs name.now) }
     ensures named { IfOk result (λ info. info.name ≡ name.now) }

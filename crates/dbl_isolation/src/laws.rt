@@ -1,6 +1,8 @@
 //! Laws of steps and of what they come to. The functions do nothing: their contracts are the laws.
 
-ghost use Rattle.dbl_isolation.specs.Laws.{LocksAreApart, OpenChangesAreFit, SerialRunsAreFit, SerialRunsAreFair, SentChangesMoveAtMost, StepsArePrivate, CommitsShowWhatWasSeen, RollbacksLeaveNothing, HeldRowsStay, StepsShowTheirRows, FirstRowsAreOneList};
+ghost use Rattle.dbl_isolation.specs.Laws.{LocksAreApart, OpenChangesAreFit, SerialRunsAreFit, SerialRunsAreFair, SentChangesMoveAtMost};
+ghost use Rattle.dbl_isolation.specs.Laws.{StepsArePrivate, CommitsShowWhatWasSeen, RollbacksLeaveNothing, HeldRowsStay};
+ghost use Rattle.dbl_isolation.specs.Laws.{StepsShowTheirRows, FirstRowsAreOneList};
 
 /// No two sessions hold one key.
 pub fn locks_are_apart()

@@ -9,7 +9,8 @@ ghost use Rattle.dbl_saying.specs.Faults.{status_of, output_failed_status};
 ghost use Rattle.dbl_replay.specs.Lines.{messages_in, first_bad};
 ghost use Rattle.dbl_replay.specs.declared.options.ReplayOptions.{ReplayOptions};
 ghost use Rattle.dbl_program.specs.Run.{RunsLog};
-ghost use Rattle.dbl_program.specs.Run.{FailsReading, HaltsReplaying, RunsReplaying, HaltsApplying, RunsApplying, EndsAs, PrintedAs, IsReplayAnswer, IsReplayStatus, IsApplyStatus, line_fault};
+ghost use Rattle.dbl_program.specs.Run.{FailsReading, HaltsReplaying, RunsReplaying, HaltsApplying, RunsApplying, EndsAs, PrintedAs};
+ghost use Rattle.dbl_program.specs.Run.{IsReplayAnswer, IsReplayStatus, IsApplyStatus, line_fault};
 ghost use Rattle.dbl_saying.specs.Says.{Says};
 
 use dbl_base::{Bytes, Input, InputError, Output, Text, read_all};

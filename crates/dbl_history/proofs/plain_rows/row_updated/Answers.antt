@@ -11,9 +11,9 @@ returns-then-are_sent c =
     ap Some c.in_ok-given_or_nulls.ensures
     ∙ sym (ap (λ (o : Option (List Val)). row_after (updated o c.args.cells.now) (cells_of c.args.row)) (given_all c.args.cells.now (sym c.are_sent.ensures ∙ c.if-are_sent.true)))
 
-pub returns-in_ok-overlaid-in-Some : goal.returns-in_ok-overlaid-in-Some
-returns-in_ok-overlaid-in-Some c =
-    ap Some c.in_ok-overlaid-in-Some.ensures
+pub returns-in_ok-overlaid_cells-in-Some : goal.returns-in_ok-overlaid_cells-in-Some
+returns-in_ok-overlaid_cells-in-Some c =
+    ap Some c.in_ok-overlaid_cells-in-Some.ensures
     ∙ sym (ap (λ (o : Option (List Val)). row_after (updated o c.args.cells.now) (cells_of c.args.row)) (given_not c.args.cells.now (sym c.are_sent.ensures ∙ c.if-are_sent.false))
     ∙ ap (λ row. option_map (overlay c.args.cells.now) (cells_of row)) c.in-Some.is)
 

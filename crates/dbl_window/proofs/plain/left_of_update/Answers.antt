@@ -11,9 +11,9 @@ pub returns-then-gives_all : goal.returns-then-gives_all
 returns-then-gives_all c =
     sym (ap (λ (o : Option (List Val)). row_left (updated o c.args.cells.now) (cells_of c.args.row)) (given_all c.args.cells.now (sym c.gives_all.ensures ∙ c.if-gives_all.true)))
 
-pub returns-in_ok-overlaid-in-Some : goal.returns-in_ok-overlaid-in-Some
-returns-in_ok-overlaid-in-Some c =
-    ap Some c.in_ok-overlaid-in-Some.ensures
+pub returns-in_ok-overlaid_row-in-Some : goal.returns-in_ok-overlaid_row-in-Some
+returns-in_ok-overlaid_row-in-Some c =
+    ap Some c.in_ok-overlaid_row-in-Some.ensures
     ∙ sym (ap (λ (o : Option (List Val)). row_left (updated o c.args.cells.now) (cells_of c.args.row)) (given_not c.args.cells.now (sym c.gives_all.ensures ∙ c.if-gives_all.false))
     ∙ ap (λ row. option_map (overlay c.args.cells.now) (cells_of row)) c.in-Some.is)
 

@@ -10,13 +10,11 @@ use Rattle.dbl_sound.specs.Wals.{Wal}
 use Rattle.dbl_saying.specs.declared.halt.Halt.TheVariants.{InputFailed, Memory as NoMemory}
 use Rattle.dbl_saying.specs.Faults.{output_failed_status, status_of}
 use Rattle.dbl_supported.specs.Supported.{CanBegin, IsSupported, OffsetsAreShort}
-use Rattle.dbl_session.specs.Entries.{Entry}
 use Rattle.dbl_offset.specs.declared.offset.Offset.{Offset}
 use Rattle.dbl_exits.specs.Sessions.{Captures}
-use Rattle.dbl_restarts.specs.Restarts.{entry_at}
 use Rattle.dbl_init.specs.declared.error.Store.TheVariants.{Wal as WalStore, Topics, Offsets}
 use Rattle.dbl_kept.specs.Causes.{standing_left}
-use Rattle.dbl_kept.specs.Contents.{Contents, ReadAs, found_in, history_at, records_at}
+use Rattle.dbl_kept.specs.Contents.{Contents, ReadAs, history_at, records_at}
 use Rattle.dbl_connector.specs.declared.asked.Asked.{Asked}
 use Rattle.dbl_connector.specs.Ends.{HasBegun}
 use Rattle.dbl_session_runs.specs.Ends.{store_status}
@@ -57,10 +55,6 @@ pub record IsSupportedRun (asked : Asked) (now : ℤ) (wals logs stores : List �
   pub left : Contents
   pub may : MayBeLeft wals logs stores left
   pub supported : IsSupportedOver begun.config now begun.held left
-
--- what such a session found
-abbrev pub entry_in : Config → ℤ → Contents → Entry
-entry_in config now held = entry_at config now (found_in held)
 
 -- ---- that no device failed
 

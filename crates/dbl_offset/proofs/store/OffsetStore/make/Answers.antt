@@ -11,6 +11,3 @@ returns-in-Err-clause-makes g c =
       cause = λ is. made.cause c.in-Err.ensures.refused;
       steady = λ no. made.steady (λ is. no (c.from.ensures ∙ ap as_offset_error is));
     }
-
-pub returns-in-Ok-clause-makes : goal.returns-in-Ok-clause-makes
-returns-in-Ok-clause-makes g c = c.in-Ok.ensures.makes

@@ -10,6 +10,9 @@ use Rattle.dbl_commit.specs.declared.txn_error.TxnError.{TxnError}
 use Rattle.dbl_commit.specs.Blocks.{IsAccepted}
 use Rattle.dbl_honest.specs.Standings.{Reading}
 use Rattle.dbl_offset.specs.declared.offset.Offset.{Offset}
+use Rattle.dbl_offset.proofs.StoreLaws.{one_store}
+use Rattle.dbl_stores.specs.Behind.{IsOffsetOf}
+use Rattle.dbl_stores.specs.Faithful.{IsFaithful, IsFaithfulTo}
 use Rattle.dbl_work.specs.declared.halt.Halt.{Halt}
 use Rattle.dbl_work.specs.declared.halt.Halt.TheVariants as halt
 use Rattle.dbl_work.specs.declared.report.Ending.{Ending}
@@ -23,7 +26,8 @@ use Rattle.dbl_init.specs.declared.error.Store.TheVariants.{Wal, Topics, Offsets
 use Rattle.dbl_causes.specs.Reported.{IsBehindOf}
 use Rattle.dbl_exits.specs.Sessions.{Captures}
 use Rattle.dbl_kept.specs.Causes.{IsCauseOf, IsHaltAt, IsKeptHalt, IsOwnTxn, standing_left}
-use Rattle.dbl_kept.specs.Contents.{Contents, found_in, history_at, records_at}
+use Rattle.dbl_kept.specs.Contents.{Contents, confirmed_at, found_in, history_at, records_at}
+use Rattle.dbl_kept.specs.Kept.{IsKept}
 use Rattle.dbl_kept.proofs.KeptLaws.{disks_are_read_once}
 use Rattle.dbl_connector.specs.declared.asked.Asked.{Asked}
 use Rattle.dbl_connector.specs.declared.asked.Asked.TheVariants.{First, Again}
@@ -47,7 +51,13 @@ not_faulty infos reading number error clean fault =
     cc
 
 module _ (config : Config) (now : ℤ) (old left : Contents) (begins : CanBegin config (history_at old) old.offset) (supported : IsSupportedOver config now old left)
-    (kept_stored stored : Option Offset) (kept_report report : Report) where
+    (kept : IsKept left) (kept_stored stored : Option Offset) (left_is : left.offset ≡ kept_stored) (kept_report report : Report) where
+  -- the offset that it stored last is one to what it leaves
+  of_left : (offset : Offset) → kept_stored ≡ Some offset → IsOffsetOf (history_at left) (confirmed_at left) (records_at left) offset
+  of_left offset is =
+      let faithful : IsFaithfulTo (history_at left) (confirmed_at left) (records_at left) offset = subst (IsFaithful (history_at left) (confirmed_at left) (records_at left)) (left_is ∙ is) kept.faithful in
+      faithful.behind.offset_is
+
   -- a later session reads behind the LSN that it found
   not_txn : (number : ℕ) (error : TxnError) → IsOwnTxn config old left.wal number error → IsHaltAt config now old.offset stored report left.wal (halt.Txn number error) → (found : Option Offset) → old.offset ≡ found → ⊥
   not_txn number error own halted None none =
@@ -73,10 +83,12 @@ module _ (config : Config) (now : ℤ) (old left : Contents) (begins : CanBegin 
       absurd (not_unreadable (entry_at config now (found_in old)) kept.0 (history_at left) table column error (supported.content kept.0 kept.1) kept.2)
   never (halt.Clash table column) own kept cause =
       let clash = kept.2 in
-      absurd (not_clash (entry_at config now (found_in old)) kept.0 kept_report (history_at left) (halt.Clash table column) clash (supported.content clash.infos clash.captured))
+      absurd (not_clash (entry_at config now (found_in old)) (standing_left left) (records_at left) kept.0 kept_report (halt.Clash table column) clash (supported.content clash.infos clash.captured)
+      (supported.windows clash.infos clash.captured) (of_left kept.0 kept.1))
   never (halt.RecordTooLong len) own kept cause =
       let long = kept.2 in
-      not_long (entry_at config now (found_in old)) kept.0 kept_report (history_at left) (halt.RecordTooLong len) long (supported.content long.infos long.captured)
+      absurd (not_long (entry_at config now (found_in old)) (standing_left left) (records_at left) kept.0 kept_report (halt.RecordTooLong len) long (supported.content long.infos long.captured)
+      (supported.windows long.infos long.captured) (of_left kept.0 kept.1))
   never (halt.OffsetTooLong len) own kept cause =
       absurd (not_offset (entry_at config now (found_in old)) (standing_left left) (records_at left) (halt.OffsetTooLong len) supported.offsets kept)
   never (halt.Model error) own kept cause = absurd (not_model config.tables (history_at old) (first_captures config (history_at old) old.offset cause.0 begins) error cause.1)
@@ -120,7 +132,8 @@ module _ (asked : Asked) (now : ℤ) (wals logs stores : List ℕ → Type 0) (w
       let halts = subst (IsKeptError asked now wals logs stores w t f) halted.is kept in
       let kept_halt = halts begun in
       let found = kept_halt.each may.w may.t may.f run.left may.wal may.topics may.offsets may.read in
-      absurd (never begun.config now begun.held run.left run.can run.supported kept_halt.stored halted.stored kept_halt.report halted.report halted.halt own found cause)
+      let left_is : run.left.offset ≡ kept_halt.stored = one_store may.f run.left.offset kept_halt.stored may.read.store (kept_halt.store may.f may.offsets) in
+      absurd (never begun.config now begun.held run.left run.can run.supported run.kept kept_halt.stored halted.stored left_is kept_halt.report halted.report halted.halt own found cause)
 
   ended : (e : ConnectError) → IsConnectError e → IsKeptError asked now wals logs stores w t f e → EndsBefore asked now wals logs stores w t f e → IsOutside e
   ended e kind kept (inl outside) = outside

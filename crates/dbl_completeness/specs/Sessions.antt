@@ -9,12 +9,14 @@ use Rattle.dbl_sound.specs.Standings.{sent}
 use Rattle.dbl_sound.specs.Wals.{Wal}
 use Rattle.dbl_saying.specs.declared.halt.Halt.TheVariants.{InputFailed, Memory as NoMemory}
 use Rattle.dbl_saying.specs.Faults.{output_failed_status, status_of}
-use Rattle.dbl_supported.specs.Supported.{CanBegin, IsSupported, OffsetsAreShort}
+use Rattle.dbl_supported.specs.Supported.{CanBegin, IsSupported, OffsetsAreShort, WindowsAreSupported}
 use Rattle.dbl_offset.specs.declared.offset.Offset.{Offset}
 use Rattle.dbl_exits.specs.Sessions.{Captures}
+use Rattle.dbl_restarts.specs.Restarts.{entry_at}
 use Rattle.dbl_init.specs.declared.error.Store.TheVariants.{Wal as WalStore, Topics, Offsets}
 use Rattle.dbl_kept.specs.Causes.{standing_left}
-use Rattle.dbl_kept.specs.Contents.{Contents, ReadAs, history_at, records_at}
+use Rattle.dbl_kept.specs.Contents.{Contents, ReadAs, found_in, history_at, records_at}
+use Rattle.dbl_kept.specs.Kept.{IsKept}
 use Rattle.dbl_connector.specs.declared.asked.Asked.{Asked}
 use Rattle.dbl_connector.specs.Ends.{HasBegun}
 use Rattle.dbl_session_runs.specs.Ends.{store_status}
@@ -35,6 +37,8 @@ AreClean found infos wal = (after : Lsn) (newest rest : List Message) → IsRead
 pub record IsSupportedOver (config : Config) (now : ℤ) (old left : Contents) : Type 0 where
   pub messages : (infos : List TableInfo) → Captures config (history_at old) old.offset infos → AreClean old.offset infos left.wal
   pub content : (infos : List TableInfo) → Captures config (history_at old) old.offset infos → IsSupported (entry_at config now (found_in old)) (history_at left) infos
+  pub windows : (infos : List TableInfo) → Captures config (history_at old) old.offset infos
+      → WindowsAreSupported (entry_at config now (found_in old)) (standing_left left) (records_at left) infos
   pub offsets : OffsetsAreShort (entry_at config now (found_in old)) (standing_left left) (records_at left)
 
 -- a crash may leave bytes of the three disks that are read as this
@@ -48,12 +52,14 @@ pub record MayBeLeft (wals logs stores : List ℕ → Type 0) (left : Contents) 
   pub read : ReadAs w t f left
 
 -- It was asked for where no offset is stored, as `capture`, or where one is, as `resume`. Each table can be captured, or an incarnation is
--- left. And what it leaves, by one choice of what a crash leaves of it, holds nothing that isn't supported.
+-- left. And what it leaves, by one choice of what a crash leaves of it, is kept (clause `kept` of the program's `run`), and holds nothing that
+-- isn't supported.
 pub record IsSupportedRun (asked : Asked) (now : ℤ) (wals logs stores : List ℕ → Type 0) (w t f : List ℕ) : Type 0 where
   pub begun : HasBegun asked w t f
   pub can : CanBegin begun.config (history_at begun.held) begun.held.offset
   pub left : Contents
   pub may : MayBeLeft wals logs stores left
+  pub kept : IsKept left
   pub supported : IsSupportedOver begun.config now begun.held left
 
 -- ---- that no device failed

@@ -48,7 +48,7 @@ use Rattle.dbl_connector.specs.declared.error.ConnectError.{ConnectError}
 use Rattle.dbl_connector.specs.declared.error.ConnectError.TheVariants as error
 use Rattle.dbl_connector.specs.declared.error.ConnectError.TheVariants.{Halted}
 use Rattle.dbl_connector.specs.Asked.{asks_in}
-use Rattle.dbl_connector.specs.Ends.{AddsFew, AreGained, EndsBefore, GainsRecords, HasBegun, HasClosedSent, HasReadClean, HasRun, IsKeptError, IsReported, IsStoredLast}
+use Rattle.dbl_connector.specs.Ends.{AddsFew, AreGained, EndsBefore, GainsRecords, HasBegun, HasClosedSent, HasReadClean, HasRun, IsKeptError, IsReported, IsStoredLast, IsUngained}
 use Rattle.dbl_connector.specs.Errors.{IsOutside, IsOwnHalt, halt_error}
 use Rattle.dbl_connector.specs.Steps.{IsLogOf, IsSourceOf, IsStoreOf}
 use Rattle.dbl_connector.proofs.Causes.{IsHaltOver, cause_of, err_is, kept_halt, sent_front}
@@ -174,10 +174,10 @@ module _ {W T F : Type 0} (seen_w : W → Option (List ℕ)) (may_w : W → List
     gains = λ bytes groups leaves is. inr
         (at_begun asked w t f (λ h c. Gains c now h.offset fn.offset h.groups groups) begun old config read_here asks
         (ran.grouped lg.groups groups lg.holds (bytes, leaves, is)));
-    ungained = λ same bytes groups leaves is. inr
-        (at_begun asked w t f (λ h c. fn.offset ≡ h.offset → groups ≡ h.groups) begun old config read_here asks
-        (λ still. ran.ungained lg.groups groups lg.holds (bytes, leaves, is) still) same);
   }
+
+  ungained_of : IsUngained (may_t ln.disk) old fn.offset
+  ungained_of same bytes groups leaves is = ran.ungained lg.groups groups lg.holds (bytes, leaves, is) same
 
   pub marks_of : (asked : Asked) → asks_in asked old ≡ Some config → AddsFew asked (may_w so.journal.disk) (may_w sn.journal.disk) w t f
   marks_of asked asks begun own bytes left leaves is =
@@ -238,6 +238,7 @@ module _ {W T F : Type 0} (seen_w : W → Option (List ℕ)) (may_w : W → List
         stored = fn.offset;
         store = left_store seen_w may_w seen_t may_t seen_f may_f is_w is_t is_f w t f so lo fo src lg st config now sn ln fn report result ran (λ failed. (let wrong : Ok ending ≡ Err halt.Offsets = sym is ∙ failed in cc));
         first = ran.firsts first first_stands;
+        ungained = ungained_of;
         clean = clean_of ending is;
       }
 
@@ -355,6 +356,7 @@ module _ {W T F : Type 0} (seen_w : W → Option (List ℕ)) (may_w : W → List
         last = ran.stores;
         store = left_store seen_w may_w seen_t may_t seen_f may_f is_w is_t is_f w t f so lo fo src lg st config now sn ln fn report result ran (λ failed. subst IsOwnHalt (err_one result h halt.Offsets is failed) own.1);
         first = ran.firsts first first_stands;
+        ungained = ungained_of;
         report = report;
         raised = λ other exhausted. err_one result h other is (ran.exhausted other exhausted);
         captured = λ none name among cannot. (
@@ -395,6 +397,7 @@ module _ {W T F : Type 0} (seen_w : W → Option (List ℕ)) (may_w : W → List
       by (inr own) = subst (IsKeptError asked now (may_w sn.journal.disk) (may_t ln.disk) (may_f (disk_of fn)) w t f) (sym own.0) (λ begun. record {
         stored = fn.offset;
         last = at_begun asked w t f (λ o c. IsStoredLast c o.offset fn.offset) begun old config read_here asks ran.stores;
+        store = left_store seen_w may_w seen_t may_t seen_f may_f is_w is_t is_f w t f so lo fo src lg st config now sn ln fn report result ran (λ failed. subst IsOwnHalt (err_one result h halt.Offsets is failed) own.1);
         report = report;
         gained = at_begun asked w t f (λ o c. AreGained (may_t ln.disk) o report) begun old config read_here asks (gained_by (counted_at h is own.1));
         each = λ w1 t1 f1 left mw mt mf read. at_begun asked w t f (λ o c. IsKeptHalt c now o fn.offset report left h) begun old config read_here asks

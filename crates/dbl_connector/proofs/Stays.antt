@@ -125,7 +125,6 @@ module _ {W T F : Type 0} (seen_w : W → Option (List ℕ)) (may_w : W → List
       stored = begun.held.offset;
       last = inl refl;
       gains = λ bytes groups leaves is. inl (crash_t bytes leaves);
-      ungained = λ same bytes groups leaves is. inl (crash_t bytes leaves);
     };
     marks = λ w t f told_w told_t told_f begun tables bytes left leaves is. inl (crash_w bytes leaves);
   }
@@ -175,7 +174,6 @@ module _ {W T F : Type 0} (seen_w : W → Option (List ℕ)) (may_w : W → List
           stored = here.stored;
           last = here.last;
           gains = λ bytes groups leaves is. either (crash_t bytes) (here.gains bytes groups leaves is);
-          ungained = λ same bytes groups leaves is. either (crash_t bytes) (here.ungained same bytes groups leaves is);
         });
     marks = λ w t f told_w told_t told_f begun tables bytes left leaves is.
         either (crash_w bytes) (by.marks w t f (same_w ∙ told_w) (same_t ∙ told_t) (same_f ∙ told_f) begun tables bytes left leaves is);

@@ -106,12 +106,17 @@ Stays wals old = (bytes : List ℕ) → wals bytes → (wal : Wal) × IsWal byte
 abbrev pub AreStores : (List ℕ → Type 0) → Option Offset → Type 0
 AreStores stores offset = (bytes : List ℕ) → stores bytes → IsStore bytes offset
 
+-- where the offset is still the one that was found, the topic log has gained nothing
+abbrev pub IsUngained : (List ℕ → Type 0) → Contents → Option Offset → Type 0
+IsUngained logs old stored = stored ≡ old.offset → (bytes : List ℕ) (groups : List (List Record)) → logs bytes → IsLog bytes groups → groups ≡ old.groups
+
 -- what the topic log gained is what a report counts
 abbrev pub AreGained : (List ℕ → Type 0) → Contents → Report → Type 0
 AreGained logs old report = (bytes : List ℕ) (groups : List (List Record)) → logs bytes → IsLog bytes groups → HasGained old.groups groups report
 
 -- It ended as it should: it could begin, each of the tables could be captured, and what it read, of what the source's log is now, is clean.
--- The offset that it stored last is what the disk holds; and where none was found, it is of the catalogue.
+-- The offset that it stored last is what the disk holds; where none was found, it is of the catalogue; and where none was stored, the topic log
+-- gained nothing.
 pub record HasRun (asked : Asked) (now : ℤ) (wals logs stores : List ℕ → Type 0) (w t f : List ℕ) (summary : Summary) : Type 0 where
   pub begun : HasBegun asked w t f
   pub stays : Stays wals begun.held
@@ -121,11 +126,12 @@ pub record HasRun (asked : Asked) (now : ℤ) (wals logs stores : List ℕ → T
   pub stored : Option Offset
   pub store : AreStores stores stored
   pub first : IsFirstStored begun.config (history_at begun.held) begun.held.offset stored
+  pub ungained : IsUngained logs begun.held stored
   pub clean : (bytes : List ℕ) (wal : Wal) → wals bytes → IsWal bytes wal → HasReadClean begun.config now begun.held.offset stored wal summary
 
 -- Its halt has its cause in what the disks held, and in what the source's log is now, whatever a crash leaves of it: this is one of the same
 -- workload. Where no incarnation is left, or a table of a first session can't be captured, it is that. The offset that it stored last is what
--- the disk holds; and where none was found, it is of the catalogue.
+-- the disk holds; where none was found, it is of the catalogue; and where none was stored, the topic log gained nothing.
 pub record HasHalted (asked : Asked) (now : ℤ) (wals logs stores : List ℕ → Type 0) (w t f : List ℕ) (e : ConnectError) : Type 0 where
   pub begun : HasBegun asked w t f
   pub halt : Halt
@@ -138,6 +144,7 @@ pub record HasHalted (asked : Asked) (now : ℤ) (wals logs stores : List ℕ �
   pub last : IsStoredLast begun.config begun.held.offset stored
   pub store : AreStores stores stored
   pub first : IsFirstStored begun.config (history_at begun.held) begun.held.offset stored
+  pub ungained : IsUngained logs begun.held stored
   pub report : Report
   pub gained : AreGained logs begun.held report
   pub cause : (bytes : List ℕ) (wal : Wal) → wals bytes → IsWal bytes wal → IsCauseOf begun.config now begun.held stored report wal halt
@@ -147,14 +154,12 @@ abbrev pub EndsBefore : Asked → ℤ → (List ℕ → Type 0) → (List ℕ �
 EndsBefore asked now wals logs stores w t f e = IsOutside e ⊎ (IsRefused asked w t f e ⊎ HasHalted asked now wals logs stores w t f e)
 
 -- What a crash leaves of the topic log is something that it might have left before; or what the log gained are the records of some commits,
--- made at this moment, and of windows of no more rows than it was asked for. Where it has stored nothing it gained nothing.
+-- made at this moment, and of windows of no more rows than it was asked for.
 pub record GainsRecords (asked : Asked) (now : ℤ) (before logs : List ℕ → Type 0) (w t f : List ℕ) (begun : HasBegun asked w t f) : Type 0 where
   pub stored : Option Offset
   pub last : IsStoredLast begun.config begun.held.offset stored
   pub gains : (bytes : List ℕ) (groups : List (List Record)) → logs bytes → IsLog bytes groups
       → before bytes ⊎ Gains begun.config now begun.held.offset stored begun.held.groups groups
-  pub ungained : stored ≡ begun.held.offset → (bytes : List ℕ) (groups : List (List Record)) → logs bytes → IsLog bytes groups
-      → before bytes ⊎ (groups ≡ begun.held.groups)
 
 -- What a crash leaves of the source's log is something that it might have left before; or few marks were added. It is said where a stored
 -- offset captures what the catalogue has.
@@ -192,10 +197,12 @@ abbrev pub IsComplete : End → Type 0
 IsComplete (Ok summary) = summary.ending ≡ Complete
 IsComplete (Err e) = ⊥
 
--- What a session over them halts for: its cause is of what the disks hold, whatever a crash leaves of them.
+-- What a session over them halts for: its cause is of what the disks hold, whatever a crash leaves of them; and the offset that it stored last
+-- is what the disk holds.
 pub record HasKeptHalt (asked : Asked) (now : ℤ) (wals logs stores : List ℕ → Type 0) (w t f : List ℕ) (begun : HasBegun asked w t f) (h : Halt) : Type 0 where
   pub stored : Option Offset
   pub last : IsStoredLast begun.config begun.held.offset stored
+  pub store : AreStores stores stored
   pub report : Report
   pub gained : AreGained logs begun.held report
   pub each : (w1 t1 f1 : List ℕ) (left : Contents) → wals w1 → logs t1 → stores f1 → ReadAs w1 t1 f1 left

@@ -40,7 +40,7 @@ memory_session asked now told_wal told_topics told_offsets wals logs stores stat
   says = says;
   answers = λ w t f wal topics offsets. record {
     told = inl tt;
-    gains = λ begun. record { stored = begun.held.offset; last = inl refl; gains = λ bytes groups may is. inl may; ungained = λ same bytes groups may is. inl may };
+    gains = λ begun. record { stored = begun.held.offset; last = inl refl; gains = λ bytes groups may is. inl may };
     marks = λ begun own bytes left may is. inl may;
   };
   kept = λ kept w t f wal topics offsets. record { report = tt; never = tt };

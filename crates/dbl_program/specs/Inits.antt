@@ -1,6 +1,7 @@
 -- What the command `init` answers, writes, and leaves of the disks. Source: own.
-use Rattle.std.specs.Prelude.{◌≡◌, ◌≢◌, ◌⊎◌, ℕ, ◌^◌, ◌≤◌, max, Option, Some, Ok, Err, List, [], ◌∷◌, length}
+use Rattle.std.specs.Prelude.{◌≡◌, ◌≢◌, ◌⊎◌, ℕ, ◌≤◌, max, Option, Some, Ok, Err, List, [], ◌∷◌, length}
 use Rattle.dbl_base.specs.Streams.{Rose}
+use Rattle.dbl_journal.specs.Growth.{growth_room}
 use Rattle.dbl_journal.specs.Stored.{IsSteady}
 use Rattle.dbl_init.specs.declared.error.InitError.{InitError}
 use Rattle.dbl_init.specs.declared.error.InitError.TheVariants as init
@@ -61,7 +62,7 @@ pub record IsInitLeft
   pub later : faults old ≤ faults new
   pub cause : status ≡ store_status made → Rose (faults old) (faults new)
   pub steady : status ≢ store_status made → ¬ IsCutShort status → IsSteady seen faults old new
-  pub short : (before after : List ℕ) → seen old ≡ Some before → seen new ≡ Some after → length after ≤ max (length before) (2 ^ 30)
+  pub short : (before after : List ℕ) → seen old ≡ Some before → seen new ≡ Some after → length after ≤ max (length before) growth_room
   pub same : IsUnwritten made status → seen new ≡ seen old
   pub crash : IsUnwritten made status → (crashed : List ℕ) → may_leave new crashed → may_leave old crashed
 

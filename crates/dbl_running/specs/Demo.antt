@@ -11,6 +11,7 @@ use Rattle.dbl_feed.specs.declared.logged.LogTable.{LogTable}
 use Rattle.dbl_feed.specs.declared.logged.Logged.{Logged}
 use Rattle.dbl_feed.specs.declared.logged.Logged.TheVariants.{Changes, Mark}
 use Rattle.dbl_feed.specs.declared.place.Place.{Place}
+use Rattle.dbl_feed.specs.Numbers.{commit_limit}
 use Rattle.dbl_feed.specs.Sent.{index_of, told_at, IsPlaceIn}
 use Rattle.dbl_reading.specs.Readings.{Describes}
 use Rattle.dbl_script.specs.declared.script.Step.{Step}
@@ -108,4 +109,4 @@ pub record HasParts {D : Type 0} (journal : OnDisk D) (store : Tables) (steps : 
   pub few : IsTrue journal.live → length commits < count_of journal
   pub there : IsTrue journal.live → All (λ number. number < count_of journal) commits
   -- a reader has passed no more commits than a journal has entries
-  pub near : (p : Place) → place ≡ Some p → p.commits ≤ disk_limit
+  pub near : (p : Place) → place ≡ Some p → p.commits ≤ commit_limit

@@ -1,7 +1,8 @@
 -- What `gen --run` answers and leaves: `init` of a generated workload, and behind it a first capture of its tables. Source: own.
-use Rattle.std.specs.Prelude.{◌≡◌, ◌≢◌, ◌⊎◌, ℕ, ℤ, ◌^◌, ◌≤◌, max, Option, Some, Err, List, [], codes, length}
+use Rattle.std.specs.Prelude.{◌≡◌, ◌≢◌, ◌⊎◌, ℕ, ℤ, ◌≤◌, max, Option, Some, Err, List, [], codes, length}
 use Rattle.dbl_base.specs.Streams.{Rose}
 use Rattle.dbl_disk.specs.Disks.{IsOnly}
+use Rattle.dbl_journal.specs.Growth.{growth_room}
 use Rattle.dbl_table.specs.Identities.{default_placeholder}
 use Rattle.dbl_cli.specs.declared.commands.CaptureOptions.{CaptureOptions}
 use Rattle.dbl_offset.specs.declared.offset.Offset.{Offset}
@@ -105,7 +106,7 @@ IsGeneratedStatus status = (status ≡ 13) ⊎ IsSessionStatus status
 -- A disk that tells its bytes has no more than it had, or than 2^30 past the closed gate of its journal, or past 0 where it holds none.
 abbrev pub IsMadeShort : Option (List ℕ) → Option (List ℕ) → Type 0
 IsMadeShort told_before told_now = (before now : List ℕ) → told_before ≡ Some before → told_now ≡ Some now
-    → (length now ≤ max (length before) (2 ^ 30)) ⊎ IsShort before now
+    → (length now ≤ max (length before) growth_room) ⊎ IsShort before now
 
 -- For private clauses: so a run of `gen --run` was made. From empty disks, once its `init` part was done, it leaves what the connector promises
 -- of a capture of fresh stores; disks of which one holds a byte it doesn't write; and a disk's fault is told only where its count rose.

@@ -1,6 +1,7 @@
 -- The bytes of a source's log: a journal, whose first entry is the workload, and the others are sound behind it. Source: own.
-use Rattle.std.specs.Prelude.{◌≡◌, ◌≢◌, ℕ, ◌<◌, ◌^◌, Some, slice_get, List, [], ◌∷◌, length, map, take}
+use Rattle.std.specs.Prelude.{◌≡◌, ◌≢◌, ℕ, ◌<◌, Some, slice_get, List, [], ◌∷◌, length, map, take}
 use Rattle.std.specs.List.{AllByRecursion}
+use Rattle.dbl_disk.specs.Disks.{disk_limit}
 use Rattle.dbl_journal.specs.Form.{IsJournal}
 use Rattle.dbl_wal.specs.declared.entry.Entry.{Entry}
 use Rattle.dbl_wal.specs.Entries.{workload_form, entry_form, FitsEntry, Spells}
@@ -36,7 +37,7 @@ pub record IsWal (bytes : List ℕ) (wal : Wal) : Type 0 where
   pub forms : List (List ℕ)
   pub journal : IsJournal bytes forms
   pub are : IsWalOf forms wal
-  pub few : length wal.entries < 2 ^ 40
+  pub few : length wal.entries < disk_limit
 
 -- ---- faults
 

@@ -27,7 +27,7 @@ use Rattle.dbl_session.proofs.Ending.{stood_of}
 use Rattle.dbl_steps.specs.Awaited.{IsWithinLog}
 use Rattle.dbl_steps.proofs.Awaited.{stood_offsets_are_within}
 use Rattle.dbl_supported.specs.Laws.{FaithfulSessionsEnd, SaysWhy}
-use Rattle.dbl_supported.specs.Supported.{CanBegin, HasMetSupported, MayStillHalt}
+use Rattle.dbl_supported.specs.Supported.{CanBegin, HasMetSupported, IsOffsetOfThese, MayStillHalt}
 use Rattle.dbl_supported.proofs.Ending.{outside}
 
 -- an entry says of these halts what another one says that captures the same
@@ -80,9 +80,10 @@ module _ (entry : Entry) (config : Config) (now : ℤ) (s : Standing) (old : Opt
         → IfErr result (IsHalt config now old stored report told) → IfErr result (IsAbsentHalt config.tables s.history)
         → (HadOwnTables (entry_at config now s old) → IfErr result (IsHonestHalt (entry_at config now s old) stands)) → IfErr result (IsFaithfulHalt entry stored report stands holds)
         → (IsKeptBehind s.confirmed old → (asked first : Lsn) → result ≡ Err (halt.Gone asked first) → ⊥) → ((value : List ℕ) (at : Lsn) → result ≡ Err (halt.WatermarkMissing value at) → ⊥)
+        → IfErr result (λ h. (MayStillHalt h → ⊥) → IsOffsetOfThese stored stands holds)
         → CanBegin entry.config entry.history entry.offset → HasMetSupported entry stands holds → IfErr result MayStillHalt
-    ends (Ok ending) cause absent own content gone missing begins met = tt
-    ends (Err h) cause absent own content gone missing begins met =
+    ends (Ok ending) cause absent own content gone missing offset begins met = tt
+    ends (Err h) cause absent own content gone missing offset begins met =
         let why : SaysWhy entry stored report told stands holds (Err h) = record {
           cause = subst (λ (k : Config). IsHalt k entry.now entry.offset stored report told h) (sym config_is)
               (subst (λ (n : ℤ). IsHalt config n entry.offset stored report told h) (sym now_is) (subst (λ (o : Option Offset). IsHalt config now o stored report told h) (sym offset_is) cause));
@@ -91,6 +92,7 @@ module _ (entry : Entry) (config : Config) (now : ℤ) (s : Standing) (old : Opt
           content = content;
           gone = gone (kept_at faithful);
           missing = missing;
+          offset = offset;
         } in
         outside entry stored report told stands holds begins met h why
 
@@ -103,4 +105,4 @@ within_so entry s found history offset_is rise faithful =
 module _ {S K : Type 0} (stands : S → Standing → Type 0) (holds : K → List (List Record) → Type 0) where
   pub faithful_sessions_end : FaithfulSessionsEnd stands holds
   faithful_sessions_end entry config now s found config_is now_is history confirmed offset_is rise stored report told src sink result tells faithful =
-      ends entry config now s found config_is now_is history confirmed offset_is stored report told (stands src) (holds sink) faithful result tells.cause tells.absent tells.own tells.content tells.gone (tells.missing (within_so entry s found history offset_is rise faithful))
+      ends entry config now s found config_is now_is history confirmed offset_is stored report told (stands src) (holds sink) faithful result tells.cause tells.absent tells.own tells.content tells.gone (tells.missing (within_so entry s found history offset_is rise faithful)) tells.offset

@@ -25,6 +25,7 @@ use Rattle.dbl_faithful.proofs.Items.{at_all}
 use Rattle.dbl_honest.specs.Standings.{Standing}
 use Rattle.dbl_honest.specs.Told.{Told}
 use Rattle.dbl_offset.specs.declared.offset.Offset.{Offset}
+use Rattle.dbl_stores.specs.Behind.{IsOffsetOf}
 use Rattle.dbl_session.specs.Entries.{Entry}
 use Rattle.dbl_work.specs.declared.halt.Halt.{Halt}
 use Rattle.dbl_work.specs.declared.halt.Halt.TheVariants as halt
@@ -37,7 +38,7 @@ use Rattle.dbl_causes.specs.Nevers.{IsOwnCell, IsOwnClash, IsOwnClosed, IsOwnLon
 use Rattle.dbl_causes.specs.Stored.{identity_of}
 use Rattle.dbl_record.specs.Cuts.{joined}
 use Rattle.dbl_supported.specs.Laws.{SaysWhy, SupportedSessionsEnd}
-use Rattle.dbl_supported.specs.Supported.{CanBegin, HasMetSupported, IsClean, IsSupported, MayStillHalt, OffsetsAreShort}
+use Rattle.dbl_supported.specs.Supported.{CanBegin, HasMetSupported, IsClean, IsSupported, MayStillHalt, OffsetsAreShort, WindowsAreSupported}
 
 -- ---- it could begin
 
@@ -89,29 +90,31 @@ pub no_clash : (clash : Option Clash) (h : Halt) → clash ≡ None → IsClashI
 no_clash None h none is = is
 no_clash (Some clash) h none is = absurd (let wrong : Some clash ≡ None = none in cc)
 
-pub not_clash : (entry : Entry) (offset : Offset) (report : Report) (history : History) (h : Halt) (own : IsOwnClash entry offset report history h) → IsSupported entry history own.infos → ⊥
-not_clash entry offset report history h own supported = by own.clash
+pub not_clash : (entry : Entry) (t : Standing) (records : List Record) (offset : Offset) (report : Report) (h : Halt) (own : IsOwnClash entry offset report t.history h) → IsSupported entry t.history own.infos
+    → WindowsAreSupported entry t records own.infos → IsOffsetOf t.history t.confirmed records offset → ⊥
+not_clash entry t records offset report h own supported windows of = by own.clash
   where
-    by : ((commit : Commit) × Contains (typed own.infos history) commit × IsClashIn (clash_of (identity_of entry) own.infos commit) h)
-        ⊎ ((place : ℕ) × (closed : Closed) × IsOwnClosed own.infos offset report history place closed
+    by : ((commit : Commit) × Contains (typed own.infos t.history) commit × IsClashIn (clash_of (identity_of entry) own.infos commit) h)
+        ⊎ ((place : ℕ) × (closed : Closed) × IsOwnClosed own.infos offset report t.history place closed
         × IsClashIn (snapshot_clash (identity_of entry) own.infos closed) h) → ⊥
     by (inl commit) = no_clash (clash_of (identity_of entry) own.infos commit.0) h (supported.commits commit.0 commit.1).clear commit.2
-    by (inr window) = no_clash (snapshot_clash (identity_of entry) own.infos window.1) h (supported.windows offset report window.0 window.1 window.2).clear window.3
+    by (inr window) = no_clash (snapshot_clash (identity_of entry) own.infos window.1) h (windows offset report window.0 window.1 of window.2).clear window.3
 
 pub short_one : (records : List Record) (h : Halt) → AreShort records → IsLongRecord records h → ⊥
 short_one records h short long =
     let fits : length (group_form (long.item ∷ [])) ≤ 2 ^ 28 = at_all (λ (item : Record). length (group_form (item ∷ [])) ≤ 2 ^ 28) records long.place long.item short long.stands in
     omega (arith, fits, long.long)
 
-pub not_long : (entry : Entry) (offset : Offset) (report : Report) (history : History) (h : Halt) (own : IsOwnLong entry offset report history h) → IsSupported entry history own.infos → ⊥
-not_long entry offset report history h own supported = by own.long
+pub not_long : (entry : Entry) (t : Standing) (records : List Record) (offset : Offset) (report : Report) (h : Halt) (own : IsOwnLong entry offset report t.history h) → IsSupported entry t.history own.infos
+    → WindowsAreSupported entry t records own.infos → IsOffsetOf t.history t.confirmed records offset → ⊥
+not_long entry t records offset report h own supported windows of = by own.long
   where
-    by : (Contains (typed own.infos history) own.commit × IsLongRecord (envelopes (identity_of entry) own.infos own.commit entry.now) h)
-        ⊎ ((place : ℕ) × (closed : Closed) × IsOwnClosed own.infos offset report history place closed
-        × (slice_get (typed own.infos history) place ≡ Some own.commit)
+    by : (Contains (typed own.infos t.history) own.commit × IsLongRecord (envelopes (identity_of entry) own.infos own.commit entry.now) h)
+        ⊎ ((place : ℕ) × (closed : Closed) × IsOwnClosed own.infos offset report t.history place closed
+        × (slice_get (typed own.infos t.history) place ≡ Some own.commit)
         × IsLongRecord (snapshot (identity_of entry) own.infos closed own.commit entry.now) h) → ⊥
     by (inl commit) = short_one (envelopes (identity_of entry) own.infos own.commit entry.now) h (supported.commits own.commit commit.0).short commit.1
-    by (inr window) = short_one (snapshot (identity_of entry) own.infos window.1 own.commit entry.now) h ((supported.windows offset report window.0 window.1 window.2).short own.commit window.3) window.4
+    by (inr window) = short_one (snapshot (identity_of entry) own.infos window.1 own.commit entry.now) h ((windows offset report window.0 window.1 of window.2).short own.commit window.3) window.4
 
 pub not_offset : (entry : Entry) (t : Standing) (records : List Record) (h : Halt) → OffsetsAreShort entry t records → IsOwnOffset entry t records h → ⊥
 not_offset entry t records h short own =
@@ -133,10 +136,14 @@ module _ (entry : Entry) (stored : Option Offset) (report : Report) (told : Opti
   outside (halt.Cell table column error) why = not_unreadable entry why.own.2 why.own.0.history table column error (met.content why.own.0 why.own.2 why.own.1 why.own.3) why.own.4
   outside (halt.Clash table column) why =
       let own = why.content.4 in
-      not_clash entry why.content.2 report why.content.0.history (halt.Clash table column) own (met.content why.content.0 own.infos why.content.1 own.captured)
+      let these = why.offset (λ may. may) why.content.2 why.content.0 why.content.3 why.content.1 in
+      not_clash entry why.content.0 (joined these.0) why.content.2 report (halt.Clash table column) own (met.content why.content.0 own.infos why.content.1 own.captured)
+      (met.windows why.content.0 these.0 own.infos why.content.1 these.1 own.captured) these.2
   outside (halt.RecordTooLong len) why =
       let own = why.content.4 in
-      not_long entry why.content.2 report why.content.0.history (halt.RecordTooLong len) own (met.content why.content.0 own.infos why.content.1 own.captured)
+      let these = why.offset (λ may. may) why.content.2 why.content.0 why.content.3 why.content.1 in
+      not_long entry why.content.0 (joined these.0) why.content.2 report (halt.RecordTooLong len) own (met.content why.content.0 own.infos why.content.1 own.captured)
+      (met.windows why.content.0 these.0 own.infos why.content.1 these.1 own.captured) these.2
   outside (halt.OffsetTooLong len) why = not_offset entry why.content.0 (joined why.content.2) (halt.OffsetTooLong len) (met.offsets why.content.0 why.content.2 why.content.1 why.content.3) why.content.4
   outside (halt.Model error) why = not_model entry.config.tables entry.history (first_captures entry.config entry.history entry.offset why.cause.0 begins) error why.absent
   outside (halt.UnknownTable table) why = not_absent entry.config.tables entry.history (first_captures entry.config entry.history entry.offset why.cause.0 begins) table why.absent

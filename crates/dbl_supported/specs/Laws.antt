@@ -17,7 +17,7 @@ use Rattle.dbl_work.specs.Begins.{IsAbsentHalt}
 use Rattle.dbl_causes.specs.Halted.{IsHalt}
 use Rattle.dbl_causes.specs.Nevers.{IsFaithfulHalt, IsHonestHalt}
 use Rattle.dbl_steps.specs.Awaited.{IsWithinLog}
-use Rattle.dbl_supported.specs.Supported.{CanBegin, HasMetSupported, MayStillHalt}
+use Rattle.dbl_supported.specs.Supported.{CanBegin, HasMetSupported, IsOffsetOfThese, MayStillHalt}
 
 -- What the contract of a session says of its halts, over an honest source and faithful stores: their causes, and which never come.
 pub record SaysWhy (entry : Entry) (stored : Option Offset) (report : Report) (told : Option Told) (stands : Standing → Type 0)
@@ -28,6 +28,8 @@ pub record SaysWhy (entry : Entry) (stored : Option Offset) (report : Report) (t
   pub content : IfErr result (IsFaithfulHalt entry stored report stands holds)
   pub gone : (asked first : Lsn) → result ≡ Err (halt.Gone asked first) → ⊥
   pub missing : (value : List ℕ) (at : Lsn) → result ≡ Err (halt.WatermarkMissing value at) → ⊥
+  -- where no call failed, what it stored is an offset to what it leaves: its stores are faithful, and the store holds what it answers
+  pub offset : IfErr result (λ h. (MayStillHalt h → ⊥) → IsOffsetOfThese stored stands holds)
 
 -- So a session that could begin, and met nothing that isn't supported, halts where a device failed or memory ran out, and nowhere else.
 abbrev pub SupportedSessionsEnd : {S K : Type 0} → (S → Standing → Type 0) → (K → List (List Record) → Type 0) → Type 0
@@ -37,7 +39,7 @@ SupportedSessionsEnd {S} {K} stands holds = (entry : Entry) (stored : Option Off
     → IfErr result MayStillHalt
 
 -- What the clauses `halt`, `absent`, `own`, `content`, `gone` and `missing` of a session tell of its halts, which was asked for this at a
--- moment, over a source that stood so, and found this offset.
+-- moment, over a source that stood so, and found this offset; and of the offset that it stored last the clauses `faithful` and `holds`.
 pub record TellsHalts (entry : Entry) (config : Config) (now : ℤ) (s : Standing) (found stored : Option Offset) (report : Report) (told : Option Told)
     (stands : Standing → Type 0) (holds : List (List Record) → Type 0) (result : Result Ending Halt) : Type 0 where
   pub cause : IfErr result (IsHalt config now found stored report told)
@@ -46,9 +48,10 @@ pub record TellsHalts (entry : Entry) (config : Config) (now : ℤ) (s : Standin
   pub content : IfErr result (IsFaithfulHalt entry stored report stands holds)
   pub gone : IsKeptBehind s.confirmed found → (asked first : Lsn) → result ≡ Err (halt.Gone asked first) → ⊥
   pub missing : IsWithinLog s.history found → (value : List ℕ) (at : Lsn) → result ≡ Err (halt.WatermarkMissing value at) → ⊥
+  pub offset : IfErr result (λ h. (MayStillHalt h → ⊥) → IsOffsetOfThese stored stands holds)
 
--- A session over an honest source, whose history rises as that of each source does, and faithful stores, that could begin, and met nothing that isn't supported, ended as it should; or a
--- device failed, or memory ran out.
+-- A session over an honest source, whose history rises as that of each source does, and faithful stores, that could begin, and met nothing
+-- that isn't supported, ended as it should; or a device failed, or memory ran out.
 abbrev pub FaithfulSessionsEnd : {S K : Type 0} → (S → Standing → Type 0) → (K → List (List Record) → Type 0) → Type 0
 FaithfulSessionsEnd {S} {K} stands holds = (entry : Entry) (config : Config) (now : ℤ) (s : Standing) (found : Option Offset)
     → entry.config ≡ config → entry.now ≡ now → s.history ≡ entry.history → s.confirmed ≡ entry.confirmed → entry.offset ≡ found → IsRising s.history

@@ -2,6 +2,7 @@
 -- Debezium connector manual, `unavailable.value.placeholder`.
 use Rattle.std.specs.Prelude.{◌≡◌, ℕ, ℤ, ◌<◌, ◌^◌, Contains, Option, Some, None, List, slice_get, ◌≤◌, length}
 use Rattle.std.specs.List.{AllByRecursion}
+use Rattle.dbl_journal.specs.Form.{entry_limit}
 use Rattle.dbl_value.specs.declared.value.Val.{Val}
 use Rattle.dbl_value.specs.declared.value.Val.TheVariants as val
 use Rattle.dbl_value.specs.Faults.{value_fault}
@@ -69,12 +70,17 @@ pub record CanBeClosed (identity : Identity) (infos : List TableInfo) (now : ℤ
 -- ---- what a session meets
 
 -- Of what it captures the history has no commit, and no chunk, with content that isn't supported: each cell can be read; and the records of
--- each commit, and of each window that is right there, can be sent.
+-- each commit can be sent.
 pub record IsSupported (entry : Entry) (history : History) (infos : List TableInfo) : Type 0 where
   pub cells : RowsAreReadable infos history
   pub commits : (commit : Commit) → Contains (typed infos history) commit → CanBeSent (identity_of entry) infos entry.now commit
-  pub windows : (offset : Offset) (report : Report) (place : ℕ) (closed : Closed) → IsOwnClosed infos offset report history place closed
-      → CanBeClosed (identity_of entry) infos entry.now (typed infos history) place closed
+
+-- The records of each window that is right there can be sent, which an offset to these records has read up to some key: that of a row, or one
+-- that a record of the log tells, so that its own records are no longer than those are.
+abbrev pub WindowsAreSupported : Entry → Standing → List Record → List TableInfo → Type 0
+WindowsAreSupported entry t records infos = (offset : Offset) (report : Report) (place : ℕ) (closed : Closed)
+    → IsOffsetOf t.history t.confirmed records offset → IsOwnClosed infos offset report t.history place closed
+    → CanBeClosed (identity_of entry) infos entry.now (typed infos t.history) place closed
 
 -- none of the messages that were read has a fault, whatever is said of their content
 abbrev pub IsClean : List TableInfo → Option Reading → Type 0
@@ -83,15 +89,22 @@ IsClean infos read = (reading : Reading) → read ≡ Some reading → IsAccepte
 -- none of the offsets that may be stored behind these records is longer than 2^28 bytes
 abbrev pub OffsetsAreShort : Entry → Standing → List Record → Type 0
 OffsetsAreShort entry t records = (offset : Offset) → offset.identity ≡ identity_of entry → IsCapturing entry offset.infos
-    → IsOffsetOf t.history t.confirmed records offset → length (spelling offset) ≤ 2 ^ 28
+    → IsOffsetOf t.history t.confirmed records offset → length (spelling offset) ≤ entry_limit
 
 -- What a session has met where it ends: what its source stands for then, and what its sink has.
 pub record HasMetSupported (entry : Entry) (stands : Standing → Type 0) (holds : List (List Record) → Type 0) : Type 0 where
   pub messages : (t : Standing) (infos : List TableInfo) → stands t → IsCapturing entry infos → IsClean infos t.reading
   pub content : (t : Standing) (infos : List TableInfo) → stands t → IsCapturing entry infos → IsSupported entry t.history infos
+  pub windows : (t : Standing) (groups : List (List Record)) (infos : List TableInfo) → stands t → holds groups → IsCapturing entry infos
+      → WindowsAreSupported entry t (joined groups) infos
   pub offsets : (t : Standing) (groups : List (List Record)) → stands t → holds groups → OffsetsAreShort entry t (joined groups)
 
 -- ---- halts
+
+-- Of a session that stored this offset last: it is one to what its source stands for and to what its sink has.
+abbrev pub IsOffsetOfThese : Option Offset → (Standing → Type 0) → (List (List Record) → Type 0) → Type 0
+IsOffsetOfThese stored stands holds = (offset : Offset) (t : Standing) → stored ≡ Some offset → stands t
+    → (groups : List (List Record)) × holds groups × IsOffsetOf t.history t.confirmed (joined groups) offset
 
 -- a call of the source, the sink or the store failed, or memory ran out
 abbrev pub MayStillHalt : Halt → Type 0

@@ -2,6 +2,7 @@
 use Rattle.std.specs.Prelude.{◌≡◌, ◌⊎◌, ℕ, ◌+◌, ◌^◌, ◌<◌, ◌≤◌, Option, Some, None, List, ◌∷◌, ◌++◌, length, map}
 use Rattle.std.specs.List.{AllByRecursion}
 use Rattle.dbl_base.specs.declared.lsn.Lsn.{Lsn}
+use Rattle.dbl_journal.specs.Form.{entry_limit}
 use Rattle.dbl_table.specs.declared.config.Config.{Config}
 use Rattle.dbl_table.specs.declared.table.TableName.{TableName}
 use Rattle.dbl_table.specs.declared.table.RawTable.{RawTable}
@@ -111,7 +112,7 @@ IsOffsetFor config (Some stored) offset = offset ≡ record stored { incarnation
 -- ---- other halts
 
 pub record IsTooLong (offset : Offset) (h : Halt) : Type 0 where
-  pub long : 2 ^ 28 < length (spelling offset)
+  pub long : entry_limit < length (spelling offset)
   pub is : h ≡ halt.OffsetTooLong (capped (length (spelling offset)))
 
 pub record IsGoneFrom (after : Lsn) (h : Halt) : Type 0 where

@@ -3,6 +3,7 @@
 ghost use Rattle.std.specs.Prelude.{◌≡◌, ◌≢◌, ◌⊎◌, ◌^◌, ◌<◌, ◌≤◌, ◌∷◌, [], Contains, Option, None, Some, IfOk, IfErr};
 ghost use Rattle.std.specs.Prelude.{IfSome, IsTrue, OnOk, OnErr, length, map};
 ghost use Rattle.dbl_base.specs.Streams.{HasCause};
+ghost use Rattle.dbl_journal.specs.Form.{entry_limit};
 ghost use Rattle.dbl_table.specs.Configs.{IsGoodConfig};
 ghost use Rattle.dbl_history.specs.Fit.{AreInfosOf};
 ghost use Rattle.dbl_honest.specs.Standings.{Standing, Leads};
@@ -197,7 +198,7 @@ pub fn put_offset<D: Disk>(
     ensures live { OnOk result (IsLive store.new) }
     ensures halt { IfErr result (λ h. (h ≡ Halt.Memory) ⊎ ((h ≡ Halt.Offsets)
         ⊎ IsTooLong offset h)) }
-    ensures long { 2 ^ 28 < length (spelling offset) →
+    ensures long { entry_limit < length (spelling offset) →
         result ≡ Err (Halt.OffsetTooLong (capped (length (spelling offset)))) }
     ensures cause { HasCause (result ≡ Err Halt.Offsets)
         (D.faults (disk_of store.old)) (D.faults (disk_of store.new)) }

@@ -175,13 +175,14 @@ pub record HasEnded (asked : Asked) (wals logs stores : List ℕ → Type 0) (w 
   pub left : Contents
   pub each : (w1 t1 f1 : List ℕ) → wals w1 → logs t1 → stores f1 → ReadAs w1 t1 f1 left
 
--- Each window whose high mark it read is among those that it reports: of the commits that it counts none is the high mark of the next one.
+-- Each window whose high mark it counts is among those that it reports: of the commits that it counts none is the high mark of a window behind
+-- these.
 pub record HasClosedSent (config : Config) (found stored : Option Offset) (wal : Wal) (report : Report) : Type 0 where
   pub reading : Reading
   pub was : HasRead config found stored wal reading
   pub many : length reading.messages ≡ report.messages
-  pub none : report.chunks + 1 < 2 ^ 64
-      → HasNoHigh was.by.offset.incarnation (report.chunks + 1) (take report.commits (commits_of was.by.offset.infos reading.messages))
+  pub none : (number : ℕ) → report.chunks < number → number < 2 ^ 64
+      → HasNoHigh was.by.offset.incarnation number (take report.commits (commits_of was.by.offset.infos reading.messages))
 
 -- Its report is of what the disks held and hold, and it has added as many marks as it tells.
 pub record IsReported (asked : Asked) (now : ℤ) (wals logs stores : List ℕ → Type 0) (w t f : List ℕ) (summary : Summary) : Type 0 where

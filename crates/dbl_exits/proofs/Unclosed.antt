@@ -38,8 +38,12 @@ use Rattle.dbl_exits.specs.Sessions.{InSession, standing_at}
 all_taken : (P : Commit → Type 0) (n : ℕ) (commits : List Commit) → AllByRecursion P commits → AllByRecursion P (take n commits)
 all_taken P n commits all = all_by_place P (take n commits) (λ k commit is. at_all P commits k commit all (taken_at n commits k commit is).1)
 
-no_more : (chunks number : ℕ) → number ≡ chunks + 0 → chunks + 1 ≤ number → ⊥
-no_more chunks number is le = omega (arith, is, le)
+no_more : (chunks number last : ℕ) → last ≡ chunks + 0 → chunks < number → number ≤ last → ⊥
+no_more chunks number last is behind le = omega (arith, is, behind, le)
+
+-- of one window more there is one number
+one_more : (chunks number last : ℕ) → last ≡ chunks + 1 → chunks < number → number ≤ last → last ≡ number
+one_more chunks number last is behind le = omega (arith, is, behind, le)
 
 not_behind : (place high read : ℕ) → place ≡ high → read ≤ high → place < read → ⊥
 not_behind place high read same le lt = omega (arith, same, le, lt)
@@ -50,7 +54,7 @@ further a b c le lt = omega (arith, le, lt)
 under : (a b n m : ℕ) → n < b → m ≡ a + b → a + n < m
 under a b n m lt is = omega (arith, lt, is)
 
-module _ (entry : Entry) (stage : Stage) (faithful : WasFaithful entry) (going : IsGoing entry stage) (chunks : ℕ) (windows : stage.number ≡ chunks + waiting stage.following.window) where
+module _ (entry : Entry) (stage : Stage) (faithful : WasFaithful entry) (going : IsGoing entry stage) (chunks : ℕ) (windows : stage.number ≡ chunks + waiting stage.following.window) (number : ℕ) (behind : chunks < number) where
   abbrev placed : IsPlaced stage
   placed = going.placed (stood_of entry faithful)
 
@@ -61,10 +65,10 @@ module _ (entry : Entry) (stage : Stage) (faithful : WasFaithful entry) (going :
   old = (going.placed (stood_of entry faithful)).parts.old
 
   abbrev text : List ℕ
-  text = mark_text stage.first.incarnation (chunks + 1) High
+  text = mark_text stage.first.incarnation number High
 
   -- a commit that was read, as its high mark
-  module _ (n : ℕ) (commit : Commit) (is : slice_get (read_at stage) n ≡ Some commit) (high : commit.body ≡ Mark text) (small : chunks + 1 < 2 ^ 64) where
+  module _ (n : ℕ) (commit : Commit) (is : slice_get (read_at stage) n ≡ Some commit) (high : commit.body ≡ Mark text) (small : number < 2 ^ 64) where
     at_place : slice_get (commits_at stage) (length old + n) ≡ Some commit
     at_place =
         ap (λ (l : List Commit). slice_get l (length old + n)) placed.parts.spelled
@@ -83,16 +87,18 @@ module _ (entry : Entry) (stage : Stage) (faithful : WasFaithful entry) (going :
     not_later : (place : ℕ) → IsMarkAt stage.history text place → behind_of placed.parts ≤ place → ⊥
     not_later place mark le =
         not_behind (length old + n) place (behind_of placed.parts)
-        (kept.own_marks.once (length old + n) place (chunks + 1) High raw_at.0 mark.commit small raw_at.1 mark.stands raw_is mark.is_mark) le read_lt
+        (kept.own_marks.once (length old + n) place number High raw_at.0 mark.commit small raw_at.1 mark.stands raw_is mark.is_mark) le read_lt
+
+    not_above : number ≤ stage.number
+    not_above = (kept.own_marks.numbered (length old + n) number High raw_at.0 small raw_at.1 raw_is).0
 
     -- that of a window that waits is this one
     own_text : (chunk : Chunk) → (chunk.plan.incarnation ≡ stage.first.incarnation) × (chunk.plan.number ≡ stage.number) → stage.number ≡ chunks + 1 → high_text chunk.plan ≡ text
-    own_text chunk own number = ap₂ (λ (i m : ℕ). mark_text i m High) own.0 (own.1 ∙ number)
+    own_text chunk own last = ap₂ (λ (i m : ℕ). mark_text i m High) own.0 (own.1 ∙ one_more chunks number stage.number last behind not_above)
 
     none_at : (w : Window) → stage.following.window ≡ w → ⊥
     none_at Absent is_w =
-        no_more chunks stage.number (windows ∙ ap (λ (x : Window). chunks + waiting x) is_w)
-        (kept.own_marks.numbered (length old + n) (chunks + 1) High raw_at.0 small raw_at.1 raw_is).0
+        no_more chunks number stage.number (windows ∙ ap (λ (x : Window). chunks + waiting x) is_w) behind not_above
     none_at (Armed chunk) is_w =
         let awaited : IsArmedBefore stage.history (behind_of placed.parts) chunk = subst (IsAwaited stage.history (behind_of placed.parts)) is_w placed.awaited in
         let own : (chunk.plan.incarnation ≡ stage.first.incarnation) × (chunk.plan.number ≡ stage.number) = subst (IsOwnWindow stage.first.incarnation stage.number) is_w kept.own_window in
@@ -106,7 +112,7 @@ module _ (entry : Entry) (stage : Stage) (faithful : WasFaithful entry) (going :
         (subst (λ (value : List ℕ). IsMarkAt stage.history value awaited.high) (own_text chunk own (windows ∙ ap (λ (x : Window). chunks + waiting x) is_w)) awaited.high_is)
         awaited.not_yet
 
-  pub none_unclosed : chunks + 1 < 2 ^ 64 → HasNoHigh stage.first.incarnation (chunks + 1) (read_at stage)
+  pub none_unclosed : number < 2 ^ 64 → HasNoHigh stage.first.incarnation number (read_at stage)
   none_unclosed small =
       all_by_place (λ (commit : Commit). commit.body ≢ Mark text) (read_at stage) (λ n commit is high. none_at n commit is high small stage.following.window refl)
 
@@ -125,13 +131,13 @@ module _ {S K D : Type 0} {tell : Bool} {stands : S → Standing → Type 0} {ho
 
   -- what it has stored is its next offset
   pub closed_read : WasFaithful entry → (stored : Option Offset) (report : Report) (t : Standing) → stored ≡ Some (next_of work) → t ≡ standing_at s.stage → work.number ≡ report.chunks + waiting work.follower.window → HasClosedRead stored report t
-  closed_read faithful stored report t is stood windows offset reading held reads small =
+  closed_read faithful stored report t is stood windows offset reading held reads number behind small =
       let own : next_of work ≡ offset = first_some (next_of work) offset (sym is ∙ held) in
       let same : here ≡ reading = first_some here reading (sym (ap (λ (x : Standing). x.reading) stood) ∙ reads) in
-      subst (λ (r : Reading). HasNoHigh offset.incarnation (report.chunks + 1) (take report.commits (commits_of offset.infos r.messages))) same
-      (subst (λ (o : Offset). HasNoHigh o.incarnation (report.chunks + 1) (take report.commits (commits_of o.infos s.stage.messages))) own
-      (subst (λ (i : ℕ). HasNoHigh i (report.chunks + 1) (take report.commits (commits_of (next_of work).infos s.stage.messages))) (sym incarnation_is)
-      (subst (λ (l : List TableInfo). HasNoHigh s.stage.first.incarnation (report.chunks + 1) (take report.commits (commits_of l s.stage.messages))) (sym infos_are)
-      (all_taken (λ (commit : Commit). commit.body ≢ Mark (mark_text s.stage.first.incarnation (report.chunks + 1) High)) report.commits (read_at s.stage)
+      subst (λ (r : Reading). HasNoHigh offset.incarnation number (take report.commits (commits_of offset.infos r.messages))) same
+      (subst (λ (o : Offset). HasNoHigh o.incarnation number (take report.commits (commits_of o.infos s.stage.messages))) own
+      (subst (λ (i : ℕ). HasNoHigh i number (take report.commits (commits_of (next_of work).infos s.stage.messages))) (sym incarnation_is)
+      (subst (λ (l : List TableInfo). HasNoHigh s.stage.first.incarnation number (take report.commits (commits_of l s.stage.messages))) (sym infos_are)
+      (all_taken (λ (commit : Commit). commit.body ≢ Mark (mark_text s.stage.first.incarnation number High)) report.commits (read_at s.stage)
       (none_unclosed entry s.stage faithful s.going report.chunks
-      (sym s.work_is.number_is ∙ (windows ∙ ap (λ (f : Following). report.chunks + waiting f.window) s.work_is.follower_is)) small)))))
+      (sym s.work_is.number_is ∙ (windows ∙ ap (λ (f : Following). report.chunks + waiting f.window) s.work_is.follower_is)) number behind small)))))

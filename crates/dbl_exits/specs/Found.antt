@@ -94,8 +94,8 @@ abbrev pub IsStoredBy : Config → Option Offset → Offset → Type 0
 IsStoredBy config None new = (new.identity ≡ config.identity) × (map (λ info. info.name) new.infos ≡ config.tables) × (new.incarnation ≡ 1)
 IsStoredBy config (Some old) new = (new.identity ≡ old.identity) × (new.infos ≡ old.infos) × (new.start ≡ old.start) × (new.incarnation ≡ old.incarnation + 1)
 
--- A first offset of what is asked for: the catalogue has what it captures, and it begins at a position of the log as that stood while the
--- session began, not below any commit that stood before.
+-- A first offset of what is asked for: the catalogue of some later state of the source has what it captures, and it begins at a position of
+-- that state, not below any commit that stood before. (Over faithful stores `faithful` says that it is one of the log.)
 pub record IsFirstAtHead (config : Config) (history : History) (offset : Offset) : Type 0 where
   pub later : History
   pub grown : Grows history later

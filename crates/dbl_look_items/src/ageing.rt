@@ -1,6 +1,6 @@
 //! Whether each cell that a consumer holds was so at some moment of the span.
 
-use crate::cells::{first_records, is_known, row_of, source_text};
+use crate::cells::{first_records, knows_key, row_of, source_text};
 use crate::holding::consumer;
 use crate::left::Left;
 use crate::questions::Question;
@@ -73,7 +73,7 @@ pub(crate) fn is_aged_behind(
         if is_aged(alloc, left, &consumer, true, to, each)? {
             continue;
         }
-        if is_known(alloc, left, &records, said, to, each)?
+        if knows_key(alloc, left, &records, said, to, each)?
             || !is_aged(alloc, left, &consumer, false, to, each)?
         {
             return Ok(false);

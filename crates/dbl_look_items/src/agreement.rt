@@ -1,6 +1,6 @@
 //! Whether a consumer agrees with the source where a record is delivered first and is the last of its commit.
 
-use crate::cells::{first_records, is_known, row_of, source_text};
+use crate::cells::{first_records, knows_key, row_of, source_text};
 use crate::holding::consumer;
 use crate::left::{Left, moment_at};
 use crate::questions::Question;
@@ -57,7 +57,7 @@ fn agrees_on(
     if agrees_at(alloc, left, consumer, moment, asked)? {
         return Ok(true);
     }
-    Ok(!is_known(alloc, left, records, said, moment, asked)?)
+    Ok(!knows_key(alloc, left, records, said, moment, asked)?)
 }
 
 fn is_before(a: &Record, b: &Record) -> bool {

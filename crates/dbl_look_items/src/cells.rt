@@ -20,7 +20,7 @@ pub(crate) fn row_of<'a>(consumer: &'a Consumer, asked: &Question) -> Option<&'a
 }
 
 /// Whether the key is known at a moment.
-pub(crate) fn is_known(
+pub(crate) fn knows_key(
     alloc: Global,
     left: &Left<'_>,
     records: &Vec<Record>,

@@ -4,7 +4,7 @@
 
 use crate::ageing::{is_aged, is_aged_behind};
 use crate::agreement::agrees;
-use crate::cells::is_known;
+use crate::cells::knows_key;
 use crate::holding::consumer;
 use crate::left::{Left, left_since};
 use crate::questions::{Question, questions, sayings};
@@ -41,7 +41,7 @@ fn seen_key(
     asked: &Question,
     seen: Seen,
 ) -> Result<Seen> {
-    let known = is_known(alloc, left, left.records, said, to, asked)?;
+    let known = knows_key(alloc, left, left.records, said, to, asked)?;
     let aged = is_aged(alloc, left, consumer, known, to, asked)?;
     Ok(Seen {
         known: seen.known.saturating_add(if known { 1 } else { 0 }),

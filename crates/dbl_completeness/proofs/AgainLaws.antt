@@ -180,7 +180,7 @@ module _ (chunk every budget : ℕ) (now : ℤ) (told_wal told_topics told_offse
       let few = grown_size w may.w held.wal left.wal offset.lsn windows extends.more read.source may.read.source same extends.is (few_marks same adds) in
       omega (arith, counted, front, length-append report.sent_ms report.are_sent.rest, moved, few)
 
-  reads_few : (end : End) → Answers (Again chunk every budget) now wals logs new_wals new_logs w t f end → AnswersKept (Again chunk every budget) now new_wals new_logs new_stores w t f end
+  reads_few : (end : End) → Answers (Again chunk every budget) now wals logs new_wals new_logs new_stores w t f end → AnswersKept (Again chunk every budget) now new_wals new_logs new_stores w t f end
       → IfOk end (λ summary. summary.report.messages ≤ length (sent held.wal offset.lsn) + most_messages 1 held.wal.workload windows)
   reads_few (Ok summary) answers answers_kept = few_read summary answers.told answers_kept.report answers.marks
   reads_few (Err e) answers answers_kept = tt

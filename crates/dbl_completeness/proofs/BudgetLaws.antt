@@ -207,7 +207,7 @@ module _ (options : CaptureOptions) (now : ℤ) (told_wal told_topics told_offse
       let bound = ap (λ (x : Workload). most_messages 1 x (most_windows options held (length pairs))) same in
       omega (arith, counted, front, length-append report.sent_ms report.are_sent.rest, moved, few, bound)
 
-  reads_few : (end : End) → Answers (First options) now wals logs new_wals new_logs w t f end → AnswersKept (First options) now new_wals new_logs new_stores w t f end
+  reads_few : (end : End) → Answers (First options) now wals logs new_wals new_logs new_stores w t f end → AnswersKept (First options) now new_wals new_logs new_stores w t f end
       → IfOk end (λ summary. summary.report.messages ≤ most_messages 1 held.wal.workload (most_windows options held (length pairs)))
   reads_few (Ok summary) answers answers_kept = few_read summary answers.told answers_kept.report answers.marks
   reads_few (Err e) answers answers_kept = tt

@@ -46,7 +46,7 @@ module _ {W T F : Type 0} (seen_wal : W → Option (List ℕ)) (wals : W → Lis
         unspent = λ less three. not_spent plain_capture.messages (most_messages 1 held.wal.workload (most_windows plain_capture held (length pairs))) captured.runs.end (spent_end captured.runs.end status before after captured.runs.says three) few captured.runs.spent less;
       }
     where
-      by : HasStored seen_wal wals (IsFreshWal text) captured.made_wal → IsFreshWal text w → IsEmptyLog t → IsEmptyStore f → (end : End) → Answers plainly now (wals captured.made_wal) (logs captured.made_topics) (wals new_wal) (logs new_topics) w t f end → AnswersKept plainly now (wals new_wal) (logs new_topics) (stores new_offsets) w t f end
+      by : HasStored seen_wal wals (IsFreshWal text) captured.made_wal → IsFreshWal text w → IsEmptyLog t → IsEmptyStore f → (end : End) → Answers plainly now (wals captured.made_wal) (logs captured.made_topics) (wals new_wal) (logs new_topics) (stores new_offsets) w t f end → AnswersKept plainly now (wals new_wal) (logs new_topics) (stores new_offsets) w t f end
           → IfOk end (λ summary. summary.report.messages ≤ most_messages 1 held.wal.workload (most_windows plain_capture held (length pairs)))
       by made fresh log store (Ok summary) answers answers_kept =
           let reported = answers_kept.report in

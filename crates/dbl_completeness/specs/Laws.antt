@@ -28,7 +28,7 @@ use Rattle.dbl_completeness.specs.Sessions.{IsDone, IsSessionDone, IsSupportedRu
 -- A session over kept disks that was supported had its way, unless a disk failed or memory ran out.
 abbrev pub SupportedSessionsSucceed : (wals logs new_wals new_logs new_stores : List ℕ → Type 0) → Type 0
 SupportedSessionsSucceed wals logs new_wals new_logs new_stores = (asked : Asked) (now : ℤ) (w t f : List ℕ) (end : End)
-    → Answers asked now wals logs new_wals new_logs w t f end → AnswersKept asked now new_wals new_logs new_stores w t f end
+    → Answers asked now wals logs new_wals new_logs new_stores w t f end → AnswersKept asked now new_wals new_logs new_stores w t f end
     → IfErr end IsConnectError → IsSupportedRun asked now new_wals new_logs new_stores w t f
     → IfErr end IsOutside
 

@@ -28,11 +28,12 @@ use Rattle.dbl_stores.specs.Faithful.{IsFaithful}
 use Rattle.dbl_work.specs.declared.report.Ending.{Ending}
 use Rattle.dbl_work.specs.declared.report.Ending.TheVariants.{Budget, Complete}
 use Rattle.dbl_exits.specs.Found.{IsStoredBy, position_of}
-use Rattle.dbl_causes.specs.Reported.{AllCouldBeSent, IsBehindOf}
+use Rattle.dbl_causes.specs.Reported.{AllCouldBeSent, IsBehindOf, began_behind, end_behind}
 use Rattle.dbl_kept.specs.Contents.{Contents, confirmed_at, history_at, records_at}
 use Rattle.dbl_kept.specs.Laws.{SettledReportsAreRight}
 use Rattle.dbl_kept.specs.Reports.{CountsMessages, IsSentUpto, IsWhole, commits_between, course, read_behind}
 use Rattle.dbl_kept.proofs.CommitCounts.{commits_counted}
+use Rattle.dbl_kept.proofs.WholeLaws.{all_is_read}
 
 -- ---- the stored offset
 
@@ -122,6 +123,10 @@ settled_reports_are_right seen may_leave config now old new ending report bytes 
       messages = messages_counted ending config.messages report.messages ms settled.many
           (λ ended. ((complete ended).1, subst IsWhole told (whole_at tables log place ((is.ended (complete ended).0).whole place at)))) spent;
       commits = settled.followed ∙ count ∙ ap (λ (l : Lsn). length (commits_between after.0 l.0 (history_at new))) (sym last);
+      end_lsn = settled.end_lsn ∙ ap (λ (l : List Message). end_behind (began_behind old.offset offset) (commits_of offset.infos l)) (sym (reverse-reverse ms));
+      all_read = λ ended. (let has = is.ended (complete ended).0 in
+          all_is_read tables log place offset.lsn (is.running.reader.placed place at) (has.whole place at)
+          (settled.last ∙ sym (ap (λ (r : Reading). last_lsn r.after r.messages) reading)) (has.read place at));
       more = more;
       gained = gained;
       counted = are;

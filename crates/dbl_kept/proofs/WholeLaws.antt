@@ -1,6 +1,6 @@
 -- What a complete session leaves is what the serial run of the whole workload leaves.
-use Rattle.std.proofs.Common.{◌≡◌, ◌∙◌, ℕ, ◌+◌, ◌*◌, ◌≤◌, Bool, true, false, if◌then◌else◌, Option, Some, None, List, [], ◌∷◌, ◌++◌, length, map, take, drop, nat_le, refl, sym, ap, subst, arith}
-use Rattle.std.specs.Prelude.{slice_get}
+use Rattle.std.proofs.Common.{◌≡◌, ◌∙◌, ℕ, zero, suc, ◌+◌, ◌*◌, ◌≤◌, Bool, true, false, cond, if◌then◌else◌, Option, Some, None, List, [], ◌∷◌, ◌++◌, length, map, take, drop, nat_le, refl, sym, ap, subst, arith}
+use Rattle.std.specs.Prelude.{nat_lt, slice_get}
 use Rattle.std.specs.List.{AllByRecursion}
 use Rattle.std.proofs.lemmas.List.{length-append, map-append, take_all, take-append-drop, length-take, length-take-le, length-drop}
 use Rattle.dbl_base.specs.declared.lsn.Lsn.{Lsn}
@@ -9,7 +9,9 @@ use Rattle.dbl_table.specs.declared.change.Change.{Change}
 use Rattle.dbl_table.specs.declared.change.Commit.{Commit}
 use Rattle.dbl_table.specs.declared.table.TableInfo.{TableInfo}
 use Rattle.dbl_table.specs.Rows.{Rows, all_changes, changes_of, moment_at, no_rows, rows, rows_from}
+use Rattle.dbl_history.specs.History.{RawCommit}
 use Rattle.dbl_history.specs.Typed.{typed, typed_commit}
+use Rattle.dbl_honest.specs.Stated.{commits_after}
 use Rattle.dbl_commit.specs.Past.{last_lsn}
 use Rattle.dbl_feed.specs.declared.logged.LogTable.{LogTable}
 use Rattle.dbl_feed.specs.declared.logged.Logged.{Logged}
@@ -29,6 +31,7 @@ use Rattle.dbl_stores.specs.Complete.{HoldsImage}
 use Rattle.dbl_running.specs.Demo.{IsMark}
 use Rattle.dbl_kept.specs.Contents.{records_at}
 use Rattle.dbl_kept.specs.Laws.{CompleteRunsLeaveTablesEqual}
+use Rattle.dbl_kept.specs.Reports.{IsWatermark}
 use Rattle.dbl_kept.specs.Tables.{whole_log}
 
 -- ---- how far was read
@@ -52,6 +55,42 @@ upto_place tables log place inside shut =
     let here = upto_from tables place.after (commits_upto place.after) (take place.commits (drop (commits_upto place.after) log)) [] (omega arith) in
     let many = length_taken place log inside in
     subst (λ (ms : List Message). 256 * index_of place ≤ (last_lsn place.after ms).0) (sym (closed tables place (slice_get log (index_of place)) (told_whole tables place.after place.commits log) shut)) (omega (arith, here, many))
+
+-- ---- nothing but marks behind that
+
+not_above : (a b : ℕ) → b ≤ a → nat_lt a b ≡ false
+not_above a b le = grind (arith, le)
+
+abbrev AreWatermarks : List RawCommit → Type 0
+AreWatermarks commits = AllByRecursion (λ commit. IsWatermark commit.body) commits
+
+module _ (tables : List LogTable) (upto : Lsn) where
+  marks_behind : (rows : TextRows) (n : ℕ) (log : List Logged) → AllByRecursion IsMark log → AreWatermarks (commits_after upto (commits_from tables rows n log))
+  marks_behind rows n [] marks = tt
+  marks_behind rows n (Changes ms ∷ log) marks = absurd marks.0
+  marks_behind rows n (Mark value ∷ log) marks = by (marks_behind rows (n + 1) log marks.1) (nat_lt upto.0 (256 * n))
+    where
+      later : List RawCommit
+      later = commits_after upto (commits_from tables rows (n + 1) log)
+
+      by : AreWatermarks later → (b : Bool) → AreWatermarks (cond b (commit_at tables rows n (Mark value) ∷ later) later)
+      by rest true = (tt, rest)
+      by rest false = rest
+
+  -- the commits that were read stand up to there, and are passed over
+  read_upto : (k : ℕ) (rows : TextRows) (n : ℕ) (log : List Logged) → 256 * (n + k) ≤ upto.0 + 256 → AllByRecursion IsMark (drop k log) → AreWatermarks (commits_after upto (commits_from tables rows n log))
+  read_upto zero rows n log low marks = marks_behind rows n log marks
+  read_upto (suc k) rows n [] low marks = tt
+  read_upto (suc k) rows n (entry ∷ log) low marks =
+      let next : TextRows = text_rows_at tables rows entry in
+      let later : List RawCommit = commits_after upto (commits_from tables next (n + 1) log) in
+      subst (λ (b : Bool). AreWatermarks (cond b (commit_at tables rows n entry ∷ later) later)) (sym (not_above upto.0 (256 * n) (omega (arith, low)))) (read_upto k next (n + 1) log (omega (arith, low)) marks)
+
+pub all_is_read : (tables : List LogTable) (log : List Logged) (place : Place) (upto : Lsn) → IsPlaceIn log place → place.begun ≡ false
+    → upto ≡ last_lsn place.after (told_at tables log place) → AllByRecursion IsMark (drop (index_of place) log) → AreWatermarks (commits_after upto (history_of tables log).commits)
+all_is_read tables log place upto inside shut last marks =
+    let low : 256 * index_of place ≤ upto.0 = subst (λ (l : Lsn). 256 * index_of place ≤ l.0) (sym last) (upto_place tables log place inside shut) in
+    read_upto tables upto (index_of place) no_text_rows 1 log (omega (arith, low)) marks
 
 -- ---- the changes up to there are all of them
 

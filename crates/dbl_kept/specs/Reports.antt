@@ -1,5 +1,6 @@
 -- What the report of a session tells, by what the disks held when it began and what they hold at its end. Source: own.
 use Rattle.std.specs.Prelude.{◌≡◌, ◌&&◌, ℕ, ℤ, ◌<◌, ◌≤◌, nat_lt, nat_le, Option, Some, None, List, [], ◌∷◌, ◌++◌, length, filter, reverse}
+use Rattle.std.specs.List.{AllByRecursion}
 use Rattle.dbl_base.specs.declared.lsn.Lsn.{Lsn}
 use Rattle.dbl_pgmsg.specs.declared.messages.Message.{Message}
 use Rattle.dbl_pgmsg.specs.declared.messages.Message.TheVariants.{Commit}
@@ -8,7 +9,9 @@ use Rattle.dbl_table.specs.declared.config.Config.{Config}
 use Rattle.dbl_commit.specs.Blocks.{IsAccepted}
 use Rattle.dbl_commit.specs.Past.{last_lsn}
 use Rattle.dbl_commit.specs.Stated.{commits_of}
-use Rattle.dbl_history.specs.History.{History, RawCommit}
+use Rattle.dbl_history.specs.History.{History, RawBody, RawCommit}
+use Rattle.dbl_history.specs.History.RawBody.{Changes, Mark}
+use Rattle.dbl_honest.specs.Stated.{commits_after}
 use Rattle.dbl_offset.specs.declared.offset.Offset.{Offset}
 use Rattle.dbl_sound.specs.Standings.{sent}
 use Rattle.dbl_sound.specs.Wals.{Wal}
@@ -17,7 +20,7 @@ use Rattle.dbl_work.specs.declared.report.Ending.TheVariants.{Complete, Budget}
 use Rattle.dbl_work.specs.declared.report.Report.{Report}
 use Rattle.dbl_exits.specs.Found.{IsStoredBy}
 use Rattle.dbl_causes.specs.Gained.{AreCounted}
-use Rattle.dbl_causes.specs.Reported.{AllCouldBeSent, Course}
+use Rattle.dbl_causes.specs.Reported.{AllCouldBeSent, Course, began_behind, end_behind}
 use Rattle.dbl_kept.specs.Contents.{Contents, confirmed_at, history_at}
 
 -- behind which LSN the session read: the one that was stored, and in a first session the start of the offset that it stored
@@ -46,6 +49,11 @@ abbrev pub CountsMessages : Ending → ℕ → List Message → ℕ → Type 0
 CountsMessages Complete budget ms messages = (messages ≡ length ms) × (messages < budget) × IsWhole (reverse ms)
 CountsMessages Budget budget ms messages = (messages ≡ length ms) × (messages ≡ budget)
 
+-- a commit of the connector's own, which writes a watermark and nothing else
+abbrev pub IsWatermark : RawBody → Type 0
+IsWatermark (Changes changes) = ⊥
+IsWatermark (Mark value) = Unit {0}
+
 -- by what the records of its commits are made
 abbrev pub course : Offset → ℤ → Lsn → Course
 course offset now after = record { identity = offset.identity; infos = offset.infos; now = now; after = after }
@@ -66,6 +74,10 @@ pub record IsReportOf (config : Config) (now : ℤ) (old new : Contents) (ending
   pub sendable : AllCouldBeSent (course offset now (read_behind old.offset offset)) (commits_of offset.infos (reverse sent_ms))
   pub messages : CountsMessages ending config.messages sent_ms report.messages
   pub commits : report.commits ≡ length (commits_between (read_behind old.offset offset).0 offset.lsn.0 (history_at new))
+  -- the offset's end in the log is that of the last commit that the messages state; where they state none, it is where reading began
+  pub end_lsn : offset.end_lsn ≡ end_behind (began_behind old.offset offset) (commits_of offset.infos (reverse sent_ms))
+  -- with Complete all was read: of the source's commits those behind the position are watermarks, each of them
+  pub all_read : ending ≡ Complete → AllByRecursion (λ commit. IsWatermark commit.body) (commits_after offset.lsn (history_at new).commits)
   pub more : List (List Record)
   pub gained : new.groups ≡ old.groups ++ more
   -- counts of 64 bits, as far as these tell (law SmallLogsAreCounted)

@@ -51,6 +51,7 @@ use Rattle.dbl_connector.specs.Asked.{asks_in}
 use Rattle.dbl_connector.specs.Ends.{AddsFew, AreGained, EndsBefore, GainsRecords, HasBegun, HasClosedSent, HasReadClean, HasRun, IsKeptError, IsReported, IsStoredLast, IsUngained}
 use Rattle.dbl_connector.specs.Errors.{IsOutside, IsOwnHalt, halt_error}
 use Rattle.dbl_connector.specs.Steps.{IsLogOf, IsSourceOf, IsStoreOf}
+use Rattle.dbl_connector.proofs.Configs.{asks_budget}
 use Rattle.dbl_connector.proofs.Causes.{IsHaltOver, cause_of, err_is, kept_halt, sent_front}
 use Rattle.dbl_connector.proofs.Left.{ended_store, ended_wal, image_of, left_store, ok_is, own_of, place_read, settled_of, source_kept}
 use Rattle.dbl_connector.proofs.Opened.{found_of, held_by, left_wal, log_come, read_of, store_come, stood_first}
@@ -358,6 +359,7 @@ module _ {W T F : Type 0} (seen_w : W → Option (List ℕ)) (may_w : W → List
         first = ran.firsts first first_stands;
         ungained = ungained_of;
         report = report;
+        within = subst (λ (n : ℕ). report.messages ≤ n) (asks_budget asked _ fo.offset config asks) ran.bounded;
         raised = λ other exhausted. err_one result h other is (ran.exhausted other exhausted);
         captured = λ none name among cannot. (
             let must = ran.must_absent first first_stands none name among cannot in

@@ -1,6 +1,7 @@
 -- What a session is asked for is within the limits.
-use Rattle.std.proofs.Common.{◌≡◌, ℕ, ◌&&◌, Bool, true, false, List, [], ◌∷◌, length, refl, sym, subst, arith}
+use Rattle.std.proofs.Common.{◌≡◌, ℕ, ◌&&◌, Bool, true, false, Option, Some, None, List, [], ◌∷◌, length, refl, sym, ap, subst, arith}
 use Rattle.std.proofs.lemmas.List.{length-map}
+use Rattle.dbl_table.specs.declared.config.Config.{Config}
 use Rattle.dbl_table.specs.declared.table.TableInfo.{TableInfo}
 use Rattle.dbl_table.specs.declared.table.TableName.{TableName}
 use Rattle.dbl_table.specs.Configs.{IsGoodConfig}
@@ -11,7 +12,9 @@ use Rattle.dbl_offset.specs.Offsets.{IsOffset}
 use Rattle.dbl_workload.specs.Ready.{AreTableNames}
 use Rattle.dbl_kept.specs.Laws.{AreFewNames}
 use Rattle.dbl_kept.proofs.TableLaws.{workloads_have_tables}
-use Rattle.dbl_connector.specs.Asked.{config_again, config_of, tables_or}
+use Rattle.dbl_connector.specs.declared.asked.Asked.{Asked}
+use Rattle.dbl_connector.specs.declared.asked.Asked.TheVariants.{First, Again}
+use Rattle.dbl_connector.specs.Asked.{asks_of, budget_of, config_again, config_of, tables_or}
 
 all_true : (a b c d : Bool) → a ≡ true → b ≡ true → (c && d) ≡ true → (a && b && c && d) ≡ true
 all_true true true true true p q r = refl
@@ -61,3 +64,10 @@ good_again offset chunk every messages is pace =
       every = pace.every_is;
       messages = pace.messages_are;
     }
+
+-- of as many messages as the words allow
+pub asks_budget : (asked : Asked) (all : List TableName) (stored : Option Offset) (config : Config) → asks_of asked all stored ≡ Some config → config.messages ≡ budget_of asked
+asks_budget (First options) all None config is = (let same : config_of options all ≡ config = (let i = is in cc) in sym (ap (λ (c : Config). c.messages) same))
+asks_budget (First options) all (Some offset) config is = absurd (let i = is in cc)
+asks_budget (Again chunk every messages) all None config is = absurd (let i = is in cc)
+asks_budget (Again chunk every messages) all (Some offset) config is = (let same : config_again offset chunk every messages ≡ config = (let i = is in cc) in sym (ap (λ (c : Config). c.messages) same))

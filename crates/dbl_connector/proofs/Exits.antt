@@ -21,7 +21,7 @@ use Rattle.dbl_connector.specs.declared.asked.Asked.TheVariants.{First, Again}
 use Rattle.dbl_connector.specs.declared.error.ConnectError.{ConnectError}
 use Rattle.dbl_connector.specs.declared.error.ConnectError.TheVariants as error
 use Rattle.dbl_exits.specs.Found.{IsAsked}
-use Rattle.dbl_connector.specs.Asked.{Refuses, asks_of, budget_of, config_again, config_of}
+use Rattle.dbl_connector.specs.Asked.{Refuses, asks_of, config_again}
 use Rattle.dbl_connector.specs.Ends.{IsRefused, IsSpent}
 use Rattle.dbl_connector.specs.Ends.IsRefused.{not_asked}
 use Rattle.dbl_connector.specs.Errors.{IsBehindOpening, IsConnectError, IsOutside, IsOwnHalt, IsRefusal, halt_error}
@@ -129,12 +129,6 @@ halt_fails (halt.WatermarkMissing value at) s is = absurd (let i = is in cc)
 halt_fails (halt.Exhausted incarnation) s is = absurd (let i = is in cc)
 
 -- ---- budgets
-
-pub asks_budget : (asked : Asked) (all : List TableName) (stored : Option Offset) (config : Config) → asks_of asked all stored ≡ Some config → config.messages ≡ budget_of asked
-asks_budget (First options) all None config is = (let same : config_of options all ≡ config = (let i = is in cc) in sym (ap (λ (c : Config). c.messages) same))
-asks_budget (First options) all (Some offset) config is = absurd (let i = is in cc)
-asks_budget (Again chunk every messages) all None config is = absurd (let i = is in cc)
-asks_budget (Again chunk every messages) all (Some offset) config is = (let same : config_again offset chunk every messages ≡ config = (let i = is in cc) in sym (ap (λ (c : Config). c.messages) same))
 
 pub spent_of : (budget : ℕ) (config : Config) (ending : Ending) (report : Report) → config.messages ≡ budget → (ending ≡ Complete → report.messages < config.messages)
     → (ending ≡ Budget → report.messages ≡ config.messages) → report.commits ≤ report.messages → IsSpent budget (record { ending = ending; report = report })

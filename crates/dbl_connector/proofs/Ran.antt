@@ -1,5 +1,5 @@
 -- What a session over opened stores has answered: its contract, over the source, the topic log and the offset store of the program.
-use Rattle.std.proofs.Common.{◌≡◌, ◌⊎◌, ℕ, ℤ, ◌<◌, Option, None, List, Result, Ok, Err, subst}
+use Rattle.std.proofs.Common.{◌≡◌, ◌⊎◌, ℕ, ℤ, ◌<◌, ◌≤◌, Option, None, List, Result, Ok, Err, subst}
 use Rattle.std.specs.Prelude.{IfErr, IfOk, IsTrue, OnOk}
 use Rattle.dbl_base.specs.declared.lsn.Lsn.{Lsn}
 use Rattle.dbl_record.specs.declared.record.Record.{Record}
@@ -56,6 +56,7 @@ pub record Ran {W T F : Type 0} (seen_w : W → Option (List ℕ)) (may_w : W �
   pub stores : (fn.offset ≡ fo.offset) ⊎ HasStored config fo.offset fn.offset
   pub firsts : (s : Standing) → StandsFor seen_w may_w so s → IsFirstStored config s.history fo.offset fn.offset
   pub few : result ≡ Ok Complete → report.messages < config.messages
+  pub bounded : report.messages ≤ config.messages
   pub ended : result ≡ Ok Complete → IsTrue sn.ended
   pub exhausted : MustExhaust fo.offset result
   pub must_absent : (s : Standing) → StandsFor seen_w may_w so s → MustHaltAbsent config s.history fo.offset result

@@ -1,5 +1,5 @@
 -- How `capture` and `resume` end, by the bytes that the disks told. Source: own.
-use Rattle.std.specs.Prelude.{Contains, ◌≡◌, ◌⊎◌, ℕ, ℤ, ◌+◌, ◌<◌, ◌≤◌, ◌^◌, take, Option, Some, None, Result, Ok, Err, List, length}
+use Rattle.std.specs.Prelude.{Contains, ◌≡◌, ◌⊎◌, ℕ, ℤ, ◌<◌, ◌≤◌, ◌^◌, take, Option, Some, None, Result, Ok, Err, List, length}
 use Rattle.std.specs.List.{AllByRecursion}
 use Rattle.dbl_base.specs.Streams.{HasCause}
 use Rattle.dbl_record.specs.declared.record.Record.{Record}
@@ -37,7 +37,7 @@ use Rattle.dbl_connector.specs.declared.asked.Asked.{Asked}
 use Rattle.dbl_connector.specs.declared.connected.Summary.{Summary}
 use Rattle.dbl_connector.specs.declared.error.ConnectError.{ConnectError}
 use Rattle.dbl_connector.specs.declared.error.ConnectError.TheVariants.{BadEntry, Failed, Halted, NotAStore}
-use Rattle.dbl_connector.specs.Asked.{Refuses, asks_in}
+use Rattle.dbl_connector.specs.Asked.{Refuses, asks_in, budget_of}
 use Rattle.dbl_connector.specs.Errors.{IsOutside}
 use Rattle.dbl_disk.specs.Disks.{disk_limit}
 
@@ -146,6 +146,8 @@ pub record HasHalted (asked : Asked) (now : ℤ) (wals logs stores : List ℕ �
   pub first : IsFirstStored begun.config (history_at begun.held) begun.held.offset stored
   pub ungained : IsUngained logs begun.held stored
   pub report : Report
+  -- no more messages than the words allow
+  pub within : report.messages ≤ budget_of asked
   pub gained : AreGained logs begun.held report
   pub cause : (bytes : List ℕ) (wal : Wal) → wals bytes → IsWal bytes wal → IsCauseOf begun.config now begun.held stored report wal halt
 

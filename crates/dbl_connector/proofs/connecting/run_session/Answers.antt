@@ -10,7 +10,8 @@ use Rattle.dbl_connector.specs.Asked.{budget_of}
 use Rattle.dbl_connector.specs.Ends.{Counts, End, IsSpent}
 use Rattle.dbl_connector.specs.Errors.{IsBehindOpening, IsConnectError, IsRefusal}
 use Rattle.dbl_connector.specs.Steps.{Answers}
-use Rattle.dbl_connector.proofs.Exits.{asked_of, asks_budget, asks_same, halt_fails, halt_kind, log_bounded, refused_behind, refused_ends, refused_kind, refused_unfailed, refused_unhalted, residual, source_bounded, spent_of, store_bounded}
+use Rattle.dbl_connector.proofs.Configs.{asks_budget}
+use Rattle.dbl_connector.proofs.Exits.{asked_of, asks_same, halt_fails, halt_kind, log_bounded, refused_behind, refused_ends, refused_kind, refused_unfailed, refused_unhalted, residual, source_bounded, spent_of, store_bounded}
 use Rattle.dbl_connector.proofs.ErrorKinds.{counts_same}
 use Rattle.dbl_connector.proofs.Opened.{bounded_same}
 use Rattle.dbl_connector.proofs.Ran.{renow}
@@ -95,6 +96,7 @@ returns-in_err-ending-clause-answers g c =
       stores = c.session.ensures.stores;
       firsts = c.session.ensures.firsts;
       few = λ is. (c.session.ensures.done is).3;
+      bounded = c.session.ensures.bounded;
       ended = c.session.ensures.ended;
       exhausted = c.session.ensures.exhausted;
       must_absent = c.session.ensures.must_absent;
@@ -187,6 +189,7 @@ returns-clause-answers g c =
       stores = c.session.ensures.stores;
       firsts = c.session.ensures.firsts;
       few = λ is. (c.session.ensures.done is).3;
+      bounded = c.session.ensures.bounded;
       ended = c.session.ensures.ended;
       exhausted = c.session.ensures.exhausted;
       must_absent = c.session.ensures.must_absent;

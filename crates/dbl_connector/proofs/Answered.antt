@@ -50,9 +50,11 @@ use Rattle.dbl_connector.specs.declared.error.ConnectError.TheVariants.{Halted}
 use Rattle.dbl_connector.specs.Asked.{asks_in}
 use Rattle.dbl_connector.specs.Ends.{AddsFew, AreGained, EndsBefore, GainsRecords, HasBegun, HasClosedSent, HasReadClean, HasRun, IsKeptError, IsReported, IsStoredLast, IsUngained}
 use Rattle.dbl_connector.specs.Errors.{IsOutside, IsOwnHalt, halt_error}
+use Rattle.dbl_connector.specs.Followed.{AreFollowed, AreTallied, ComesByReading}
 use Rattle.dbl_connector.specs.Steps.{IsLogOf, IsSourceOf, IsStoreOf}
 use Rattle.dbl_connector.proofs.Configs.{asks_budget}
 use Rattle.dbl_connector.proofs.Causes.{IsHaltOver, cause_of, err_is, kept_halt, sent_front}
+use Rattle.dbl_connector.proofs.Followed.{followed_read, still_stands, tallied_read, unread_by}
 use Rattle.dbl_connector.proofs.Left.{ended_store, ended_wal, image_of, left_store, ok_is, own_of, place_read, settled_of, source_kept}
 use Rattle.dbl_connector.proofs.Opened.{found_of, held_by, left_wal, log_come, read_of, store_come, stood_first}
 use Rattle.dbl_connector.proofs.Ran.{LogLeaves, Ran, SourceLeaves}
@@ -186,6 +188,29 @@ module _ {W T F : Type 0} (seen_w : W → Option (List ℕ)) (may_w : W → List
       let few = ran.marks first first_stands (subst HasOwnTables same own) (left_in left.wal) (record { crashed = bytes; may = leaves; wal = left.wal; is = is; left = refl }) in
       inr (at_begun asked w t f (λ h c. AddsFewMarks c h left) begun old config read_here asks (few_of config now old left few))
 
+  -- ---- what it had followed and sent
+
+  -- where it can't be used any more, nothing stands
+  one_left : (bytes : List ℕ) (wal : Wal) → may_w sn.journal.disk bytes → IsWal bytes wal → (s : Standing) → StandsFor seen_w may_w sn s → s ≡ standing_in wal sn.place
+  one_left bytes wal leaves is s stands = stands.2 ∙ ap (λ (x : Wal). standing_in x sn.place) (sym (left_wal seen_w may_w sn stands.0 wal bytes stands.1 leaves is))
+
+  followed_at : (h : Halt) → result ≡ Err h → (t : Standing) → StandsFor seen_w may_w sn t → AreFollowed config now old fn.offset (may_w sn.journal.disk) report h
+  followed_at h is t stands bytes wal leaves read =
+      followed_read config now fo.offset fn.offset report first t wal sn.place (one_left bytes wal leaves read t stands) h (err_is result h _ (ran.stood first t first_stands stands) is)
+
+  tallied_at : (result ≡ Err halt.Sink → ⊥) → (t : Standing) → StandsFor seen_w may_w sn t
+      → AreTallied config now old fn.offset (may_w sn.journal.disk) (may_t ln.disk) report result
+  tallied_at other t stands bytes image wal groups leaves read left is =
+      tallied_read config now fo.offset fn.offset report first t wal sn.place (one_left bytes wal leaves read t stands) (HoldsGroups seen_t may_t) lg.groups groups ln result
+      (λ had holds. only_held seen_t may_t ln had groups holds (image, left, is))
+      (ran.tallied lg.groups lg.holds other first t first_stands stands)
+
+  -- the same of a result that is known
+  tallied_as : (r : Result Ending Halt) → result ≡ r → (result ≡ Err halt.Sink → ⊥) → (t : Standing) → StandsFor seen_w may_w sn t
+      → AreTallied config now old fn.offset (may_w sn.journal.disk) (may_t ln.disk) report r
+  tallied_as r is other t stands =
+      subst (λ (x : Result Ending Halt). AreTallied config now old fn.offset (may_w sn.journal.disk) (may_t ln.disk) report x) is (tallied_at other t stands)
+
   -- ---- where it ended as it should
 
   abbrev pub begun_of : (asked : Asked) → asks_in asked old ≡ Some config → HasBegun asked w t f
@@ -241,6 +266,7 @@ module _ {W T F : Type 0} (seen_w : W → Option (List ℕ)) (may_w : W → List
         first = ran.firsts first first_stands;
         ungained = ungained_of;
         clean = clean_of ending is;
+        tallied = tallied_as (Ok ending) is (λ failed. (let wrong : Ok ending ≡ Err halt.Sink = sym is ∙ failed in cc)) (standing_in stands.0 sn.place) (stands.0, stands.1, refl);
       }
 
   -- ---- its report
@@ -339,9 +365,8 @@ module _ {W T F : Type 0} (seen_w : W → Option (List ℕ)) (may_w : W → List
       counted_own (HoldsGroups seen_t may_t) (LogLeaves may_t) lg.groups ln report h own
       (subst (λ (r : Result Ending Halt). IsCounted (HoldsGroups seen_t may_t) (LogLeaves may_t) lg.groups r ln report) is (ran.counted lg.groups lg.holds))
 
-  -- where it can't be used any more, nothing stands
-  one_left : (bytes : List ℕ) (wal : Wal) → may_w sn.journal.disk bytes → IsWal bytes wal → (s : Standing) → StandsFor seen_w may_w sn s → s ≡ standing_in wal sn.place
-  one_left bytes wal leaves is s stands = stands.2 ∙ ap (λ (x : Wal). standing_in x sn.place) (sym (left_wal seen_w may_w sn stands.0 wal bytes stands.1 leaves is))
+  still_at : (h : Halt) → result ≡ Err h → ComesByReading old h → (t : Standing) × StandsFor seen_w may_w sn t
+  still_at h is reading = still_stands config now old fn.offset report (StandsFor seen_w may_w sn) h reading (halt_over h is)
 
   pub ends_before : (asked : Asked) → asks_in asked old ≡ Some config → (h : Halt) → result ≡ Err h
       → EndsBefore asked now (may_w sn.journal.disk) (may_t ln.disk) (may_f (disk_of fn)) w t f (halt_error h)
@@ -367,6 +392,11 @@ module _ {W T F : Type 0} (seen_w : W → Option (List ℕ)) (may_w : W → List
         gained = gained_by (counted_at h is own.1);
         stays = (source_kept seen_w may_w seen_t may_t seen_f may_f is_w is_t is_f w t f so lo fo src lg st config now sn ln fn report result ran).crash;
         cause = λ bytes wal leaves read. cause_of config now old fn.offset report (StandsFor seen_w may_w sn) wal sn.place (one_left bytes wal leaves read) h (halt_over h is);
+        unread = unread_by config now fo.offset fn.offset report None h (err_is result h _ ran.followed is);
+        followed = λ reading. (let at = still_at h is reading in followed_at h is at.0 at.1);
+        tallied = λ reading. (
+            let at = still_at h is reading in
+            tallied_as (Err h) is (λ failed. subst IsOwnHalt (err_one result h halt.Sink is failed) own.1) at.0 at.1);
       }))
 
   kept_each : (h : Halt) → result ≡ Err h → (kept : IsKept old) → (w1 t1 f1 : List ℕ) (left : Contents) → may_w sn.journal.disk w1 → may_t ln.disk t1 → may_f (disk_of fn) f1

@@ -3,6 +3,7 @@ pub mod Opened
 pub mod Ran
 pub mod Left
 pub mod Causes
+pub mod Followed
 pub mod Answered
 pub mod Session
 pub mod Stays

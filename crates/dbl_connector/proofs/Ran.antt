@@ -25,7 +25,8 @@ use Rattle.dbl_causes.specs.Gained.{Gains, IsReported}
 use Rattle.dbl_causes.specs.Halted.{IsHalt}
 use Rattle.dbl_causes.specs.Musts.{CapturesAll, MustExhaust}
 use Rattle.dbl_causes.specs.Nevers.{IsFaithfulHalt, IsHonestHalt}
-use Rattle.dbl_causes.specs.Reported.{HasSettled}
+use Rattle.dbl_causes.specs.Reported.{HasSettled, HasStoodBehind, IsFollowed}
+use Rattle.dbl_causes.specs.Tallied.{IsTalliedBehind}
 use Rattle.dbl_causes.specs.Written.{AddsExactly, marks_more}
 use Rattle.dbl_steps.specs.Awaited.{IsWithinLog}
 use Rattle.dbl_steps.specs.Captured.{MustHaltAbsent}
@@ -82,6 +83,12 @@ pub record Ran {W T F : Type 0} (seen_w : W → Option (List ℕ)) (may_w : W �
       → Gains config now fo.offset fn.offset groups left
   pub ungained : (groups left : List (List Record)) → HoldsGroups seen_t may_t lo groups → LogLeaves may_t ln left → fn.offset ≡ fo.offset → left ≡ groups
   pub counted : (groups : List (List Record)) → HoldsGroups seen_t may_t lo groups → IsReported (HoldsGroups seen_t may_t) (LogLeaves may_t) groups result ln report
+  pub followed : IfErr result (IsFollowed config now fo.offset fn.offset report None)
+  pub stood : (s t : Standing) → StandsFor seen_w may_w so s → StandsFor seen_w may_w sn t
+      → IfErr result (HasStoodBehind config now fo.offset fn.offset report s t)
+  pub tallied : (groups : List (List Record)) → HoldsGroups seen_t may_t lo groups → (result ≡ Err halt.Sink → ⊥) → (s t : Standing)
+      → StandsFor seen_w may_w so s → StandsFor seen_w may_w sn t
+      → IsTalliedBehind (HoldsGroups seen_t may_t) groups config now fo.offset fn.offset report t ln result
   pub source_live : OnOk result (IsTrue sn.live)
   pub source_comes : ComesOf seen_w may_w so sn
   pub sink_comes : LogComesOf seen_t may_t lo ln

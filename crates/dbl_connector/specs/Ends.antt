@@ -39,6 +39,7 @@ use Rattle.dbl_connector.specs.declared.error.ConnectError.{ConnectError}
 use Rattle.dbl_connector.specs.declared.error.ConnectError.TheVariants.{BadEntry, Failed, Halted, NotAStore}
 use Rattle.dbl_connector.specs.Asked.{Refuses, asks_in, budget_of}
 use Rattle.dbl_connector.specs.Errors.{IsOutside}
+use Rattle.dbl_connector.specs.Followed.{AreFollowed, AreTallied, ComesByReading}
 use Rattle.dbl_disk.specs.Disks.{disk_limit}
 
 -- how it ended
@@ -128,6 +129,8 @@ pub record HasRun (asked : Asked) (now : ℤ) (wals logs stores : List ℕ → T
   pub first : IsFirstStored begun.config (history_at begun.held) begun.held.offset stored
   pub ungained : IsUngained logs begun.held stored
   pub clean : (bytes : List ℕ) (wal : Wal) → wals bytes → IsWal bytes wal → HasReadClean begun.config now begun.held.offset stored wal summary
+  -- the records of the commits that it read, and nothing else, are what the topic log gained
+  pub tallied : AreTallied begun.config now begun.held stored wals logs summary.report (Ok summary.ending)
 
 -- Its halt has its cause in what the disks held, and in what the source's log is now, whatever a crash leaves of it: this is one of the same
 -- workload. Where no incarnation is left, or a table of a first session can't be captured, it is that. The offset that it stored last is what
@@ -150,6 +153,11 @@ pub record HasHalted (asked : Asked) (now : ℤ) (wals logs stores : List ℕ �
   pub within : report.messages ≤ budget_of asked
   pub gained : AreGained logs begun.held report
   pub cause : (bytes : List ℕ) (wal : Wal) → wals bytes → IsWal bytes wal → IsCauseOf begun.config now begun.held stored report wal halt
+  -- where it stored none, it read nothing
+  pub unread : stored ≡ begun.held.offset → (report.messages ≡ 0) × (report.commits ≡ 0)
+  -- where it halts for what it read: each commit before that could be sent, and was followed; and these are sent, and nothing behind them
+  pub followed : ComesByReading begun.held halt → AreFollowed begun.config now begun.held stored wals report halt
+  pub tallied : ComesByReading begun.held halt → AreTallied begun.config now begun.held stored wals logs report (Err halt)
 
 -- Why it ended before its time: a disk failed, or memory ran out; or the disks hold what it can't begin with; or its session halted.
 abbrev pub EndsBefore : Asked → ℤ → (List ℕ → Type 0) → (List ℕ → Type 0) → (List ℕ → Type 0) → List ℕ → List ℕ → List ℕ → ConnectError → Type 0

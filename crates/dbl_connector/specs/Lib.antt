@@ -1,4 +1,5 @@
 pub mod Errors
+pub mod Followed
 pub mod Asked
 pub mod Ends
 pub mod Steps

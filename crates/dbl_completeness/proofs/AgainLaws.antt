@@ -1,5 +1,5 @@
 -- A resume reads no more messages than were to be sent when it began, and the workload gives behind them.
-use Rattle.std.proofs.Common.{◌≡◌, ◌∙◌, ◌⊎◌, inl, inr, ℕ, ℤ, ◌+◌, ◌*◌, ◌/◌, ◌<◌, ◌≤◌, Option, Some, None, Ok, Err, List, ◌++◌, length, drop, sym, ap, subst, arith}
+use Rattle.std.proofs.Common.{◌≡◌, ◌∙◌, ◌⊎◌, inl, inr, ℕ, ℤ, ◌+◌, ◌*◌, ◌/◌, ◌≤◌, Option, Some, None, Ok, Err, List, ◌++◌, length, drop, sym, ap, subst, arith}
 use Rattle.std.specs.Prelude.{IfOk, IfSome}
 use Rattle.std.proofs.lemmas.List.{length-append, length-map}
 use Rattle.dbl_base.specs.declared.lsn.Lsn.{Lsn}
@@ -22,8 +22,8 @@ use Rattle.dbl_sound.specs.Sound.{committed_in, logged_in}
 use Rattle.dbl_sound.specs.Standings.{history_in, sent, tables_of}
 use Rattle.dbl_sound.specs.Wals.{IsWal, Wal}
 use Rattle.dbl_serial.specs.Sending.{log_table, log_tables}
-use Rattle.dbl_sound.specs.Workloads.{IsWorkload, Workload, log_at, steps_of}
-use Rattle.dbl_sound.proofs.WalLaws.{one_wal, one_workload}
+use Rattle.dbl_sound.specs.Workloads.{Workload, log_at, steps_of}
+use Rattle.dbl_sound.proofs.WalLaws.{one_wal}
 use Rattle.dbl_stores.specs.Faithful.{IsFaithful}
 use Rattle.dbl_stores.specs.Onward.{Extends}
 use Rattle.dbl_exits.specs.Sessions.{Captures}
@@ -41,11 +41,11 @@ use Rattle.dbl_cli.specs.declared.commands.Command.TheVariants.{Resume}
 use Rattle.dbl_connector.specs.Asked.{asks_of, config_again, tables_in}
 use Rattle.dbl_program.specs.Sessions.{IsCompleteRun, asks_by}
 use Rattle.dbl_connector.specs.declared.connected.Summary.{Summary}
-use Rattle.dbl_connector.specs.Ends.{AddsFew, End, HasBegun, HasRun, IsReported, IsSpent}
+use Rattle.dbl_connector.specs.Ends.{AddsFew, End, HasBegun, HasRun, IsReported}
 use Rattle.dbl_session_runs.specs.Runs.{Answers, AnswersKept}
 use Rattle.dbl_completeness.specs.Budgets.{AreAtRest, GenerousBudgetsSufficeAgain, commit_sizes, most_messages}
 use Rattle.dbl_completeness.specs.Sessions.{MayBeLeft}
-use Rattle.dbl_completeness.proofs.BudgetStatuses.{HasSpent, spent_end}
+use Rattle.dbl_completeness.proofs.BudgetStatuses.{not_spent, spent_end, workload_stays}
 use Rattle.dbl_completeness.proofs.BudgetLaws.{counted_all, whole_of}
 use Rattle.dbl_completeness.proofs.Growing.{GrewFrom, entries_grew, entries_many, grew, rest_behind, rest_of, sent_has, sizes_grew}
 use Rattle.dbl_completeness.proofs.SentSizes.{sent_messages_are_few}
@@ -115,14 +115,6 @@ module _ (chunk every budget : ℕ) (now : ℤ) (told_wal told_topics told_offse
   own_tables : HasOwnTables held
   own_tables = own_so (stores_of (found_in held)).history (stores_of (found_in held)).confirmed (stores_of (found_in held)).records held.offset held_kept.faithful
 
-  workload_is : (summary : Summary) → HasRun (Again chunk every budget) now new_wals new_logs new_stores w t f summary → left.wal.workload ≡ held.wal.workload
-  workload_is summary run =
-      let stays = run.stays may.w may.wal in
-      let same : stays.0 ≡ left.wal = one_wal may.w stays.0 left.wal stays.1 may.read.source in
-      let began : run.begun.held ≡ held = disks_are_read_once w t f run.begun.held held run.begun.read read in
-      let script : left.wal.script ≡ held.wal.script = sym (ap (λ (x : Wal). x.script) same) ∙ stays.2 ∙ ap (λ (c : Contents). c.wal.script) began in
-      one_workload held.wal.script left.wal.workload held.wal.workload (subst (λ (s : List ℕ). IsWorkload s left.wal.workload) script may.read.source.are.workload) read.source.are.workload
-
   -- the history goes on from what the disks told
   extends : Extends (history_at held).commits (history_at left).commits
   extends =
@@ -166,7 +158,7 @@ module _ (chunk every budget : ℕ) (now : ℤ) (told_wal told_topics told_offse
   few_read : (summary : Summary) → HasRun (Again chunk every budget) now new_wals new_logs new_stores w t f summary → IsReported (Again chunk every budget) now new_wals new_logs new_stores w t f summary
       → AddsFew (Again chunk every budget) wals new_wals w t f → summary.report.messages ≤ length (sent held.wal offset.lsn) + most_messages 1 held.wal.workload windows
   few_read summary run reported adds =
-      let same = workload_is summary run in
+      let same = workload_stays (Again chunk every budget) now new_wals new_logs new_stores w t f left held may read summary run in
       let ended = reported.ended in
       let report = reported.report in
       let began : ended.begun.held ≡ held = disks_are_read_once w t f ended.begun.held held ended.begun.read read in
@@ -184,12 +176,6 @@ module _ (chunk every budget : ℕ) (now : ℤ) (told_wal told_topics told_offse
       → IfOk end (λ summary. summary.report.messages ≤ length (sent held.wal offset.lsn) + most_messages 1 held.wal.workload windows)
   reads_few (Ok summary) answers answers_kept = few_read summary answers.told answers_kept.report answers.marks
   reads_few (Err e) answers answers_kept = tt
-
-not_spent : (budget most : ℕ) (end : End) → HasSpent end → IfOk end (λ summary. summary.report.messages ≤ most) → IfOk end (IsSpent budget) → most < budget → ⊥
-not_spent budget most (Ok summary) spent few counts less =
-    let many = counts.spent spent in
-    omega (arith, few, many, less)
-not_spent budget most (Err e) spent few counts less = absurd spent
 
 pub generous_budgets_suffice_again : (wals logs stores new_wals new_logs new_stores : List ℕ → Type 0) → GenerousBudgetsSufficeAgain 1 wals logs stores new_wals new_logs new_stores
 generous_budgets_suffice_again wals logs stores new_wals new_logs new_stores chunk every budget now told_wal told_topics told_offsets status before after runs kept headline w t f wal_is topics_is offsets_is rest left may held read offset stored pairs cover =

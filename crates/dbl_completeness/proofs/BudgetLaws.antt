@@ -1,5 +1,5 @@
 -- A capture over disks on which no session has run reads no more messages than the workload gives, so that a budget beyond them isn't spent.
-use Rattle.std.proofs.Common.{◌≡◌, ◌∙◌, ◌⊎◌, inl, inr, ℕ, ℤ, ◌+◌, ◌*◌, ◌/◌, ◌<◌, ◌≤◌, Option, Some, None, Ok, Err, List, [], ◌∷◌, ◌++◌, length, map, refl, sym, ap, subst, arith}
+use Rattle.std.proofs.Common.{◌≡◌, ◌∙◌, ◌⊎◌, inl, inr, ℕ, ℤ, ◌+◌, ◌*◌, ◌/◌, ◌≤◌, Option, Some, None, Ok, Err, List, [], ◌∷◌, ◌++◌, length, map, refl, sym, ap, subst, arith}
 use Rattle.std.specs.Prelude.{IfOk, IfSome}
 use Rattle.std.specs.List.{AllByRecursion}
 use Rattle.std.proofs.Math.Nat.{lt-div-mul-add}
@@ -49,11 +49,11 @@ use Rattle.dbl_cli.specs.declared.commands.Command.TheVariants.{Capture}
 use Rattle.dbl_connector.specs.Asked.{asks_in, asks_of, config_of, tables_in}
 use Rattle.dbl_program.specs.Sessions.{IsCompleteRun}
 use Rattle.dbl_connector.specs.declared.connected.Summary.{Summary}
-use Rattle.dbl_connector.specs.Ends.{AddsFew, End, HasBegun, HasRun, IsReported, IsSpent}
+use Rattle.dbl_connector.specs.Ends.{AddsFew, End, HasBegun, HasRun, IsReported}
 use Rattle.dbl_session_runs.specs.Runs.{Answers, AnswersKept}
 use Rattle.dbl_completeness.specs.Budgets.{AreUnstarted, CoverWhole, GenerousBudgetsSuffice, most_messages, most_windows}
 use Rattle.dbl_completeness.specs.Sessions.{MayBeLeft}
-use Rattle.dbl_completeness.proofs.BudgetStatuses.{HasSpent, spent_end}
+use Rattle.dbl_completeness.proofs.BudgetStatuses.{not_spent, spent_end, workload_stays}
 use Rattle.dbl_completeness.proofs.WalSizes.{committed_few, few_messages_are_sent}
 use Rattle.dbl_completeness.proofs.WholeRows.{whole_covers}
 
@@ -136,15 +136,6 @@ module _ (options : CaptureOptions) (now : ℤ) (told_wal told_topics told_offse
       let there = kept.each w t f first.wal first.topics first.offsets in
       subst IsKept (disks_are_read_once w t f there.0 held there.1 read) there.2
 
-  -- the workload is the same
-  workload_is : (summary : Summary) → HasRun (First options) now new_wals new_logs new_stores w t f summary → left.wal.workload ≡ held.wal.workload
-  workload_is summary run =
-      let stays = run.stays may.w may.wal in
-      let same : stays.0 ≡ left.wal = one_wal may.w stays.0 left.wal stays.1 may.read.source in
-      let began : run.begun.held ≡ held = disks_are_read_once w t f run.begun.held held run.begun.read read in
-      let script : left.wal.script ≡ held.wal.script = sym (ap (λ (x : Wal). x.script) same) ∙ stays.2 ∙ ap (λ (c : Contents). c.wal.script) began in
-      one_workload held.wal.script left.wal.workload held.wal.workload (subst (λ (s : List ℕ). IsWorkload s left.wal.workload) script may.read.source.are.workload) read.source.are.workload
-
   -- and what covers its whole run covers what is left
   covers : left.wal.workload ≡ held.wal.workload → (infos : List TableInfo) → Captures (config_of options (tables_in held.wal)) (history_at held) None infos → CoverRows infos (history_at left) pairs
   covers same infos captures =
@@ -190,7 +181,7 @@ module _ (options : CaptureOptions) (now : ℤ) (told_wal told_topics told_offse
   pub few_read : (summary : Summary) → HasRun (First options) now new_wals new_logs new_stores w t f summary → IsReported (First options) now new_wals new_logs new_stores w t f summary
       → AddsFew (First options) wals new_wals w t f → summary.report.messages ≤ most_messages 1 held.wal.workload (most_windows options held (length pairs))
   few_read summary run reported adds =
-      let same = workload_is summary run in
+      let same = workload_stays (First options) now new_wals new_logs new_stores w t f left held may read summary run in
       let ended = reported.ended in
       let report = reported.report in
       let offset = report.offset in
@@ -211,12 +202,6 @@ module _ (options : CaptureOptions) (now : ℤ) (told_wal told_topics told_offse
       → IfOk end (λ summary. summary.report.messages ≤ most_messages 1 held.wal.workload (most_windows options held (length pairs)))
   reads_few (Ok summary) answers answers_kept = few_read summary answers.told answers_kept.report answers.marks
   reads_few (Err e) answers answers_kept = tt
-
-pub not_spent : (budget most : ℕ) (end : End) → HasSpent end → IfOk end (λ summary. summary.report.messages ≤ most) → IfOk end (IsSpent budget) → most < budget → ⊥
-not_spent budget most (Ok summary) spent few counts less =
-    let many = counts.spent spent in
-    omega (arith, few, many, less)
-not_spent budget most (Err e) spent few counts less = absurd spent
 
 pub generous_budgets_suffice : (wals logs stores new_wals new_logs new_stores : List ℕ → Type 0) → GenerousBudgetsSuffice 1 wals logs stores new_wals new_logs new_stores
 generous_budgets_suffice wals logs stores new_wals new_logs new_stores options now told_wal told_topics told_offsets status before after runs kept headline w t f wal_is topics_is offsets_is first left may held read pairs cover =

@@ -1,5 +1,5 @@
--- What the statuses 0 and 3 tell of how a session ended.
-use Rattle.std.proofs.Common.{◌≡◌, inl, inr, ℕ, ◌<◌, Option, Ok, Err, List, refl}
+-- What the statuses 0 and 3 tell of how a session ended, and what a summary tells of what it left.
+use Rattle.std.proofs.Common.{◌≡◌, ◌∙◌, inl, inr, ℕ, ℤ, ◌<◌, ◌≤◌, Option, Ok, Err, List, refl, sym, ap, subst, arith}
 use Rattle.std.specs.Prelude.{IfOk}
 use Rattle.dbl_commit.specs.declared.txn_error.TxnError.{TxnError}
 use Rattle.dbl_commit.specs.declared.txn_error.TxnError.TheVariants as txn
@@ -8,18 +8,25 @@ use Rattle.dbl_work.specs.declared.halt.Halt.{Halt}
 use Rattle.dbl_work.specs.declared.halt.Halt.TheVariants as halt
 use Rattle.dbl_work.specs.declared.report.Ending.{Ending}
 use Rattle.dbl_work.specs.declared.report.Ending.TheVariants.{Complete, Budget}
-use Rattle.dbl_init.specs.declared.error.Store.TheVariants.{Wal, Topics, Offsets}
+use Rattle.dbl_init.specs.declared.error.Store.TheVariants.{Wal as WalStore, Topics, Offsets}
+use Rattle.dbl_sound.specs.Wals.{Wal}
+use Rattle.dbl_sound.specs.Workloads.{IsWorkload}
+use Rattle.dbl_sound.proofs.WalLaws.{one_wal, one_workload}
+use Rattle.dbl_kept.specs.Contents.{Contents, ReadAs}
+use Rattle.dbl_kept.proofs.KeptLaws.{disks_are_read_once}
+use Rattle.dbl_connector.specs.declared.asked.Asked.{Asked}
 use Rattle.dbl_connector.specs.declared.connected.Summary.{Summary}
 use Rattle.dbl_connector.specs.declared.error.ConnectError.{ConnectError}
 use Rattle.dbl_connector.specs.declared.error.ConnectError.TheVariants as connect
 use Rattle.dbl_connector.specs.Asked.{budget_of}
-use Rattle.dbl_connector.specs.Ends.{End, IsComplete, IsSpent}
+use Rattle.dbl_connector.specs.Ends.{End, HasRun, IsComplete, IsSpent}
 use Rattle.dbl_session_text.specs.Halts.{halt_status}
 use Rattle.dbl_session_text.specs.Reports.{ending_status}
 use Rattle.dbl_session_runs.specs.Ends.{SaysSession, connect_status, session_status}
 use Rattle.dbl_session_runs.proofs.SessionLemmas.{complete_end, says_status}
 use Rattle.dbl_saying.proofs.SayLemmas.{cut_other}
 use Rattle.dbl_completeness.specs.Laws.{StatusesTellBudgets}
+use Rattle.dbl_completeness.specs.Sessions.{MayBeLeft}
 
 -- ---- no error has the status 3
 
@@ -59,7 +66,7 @@ halt_not_3 halt.Offsets status is three = cc
 halt_not_3 halt.Memory status is three = cc
 
 error_not_3 : (e : ConnectError) (status : ℕ) → status ≡ connect_status e → status ≡ 3 → ⊥
-error_not_3 (connect.Failed Wal) status is three = cc
+error_not_3 (connect.Failed WalStore) status is three = cc
 error_not_3 (connect.Failed Topics) status is three = cc
 error_not_3 (connect.Failed Offsets) status is three = cc
 error_not_3 (connect.NotAStore store at) status is three = cc
@@ -104,3 +111,20 @@ statuses_tell_budgets wals logs stores new_wals new_logs new_stores asked now to
   spent = λ three. with_budget (budget_of asked) runs.end (spent_end runs.end status before after runs.says three) runs.spent;
   complete = λ zero. below_budget (budget_of asked) runs.end (complete_end runs.end runs.kinds status before after runs.says zero) runs.spent;
 }
+
+pub not_spent : (budget most : ℕ) (end : End) → HasSpent end → IfOk end (λ summary. summary.report.messages ≤ most) → IfOk end (IsSpent budget) → most < budget → ⊥
+not_spent budget most (Ok summary) spent few counts less =
+    let many = counts.spent spent in
+    omega (arith, few, many, less)
+not_spent budget most (Err e) spent few counts less = absurd spent
+
+-- ---- what was left has the workload of before
+
+pub workload_stays : (asked : Asked) (now : ℤ) (wals logs stores : List ℕ → Type 0) (w t f : List ℕ) (left held : Contents) → MayBeLeft wals logs stores left → ReadAs w t f held
+    → (summary : Summary) → HasRun asked now wals logs stores w t f summary → left.wal.workload ≡ held.wal.workload
+workload_stays asked now wals logs stores w t f left held may read summary run =
+    let stays = run.stays may.w may.wal in
+    let same : stays.0 ≡ left.wal = one_wal may.w stays.0 left.wal stays.1 may.read.source in
+    let began : run.begun.held ≡ held = disks_are_read_once w t f run.begun.held held run.begun.read read in
+    let script : left.wal.script ≡ held.wal.script = sym (ap (λ (x : Wal). x.script) same) ∙ stays.2 ∙ ap (λ (c : Contents). c.wal.script) began in
+    one_workload held.wal.script left.wal.workload held.wal.workload (subst (λ (s : List ℕ). IsWorkload s left.wal.workload) script may.read.source.are.workload) read.source.are.workload

@@ -86,9 +86,10 @@ not_captured e status before after says told = elim (said_status e status before
 -- ---- and the capture
 
 module _ {W T F : Type 0} (seen_wal : W → Option (List ℕ)) (wals : W → List ℕ → Type 0) (seen_topics : T → Option (List ℕ)) (logs : T → List ℕ → Type 0) (seen_offsets : F → Option (List ℕ)) (stores : F → List ℕ → Type 0) where
-  refused_memory : (text : List ℕ) (workload : Workload) (wal : W) (topics : T) (offsets : F) (status : ℕ) (before after : Option (List ℕ)) → WasRefused text (seen_wal wal) (seen_topics topics) (seen_offsets offsets) status before after
+  refused_memory : (text : List ℕ) (workload : Workload) (wal new_wal : W) (topics new_topics : T) (offsets new_offsets : F) (status : ℕ) (before after : Option (List ℕ))
+      → WasRefused seen_wal wals seen_topics logs seen_offsets stores text wal new_wal topics new_topics offsets new_offsets status before after
       → seen_wal wal ≡ Some [] → seen_topics topics ≡ Some [] → seen_offsets offsets ≡ Some [] → length text ≤ input_limit → IsWorkload text workload → NoneFailed status → status ≡ status_of NoMemory
-  refused_memory text workload wal topics offsets status before after refused wal_is topics_is offsets_is short is none =
+  refused_memory text workload wal new_wal topics new_topics offsets new_offsets status before after refused wal_is topics_is offsets_is short is none =
       let e = refused.error in
       let outside = not_refused text workload e short is (answered text (seen_wal wal) (seen_topics topics) (seen_offsets offsets) e wal_is topics_is offsets_is refused.answers) in
       elim (said_status e status before after refused.says) [
@@ -98,7 +99,7 @@ module _ {W T F : Type 0} (seen_wal : W → Option (List ℕ)) (wals : W → Lis
 
   pub generated_inits_succeed : GeneratedInitsSucceed seen_wal wals seen_topics logs seen_offsets stores
   generated_inits_succeed text workload now wal new_wal topics new_topics offsets new_offsets status before after (inl refused) wal_is topics_is offsets_is short is none =
-      inl (refused_memory text workload wal topics offsets status before after refused wal_is topics_is offsets_is short is none)
+      inl (refused_memory text workload wal new_wal topics new_topics offsets new_offsets status before after refused wal_is topics_is offsets_is short is none)
   generated_inits_succeed text workload now wal new_wal topics new_topics offsets new_offsets status before after (inr captured) wal_is topics_is offsets_is short is none = inr captured
 
   pub generated_statuses_tell_budgets : GeneratedStatusesTellBudgets seen_wal wals seen_topics logs seen_offsets stores
@@ -111,7 +112,7 @@ module _ {W T F : Type 0} (seen_wal : W → Option (List ℕ)) (wals : W → Lis
 
   pub supported_generated_runs_succeed : SupportedGeneratedRunsSucceed seen_wal wals seen_topics logs seen_offsets stores
   supported_generated_runs_succeed text workload now wal new_wal topics new_topics offsets new_offsets status before after (inl refused) wal_is topics_is offsets_is short is supported none =
-      inr (inr (refused_memory text workload wal topics offsets status before after refused wal_is topics_is offsets_is short is none))
+      inr (inr (refused_memory text workload wal new_wal topics new_topics offsets new_offsets status before after refused wal_is topics_is offsets_is short is none))
   supported_generated_runs_succeed text workload now wal new_wal topics new_topics offsets new_offsets status before after (inr captured) wal_is topics_is offsets_is short is supported none =
       let w = captured.wal_made.stored wal_is in
       let t = captured.topics_made.stored topics_is in

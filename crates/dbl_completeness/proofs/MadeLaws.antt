@@ -7,12 +7,12 @@ use Rattle.dbl_init.specs.Fresh.{IsEmptyLog, IsEmptyStore}
 use Rattle.dbl_kept.specs.Kept.{AreKept}
 use Rattle.dbl_kept.proofs.FreshLaws.{fresh_stores_are_kept}
 use Rattle.dbl_connector.specs.Ends.{AddsFew, End}
-use Rattle.dbl_session_runs.specs.Generated.{HasMade, plain_capture, plainly}
+use Rattle.dbl_session_runs.specs.Generated.{plain_capture, plainly}
 use Rattle.dbl_session_runs.specs.Runs.{Answers, AnswersKept}
 use Rattle.dbl_session_runs.proofs.Fresh.{made_kept}
 use Rattle.dbl_completeness.specs.Budgets.{GeneratedBudgetsSuffice, most_messages, most_windows}
-use Rattle.dbl_completeness.proofs.BudgetLaws.{few_read, not_spent}
-use Rattle.dbl_completeness.proofs.BudgetStatuses.{spent_end}
+use Rattle.dbl_completeness.proofs.BudgetLaws.{few_read}
+use Rattle.dbl_completeness.proofs.BudgetStatuses.{not_spent, spent_end}
 
 -- fresh stores are kept, whichever bytes they have
 fresh_kept : (text w t f : List ℕ) → AreKept (Some w) (Some t) (Some f) (IsFreshWal text) IsEmptyLog IsEmptyStore
@@ -33,10 +33,10 @@ module _ {W T F : Type 0} (seen_wal : W → Option (List ℕ)) (wals : W → Lis
       subst Is one stored.is
 
   pub generated_budgets_suffice : GeneratedBudgetsSuffice 1 seen_wal wals seen_topics logs seen_offsets stores
-  generated_budgets_suffice text now wal new_wal topics new_topics offsets new_offsets status before after captured wal_empty topics_empty offsets_empty promised left may w t f wal_is topics_is offsets_is held read pairs cover =
-      let made_w = captured.wal_made.stored wal_empty.told in
-      let made_t = captured.topics_made.stored topics_empty.told in
-      let made_f = captured.offsets_made.stored offsets_empty.told in
+  generated_budgets_suffice text now wal new_wal topics new_topics offsets new_offsets status before after captured wal_empty topics_empty offsets_empty left may w t f wal_is topics_is offsets_is held read pairs cover =
+      let made_w = captured.wal_made.stored wal_empty in
+      let made_t = captured.topics_made.stored topics_empty in
+      let made_f = captured.offsets_made.stored offsets_empty in
       let kept = made_kept seen_wal wals seen_topics logs seen_offsets stores text captured.made_wal captured.made_topics captured.made_offsets made_w made_t made_f in
       let answers = captured.runs.answers w t f wal_is topics_is offsets_is in
       let answers_kept = captured.runs.kept kept w t f wal_is topics_is offsets_is in
@@ -50,16 +50,10 @@ module _ {W T F : Type 0} (seen_wal : W → Option (List ℕ)) (wals : W → Lis
           → IfOk end (λ summary. summary.report.messages ≤ most_messages 1 held.wal.workload (most_windows plain_capture held (length pairs)))
       by made fresh log store (Ok summary) answers answers_kept =
           let reported = answers_kept.report in
-          let has_made : HasMade seen_wal wals seen_topics logs seen_offsets stores wal topics offsets new_offsets = record {
-            wal_empty = wal_empty;
-            topics_empty = topics_empty;
-            offsets_empty = offsets_empty;
-            made = λ image is. (reported.ended.left.offset, (reported.ended.each may.w may.t image may.wal may.topics is).store);
-          } in
           let adds : AddsFew plainly (IsFreshWal text) (wals new_wal) w t f = λ begun own bytes other may_bytes is. elim (answers.marks begun own bytes other may_bytes is) [
             | inl was ↦ inl (subst (IsFreshWal text) (sym (made.only bytes was)) made.is)
             | inr more ↦ inr more
           ] in
-          few_read plain_capture now (Some w) (Some t) (Some f) (IsFreshWal text) IsEmptyLog IsEmptyStore (wals new_wal) (logs new_topics) (stores new_offsets) (status ≡ 0) (fresh_kept text w t f) (promised has_made) w t f
+          few_read plain_capture now (Some w) (Some t) (Some f) (IsFreshWal text) IsEmptyLog IsEmptyStore (wals new_wal) (logs new_topics) (stores new_offsets) (status ≡ 0) (fresh_kept text w t f) (captured.headline wal_empty topics_empty offsets_empty) w t f
           (record { wal = fresh; topics = log; offsets = store; unstored = λ image is. is }) left may held read pairs cover summary answers.told reported adds
       by made fresh log store (Err e) answers answers_kept = tt

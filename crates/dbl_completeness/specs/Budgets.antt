@@ -23,13 +23,11 @@ use Rattle.dbl_kept.specs.Headline.{IsPromisedOf}
 use Rattle.dbl_kept.specs.Kept.{AreKept}
 use Rattle.dbl_kept.specs.Tables.{whole_history}
 use Rattle.dbl_connector.specs.declared.asked.Asked.TheVariants.{Again, First}
-use Rattle.dbl_connector.specs.Asked.{asks_in, config_of, tables_in, tables_or}
+use Rattle.dbl_connector.specs.Asked.{config_of, tables_in, tables_or}
 use Rattle.dbl_cli.specs.declared.commands.Command.TheVariants.{Capture, Resume}
 use Rattle.dbl_program.specs.Sessions.{IsCompleteRun, asks_by}
 use Rattle.dbl_connector.specs.Ends.{End}
-use Rattle.dbl_running.specs.Made.{IsFreshWal}
-use Rattle.dbl_init.specs.Fresh.{IsEmptyLog, IsEmptyStore}
-use Rattle.dbl_session_runs.specs.Generated.{HasMade, IsEmptyDisk, WasCaptured, plain_capture, plainly}
+use Rattle.dbl_session_runs.specs.Generated.{WasCaptured, plain_capture}
 use Rattle.dbl_session_runs.specs.Runs.{RunsSession}
 use Rattle.dbl_completeness.specs.Sessions.{MayBeLeft}
 
@@ -128,15 +126,13 @@ GenerousBudgetsSufficeAgain more wals logs stores new_wals new_logs new_stores =
 
 -- ---- of a generated workload
 
--- So of `gen --run` on three empty disks, whose `init` part was done: clauses `generating` and `generated` of `run`.
+-- So of `gen --run` on three empty disks, whose `init` part was done: clause `generating` of `run`.
 abbrev pub GeneratedBudgetsSuffice : ℕ → {W T F : Type 0} → (W → Option (List ℕ)) → (W → List ℕ → Type 0) → (T → Option (List ℕ)) → (T → List ℕ → Type 0)
     → (F → Option (List ℕ)) → (F → List ℕ → Type 0) → Type 0
 GeneratedBudgetsSuffice more {W} {T} {F} seen_wal wals seen_topics logs seen_offsets stores =
     (text : List ℕ) (now : ℤ) (wal new_wal : W) (topics new_topics : T) (offsets new_offsets : F) (status : ℕ) (before after : Option (List ℕ))
     → (captured : WasCaptured seen_wal wals seen_topics logs seen_offsets stores text now wal new_wal topics new_topics offsets new_offsets status before after)
-    → IsEmptyDisk seen_wal wals wal → IsEmptyDisk seen_topics logs topics → IsEmptyDisk seen_offsets stores offsets
-    → (HasMade seen_wal wals seen_topics logs seen_offsets stores wal topics offsets new_offsets → (w t f : List ℕ)
-    → wals new_wal w → logs new_topics t → stores new_offsets f → IsPromisedOf (status ≡ 0) (asks_in plainly) (IsFreshWal text) IsEmptyLog IsEmptyStore w t f)
+    → seen_wal wal ≡ Some [] → seen_topics topics ≡ Some [] → seen_offsets offsets ≡ Some []
     → (left : Contents) → MayBeLeft (wals new_wal) (logs new_topics) (stores new_offsets) left
     → (w t f : List ℕ) → seen_wal captured.made_wal ≡ Some w → seen_topics captured.made_topics ≡ Some t → seen_offsets captured.made_offsets ≡ Some f
     → (held : Contents) → ReadAs w t f held → (pairs : List (ℕ × Key)) → CoverWhole plain_capture held pairs

@@ -14,6 +14,7 @@ use Rattle.dbl_init.specs.Fresh.{IsEmptyLog, IsEmptyStore}
 use Rattle.dbl_kept.specs.Bounds.{IsBounded, IsShort}
 use Rattle.dbl_kept.specs.Headline.{IsPromisedOf}
 use Rattle.dbl_connector.specs.Asked.{asks_in}
+use Rattle.dbl_connector.specs.Ends.{OnlyRead}
 use Rattle.dbl_session_runs.specs.Runs.{RunsConnected}
 use Rattle.dbl_session_runs.specs.InitErrors.{SaysInit}
 use Rattle.dbl_session_runs.specs.Generated.{AnswersWorkload, HasMade, IsMadeShort, RunsGenerated, plainly}
@@ -47,6 +48,10 @@ unwritten_or init.InputTooLong = inl tt
 unwritten_or (init.Script e) = inl tt
 unwritten_or (init.Model e) = inl tt
 unwritten_or init.Memory = inl tt
+
+-- a disk that was only asked was only read
+only_read : {D : Type 0} (seen : D → Option (List ℕ)) (may_leave : D → List ℕ → Type 0) (faults : D → ℕ) (made : Store) (end : inits.End) (old new : D) → IsAsked seen may_leave faults made end old new → OnlyRead seen may_leave old new
+only_read seen may_leave faults made end old new asked = record { same = asked.same; crash = asked.crash }
 
 -- ---- lengths
 
@@ -84,6 +89,8 @@ module _ {W T F : Type 0} (seen_wal : W → Option (List ℕ)) (wals : W → Lis
   module _ (e : InitError) (says : SaysInit e status before after)
       (wal_left : Leaves seen_wal faults_wal store.Wal (Err e) wal mid_wal) (topics_left : Leaves seen_topics faults_topics store.Topics (Err e) topics mid_topics) (offsets_left : Leaves seen_offsets faults_offsets store.Offsets (Err e) offsets mid_offsets)
       (crashed : (bytes : List ℕ) → seen_offsets mid_offsets ≡ Some bytes → stores mid_offsets bytes)
+      (wal_asked : IsUnwritten store.Wal (Err e) → IsAsked seen_wal wals faults_wal store.Wal (Err e) wal mid_wal)
+      (topics_asked : IsUnwritten store.Topics (Err e) → IsAsked seen_topics logs faults_topics store.Topics (Err e) topics mid_topics)
       (asked : IsUnwritten store.Offsets (Err e) → IsAsked seen_offsets stores faults_offsets store.Offsets (Err e) offsets mid_offsets)
       (torn : seen_wal wal ≡ Some [] → seen_topics topics ≡ Some [] → e ≡ init.Failed store.Offsets
       → IsAsked seen_offsets stores faults_offsets store.Offsets (Err e) offsets mid_offsets ⊎ EndsTorn seen_wal wals seen_topics logs stores workload mid_wal mid_topics offsets mid_offsets) where
@@ -118,13 +125,26 @@ module _ {W T F : Type 0} (seen_wal : W → Option (List ℕ)) (wals : W → Lis
           | inr ends ↦ torn_promised made ends w t f may_w may_t may_f
         ]
 
+    read : IsAsked seen_offsets stores faults_offsets store.Offsets (Err e) offsets mid_offsets → OnlyRead seen_offsets stores offsets mid_offsets
+    read only_asked = only_read seen_offsets stores faults_offsets store.Offsets (Err e) offsets mid_offsets only_asked
+
     pub stopped : e ≢ init.InputFailed → AnswersWorkload workload (seen_wal wal) (seen_topics topics) (seen_offsets offsets) (Err e)
         → inits.AnswersInput workload (Err e) ⊎ (inits.IsBeforeInput (Err e) ⊎ inits.IsOutside (Err e))
         → (HoldsBytes seen_wal wal ⊎ (HoldsBytes seen_topics topics ⊎ HoldsBytes seen_offsets offsets) → IsAsked seen_wal wals faults_wal store.Wal (Err e) wal mid_wal
         × (IsAsked seen_topics logs faults_topics store.Topics (Err e) topics mid_topics × IsAsked seen_offsets stores faults_offsets store.Offsets (Err e) offsets mid_offsets))
         → RunsGenerated seen_wal wals faults_wal seen_topics logs faults_topics seen_offsets stores faults_offsets workload now wal mid_wal topics mid_topics offsets mid_offsets status before after
     stopped other answers input full = record {
-      ends = inl (record { error = e; not_input = other; answers = answers; input = input; says = says });
+      ends = inl (record {
+        error = e;
+        not_input = other;
+        answers = answers;
+        input = input;
+        says = says;
+        wal_read = λ unwritten. only_read seen_wal wals faults_wal store.Wal (Err e) wal mid_wal (wal_asked unwritten);
+        topics_read = λ unwritten. only_read seen_topics logs faults_topics store.Topics (Err e) topics mid_topics (topics_asked unwritten);
+        offsets_read = λ unwritten. read (asked unwritten);
+        torn = λ wal_empty topics_empty failed. elim (torn wal_empty topics_empty failed) [ inl only_asked ↦ inl (read only_asked) | inr ends ↦ inr ends ];
+      });
       headline = stopped_promised;
       end = Err e;
       full = full;
@@ -150,12 +170,12 @@ module _ {W T F : Type 0} (seen_wal : W → Option (List ℕ)) (wals : W → Lis
     none_full (inr (inl holds)) = holds.2 (topics_empty holds.0 holds.1)
     none_full (inr (inr holds)) = holds.2 (offsets_empty holds.0 holds.1)
 
-    went_promised : HasMade seen_wal wals seen_topics logs seen_offsets stores wal topics offsets new_offsets → (w t f : List ℕ) → wals new_wal w → logs new_topics t → stores new_offsets f
+    went_promised : seen_wal wal ≡ Some [] → seen_topics topics ≡ Some [] → seen_offsets offsets ≡ Some [] → (w t f : List ℕ) → wals new_wal w → logs new_topics t → stores new_offsets f
         → IsPromisedOf (status ≡ 0) (asks_in plainly) (IsFreshWal workload) IsEmptyLog IsEmptyStore w t f
-    went_promised made w t f may_w may_t may_f =
-        let one = wal_made made.wal_empty.told in
-        let two = topics_made made.topics_empty.told in
-        let three = offsets_made made.offsets_empty.told in
+    went_promised wal_is topics_is offsets_is w t f may_w may_t may_f =
+        let one = wal_made wal_is in
+        let two = topics_made topics_is in
+        let three = offsets_made offsets_is in
         let kept = made_kept seen_wal wals seen_topics logs seen_offsets stores workload mid_wal mid_topics mid_offsets one two three in
         promised_fresh seen_wal wals seen_topics logs seen_offsets stores (status ≡ 0) (asks_in plainly) workload mid_wal mid_topics mid_offsets w t f one two three (ran.headline kept w t f may_w may_t may_f)
 
@@ -169,8 +189,9 @@ module _ {W T F : Type 0} (seen_wal : W → Option (List ℕ)) (wals : W → Lis
         topics_made = record { empty = topics_empty; stored = topics_made };
         offsets_made = record { empty = offsets_empty; stored = offsets_made };
         runs = ran.runs;
+        headline = went_promised;
       });
-      headline = went_promised;
+      headline = λ made. went_promised made.wal_empty.told made.topics_empty.told made.offsets_empty.told;
       end = Ok tt;
       full = λ holds. absurd (none_full holds);
       wal_failed = λ is. rose_behind (faults_wal wal) (faults_wal mid_wal) (faults_wal new_wal) wal_left.later (ran.wal_failed is);

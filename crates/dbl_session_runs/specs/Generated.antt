@@ -9,16 +9,17 @@ use Rattle.dbl_offset.specs.declared.offset.Offset.{Offset}
 use Rattle.dbl_offset.specs.Stores.{IsStore}
 use Rattle.dbl_running.specs.Made.{IsFreshWal}
 use Rattle.dbl_init.specs.declared.error.InitError.{InitError}
-use Rattle.dbl_init.specs.declared.error.InitError.TheVariants.{InputFailed}
+use Rattle.dbl_init.specs.declared.error.InitError.TheVariants.{Failed, InputFailed}
 use Rattle.dbl_init.specs.declared.error.Store.TheVariants.{Wal, Topics, Offsets}
 use Rattle.dbl_init.specs.Answers as inits
-use Rattle.dbl_init.specs.Disks.{HasStored, HoldsBytes, IsAsked}
+use Rattle.dbl_init.specs.Disks.{EndsTorn, HasStored, HoldsBytes, IsAsked, IsUnwritten}
 use Rattle.dbl_init.specs.Fresh.{IsEmptyLog, IsEmptyStore}
 use Rattle.dbl_kept.specs.Bounds.{IsShort}
 use Rattle.dbl_kept.specs.Headline.{IsPromisedOf}
 use Rattle.dbl_connector.specs.declared.asked.Asked.{Asked}
 use Rattle.dbl_connector.specs.declared.asked.Asked.TheVariants.{First}
 use Rattle.dbl_connector.specs.Asked.{asks_in}
+use Rattle.dbl_connector.specs.Ends.{OnlyRead}
 use Rattle.dbl_session_runs.specs.Ends.{IsSessionStatus, store_status}
 use Rattle.dbl_session_runs.specs.Runs.{RunsSession}
 use Rattle.dbl_session_runs.specs.InitErrors.{SaysInit}
@@ -69,17 +70,25 @@ AnswersWorkload workload told_wal told_topics told_offsets end = (given : inits.
     → told_wal ≡ Some given.wal → told_topics ≡ Some given.topics → told_offsets ≡ Some given.offsets → inits.Answers given end ⊎ inits.IsOutside end
 
 -- Its `init` part was refused, or a disk failed in it, or memory ran out, and that was told: it is what `init` answers whose input is the
--- workload.
-pub record WasRefused (workload : List ℕ) (told_wal told_topics told_offsets : Option (List ℕ)) (status : ℕ) (before after : Option (List ℕ)) : Type 0 where
+-- workload. A disk whose store wasn't yet to be written was only read; and where the offset's disk failed, which is written last, it was
+-- only read too, or the other stores were made, and a crash leaves of it a part of a store without an offset.
+pub record WasRefused {W T F : Type 0} (seen_wal : W → Option (List ℕ)) (wals : W → List ℕ → Type 0) (seen_topics : T → Option (List ℕ)) (logs : T → List ℕ → Type 0)
+    (seen_offsets : F → Option (List ℕ)) (stores : F → List ℕ → Type 0) (workload : List ℕ) (wal new_wal : W) (topics new_topics : T) (offsets new_offsets : F)
+    (status : ℕ) (before after : Option (List ℕ)) : Type 0 where
   pub error : InitError
   pub not_input : error ≢ InputFailed
-  pub answers : AnswersWorkload workload told_wal told_topics told_offsets (Err error)
+  pub answers : AnswersWorkload workload (seen_wal wal) (seen_topics topics) (seen_offsets offsets) (Err error)
   -- of the workload alone it tells what that means, whatever the disks tell
   pub input : inits.AnswersInput workload (Err error) ⊎ (inits.IsBeforeInput (Err error) ⊎ inits.IsOutside (Err error))
   pub says : SaysInit error status before after
+  pub wal_read : IsUnwritten Wal (Err error) → OnlyRead seen_wal wals wal new_wal
+  pub topics_read : IsUnwritten Topics (Err error) → OnlyRead seen_topics logs topics new_topics
+  pub offsets_read : IsUnwritten Offsets (Err error) → OnlyRead seen_offsets stores offsets new_offsets
+  pub torn : seen_wal wal ≡ Some [] → seen_topics topics ≡ Some [] → error ≡ Failed Offsets
+      → OnlyRead seen_offsets stores offsets new_offsets ⊎ EndsTorn seen_wal wals seen_topics logs stores workload new_wal new_topics offsets new_offsets
 
 -- That part was done and left the disks so; and a session over the stores that it made, asked for as by `capture` without a word behind it, ended
--- so.
+-- so. Where the disks were empty, whatever a crash leaves is as the connector promises of a capture of fresh stores.
 pub record WasCaptured {W T F : Type 0} (seen_wal : W → Option (List ℕ)) (wals : W → List ℕ → Type 0) (seen_topics : T → Option (List ℕ)) (logs : T → List ℕ → Type 0)
     (seen_offsets : F → Option (List ℕ)) (stores : F → List ℕ → Type 0) (workload : List ℕ) (now : ℤ) (wal new_wal : W) (topics new_topics : T) (offsets new_offsets : F)
     (status : ℕ) (before after : Option (List ℕ)) : Type 0 where
@@ -91,12 +100,14 @@ pub record WasCaptured {W T F : Type 0} (seen_wal : W → Option (List ℕ)) (wa
   pub offsets_made : WasMade seen_offsets stores IsEmptyStore offsets made_offsets
   pub runs : RunsSession plainly now (seen_wal made_wal) (seen_topics made_topics) (seen_offsets made_offsets)
       (wals made_wal) (logs made_topics) (stores made_offsets) (wals new_wal) (logs new_topics) (stores new_offsets) status before after
+  pub headline : seen_wal wal ≡ Some [] → seen_topics topics ≡ Some [] → seen_offsets offsets ≡ Some [] → (w t f : List ℕ) → wals new_wal w → logs new_topics t → stores new_offsets f
+      → IsPromisedOf (status ≡ 0) (asks_in plainly) (IsFreshWal workload) IsEmptyLog IsEmptyStore w t f
 
 -- A run with this workload ended so, by its `init` part or by the session behind it. What the disks were before, and are now.
 abbrev pub EndsGenerated : {W T F : Type 0} → (W → Option (List ℕ)) → (W → List ℕ → Type 0) → (T → Option (List ℕ)) → (T → List ℕ → Type 0)
     → (F → Option (List ℕ)) → (F → List ℕ → Type 0) → List ℕ → ℤ → W → W → T → T → F → F → ℕ → Option (List ℕ) → Option (List ℕ) → Type 0
 EndsGenerated seen_wal wals seen_topics logs seen_offsets stores workload now wal new_wal topics new_topics offsets new_offsets status before after =
-    WasRefused workload (seen_wal wal) (seen_topics topics) (seen_offsets offsets) status before after
+    WasRefused seen_wal wals seen_topics logs seen_offsets stores workload wal new_wal topics new_topics offsets new_offsets status before after
     ⊎ WasCaptured seen_wal wals seen_topics logs seen_offsets stores workload now wal new_wal topics new_topics offsets new_offsets status before after
 
 -- the statuses of `gen --run`, whatever the disks and the output tell

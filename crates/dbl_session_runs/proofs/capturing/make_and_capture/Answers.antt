@@ -50,6 +50,8 @@ returns-clause-generated g c =
     (subst (λ (end : inits.End). Leaves g.T.Disk.seen g.T.Disk.faults store.Topics end c.args.topics begun.topics) c.in-Err.is told.topics_leaves)
     (subst (λ (end : inits.End). Leaves g.F.Disk.seen g.F.Disk.faults store.Offsets end c.args.offsets begun.offsets) c.in-Err.is told.offsets_leaves)
     (g.met.F.Disk.seen_may_be_left begun.offsets)
+    (subst (λ (end : inits.End). IsUnwritten store.Wal end → IsAsked g.W.Disk.seen g.W.Disk.may_leave g.W.Disk.faults store.Wal end c.args.wal begun.wal) c.in-Err.is told.wal_asked)
+    (subst (λ (end : inits.End). IsUnwritten store.Topics end → IsAsked g.T.Disk.seen g.T.Disk.may_leave g.T.Disk.faults store.Topics end c.args.topics begun.topics) c.in-Err.is told.topics_asked)
     (subst (λ (end : inits.End). IsUnwritten store.Offsets end → IsAsked g.F.Disk.seen g.F.Disk.may_leave g.F.Disk.faults store.Offsets end c.args.offsets begun.offsets) c.in-Err.is told.offsets_asked)
     (λ w t failed. subst (λ (end : inits.End). IsAsked g.F.Disk.seen g.F.Disk.may_leave g.F.Disk.faults store.Offsets end c.args.offsets begun.offsets
     ⊎ EndsTorn g.W.Disk.seen g.W.Disk.may_leave g.T.Disk.seen g.T.Disk.may_leave g.F.Disk.may_leave c.args.plan.workload begun.wal begun.topics c.args.offsets begun.offsets) c.in-Err.is

@@ -30,7 +30,7 @@ returns-in-Err-clause-generated g c =
     Memory c.say.ensures.says
     (leaves_none g.W.Disk.seen g.W.Disk.may_leave g.W.Disk.faults store.Wal c.args.wal) (leaves_none g.T.Disk.seen g.T.Disk.may_leave g.T.Disk.faults store.Topics c.args.topics)
     (leaves_none g.F.Disk.seen g.F.Disk.may_leave g.F.Disk.faults store.Offsets c.args.offsets)
-    (g.met.F.Disk.seen_may_be_left c.args.offsets) (λ unwritten. offsets) (λ w t failed. inl offsets) (λ is. (let t = is in cc)) (λ given same w t f. inr tt) (inr (inr tt)) (λ holds. (wal, (topics, offsets)))
+    (g.met.F.Disk.seen_may_be_left c.args.offsets) (λ unwritten. wal) (λ unwritten. topics) (λ unwritten. offsets) (λ w t failed. inl offsets) (λ is. (let t = is in cc)) (λ given same w t f. inr tt) (inr (inr tt)) (λ holds. (wal, (topics, offsets)))
 
 pub returns-in-Err-clause-known : goal.returns-in-Err-clause-known
 returns-in-Err-clause-known g c = starved_known c.say.result _ _ c.say.ensures.says

@@ -120,6 +120,28 @@ fn left_by(
     })
 }
 
+/// A session, of which the cases need no more than that all is live where it ended without a halt.
+pub fn session_end(
+    alloc: Global,
+    config: &Config,
+    now_ms: i64,
+    source: &mut ScriptedSource,
+    sink: &mut MemSink,
+    store: &mut OffsetStore<MemDisk>,
+    report: &mut Report,
+) -> std::result::Result<Ending, Halt>
+    requires config { IsGoodConfig config.now }
+    requires source { IsTrue source.old.live }
+    requires sink { IsTrue sink.old.live }
+    requires store { IsLive store.old }
+    requires asked { IsAsked config.now store.old.offset }
+    ensures source { OnOk result (IsTrue source.new.live) }
+    ensures sink { OnOk result (IsTrue sink.new.live) }
+    ensures store { OnOk result (IsLive store.new) }
+{
+    session(alloc, config, now_ms, source, sink, store, report)
+}
+
 /// Runs a session over a source, a sink whose listed puts are to fail, and a store.
 pub fn run(
     alloc: Global,
@@ -138,7 +160,7 @@ pub fn run(
     let mut store = store;
     let mut sink = MemSink::make(alloc, puts);
     let mut report = unset_report();
-    let ended = session(
+    let end = session_end(
         alloc,
         config,
         now_ms,
@@ -147,8 +169,8 @@ pub fn run(
         &mut store,
         &mut report,
     );
-    let confirmed = confirmed_lsn(&ended, &mut source);
-    left_by(alloc, &ended, report, confirmed, sink, store)
+    let confirmed = confirmed_lsn(&end, &mut source);
+    left_by(alloc, &end, report, confirmed, sink, store)
 }
 
 /// Runs a first session.

@@ -6,10 +6,10 @@ ghost use Rattle.dbl_offset.specs.Offsets.{IsOffset};
 ghost use Rattle.dbl_offset.specs.Stores.{IsLive};
 ghost use Rattle.dbl_exits.specs.Found.{IsAsked};
 
-use crate::run::{Ran, crashed_offset, made_store, run, unset_report, word};
+use crate::run::{Ran, crashed_offset, made_store, run, session_end, unset_report, word};
 use crate::{asked, left, shown};
 use anyhow::{Result, bail};
-use dbl_capture::{Ending, Report, session};
+use dbl_capture::{Ending, Report};
 use dbl_case_items::{items, words};
 use dbl_disk::{Choice, Disk, MemDisk};
 use dbl_look_items::calls;
@@ -351,7 +351,7 @@ fn go_on(
     let config = config(alloc, asked, fields, script, three.store.load())?;
     let now_ms = asked::now_ms(fields)?;
     let mut report = unset_report();
-    let ended = session(
+    let end = session_end(
         alloc,
         &config,
         now_ms,
@@ -360,7 +360,7 @@ fn go_on(
         &mut three.store,
         &mut report,
     );
-    match ended {
+    match end {
         Ok(ending) => tell(alloc, asked, script, three, &ending, &report, answers),
         Err(halt) => bail!("it halted: {halt}"),
     }

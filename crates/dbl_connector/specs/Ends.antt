@@ -129,7 +129,7 @@ pub record HasRun (asked : Asked) (now : ℤ) (wals logs stores : List ℕ → T
   pub first : IsFirstStored begun.config (history_at begun.held) begun.held.offset stored
   pub ungained : IsUngained logs begun.held stored
   pub clean : (bytes : List ℕ) (wal : Wal) → wals bytes → IsWal bytes wal → HasReadClean begun.config now begun.held.offset stored wal summary
-  -- the records of the commits that it read, and nothing else, are what the topic log gained
+  -- the records of the commits that it read, and of windows that these close, and nothing else, are what the topic log gained
   pub tallied : AreTallied begun.config now begun.held stored wals logs summary.report (Ok summary.ending)
 
 -- Its halt has its cause in what the disks held, and in what the source's log is now, whatever a crash leaves of it: this is one of the same
@@ -155,7 +155,7 @@ pub record HasHalted (asked : Asked) (now : ℤ) (wals logs stores : List ℕ �
   pub cause : (bytes : List ℕ) (wal : Wal) → wals bytes → IsWal bytes wal → IsCauseOf begun.config now begun.held stored report wal halt
   -- where it stored none, it read nothing
   pub unread : stored ≡ begun.held.offset → (report.messages ≡ 0) × (report.commits ≡ 0)
-  -- where it halts for what it read: each commit before that could be sent, and was followed; and these are sent, and nothing behind them
+  -- where its halt tells what was read before: the changes of each commit before that could be sent, and were; and nothing behind them was
   pub followed : ComesByReading begun.held halt → AreFollowed begun.config now begun.held stored wals report halt
   pub tallied : ComesByReading begun.held halt → AreTallied begun.config now begun.held stored wals logs report (Err halt)
 

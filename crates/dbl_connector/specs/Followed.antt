@@ -17,8 +17,9 @@ use Rattle.dbl_causes.specs.Tallied.{Tallies}
 use Rattle.dbl_kept.specs.Causes.{HasRead}
 use Rattle.dbl_kept.specs.Contents.{Contents, HasOwnTables}
 
--- The halts that come by the messages that were read, or by the offset behind these. A cell of a window is among them where the offset captures
--- what the catalogue has.
+-- The halts by which it is known what was read and sent before: those for a commit, a watermark that is missing, the offset behind them, and a
+-- cell of a window where the offset captures what the catalogue has. Bytes that are no message, a row that no select answers and a log that is
+-- gone aren't among them: they never come over kept disks.
 abbrev pub ComesByReading : Contents → Halt → Type 0
 ComesByReading held (halt.Txn number error) = Unit {0}
 ComesByReading held (halt.Clash table column) = Unit {0}
@@ -31,7 +32,8 @@ ComesByReading held h = ⊥
 -- ---- what was followed
 
 -- The messages that were read are the first ones that the source's log is sent as, and as many as are reported. They have no fault, the records
--- of each commit that they state could be sent, and so many commits are reported: all this but for the newest message, where it halts for that.
+-- of the changes of each commit that they state could be sent, and so many commits are reported: all this but for the newest message, where it
+-- halts for that. Of a commit that is a watermark nothing is asked.
 pub record HasFollowedRead (config : Config) (now : ℤ) (found stored : Option Offset) (wal : Wal) (report : Report) (h : Halt) : Type 0 where
   pub reading : Reading
   pub was : HasRead config found stored wal reading
@@ -50,9 +52,9 @@ AreFollowed config now old stored wals report h =
 
 -- ---- what was sent
 
--- The topic log has gained all records of the commits that are reported, which are those that the same messages state, in order, and nothing
--- else: but of the newest message, where it halts for that, some first records of its commit, and never all. The stored offset isn't behind
--- the last of the commits that are reported.
+-- The topic log has gained the records of the commits that are reported, in order, and nothing else: these commits are those that the messages
+-- that were read state. Of a watermark it has the records of a window, or none: which of the two isn't told. Of the newest message, where it
+-- halts for that, it has some first records of its commit, and never all. The stored LSN isn't above that of the last commit that is reported.
 pub record HasTalliedRead (config : Config) (now : ℤ) (found stored : Option Offset) (wal : Wal) (old new : List (List Record)) (report : Report)
     (result : Result Ending Halt) : Type 0 where
   pub reading : Reading

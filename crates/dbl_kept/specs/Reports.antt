@@ -49,7 +49,7 @@ abbrev pub CountsMessages : Ending → ℕ → List Message → ℕ → Type 0
 CountsMessages Complete budget ms messages = (messages ≡ length ms) × (messages < budget) × IsWhole (reverse ms)
 CountsMessages Budget budget ms messages = (messages ≡ length ms) × (messages ≡ budget)
 
--- a commit of the connector's own, which writes a watermark and nothing else
+-- of a commit that writes a watermark and nothing else
 abbrev pub IsWatermark : RawBody → Type 0
 IsWatermark (Changes changes) = ⊥
 IsWatermark (Mark value) = Unit {0}

@@ -70,8 +70,9 @@ AnswersWorkload workload told_wal told_topics told_offsets end = (given : inits.
     → told_wal ≡ Some given.wal → told_topics ≡ Some given.topics → told_offsets ≡ Some given.offsets → inits.Answers given end ⊎ inits.IsOutside end
 
 -- Its `init` part was refused, or a disk failed in it, or memory ran out, and that was told: it is what `init` answers whose input is the
--- workload. A disk whose store wasn't yet to be written was only read; and where the offset's disk failed, which is written last, it was
--- only read too, or the other stores were made, and a crash leaves of it a part of a store without an offset.
+-- workload. A disk whose store wasn't yet to be written was only read. And where the others told that they are empty, and the offset's disk
+-- failed, which is written last, it was only read too, or the other stores were made, and a crash leaves of it what a write of a store without
+-- an offset makes of what was there, whether it was done or cut short. Of the disks before the one that failed nothing else is said.
 pub record WasRefused {W T F : Type 0} (seen_wal : W → Option (List ℕ)) (wals : W → List ℕ → Type 0) (seen_topics : T → Option (List ℕ)) (logs : T → List ℕ → Type 0)
     (seen_offsets : F → Option (List ℕ)) (stores : F → List ℕ → Type 0) (workload : List ℕ) (wal new_wal : W) (topics new_topics : T) (offsets new_offsets : F)
     (status : ℕ) (before after : Option (List ℕ)) : Type 0 where

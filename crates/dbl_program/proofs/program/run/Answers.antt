@@ -251,7 +251,17 @@ returns-in-Err-Memory-clause-generated_kept g c = λ number rows groups spells m
 
 pub returns-in-Err-Memory-clause-generating : goal.returns-in-Err-Memory-clause-generating
 returns-in-Err-Memory-clause-generating g c = λ number rows groups spells.
-    inl (record { error = init.Memory; not_input = λ is. (let t = is in cc); answers = λ given same w t f. inr tt; input = inr (inr tt); says = c.say-in-Err-Memory.ensures.says })
+    inl (record {
+      error = init.Memory;
+      not_input = λ is. (let t = is in cc);
+      answers = λ given same w t f. inr tt;
+      input = inr (inr tt);
+      says = c.say-in-Err-Memory.ensures.says;
+      wal_read = λ unwritten. record { same = refl; crash = λ crashed may. may };
+      topics_read = λ unwritten. record { same = refl; crash = λ crashed may. may };
+      offsets_read = λ unwritten. record { same = refl; crash = λ crashed may. may };
+      torn = λ wal topics failed. inl (record { same = refl; crash = λ crashed may. may });
+    })
 
 pub returns-in-Err-Memory-clause-wal_short : goal.returns-in-Err-Memory-clause-wal_short
 returns-in-Err-Memory-clause-wal_short g c = λ some. same_short (g.W.Disk.seen c.args.wal)

@@ -16,7 +16,7 @@ use dbl_look_items::look;
 use dbl_offset::{Offset, OffsetStore};
 use dbl_play_items::script;
 use dbl_source::{ScriptedSource, Source};
-use dbl_table::Config;
+use dbl_table::{Config, Identity};
 use dbl_topic::MemSink;
 use std::alloc::Global;
 
@@ -208,11 +208,53 @@ pub fn crashed_offset(alloc: Global, disk: &MemDisk, choice: Choice) -> Result<O
     }
 }
 
+// Adds how the session ended, and what it leaves beside this offset.
+fn show(
+    alloc: Global,
+    asked: &str,
+    script: &str,
+    identity: &Identity,
+    ran: &Ran,
+    offset: Option<&Offset>,
+    answers: &mut String,
+) -> Result<()> {
+    let records = ran.sink.records();
+    shown::ending(answers, ran)?;
+    shown::offset(alloc, answers, offset)?;
+    shown::records(alloc, answers, records)?;
+    shown::held(alloc, answers, identity, records, "")?;
+    if !look::is_asked(asked) {
+        return Ok(());
+    }
+    shown::line(answers)?;
+    look::answer(alloc, asked, script, offset, records, answers)
+}
+
+fn show_left(
+    alloc: Global,
+    asked: &str,
+    script: &str,
+    identity: &Identity,
+    ran: &Ran,
+    answers: &mut String,
+) -> Result<()> {
+    let offset = crashed_offset(alloc, &ran.disk, Choice::New)?;
+    show(
+        alloc,
+        asked,
+        script,
+        identity,
+        ran,
+        offset.as_ref(),
+        answers,
+    )
+}
+
 /// Adds what the session of a case answers.
 pub fn answer(alloc: Global, asked: &str, script: &str, answers: &mut String) -> Result<()> {
     let fields = asked::fields(asked)?;
-    let config = asked::config(alloc, asked, fields, script)?;
     let now_ms = asked::now_ms(fields)?;
+    let config = asked::config(alloc, asked, fields, script)?;
     let ran = first(
         alloc,
         &config,
@@ -221,21 +263,5 @@ pub fn answer(alloc: Global, asked: &str, script: &str, answers: &mut String) ->
         Vec::new(alloc),
         Vec::new(alloc),
     )?;
-    let offset = crashed_offset(alloc, &ran.disk, Choice::New)?;
-    shown::ending(answers, &ran)?;
-    shown::offset(alloc, answers, offset.as_ref())?;
-    shown::records(alloc, answers, ran.sink.records())?;
-    shown::held(alloc, answers, &config.identity, ran.sink.records(), "")?;
-    if look::is_asked(asked) {
-        shown::line(answers)?;
-        look::answer(
-            alloc,
-            asked,
-            script,
-            offset.as_ref(),
-            ran.sink.records(),
-            answers,
-        )?;
-    }
-    Ok(())
+    show_left(alloc, asked, script, &config.identity, &ran, answers)
 }

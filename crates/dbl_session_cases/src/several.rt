@@ -160,6 +160,25 @@ fn store(alloc: Global, fields: &str, offset: Option<&Offset>) -> Result<OffsetS
     }
 }
 
+fn ran_with(
+    alloc: Global,
+    config: &Config,
+    now_ms: i64,
+    fields: &str,
+    script: &str,
+    stops: usize,
+    offset: Option<&Offset>,
+) -> Result<Ran>
+    requires config { IsGoodConfig config.now }
+    requires offset { IfSome offset (λ offset. IsOffset offset.now) }
+    requires asked { IsAsked config.now (option_copied offset) }
+{
+    let puts = fails(alloc, fields, "sink", 0)?;
+    let store = store(alloc, fields, offset)?;
+    let source = source(alloc, fields, script, stops)?;
+    run(alloc, config, now_ms, source, puts, store)
+}
+
 fn ran(
     alloc: Global,
     asked: &str,
@@ -170,18 +189,9 @@ fn ran(
 ) -> Result<Ran>
     requires { IfSome offset (λ offset. IsOffset offset.now) }
 {
-    let config = config(alloc, asked, fields, script, offset)?;
     let now_ms = asked::now_ms(fields)?;
-    let source = source(alloc, fields, script, stops)?;
-    let puts = fails(alloc, fields, "sink", 0)?;
-    run(
-        alloc,
-        &config,
-        now_ms,
-        source,
-        puts,
-        store(alloc, fields, offset)?,
-    )
+    let config = config(alloc, asked, fields, script, offset)?;
+    ran_with(alloc, &config, now_ms, fields, script, stops, offset)
 }
 
 fn gather(alloc: Global, records: &mut Vec<Record>, more: &Vec<Record>) -> Result<()> {
@@ -244,6 +254,25 @@ fn show(
     Ok(())
 }
 
+// Adds what a session left to what those before it did, and shows it.
+fn take(
+    alloc: Global,
+    asked: &str,
+    script: &str,
+    stops: usize,
+    ran: &Ran,
+    past: &mut Past,
+    answers: &mut String,
+) -> Result<()>
+    ensures { OnOk result (IfSome past.new.offset IsOffset) }
+{
+    let before = past.records.len();
+    gather(alloc, &mut past.records, ran.sink.records())?;
+    show(alloc, asked, script, ran, past, before, answers)?;
+    past.offset = crashed_offset(alloc, &ran.disk, choice(script, stops)?)?;
+    Ok(())
+}
+
 // One session more, and what is left of it.
 fn one_more(
     alloc: Global,
@@ -258,11 +287,7 @@ fn one_more(
     ensures { OnOk result (IfSome past.new.offset IsOffset) }
 {
     let ran = ran(alloc, asked, fields, script, stops, past.offset.as_ref())?;
-    let before = past.records.len();
-    gather(alloc, &mut past.records, ran.sink.records())?;
-    show(alloc, asked, script, &ran, past, before, answers)?;
-    past.offset = crashed_offset(alloc, &ran.disk, choice(script, stops)?)?;
-    Ok(())
+    take(alloc, asked, script, stops, &ran, past, answers)
 }
 
 fn with_stops(

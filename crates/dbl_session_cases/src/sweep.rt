@@ -41,42 +41,62 @@ fn with_budget(config: Config, messages: u64) -> Config
     }
 }
 
-// The session of this number.
-fn one(alloc: Global, asked: &str, script: &str, kind: &str, number: u64) -> Result<Ran>
-    requires some { 1 ≤ number }
+// A session of which this call fails.
+fn with_fault(
+    alloc: Global,
+    config: &Config,
+    now_ms: i64,
+    script: &str,
+    kind: &str,
+    number: u64,
+) -> Result<Ran>
+    requires config { IsGoodConfig config.now }
     requires most { number ≤ 200 }
 {
-    let fields = asked::fields(asked)?;
-    let config = asked::config(alloc, asked, fields, script)?;
-    let now_ms = asked::now_ms(fields)?;
-    let none = Vec::new(alloc);
     match kind {
         "source" => {
             let failing = format!(in alloc; "{script} | fails/{number}")?;
+            let none = Vec::new(alloc);
             first(
                 alloc,
-                &config,
+                config,
                 now_ms,
                 failing.as_str(),
                 none,
                 Vec::new(alloc),
             )
         }
-        "sink" => first(alloc, &config, now_ms, script, this(alloc, number)?, none),
-        "store" => first(
-            alloc,
-            &config,
-            now_ms,
-            script,
-            none,
-            this(alloc, number + MAKING)?,
-        ),
-        "budget" => {
-            let config = with_budget(config, number);
-            first(alloc, &config, now_ms, script, none, Vec::new(alloc))
+        "sink" => {
+            let puts = this(alloc, number)?;
+            first(alloc, config, now_ms, script, puts, Vec::new(alloc))
+        }
+        "store" => {
+            let calls = this(alloc, number + MAKING)?;
+            first(alloc, config, now_ms, script, Vec::new(alloc), calls)
         }
         _ => bail!("no such sweep"),
     }
+}
+
+// The session of this number.
+fn one(alloc: Global, asked: &str, script: &str, kind: &str, number: u64) -> Result<Ran>
+    requires some { 1 ≤ number }
+    requires most { number ≤ 200 }
+{
+    let fields = asked::fields(asked)?;
+    let now_ms = asked::now_ms(fields)?;
+    let config = asked::config(alloc, asked, fields, script)?;
+    if kind != "budget" {
+        return with_fault(alloc, &config, now_ms, script, kind, number);
+    }
+    first(
+        alloc,
+        &with_budget(config, number),
+        now_ms,
+        script,
+        Vec::new(alloc),
+        Vec::new(alloc),
+    )
 }
 
 // Whether the session of the next number is to be run.
@@ -89,6 +109,23 @@ fn goes_on(kind: &str, ending: &str) -> bool {
     }
 }
 
+fn show(
+    alloc: Global,
+    asked: &str,
+    script: &str,
+    kind: &str,
+    number: u64,
+    ran: &Ran,
+    answers: &mut String,
+) -> Result<()> {
+    let records = ran.sink.records();
+    let count = records.len();
+    write!(answers, "\n  {kind} {number}: {}; ", ran.ending)?;
+    shown::show_reported(answers, ran)?;
+    write!(answers, "; {count} records")?;
+    left::add_crashes(alloc, asked, script, &ran.disk, records, answers)
+}
+
 /// Adds what the sessions of a case answer, a line each.
 pub fn answer(
     alloc: Global,
@@ -99,12 +136,7 @@ pub fn answer(
 ) -> Result<()> {
     for number in 1..200u64 {
         let ran = one(alloc, asked, script, kind, number)?;
-        let records = ran.sink.records();
-        let count = records.len();
-        write!(answers, "\n  {kind} {number}: {}; ", ran.ending)?;
-        shown::show_reported(answers, &ran)?;
-        write!(answers, "; {count} records")?;
-        left::add_crashes(alloc, asked, script, &ran.disk, records, answers)?;
+        show(alloc, asked, script, kind, number, &ran, answers)?;
         if !goes_on(kind, ran.ending.as_str()) {
             return Ok(());
         }

@@ -32,7 +32,7 @@ ghost use Rattle.dbl_steps.specs.Awaited.{Awaits, IsWithin, IsWithinLog};
 ghost use Rattle.dbl_steps.specs.Stood.{IsGoneBelow, IsHaltStanding, IsShort, IsShortOr};
 ghost use Rattle.dbl_steps.specs.Captured.{CapturesOrHalts, MustHaltAbsent};
 ghost use Rattle.dbl_causes.specs.Underway.{IsBeginHalt};
-ghost use Rattle.dbl_causes.specs.Written.{AddsAtMost, AddsExactly, marks_more};
+ghost use Rattle.dbl_causes.specs.Written.{AddsAtMost, EndsExactly, marks_more};
 ghost use Rattle.dbl_steps.specs.Sinks.{IsPutting};
 ghost use Rattle.dbl_capture.specs.Begun.{beginning_at};
 ghost use Rattle.dbl_work.specs.declared.report.Report.{Report as SpecReport};
@@ -325,12 +325,13 @@ pub fn session<S: Source, K: Sink, D: Disk>(
         S.may_leave src.new left →
         AddsFew (entry_at config.now now_ms s offsets.old.offset) left }
 
-    // How many marks they are exactly, where it ends as it should.
+    // Where it ends as it should: how many marks they are exactly; and that the windows that it
+    // closed have brought the stored cursors on from where it found them.
     ensures exactly { (s : Standing) → S.stands src.old s → S.honest src.new →
         HadOwnTables (entry_at config.now now_ms s offsets.old.offset) →
         IfOk result (λ ending. (left : Left) → S.may_leave src.new left →
-        AddsExactly report.new.chunks (marks_more ending offsets.new.offset)
-        s.history left.history) }
+        EndsExactly (entry_at config.now now_ms s offsets.old.offset) offsets.new.offset
+        report.new.chunks (marks_more ending offsets.new.offset) left.history) }
 
     // And wherever it ends, at most two for each window that is reported, and two more.
     ensures most { (s : Standing) → S.stands src.old s → S.honest src.new →

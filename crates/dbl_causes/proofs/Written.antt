@@ -1,7 +1,7 @@
 -- How many windows a report counts, and how many marks a session has written beside them.
 use Rattle.std.proofs.Common.{◌≡◌, ◌∙◌, ◌+◌, ◌-◌, ◌*◌, ◌≤◌, ◌<◌, ◌^◌, ℕ, ℤ, zero, suc, min, Bool, true, false, cond, ◌&&◌, Option, Some, None, List, [], ◌∷◌, ◌++◌, length, filter, map, refl, sym, ap, subst, arith, length-append, append_assoc}
 use Rattle.std.specs.Prelude.{if◌then◌else◌, not, nat_lt, is_some, slice_get, bytes_eq, flat_map, option_map, unwrap_or}
-use Rattle.std.specs.List.{list_all, position, prefix_len}
+use Rattle.std.specs.List.{AllByRecursion, AllZip, list_all, position, prefix_len}
 use Rattle.std.proofs.lemmas.Bool.Decides.{nat_tests}
 use Rattle.std.proofs.lemmas.List.Elements.{filter-append}
 use Rattle.dbl_record.specs.declared.record.Record.{Record}
@@ -21,19 +21,23 @@ use Rattle.dbl_event.specs.Events.{notices, numbered}
 use Rattle.dbl_event.specs.EventJson.{envelopes, print}
 use Rattle.dbl_event.specs.Snapshots.{chunk_records, progress_record, read_records}
 use Rattle.dbl_event.specs.SnapshotLists.{IsSnapshot}
+use Rattle.dbl_offset.specs.declared.offset.Offset.{Offset}
+use Rattle.dbl_stores.specs.Behind.{IsUnread}
 use Rattle.dbl_stores.specs.Kept.{HasGrown}
 use Rattle.dbl_window.specs.Plans.{Chunk, low_text, high_text}
 use Rattle.dbl_follow.specs.declared.window.Window.{Window}
 use Rattle.dbl_follow.specs.declared.window.Window.TheVariants.{Absent, Armed, Open}
 use Rattle.dbl_follow.specs.Followed.{Following}
 use Rattle.dbl_follow.specs.Steps.{Becomes, closed_of, closing, mark_in, mark_of, records_by, records_of, seen_by}
-use Rattle.dbl_session.specs.Counted.{IsWaiting, waiting}
+use Rattle.dbl_session.specs.Counted.{HaveComeOn, IsWaiting, waiting}
+use Rattle.dbl_session.specs.Entries.{Entry}
+use Rattle.dbl_session.specs.Going.{IsFirstOf}
 use Rattle.dbl_work.specs.declared.report.Report.{Report}
 use Rattle.dbl_work.specs.declared.work.Work.{Work}
 use Rattle.dbl_work.specs.Groups.{chunks_of, counted, lasts}
 use Rattle.dbl_work.specs.Takes.{ReportsStep, WasStepped}
 use Rattle.dbl_work.specs.declared.report.Ending.TheVariants.{Budget}
-use Rattle.dbl_causes.specs.Written.{AddsExactly, AreClosed, FewMarksAreLeft, MarksAreExact, ReadWindowsWait, StepsCloseWindows, marks_more}
+use Rattle.dbl_causes.specs.Written.{AddsExactly, AreClosed, FewMarksAreLeft, HaveBrought, MarksAreExact, ReadWindowsWait, StepsCloseWindows, WereBegun, marks_more}
 
 -- ---- a window that is read
 
@@ -226,9 +230,36 @@ open_marks infos limit history cursors (Open chunk) waits none = ap (λ (b : Boo
 in_all : (a e n c w m : ℕ) → a ≡ e + 2 * n → n ≡ c + w → m ≡ 2 * w → a ≡ e + 2 * c + m
 in_all a e n c w m one two three = omega (arith, one, two, three)
 
+as_many : (n c d w : ℕ) → n ≡ c + w → n ≡ d + w → c ≡ d
+as_many n c d w one two = omega (arith, one, two)
+
+all_unread : (infos : List TableInfo) (cursors : List Cursor) → AllZip (λ info cursor. IsUnread cursor) infos cursors → AllByRecursion IsUnread cursors
+all_unread infos [] unread = tt
+all_unread [] (c ∷ cursors) unread = absurd unread
+all_unread (i ∷ infos) (c ∷ cursors) unread = (unread.0, all_unread infos cursors unread.1)
+
+were_begun : (entry : Entry) (history : History) (first : Offset) (found : Option Offset) → IsFirstOf entry history first found → WereBegun found first.cursors
+were_begun entry history first None began = all_unread first.infos first.cursors began.2
+were_begun entry history first (Some found) began = began.0.cursors
+
 pub marks_are_exact : MarksAreExact
-marks_are_exact entry stage offset chunks windows cursors none reading = (exactly budget, λ absent. exactly_none absent)
+marks_are_exact entry stage offset chunks windows infos cursors none reading = ((exactly budget, brought), λ absent. (exactly_none absent, brought))
   where
+    come : HaveComeOn stage.first.infos entry.config.chunk chunks stage.history stage.first.cursors stage.following.cursors
+    come =
+        subst (λ (n : ℕ). HaveComeOn stage.first.infos entry.config.chunk n stage.history stage.first.cursors stage.following.cursors)
+        (as_many stage.number reading.closed chunks (waiting stage.following.window) reading.counted.windows windows) reading.counted.come
+
+    brought : HaveBrought entry.config.chunk chunks stage.history entry.offset (Some offset)
+    brought = record {
+      begun = stage.first.cursors;
+      were = were_begun entry stage.history stage.first entry.offset reading.began;
+      offset = offset;
+      is = refl;
+      come = subst (λ (l : List TableInfo). HaveComeOn l entry.config.chunk chunks stage.history stage.first.cursors offset.cursors) (sym infos)
+          (subst (HaveComeOn stage.first.infos entry.config.chunk chunks stage.history stage.first.cursors) (sym cursors) come);
+    }
+
     budget : marks_more Budget (Some offset) ≡ 2 * waiting stage.following.window
     budget =
         ap (λ (l : List Cursor). if list_all (λ (cursor : Cursor). cursor.done) l then 0 else 2) cursors

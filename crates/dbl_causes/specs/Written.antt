@@ -1,13 +1,15 @@
--- How many marks a session writes, beside the windows that it closes.
+-- How many marks a session writes, beside the windows that it closes, and how far these bring its cursors.
 use Rattle.std.specs.Prelude.{◌≡◌, ℕ, ◌+◌, ◌*◌, ◌<◌, ◌^◌, ◌≤◌, true, if◌then◌else◌, not, position, Option, Some, None, List, length}
-use Rattle.std.specs.List.{list_all}
+use Rattle.std.specs.List.{AllByRecursion, list_all}
 use Rattle.dbl_table.specs.declared.change.Commit.{Commit}
+use Rattle.dbl_history.specs.declared.cursor.Cursor.{Cursor}
 use Rattle.dbl_history.specs.History.{RawCommit, History}
 use Rattle.dbl_honest.specs.Growth.{marks_in}
 use Rattle.dbl_offset.specs.declared.offset.Offset.{Offset}
+use Rattle.dbl_stores.specs.Behind.{IsUnread}
 use Rattle.dbl_stores.specs.Kept.{HasGrown}
 use Rattle.dbl_follow.specs.declared.window.Window.TheVariants.{Absent}
-use Rattle.dbl_session.specs.Counted.{waiting}
+use Rattle.dbl_session.specs.Counted.{HaveComeOn, waiting}
 use Rattle.dbl_session.specs.Entries.{Entry}
 use Rattle.dbl_session.specs.Going.{IsReading}
 use Rattle.dbl_session.specs.Stages.{Stage}
@@ -43,6 +45,26 @@ abbrev pub AddsAtMost : Option Offset → ℕ → History → History → Type 0
 AddsAtMost None chunks old new = marks_in new.commits ≡ marks_in old.commits
 AddsAtMost (Some offset) chunks old new = AddsNoMore chunks old new
 
+-- ---- cursors
+
+-- how far each table was read when a session began: as the offset says that it found, or not at all
+abbrev pub WereBegun : Option Offset → List Cursor → Type 0
+WereBegun None cursors = AllByRecursion IsUnread cursors
+WereBegun (Some found) cursors = cursors ≡ found.cursors
+
+-- From there so many windows, each of so many rows at most, have brought the cursors to where the stored offset says.
+pub record HaveBrought (chunk chunks : ℕ) (history : History) (found stored : Option Offset) : Type 0 where
+  pub begun : List Cursor
+  pub were : WereBegun found begun
+  pub offset : Offset
+  pub is : stored ≡ Some offset
+  pub come : HaveComeOn offset.infos chunk chunks history begun offset.cursors
+
+-- Where it ends as it should, it has written exactly so many marks, and the windows that it closed have brought its cursors there.
+abbrev pub EndsExactly : Entry → Option Offset → ℕ → ℕ → History → Type 0
+EndsExactly entry stored chunks more history =
+    AddsExactly chunks more entry.history history × HaveBrought entry.config.chunk chunks history entry.offset stored
+
 -- ---- windows
 
 -- the windows that were read are so many, which are closed, and one that waits, if one does
@@ -71,12 +93,13 @@ FewMarksAreLeft = (entry : Entry) (stage : Stage) (history : History) (more : Li
     → HasGrown stage.history history more → length (marks_in more) + 2 * waiting stage.following.window ≤ 2
     → IsReading entry stage → AddsNoMore chunks entry.history history
 
--- Where every table is done unless a window waits, as it is where a session ends as it should, they are exactly so many. It is complete
--- where none waits.
+-- Where every table is done unless a window waits, as it is where a session ends as it should, they are exactly so many, and the closed
+-- windows have brought the cursors on. It is complete where none waits.
 abbrev pub MarksAreExact : Type 0
 MarksAreExact = (entry : Entry) (stage : Stage) (offset : Offset) (chunks : ℕ)
     → stage.number ≡ chunks + waiting stage.following.window
-    → offset.cursors ≡ stage.following.cursors → (stage.following.window ≡ Absent → position (λ cursor. not cursor.done) stage.following.cursors ≡ None)
+    → offset.infos ≡ stage.first.infos → offset.cursors ≡ stage.following.cursors
+    → (stage.following.window ≡ Absent → position (λ cursor. not cursor.done) stage.following.cursors ≡ None)
     → IsReading entry stage
-    → AddsExactly chunks (marks_more Budget (Some offset)) entry.history stage.history
-    × (stage.following.window ≡ Absent → AddsExactly chunks (marks_more Complete (Some offset)) entry.history stage.history)
+    → EndsExactly entry (Some offset) chunks (marks_more Budget (Some offset)) stage.history
+    × (stage.following.window ≡ Absent → EndsExactly entry (Some offset) chunks (marks_more Complete (Some offset)) stage.history)

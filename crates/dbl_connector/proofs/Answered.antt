@@ -31,7 +31,7 @@ use Rattle.dbl_exits.specs.Found as found
 use Rattle.dbl_exits.specs.Sessions.{AddsFew as AddsFewBy}
 use Rattle.dbl_causes.specs.Gained.{Gains, HasCounted, IsReported as IsCounted}
 use Rattle.dbl_causes.specs.Reported.{HasSettled}
-use Rattle.dbl_causes.specs.Written.{AddsExactly, marks_more}
+use Rattle.dbl_causes.specs.Written.{EndsExactly, marks_more}
 use Rattle.dbl_restarts.specs.Restarts.{entry_at}
 use Rattle.dbl_restarts.proofs.Going.{faithful_entries_are_known}
 use Rattle.dbl_steps.specs.Captured.{IsOfTable}
@@ -335,14 +335,16 @@ module _ {W T F : Type 0} (seen_w : W → Option (List ℕ)) (may_w : W → List
         (λ (same : ending ≡ Budget). ran.spent (is ∙ ap (λ (e : Ending). Ok e) same))
         (subst (λ (p : Option Place). HasSettled config now fo.offset fn.offset report (standing_in stands.0 p)) place.1 settled)
         ran.position refl counts.are in
+        let exactly = ok_is result ending (λ e. (l : Left) → SourceLeaves may_w sn l → EndsExactly (found.entry_at config now first fo.offset) fn.offset report.chunks (marks_more e fn.offset) l.history)
+        (ran.exactly first first_stands own) is (left_in stands.0)
+        (record { crashed = stands.1.running.lists.bytes; may = told_w; wal = stands.0; is = read_told.source; left = refl }) in
         record {
           ended = record { begun = begun_of asked asks; left = left; each = read_each };
           exact = λ bytes leaves short. small_logs_are_counted bytes left.groups old.groups told.more report
               (subst (λ (b : List ℕ). IsLog b left.groups) (sym (counts.held.lists.only bytes leaves)) read_told.log) short told.gained told.counted;
           report = told;
-          marks = ok_is result ending (λ e. (l : Left) → SourceLeaves may_w sn l → AddsExactly report.chunks (marks_more e fn.offset) (standing_in src.wal so.place).history l.history)
-              (ran.exactly first first_stands own) is (left_in stands.0)
-              (record { crashed = stands.1.running.lists.bytes; may = told_w; wal = stands.0; is = read_told.source; left = refl });
+          marks = exactly.0;
+          brought = exactly.1;
           closed = closed_of;
         }
 

@@ -27,7 +27,7 @@ use Rattle.dbl_causes.specs.Musts.{CapturesAll, MustExhaust}
 use Rattle.dbl_causes.specs.Nevers.{IsFaithfulHalt, IsHonestHalt}
 use Rattle.dbl_causes.specs.Reported.{HasSettled, HasStoodBehind, IsFollowed}
 use Rattle.dbl_causes.specs.Tallied.{IsTalliedBehind}
-use Rattle.dbl_causes.specs.Written.{AddsExactly, marks_more}
+use Rattle.dbl_causes.specs.Written.{EndsExactly, marks_more}
 use Rattle.dbl_steps.specs.Awaited.{IsWithinLog}
 use Rattle.dbl_steps.specs.Captured.{MustHaltAbsent}
 use Rattle.dbl_steps.specs.Owned.{IsLongBy}
@@ -51,7 +51,7 @@ pub record Ran {W T F : Type 0} (seen_w : W → Option (List ℕ)) (may_w : W �
   pub marks : (s : Standing) → StandsFor seen_w may_w so s → HadOwnTables (entry_at config now s fo.offset)
       → (left : Left) → SourceLeaves may_w sn left → AddsFew (entry_at config now s fo.offset) left
   pub exactly : (s : Standing) → StandsFor seen_w may_w so s → HadOwnTables (entry_at config now s fo.offset)
-      → IfOk result (λ ending. (left : Left) → SourceLeaves may_w sn left → AddsExactly report.chunks (marks_more ending fn.offset) s.history left.history)
+      → IfOk result (λ ending. (left : Left) → SourceLeaves may_w sn left → EndsExactly (entry_at config now s fo.offset) fn.offset report.chunks (marks_more ending fn.offset) left.history)
   pub unclosed : (entry : Entry) → IsEntryOf config now entry → Found (StandsFor seen_w may_w) (HoldsGroups seen_t may_t) seen_f may_f entry so lo fo
       → WasFaithful entry → (t : Standing) → StandsFor seen_w may_w sn t → OnOk result (HasClosedRead fn.offset report t)
   pub stores : (fn.offset ≡ fo.offset) ⊎ HasStored config fo.offset fn.offset

@@ -25,6 +25,7 @@ use Rattle.dbl_exits.specs.Closed.{HasNoHigh}
 use Rattle.dbl_exits.specs.Found.{HasStored, IsFirstStored}
 use Rattle.dbl_causes.specs.Gained.{Gains}
 use Rattle.dbl_causes.specs.Reported.{AllCouldBeSent, course_at}
+use Rattle.dbl_causes.specs.Written.{HaveBrought}
 use Rattle.dbl_init.specs.declared.error.Store.{Store}
 use Rattle.dbl_init.specs.declared.error.Store.TheVariants.{Wal as WalStore, Topics, Offsets}
 use Rattle.dbl_steps.specs.Captured.{IsOfTable}
@@ -194,11 +195,13 @@ pub record HasClosedSent (config : Config) (found stored : Option Offset) (wal :
   pub none : (number : ℕ) → report.chunks < number → number < 2 ^ 64
       → HasNoHigh was.by.offset.incarnation number (take report.commits (commits_of was.by.offset.infos reading.messages))
 
--- Its report is of what the disks held and hold, and it has added as many marks as it tells.
+-- Its report is of what the disks held and hold; it has added as many marks as it tells, and the windows that it tells have brought the
+-- stored cursors on from where they were.
 pub record IsReported (asked : Asked) (now : ℤ) (wals logs stores : List ℕ → Type 0) (w t f : List ℕ) (summary : Summary) : Type 0 where
   pub ended : HasEnded asked wals logs stores w t f
   pub report : IsReportOf ended.begun.config now ended.begun.held ended.left summary.ending summary.report
   pub marks : AddsReportedMarks summary.ending summary.report.chunks ended.begun.held ended.left
+  pub brought : HaveBrought ended.begun.config.chunk summary.report.chunks (history_at ended.left) ended.begun.held.offset ended.left.offset
   pub closed : HasClosedSent ended.begun.config ended.begun.held.offset ended.left.offset ended.left.wal summary.report
   -- a count stops at 2^64 - 1, which no topic log of fewer than 2^40 bytes comes to
   pub exact : (bytes : List ℕ) → logs bytes → length bytes < disk_limit → AreCountedWhole report.more summary.report

@@ -30,7 +30,7 @@ use Rattle.dbl_exits.specs.Sessions.{standing_at, InSession, AddsFew, LeavesBy}
 use Rattle.dbl_work.specs.Windowed.{MayHaveMarks, HasReadWindow, WasWindowed, own_marks}
 use Rattle.dbl_work.specs.Works.{IsOpenTable, IsOwnChunk, IsReady, IsWork, plan_at, plan_with}
 use Rattle.dbl_exits.proofs.Marks.{IsBodyOf, own_bodies, own_few}
-use Rattle.dbl_exits.proofs.Keeping.{source_ends, confirmed_low, capturing, some_chunk}
+use Rattle.dbl_exits.proofs.Keeping.{not_less, source_ends, confirmed_low, capturing, some_chunk}
 
 -- ---- a plan
 
@@ -129,6 +129,7 @@ module _ {S K D : Type 0} {tell : Bool} {stands : S → Standing → Type 0} {ho
       grown = may.grown;
       marks = bodies_marked s.stage.first.incarnation plan may.more (same_le plan.incarnation s.stage.first.incarnation own_incarnation) in_range (own_bodies plan may.more may.count may.marks);
       fit = fit;
+      no_fall = not_less s.stage.confirmed.0 left.confirmed.0 (ap (λ (l : Lsn). l.0) may.confirmed);
       confirmed = subst (λ (l : Lsn). l.0 ≤ s.stage.stored.lsn.0) (sym may.confirmed) (confirmed_low s faithful);
     }
 

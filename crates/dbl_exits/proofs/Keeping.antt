@@ -68,6 +68,9 @@ left_weaker may_leave disk P Q leaves weaker crashed may = let found = leaves cr
 
 -- ---- what a call of the source may leave
 
+pub not_less : (a b : ℕ) → b ≡ a → a ≤ b
+not_less a b is = omega (arith, is)
+
 -- others may have committed
 pub left_others : (stage : Stage) (left : Left) → MayFollow (standing_at stage) left → IsFitHistory left.history → stage.confirmed.0 ≤ stage.stored.lsn.0 → MayBeLeft stage left
 left_others stage left may fit le = record {
@@ -75,12 +78,17 @@ left_others stage left may fit le = record {
   grown = record { tables = may.grows.tables; commits = may.grows.commits };
   marks = others_marked stage.first.incarnation may.grows.others may.grows.are_others;
   fit = fit;
+  no_fall = not_less stage.confirmed.0 left.confirmed.0 (ap (λ (l : Lsn). l.0) may.confirmed);
   confirmed = subst (λ (n : ℕ). n ≤ stage.stored.lsn.0) (sym (ap (λ (l : Lsn). l.0) may.confirmed)) le;
 }
 
 either_le : (a b c d : ℕ) → (a ≡ b) ⊎ (a ≡ max b c) → b ≤ d → c ≤ d → a ≤ d
 either_le a b c d (inl is) one two = omega (arith, is, one)
 either_le a b c d (inr is) one two = omega (arith, is, one, two)
+
+either_not_less : (a b c : ℕ) → (a ≡ b) ⊎ (a ≡ max b c) → b ≤ a
+either_not_less a b c (inl is) = omega (arith, is)
+either_not_less a b c (inr is) = omega (arith, is)
 
 either_lsn : (a b : Lsn) (n : ℕ) → (a ≡ b) ⊎ (a.0 ≡ n) → (a.0 ≡ b.0) ⊎ (a.0 ≡ n)
 either_lsn a b n (inl is) = inl (ap (λ (l : Lsn). l.0) is)
@@ -93,6 +101,7 @@ left_confirm stage left upto may fit le up = record {
   grown = record { tables = may.grows.tables; commits = may.grows.commits };
   marks = others_marked stage.first.incarnation may.grows.others may.grows.are_others;
   fit = fit;
+  no_fall = either_not_less left.confirmed.0 stage.confirmed.0 upto.0 (either_lsn left.confirmed stage.confirmed (max stage.confirmed.0 upto.0) may.confirmed);
   confirmed = either_le left.confirmed.0 stage.confirmed.0 upto.0 stage.stored.lsn.0 (either_lsn left.confirmed stage.confirmed (max stage.confirmed.0 upto.0) may.confirmed) le up;
 }
 
@@ -239,6 +248,7 @@ module _ {S K D : Type 0} {tell : Bool} {stands : S → Standing → Type 0} {ho
         grown = record { tables = ap (λ (l : Left). l.history.tables) same; commits = ap (λ (l : Left). l.history.commits) same ∙ sym (append-nil s.stage.history.commits) };
         marks = tt;
         fit = fit is_honest left is;
+        no_fall = not_less s.stage.confirmed.0 left.confirmed.0 (ap (λ (l : Left). l.confirmed.0) same);
         confirmed = subst (λ (l : Left). l.confirmed.0 ≤ s.stage.stored.lsn.0) (sym same) (confirmed_low faithful);
       }
 

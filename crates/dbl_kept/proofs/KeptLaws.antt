@@ -25,6 +25,7 @@ pub what_stays_goes_on : WhatStaysGoesOn
 what_stays_goes_on config held = record {
   script = refl;
   onward = stores_stay_onward config (stores_of (found_in held));
+  no_fall = omega arith;
   adds = record { more = []; is = sym (append-nil (records_at held)); above = tt; rise = tt };
   grouped = sym (append-nil held.groups);
   lag_is = omega arith;
@@ -34,6 +35,7 @@ pub sessions_go_on : SessionsGoOn
 sessions_go_on config now old new script follows = record {
   script = script;
   onward = follows.onward;
+  no_fall = follows.no_fall;
   adds = follows.adds;
   grouped = follows.grouped;
   lag_is = follows.lag_is;
@@ -46,6 +48,7 @@ runs_are_promised config now old new kept goes = record {
   follows = λ right. record {
     faithful = kept.faithful;
     onward = goes.onward;
+    no_fall = goes.no_fall;
     adds = goes.adds;
     grouped = goes.grouped;
     lag_is = goes.lag_is;

@@ -6,7 +6,7 @@ use Rattle.dbl_stores.specs.Onward.{GoesOnward, Adds}
 use Rattle.dbl_stores.specs.Stores.{lag}
 use Rattle.dbl_session.specs.Entries.{appends_behind}
 use Rattle.dbl_restarts.specs.Restarts.{stores_of}
-use Rattle.dbl_kept.specs.Contents.{Contents, ReadAs, found_in, history_at, records_at}
+use Rattle.dbl_kept.specs.Contents.{Contents, ReadAs, confirmed_at, found_in, history_at, records_at}
 use Rattle.dbl_kept.specs.Kept.{IsKept}
 
 -- From what was there to what is there, by a run that was asked for this.
@@ -14,9 +14,11 @@ pub record GoesFrom (config : Config) (old new : Contents) : Type 0 where
   -- the workload is the same
   pub script : new.wal.script ≡ old.wal.script
   -- The old history and the old records are the first ones of the new. A stored offset stays one of the same connector, its LSN doesn't
-  -- fall, and its incarnation is the old one or the next; a first offset is of what the run was asked for, from a position on that isn't
-  -- before what stood there.
+  -- fall, no table was read less, and its incarnation is the old one or the next; a first offset is of what the run was asked for, from a
+  -- position on that isn't before what stood there.
   pub onward : GoesOnward config (stores_of (found_in old)) (stores_of (found_in new))
+  -- and what is confirmed doesn't fall
+  pub no_fall : (confirmed_at old).0 ≤ (confirmed_at new).0
   -- what was appended stands behind the stored LSN, or behind the start of a first offset, and each record behind those before it
   pub adds : Adds (appends_behind old.offset new.offset) (records_at old) (records_at new)
   -- in groups of at most 1,000 records and 16,777,216 bytes, each of one position

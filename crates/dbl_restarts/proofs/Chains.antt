@@ -1,5 +1,5 @@
 -- Any number of sessions and crashes.
-use Rattle.std.proofs.Common.{◌∙◌, ℤ, max, Option, List, [], ◌∷◌, refl, sym, ap, subst, append-nil}
+use Rattle.std.proofs.Common.{◌∙◌, ℤ, max, Option, List, [], ◌∷◌, refl, sym, ap, subst, append-nil, le_refl}
 use Rattle.dbl_record.specs.Cuts.{cut, joined}
 use Rattle.dbl_table.specs.declared.config.Config.{Config}
 use Rattle.dbl_history.specs.History.{History}
@@ -46,6 +46,7 @@ module _ (first : Found) (right : IsRight first) where
     commits = record { more = []; is = sym (append-nil first.history.commits) };
     groups = record { more = []; is = sym (append-nil first.groups) };
     offset = stays_put first.history first.offset;
+    no_fall = le_refl first.confirmed.0;
     appends = record { more = []; is = sym (append-nil (joined first.groups)); above = tt };
     lag_is = over_none (lag first.history (joined first.groups) first.offset);
   }
@@ -56,6 +57,7 @@ module _ (first : Found) (right : IsRight first) where
     commits = extends_on first.history.commits last.history.commits history.commits went.commits (record { more = grows.others; is = grows.commits });
     groups = went.groups;
     offset = offset_grown sessions first.history last.history history grows.others first.offset last.offset (grown_by last.history history grows) went.offset;
+    no_fall = went.no_fall;
     appends = went.appends;
     lag_is = le_on (lag history (joined last.groups) last.offset) (lag last.history (joined last.groups) last.offset) (max (most_every sessions) (lag first.history (joined first.groups) first.offset))
         (lag_grown last.history history last.confirmed (joined last.groups) last.offset before.fit fits grows before.faithful) went.lag_is;
@@ -68,6 +70,7 @@ module _ (first : Found) (right : IsRight first) where
     groups = extends_on first.groups last.groups new.groups went.groups (record { more = cut follows.adds.more; is = follows.grouped });
     offset = offset_next sessions config first.history last.history new.history follows.onward.commits.more first.offset last.offset new.offset went.commits
         (record { tables = follows.onward.tables; commits = follows.onward.commits.is }) went.offset follows.onward.offset;
+    no_fall = le_on first.confirmed.0 last.confirmed.0 new.confirmed.0 went.no_fall follows.no_fall;
     appends = appends_next sessions config first.history last.history new.history last.confirmed first.offset last.offset new.offset (joined first.groups) (joined last.groups) (joined new.groups)
         before.faithful went.offset follows.onward.offset went.appends follows.adds;
     lag_is = under_both (lag new.history (joined new.groups) new.offset) (lag last.history (joined last.groups) last.offset) (lag first.history (joined first.groups) first.offset) config.every (most_every sessions) follows.lag_is went.lag_is;

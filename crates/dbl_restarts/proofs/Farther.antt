@@ -19,6 +19,7 @@ use Rattle.dbl_stores.specs.Kept.{HasGrown, IsNewBody}
 use Rattle.dbl_stores.specs.Onward.{Extends, OffsetGoesOn, Adds}
 use Rattle.dbl_stores.proofs.Faithful.{faithful_records_stand}
 use Rattle.dbl_stores.proofs.Lists.{is_longer, behind_top, still_position}
+use Rattle.dbl_stores.proofs.Onward.{cursors_stay, cursors_go_on}
 use Rattle.dbl_session.specs.Entries.{appends_behind}
 use Rattle.dbl_session.proofs.Ending.{lag_far}
 use Rattle.dbl_restarts.specs.Outcomes.{OffsetWentOn, AppendsBehind}
@@ -77,7 +78,7 @@ none_behind (x ∷ xs) ys is = cc
 
 pub stays_put : (history : History) (offset : Option Offset) → OffsetWentOn [] history history offset offset
 stays_put history None = tt
-stays_put history (Some offset) = record { identity = refl; infos = refl; start = refl; lsn = le_refl offset.lsn.0; not_less = le_refl offset.incarnation; not_more = plus_none offset.incarnation }
+stays_put history (Some offset) = record { identity = refl; infos = refl; start = refl; lsn = le_refl offset.lsn.0; cursors = cursors_stay offset.cursors; not_less = le_refl offset.incarnation; not_more = plus_none offset.incarnation }
 
 still_there : (old new : History) (more : List RawCommit) (position : ℕ) → HasGrown old new more → IsPositionOf old position → IsPositionOf new position
 still_there old new more position grown is = subst (λ (h : History). IsPositionOf h position) (sym (is_longer old new more grown)) (still_position old more position is)
@@ -131,6 +132,7 @@ offset_next sessions config first last history more (Some a) (Some b) (Some c) f
   infos = goes.infos ∙ went.infos;
   start = goes.start ∙ went.start;
   lsn = le_on a.lsn.0 b.lsn.0 c.lsn.0 went.lsn goes.lsn;
+  cursors = cursors_go_on a.cursors b.cursors c.cursors went.cursors goes.cursors;
   not_less = not_fewer b.incarnation c.incarnation a.incarnation went.not_less goes.incarnation;
   not_more = one_farther a.incarnation b.incarnation c.incarnation (length sessions) went.not_more goes.incarnation;
 }

@@ -176,6 +176,7 @@ two_sessions = session (example_config ∷ []) committed left_second example_con
     grown = record { tables = refl; commits = refl };
     marks = (record { incarnation = 2; number = 1; side = Low; is = refl; not_above = omega arith; small = omega arith }, tt);
     fit = fit_marked;
+    no_fall = omega arith;
     confirmed = omega arith;
   });
 })
@@ -199,7 +200,7 @@ three_sessions = session (example_config ∷ (example_config ∷ [])) left_secon
   now = pos 0;
   asked = asked;
   stops = at_the_source (begun_at third marked (example_offset 3 2) (following_of (example_offset 3 2))) left_marked (begins marked (example_offset 3 2) begun_third)
-      (record { more = []; grown = record { tables = refl; commits = refl }; marks = tt; fit = fit_marked; confirmed = omega arith });
+      (record { more = []; grown = record { tables = refl; commits = refl }; marks = tt; fit = fit_marked; no_fall = omega arith; confirmed = omega arith });
 })
 
 pub three_sessions_stand : ThreeSessionsStand

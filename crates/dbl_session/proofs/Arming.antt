@@ -41,6 +41,7 @@ use Rattle.dbl_stores.proofs.Lists.{longer, is_longer, still_at, still_position,
 use Rattle.dbl_session.proofs.Growing.{first_longer, reads_longer, parts_longer, offset_longer, up_longer, near_longer}
 use Rattle.dbl_session.proofs.Marking.{no_mark, stood_was, own_marks_stay, others_marked}
 use Rattle.dbl_session.proofs.Stepping.{read_le}
+use Rattle.dbl_session.proofs.Counts.{come_stays}
 
 -- ---- numbers
 
@@ -242,6 +243,8 @@ module _ (entry : Entry) (stage : Stage) (more : List RawCommit) (chunk : Chunk)
         began = first_longer entry stage.history more stage.first entry.offset going.reading.began;
         first_small = going.reading.first_small;
         of_session = going.reading.of_session;
+        stored_later = going.reading.stored_later;
+        no_fall = going.reading.no_fall;
         more = going.reading.more ++ more;
         grown = record { tables = going.reading.grown.tables; commits = ap (λ (l : List RawCommit). l ++ more) going.reading.grown.commits ∙ append_assoc entry.history.commits going.reading.more more };
         fit = fit;
@@ -415,14 +418,8 @@ module _ (entry : Entry) (stage : Stage) (history : History) (chunk : Chunk) (ab
       within = long_on armed.looked history high_came from_looked;
       rows = rows_stay;
     };
-    full = reading.counted.full;
-    ended = reading.counted.ended;
-    each = reading.counted.each;
-    tables = reading.counted.tables;
-    read = reading.counted.read;
-    many = reading.counted.many;
-    were = all_weaker (WasRead stage.first.infos stage.history stage.following.cursors) (WasRead stage.first.infos history stage.following.cursors) reading.counted.read (was_on stage.history history all_came whole stage.first.infos stage.following.cursors) reading.counted.were;
-    apart = reading.counted.apart;
+    come = come_stays stage.first.infos entry.config.chunk reading.closed stage.history history stage.first.cursors stage.following.cursors
+        (was_on stage.history history all_came whole stage.first.infos stage.following.cursors) reading.counted.come;
   }
 
   -- ---- its marks

@@ -18,6 +18,7 @@ use Rattle.dbl_stores.specs.Kept.{HasGrown, IsNewBody}
 use Rattle.dbl_stores.specs.Onward.{OffsetGoesOn}
 use Rattle.dbl_stores.proofs.Faithful.{faithful_records_stand, first_offsets_are_faithful}
 use Rattle.dbl_stores.proofs.Longer.{longer_histories_stay_faithful}
+use Rattle.dbl_stores.proofs.Onward.{cursors_stay}
 use Rattle.dbl_stores.proofs.Offsets.{later_sessions_stay_faithful}
 use Rattle.dbl_stores.proofs.Positions.{empty_logs_have_no_lag}
 use Rattle.dbl_window.proofs.HonestLemmas.{captured_stays}
@@ -67,7 +68,8 @@ module _ (entry : Entry) (left : Left) (fit : IsFitHistory entry.history) (fit_l
 
   stays : (offset : Option Offset) → OffsetGoesOn entry.config entry.history left.history offset offset
   stays None = tt
-  stays (Some offset) = record { identity = refl; infos = refl; start = refl; lsn = le_refl offset.lsn.0; incarnation = inl refl }
+  stays (Some offset) =
+      record { identity = refl; infos = refl; start = refl; lsn = le_refl offset.lsn.0; cursors = cursors_stay offset.cursors; incarnation = inl refl }
 
   lag_at : (offset : Option Offset) → IsFaithful entry.history entry.confirmed (joined entry.groups) offset → lag left.history (joined entry.groups) offset ≤ max entry.config.every (lag entry.history (joined entry.groups) offset)
   lag_at None is = zero_le (max entry.config.every 0)
@@ -100,6 +102,7 @@ unread_sessions_follow entry left faithful fit fit_left grows same = record {
     records = record { more = []; is = sym (append-nil (joined entry.groups)) };
     offset = stays entry left fit fit_left grows entry.offset;
   };
+  no_fall = same_le left.confirmed.0 entry.confirmed.0 (ap (λ (l : Lsn). l.0) same);
   adds = record { more = []; is = sym (append-nil (joined entry.groups)); above = tt; rise = tt };
   grouped = sym (append-nil entry.groups);
   lag_is = lag_at entry left fit fit_left grows entry.offset faithful;
@@ -115,8 +118,9 @@ first_offsets_follow entry history left first faithful fit fit_left grows on inf
         tables = all.tables;
         commits = record { more = all.others; is = all.commits };
         records = record { more = []; is = sym (append-nil (joined entry.groups)) };
-        offset = offset_goes entry history left.history on.others first first entry.offset (is_longer history left.history on.others (record { tables = on.tables; commits = on.commits })) began own (le_refl first.lsn.0);
+        offset = offset_goes entry history left.history on.others first first entry.offset (is_longer history left.history on.others (record { tables = on.tables; commits = on.commits })) began own (le_refl first.lsn.0) (cursors_stay first.cursors);
       };
+      no_fall = same_le left.confirmed.0 entry.confirmed.0 (ap (λ (l : Lsn). l.0) same);
       adds = record { more = []; is = sym (append-nil (joined entry.groups)); above = tt; rise = tt };
       grouped = sym (append-nil entry.groups);
       lag_is = lag_first entry left fit fit_left all first entry.offset history began faithful;

@@ -16,7 +16,7 @@ use Rattle.dbl_follow.specs.declared.window.Window.{Window}
 use Rattle.dbl_follow.specs.declared.window.Window.TheVariants.{Absent, Armed, Open}
 use Rattle.dbl_session.specs.Entries.{Entry}
 use Rattle.dbl_session.specs.Stages.{Stage}
-use Rattle.dbl_session.specs.Counted.{waiting, ended_of, WasRead, IsWaiting, IsCounted}
+use Rattle.dbl_session.specs.Counted.{waiting, ended_of, WasRead, IsWaiting, HaveComeOn, IsCounted}
 use Rattle.dbl_session.specs.Going.{IsReading}
 use Rattle.dbl_session.specs.Outcomes.{CoverRows, HasFewMarks}
 use Rattle.dbl_session.specs.Exits.{FewMarksAreWritten}
@@ -132,24 +132,24 @@ marks_append [] ys = refl
 marks_append (x ∷ xs) ys = ap (λ (l : List (List ℕ)). mark_in_body x.body ++ l) (marks_append xs ys) ∙ sym (append_assoc (mark_in_body x.body) (marks_in xs) (marks_in ys))
 
 module _ (entry : Entry) (stage : Stage) (history : History) (more : List RawCommit) (some : 1 ≤ entry.config.chunk) (grown : HasGrown stage.history history more) (reading : IsReading entry stage) where
-  abbrev counted : IsCounted stage.first.infos entry.config.chunk stage.number reading.closed entry.history stage.history stage.following.window stage.first.cursors stage.following.cursors
-  counted = reading.counted
+  abbrev come : HaveComeOn stage.first.infos entry.config.chunk reading.closed stage.history stage.first.cursors stage.following.cursors
+  come = reading.counted.come
 
   within : (a b c : ℕ) → a ≤ b → b ≤ c → a ≤ c
   within a b c one two = omega (arith, one, two)
 
   -- the list has each pair that was read
-  has_read : (pairs : List (ℕ × Key)) → CoverRows stage.first.infos history pairs → (i : ℕ) (pair : ℕ × Key) → slice_get counted.read i ≡ Some pair → Has pairs pair
+  has_read : (pairs : List (ℕ × Key)) → CoverRows stage.first.infos history pairs → (i : ℕ) (pair : ℕ × Key) → slice_get come.read i ≡ Some pair → Has pairs pair
   has_read pairs cover i pair at =
-      let was : WasRead stage.first.infos stage.history stage.following.cursors pair = at_all (WasRead stage.first.infos stage.history stage.following.cursors) counted.read i pair counted.were at in
+      let was : WasRead stage.first.infos stage.history stage.following.cursors pair = at_all (WasRead stage.first.infos stage.history stage.following.cursors) come.read i pair come.were at in
       let found : Contains pairs pair = cover was.place pair.0 pair.1 was.row (within was.place (length stage.history.commits) (length history.commits) was.within (long_on stage.history history more grown.commits))
       (ap (λ (rows : Rows). rows pair.0 pair.1) (rows_on stage.history history more grown.commits stage.first.infos was.place was.within) ∙ was.was) in
       (found.0, has_from pairs found.0 pair found.1 found.2)
 
-  few_full : (pairs : List (ℕ × Key)) → CoverRows stage.first.infos history pairs → counted.full ≤ length pairs / entry.config.chunk
+  few_full : (pairs : List (ℕ × Key)) → CoverRows stage.first.infos history pairs → come.full ≤ length pairs / entry.config.chunk
   few_full pairs cover =
-      le-div counted.full (length pairs) entry.config.chunk (positive entry.config.chunk some)
-      (subst (λ (n : ℕ). n ≤ length pairs) counted.many (not_longer counted.read pairs counted.apart.apart (has_read pairs cover)))
+      le-div come.full (length pairs) entry.config.chunk (positive entry.config.chunk some)
+      (subst (λ (n : ℕ). n ≤ length pairs) come.many (not_longer come.read pairs come.apart.apart (has_read pairs cover)))
     where
       positive : (n : ℕ) → 1 ≤ n → 0 < n
       positive n le = omega (arith, le)
@@ -175,19 +175,19 @@ module _ (entry : Entry) (stage : Stage) (history : History) (more : List RawCom
   few_at_rest : length (marks_in more) ≡ 0 → HasFewMarks stage.first.infos entry.config.chunk entry.history history
   few_at_rest none = record {
     windows = stage.number;
-    marks = none_more (length (marks_in history.commits)) (length (marks_in stage.history.commits)) (length (marks_in more)) (length (marks_in entry.history.commits)) stage.number all_marks counted.marks none;
+    marks = none_more (length (marks_in history.commits)) (length (marks_in stage.history.commits)) (length (marks_in more)) (length (marks_in entry.history.commits)) stage.number all_marks reading.counted.marks none;
     few = λ pairs cover. (
-        sum_few stage.number reading.closed (waiting stage.following.window) counted.full counted.ended (ended_of stage.first.cursors) (ended_of stage.following.cursors) (length stage.following.cursors) (length stage.first.infos) (length pairs / entry.config.chunk)
-        counted.windows counted.each counted.tables (while_waits stage.first.infos entry.config.chunk stage.history stage.following.cursors stage.following.window counted.waits) many_tables (few_full pairs cover));
+        sum_few stage.number reading.closed (waiting stage.following.window) come.full come.ended (ended_of stage.first.cursors) (ended_of stage.following.cursors) (length stage.following.cursors) (length stage.first.infos) (length pairs / entry.config.chunk)
+        reading.counted.windows come.each come.tables (while_waits stage.first.infos entry.config.chunk stage.history stage.following.cursors stage.following.window reading.counted.waits) many_tables (few_full pairs cover));
   }
 
   few_in_window : length (marks_in more) ≤ 2 → stage.following.window ≡ Absent → (AllByRecursion (λ cursor. cursor.done ≡ true) stage.following.cursors → ⊥) → HasFewMarks stage.first.infos entry.config.chunk entry.history history
   few_in_window few absent left_open = record {
     windows = stage.number + 1;
-    marks = two_more (length (marks_in history.commits)) (length (marks_in stage.history.commits)) (length (marks_in more)) (length (marks_in entry.history.commits)) stage.number all_marks counted.marks few;
+    marks = two_more (length (marks_in history.commits)) (length (marks_in stage.history.commits)) (length (marks_in more)) (length (marks_in entry.history.commits)) stage.number all_marks reading.counted.marks few;
     few = λ pairs cover. (
-        sum_next stage.number reading.closed (waiting stage.following.window) counted.full counted.ended (ended_of stage.first.cursors) (ended_of stage.following.cursors) (length stage.following.cursors) (length stage.first.infos) (length pairs / entry.config.chunk)
-        counted.windows (ap waiting absent) counted.each counted.tables (one_open stage.following.cursors left_open) many_tables (few_full pairs cover));
+        sum_next stage.number reading.closed (waiting stage.following.window) come.full come.ended (ended_of stage.first.cursors) (ended_of stage.following.cursors) (length stage.following.cursors) (length stage.first.infos) (length pairs / entry.config.chunk)
+        reading.counted.windows (ap waiting absent) come.each come.tables (one_open stage.following.cursors left_open) many_tables (few_full pairs cover));
   }
 
 pub few_marks_are_written : FewMarksAreWritten

@@ -1,7 +1,7 @@
 -- How many windows were read, behind one commit more.
 use Rattle.std.proofs.Common.{◌≡◌, ◌∙◌, ◌⊎◌, inl, inr, ◌+◌, ◌*◌, ◌≤◌, ℕ, zero, suc, Bool, true, false, cond, Option, Some, None, List, [], ◌∷◌, ◌++◌, length, map, refl, sym, ap, subst, arith, suc-mul, length-append}
 use Rattle.std.specs.Prelude.{if◌then◌else◌, nat_lt, slice_get, slice_set, bytes_eq}
-use Rattle.std.specs.List.{AllByRecursion}
+use Rattle.std.specs.List.{AllByRecursion, AllZip}
 use Rattle.std.specs.declared.cmp.Ordering.TheVariants.{Less}
 use Rattle.std.proofs.lemmas.Bool.Decides.{nat_tests}
 use Rattle.std.proofs.lemmas.List.{length-map}
@@ -22,13 +22,15 @@ use Rattle.dbl_history.specs.KeyedRows.{row_in, AreAbove, last_key}
 use Rattle.dbl_history.proofs.BoundLemmas.{not_below_itself, bounds_part, above_goes_on, up_to_last, row_in-first}
 use Rattle.dbl_honest.specs.Selected.{rows_behind}
 use Rattle.dbl_agreement.proofs.Notices.{all_append}
-use Rattle.dbl_faithful.proofs.Items.{first_some, at_cases, at_all, all_by_place, all_weaker, mapped}
+use Rattle.dbl_faithful.proofs.Items.{first_some, at_cases, at_all, all_by_place, all_weaker, mapped, zip_beside}
+use Rattle.dbl_stores.specs.Onward.{IsLaterCursor}
+use Rattle.dbl_stores.proofs.Onward.{cursors_stay, cursors_go_on}
 use Rattle.dbl_window.specs.Plans.{Plan, Chunk, low_text, high_text}
 use Rattle.dbl_follow.specs.declared.window.Window.{Window}
 use Rattle.dbl_follow.specs.declared.window.Window.TheVariants.{Absent, Armed, Open}
 use Rattle.dbl_follow.specs.Followed.{Following}
 use Rattle.dbl_follow.specs.Steps.{Becomes, Steps, mark_in, mark_of, closing, cursors_behind}
-use Rattle.dbl_session.specs.Counted.{waiting, ended_of, WasRead, AreApart, IsOnTable, IsWaiting, IsCounted}
+use Rattle.dbl_session.specs.Counted.{waiting, ended_of, WasRead, WasUnread, AreApart, IsOnTable, IsWaiting, HaveComeOn, IsCounted}
 use Rattle.dbl_session.proofs.Telling.{windows_in}
 
 -- ---- rows above a bound, at their places
@@ -145,6 +147,30 @@ was_moved infos history cursors table old new at more pair was = by (same_or_oth
       read = was.read;
     }
 
+moved_later : (cursors : List Cursor) (k : ℕ) (old new : Cursor) → slice_get cursors k ≡ Some old → IsLaterCursor old new → AllZip IsLaterCursor cursors (slice_set cursors k new)
+moved_later [] k old new at is = cc
+moved_later (c ∷ cursors) zero old new at is = (subst (λ (x : Cursor). IsLaterCursor x new) (sym (first_some c old at)) is, cursors_stay cursors)
+moved_later (c ∷ cursors) (suc k) old new at is = (record { last = λ key up. up; done = λ done. done }, moved_later cursors k old new at is)
+
+open_done : (a b : Bool) → a ≡ false → a ≡ true → b ≡ true
+open_done false b not_done done = cc
+open_done true b not_done done = cc
+
+pub come_stays : (infos : List TableInfo) (limit closed : ℕ) (old new : History) (begun cursors : List Cursor) → ((pair : ℕ × Key) → WasRead infos old cursors pair → WasRead infos new cursors pair)
+    → HaveComeOn infos limit closed old begun cursors → HaveComeOn infos limit closed new begun cursors
+come_stays infos limit closed old new begun cursors stays come = record {
+  full = come.full;
+  ended = come.ended;
+  each = come.each;
+  tables = come.tables;
+  read = come.read;
+  many = come.many;
+  were = all_weaker (WasRead infos old cursors) (WasRead infos new cursors) come.read stays come.were;
+  unread = come.unread;
+  apart = come.apart;
+  later = come.later;
+}
+
 -- ---- a window that is closed
 
 abbrev pair_of : ℕ → Key × Row → ℕ × Key
@@ -194,17 +220,27 @@ module _ (infos : List TableInfo) (limit : ℕ) (history : History) (cursors : L
       (let from = mapped (pair_of chunk.plan.table) selected_rows j pair at in
       subst (WasRead infos history new_cursors) (sym from.2) (was_selected j from.0 from.1)))
 
+  -- the cursors hadn't come to any of them
+  unread_now : (j : ℕ) (pair : ℕ × Key) → slice_get new_pairs j ≡ Some pair → WasUnread cursors pair
+  unread_now j pair at_new cursor at read =
+      let from = mapped (pair_of chunk.plan.table) selected_rows j pair at_new in
+      let table : pair.0 ≡ chunk.plan.table = ap (λ (p : ℕ × Key). p.0) from.2 in
+      let key : pair.1 ≡ from.0.0 = ap (λ (p : ℕ × Key). p.1) from.2 in
+      let same : cursor ≡ is.cursor = first_some cursor is.cursor (sym at ∙ (ap (λ (n : ℕ). slice_get cursors n) table ∙ is.cursor_is)) in
+      let up : IsUpTo is.selected.plan.above pair.1 = subst (λ (b : Option Key). IsUpTo b pair.1) (ap (λ (c : Cursor). c.last) same ∙ above_is) read in
+      let above : IsAbove is.selected.plan.above pair.1 = subst (IsAbove is.selected.plan.above) (sym key) (each_above is.selected.plan.above selected_rows j from.0 is.rows.first.ordered from.1) in
+      (bounds_part is.selected.plan.above pair.1).not_both above up
+
+  unread_before : (begun : List Cursor) → AllZip IsLaterCursor begun cursors → AllByRecursion (WasUnread begun) new_pairs
+  unread_before begun later = all_by_place (WasUnread begun) new_pairs (λ j pair at cursor at_begun up.
+      (let now = zip_beside IsLaterCursor begun cursors pair.0 cursor later at_begun in
+      unread_now j pair at now.0 now.1 (now.2.last pair.1 up)))
+
   -- none of them was read before
   not_before : (read : List (ℕ × Key)) → AllByRecursion (WasRead infos history cursors) read → (i j : ℕ) (pair : ℕ × Key) → slice_get read i ≡ Some pair → slice_get new_pairs j ≡ Some pair → ⊥
   not_before read were i j pair at_read at_new =
       let was : WasRead infos history cursors pair = at_all (WasRead infos history cursors) read i pair were at_read in
-      let from = mapped (pair_of chunk.plan.table) selected_rows j pair at_new in
-      let table : pair.0 ≡ chunk.plan.table = ap (λ (p : ℕ × Key). p.0) from.2 in
-      let key : pair.1 ≡ from.0.0 = ap (λ (p : ℕ × Key). p.1) from.2 in
-      let cursor : was.cursor ≡ is.cursor = first_some was.cursor is.cursor (sym was.cursor_is ∙ (ap (λ (n : ℕ). slice_get cursors n) table ∙ is.cursor_is)) in
-      let up : IsUpTo is.selected.plan.above pair.1 = subst (λ (b : Option Key). IsUpTo b pair.1) (ap (λ (c : Cursor). c.last) cursor ∙ above_is) was.read in
-      let above : IsAbove is.selected.plan.above pair.1 = subst (IsAbove is.selected.plan.above) (sym key) (each_above is.selected.plan.above selected_rows j from.0 is.rows.first.ordered from.1) in
-      (bounds_part is.selected.plan.above pair.1).not_both above up
+      unread_now j pair at_new was.cursor was.cursor_is was.read
 
   -- where a pair of both lists stands
   abbrev Found : List (ℕ × Key) → ℕ → ℕ × Key → Type 0
@@ -250,36 +286,46 @@ module _ (infos : List TableInfo) (limit : ℕ) (history : History) (cursors : L
   tables_on : (a b c d n : ℕ) → a + b ≡ c → d ≡ c + n → n ≡ 1 → a + suc b ≡ d
   tables_on a b c d n one two three = omega (arith, one, two, three)
 
-  closed_counts : (number closed : ℕ) (entry : History) (window : Window) (begun : List Cursor) → waiting window ≡ 1 → IsCounted infos limit number closed entry history window begun cursors
-      → (done : Bool) → chunk.done ≡ done → IsCounted infos limit number (suc closed) entry history Absent begun new_cursors
-  closed_counts number closed entry window begun waits counted true done = record {
-    marks = counted.marks;
-    windows = closed_one number closed (waiting window) counted.windows waits;
-    waits = tt;
-    full = counted.full;
-    ended = suc counted.ended;
-    each = (each_on closed counted.full counted.ended counted.each).1;
-    tables = tables_on (ended_of begun) counted.ended (ended_of cursors) (ended_of new_cursors) (cond chunk.done 1 0) counted.tables (ended_set cursors chunk.plan.table is.cursor moved is.cursor_is is.not_done) (ap (λ (b : Bool). cond b 1 0) done);
-    read = counted.read;
-    many = counted.many;
-    were = all_weaker (WasRead infos history cursors) (WasRead infos history new_cursors) counted.read (was_moved infos history cursors chunk.plan.table is.cursor moved is.cursor_is reads_on) counted.were;
-    apart = counted.apart;
+  -- nothing is taken back of what was read of its table
+  later_on : (begun : List Cursor) → AllZip IsLaterCursor begun cursors → AllZip IsLaterCursor begun new_cursors
+  later_on begun later = cursors_go_on begun cursors new_cursors later (moved_later cursors chunk.plan.table is.cursor moved is.cursor_is (record { last = reads_on; done = λ done. open_done is.cursor.done moved.done is.not_done done }))
+
+  come_on : (closed : ℕ) (begun : List Cursor) → HaveComeOn infos limit closed history begun cursors → (done : Bool) → chunk.done ≡ done → HaveComeOn infos limit (suc closed) history begun new_cursors
+  come_on closed begun come true done = record {
+    full = come.full;
+    ended = suc come.ended;
+    each = (each_on closed come.full come.ended come.each).1;
+    tables = tables_on (ended_of begun) come.ended (ended_of cursors) (ended_of new_cursors) (cond chunk.done 1 0) come.tables (ended_set cursors chunk.plan.table is.cursor moved is.cursor_is is.not_done) (ap (λ (b : Bool). cond b 1 0) done);
+    read = come.read;
+    many = come.many;
+    were = all_weaker (WasRead infos history cursors) (WasRead infos history new_cursors) come.read (was_moved infos history cursors chunk.plan.table is.cursor moved is.cursor_is reads_on) come.were;
+    unread = come.unread;
+    apart = come.apart;
+    later = later_on begun come.later;
   }
-  closed_counts number closed entry window begun waits counted false done = record {
+  come_on closed begun come false done = record {
+    full = suc come.full;
+    ended = come.ended;
+    each = (each_on closed come.full come.ended come.each).0;
+    tables = tables_still (ended_of begun) come.ended (ended_of cursors) (ended_of new_cursors) (cond chunk.done 1 0) come.tables (ended_set cursors chunk.plan.table is.cursor moved is.cursor_is is.not_done) (ap (λ (b : Bool). cond b 1 0) done);
+    read = come.read ++ new_pairs;
+    many = more_pairs (length (come.read ++ new_pairs)) (length come.read) (length new_pairs) come.full limit (length-append come.read new_pairs) come.many
+        (length-map selected_rows (pair_of chunk.plan.table) ∙ was_full done);
+    were = all_append (WasRead infos history new_cursors) come.read new_pairs
+        (all_weaker (WasRead infos history cursors) (WasRead infos history new_cursors) come.read (was_moved infos history cursors chunk.plan.table is.cursor moved is.cursor_is reads_on) come.were)
+        all_selected;
+    unread = all_append (WasUnread begun) come.read new_pairs come.unread (unread_before begun come.later);
+    apart = apart_on come.read come.were come.apart;
+    later = later_on begun come.later;
+  }
+
+  closed_counts : (number closed : ℕ) (entry : History) (window : Window) (begun : List Cursor) → waiting window ≡ 1 → IsCounted infos limit number closed entry history window begun cursors
+      → IsCounted infos limit number (suc closed) entry history Absent begun new_cursors
+  closed_counts number closed entry window begun waits counted = record {
     marks = counted.marks;
     windows = closed_one number closed (waiting window) counted.windows waits;
     waits = tt;
-    full = suc counted.full;
-    ended = counted.ended;
-    each = (each_on closed counted.full counted.ended counted.each).0;
-    tables = tables_still (ended_of begun) counted.ended (ended_of cursors) (ended_of new_cursors) (cond chunk.done 1 0) counted.tables (ended_set cursors chunk.plan.table is.cursor moved is.cursor_is is.not_done) (ap (λ (b : Bool). cond b 1 0) done);
-    read = counted.read ++ new_pairs;
-    many = more_pairs (length (counted.read ++ new_pairs)) (length counted.read) (length new_pairs) counted.full limit (length-append counted.read new_pairs) counted.many
-        (length-map selected_rows (pair_of chunk.plan.table) ∙ was_full done);
-    were = all_append (WasRead infos history new_cursors) counted.read new_pairs
-        (all_weaker (WasRead infos history cursors) (WasRead infos history new_cursors) counted.read (was_moved infos history cursors chunk.plan.table is.cursor moved is.cursor_is reads_on) counted.were)
-        all_selected;
-    apart = apart_on counted.read counted.were counted.apart;
+    come = come_on closed begun counted.come chunk.done refl;
   }
 
 -- ---- a commit
@@ -310,14 +356,7 @@ waits_on infos limit number closed entry history old new begun cursors same wait
   marks = counted.marks;
   windows = counted.windows ∙ ap (λ (n : ℕ). closed + n) (sym same);
   waits = waits;
-  full = counted.full;
-  ended = counted.ended;
-  each = counted.each;
-  tables = counted.tables;
-  read = counted.read;
-  many = counted.many;
-  were = counted.were;
-  apart = counted.apart;
+  come = counted.come;
 }
 
 pub record CountsOn (infos : List TableInfo) (chunk number : ℕ) (entry history : History) (begun : List Cursor) (new : Following) (before : ℕ) (o : Option Chunk) : Type 0 where
@@ -353,7 +392,7 @@ module _ (infos : List TableInfo) (limit number closed : ℕ) (entry history : H
     more = one_more closed;
     is = subst (λ (w : Window). IsCounted infos limit number (suc closed) entry history w begun new.cursors) (sym same_window)
         (subst (IsCounted infos limit number (suc closed) entry history Absent begun) (sym same_cursors)
-        (closed_counts infos limit history cursors chunk counted.waits number closed entry (Open chunk) begun refl counted chunk.done refl));
+        (closed_counts infos limit history cursors chunk counted.waits number closed entry (Open chunk) begun refl counted));
   }
   at_mark cursors chunk false same_cursors same_window counted = still cursors (Open chunk) (Open chunk) same_cursors same_window refl counted.waits counted
 

@@ -1,13 +1,14 @@
 -- What a session leaves where it ends.
 use Rattle.std.proofs.Common.{◌≡◌, ◌∙◌, ◌⊎◌, inl, inr, ◌≤◌, ◌<◌, ℕ, max, Option, Some, None, List, [], ◌∷◌, ◌++◌, length, map, refl, sym, ap, subst, arith, append_assoc, le_refl}
 use Rattle.std.specs.Prelude.{IfSome}
-use Rattle.std.specs.List.{AllByRecursion}
+use Rattle.std.specs.List.{AllByRecursion, AllZip}
 use Rattle.dbl_base.specs.declared.lsn.Lsn.{Lsn}
 use Rattle.dbl_record.specs.declared.record.Record.{Record}
 use Rattle.dbl_record.specs.Cuts.{joined}
 use Rattle.dbl_table.specs.declared.identity.Identity.{Identity}
 use Rattle.dbl_table.specs.declared.table.TableInfo.{TableInfo}
 use Rattle.dbl_table.specs.declared.change.Commit.{Commit}
+use Rattle.dbl_history.specs.declared.cursor.Cursor.{Cursor}
 use Rattle.dbl_history.specs.History.{AreRising, RawCommit, History, IsRising}
 use Rattle.dbl_history.specs.Fit.{IsFitHistory}
 use Rattle.dbl_history.specs.Typed.{typed}
@@ -19,7 +20,7 @@ use Rattle.dbl_faithful.proofs.Items.{all_weaker}
 use Rattle.dbl_stores.specs.Stores.{IsCommitAt, IsPositionOf, StandTogether, top_position, repeated, lag}
 use Rattle.dbl_stores.specs.Behind.{IsOffsetOf}
 use Rattle.dbl_stores.specs.Faithful.{commits_of, IsFaithful}
-use Rattle.dbl_stores.specs.Onward.{OffsetGoesOn, GoesOnward, Adds}
+use Rattle.dbl_stores.specs.Onward.{IsLaterCursor, OffsetGoesOn, GoesOnward, Adds}
 use Rattle.dbl_stores.proofs.Faithful.{faithful_records_stand, caught_up_stores_are_faithful}
 use Rattle.dbl_stores.proofs.Positions.{lags_are_bounded, repeated_commits_stand_together}
 use Rattle.dbl_window.proofs.HonestLemmas.{captured_stays}
@@ -69,19 +70,20 @@ same_le a b is = omega (arith, is)
 
 -- it goes on from the offset that the session found
 pub offset_goes : (entry : Entry) (history new : History) (more : List RawCommit) (first offset : Offset) (old : Option Offset) → new ≡ longer history more → IsFirstOf entry history first old → IsOfSession first offset → first.lsn.0 ≤ offset.lsn.0
-    → OffsetGoesOn entry.config entry.history new old (Some offset)
-offset_goes entry history new more first offset None same began is le = record {
+    → AllZip IsLaterCursor first.cursors offset.cursors → OffsetGoesOn entry.config entry.history new old (Some offset)
+offset_goes entry history new more first offset None same began is le later = record {
   identity = is.identity ∙ began.0.identity;
   tables = ap (map (λ (info : TableInfo). info.name)) is.infos ∙ began.0.tables;
   start = subst (λ (h : History). IsPositionOf h offset.start.0) (sym same) (still_position history more offset.start.0 (subst (λ (s : Lsn). IsPositionOf history s.0) (sym is.start) began.0.start));
   not_before = subst (λ (s : Lsn). AllByRecursion (λ (c : RawCommit). c.lsn.0 ≤ s.0) entry.history.commits) (sym is.start) began.0.not_before;
   incarnation = is.incarnation ∙ began.0.incarnation;
 }
-offset_goes entry history new more first offset (Some old) same began is le = record {
+offset_goes entry history new more first offset (Some old) same began is le later = record {
   identity = is.identity ∙ began.0.identity;
   infos = is.infos ∙ began.0.infos;
   start = is.start ∙ began.0.start;
   lsn = le_on old.lsn.0 first.lsn.0 offset.lsn.0 (same_le first.lsn.0 old.lsn.0 (ap (λ (l : Lsn). l.0) began.0.lsn)) le;
+  cursors = subst (λ (l : List Cursor). AllZip IsLaterCursor l offset.cursors) began.0.cursors later;
   incarnation = inr (is.incarnation ∙ began.1);
 }
 
@@ -166,15 +168,16 @@ module _ (entry : Entry) (stage : Stage) (left : Left) (faithful : WasFaithful e
     rise = kept.adds.rise;
   }
 
-  onward_at : (offset : Offset) → IsOfSession stage.first offset → stage.first.lsn.0 ≤ offset.lsn.0 → GoesOnward entry.config (stores_at entry) (stores_left left stage.groups (Some offset))
-  onward_at offset is le = record {
+  onward_at : (offset : Offset) → IsOfSession stage.first offset → stage.first.lsn.0 ≤ offset.lsn.0 → AllZip IsLaterCursor stage.first.cursors offset.cursors
+      → GoesOnward entry.config (stores_at entry) (stores_left left stage.groups (Some offset))
+  onward_at offset is le later = record {
     tables = may.grown.tables ∙ going.reading.grown.tables;
     commits = record {
       more = going.reading.more ++ may.more;
       is = may.grown.commits ∙ (ap (λ (l : List RawCommit). l ++ may.more) going.reading.grown.commits ∙ append_assoc entry.history.commits going.reading.more may.more);
     };
     records = record { more = kept.adds.more; is = kept.adds.is };
-    offset = offset_goes entry stage.history left.history may.more stage.first offset entry.offset same going.reading.began is le;
+    offset = offset_goes entry stage.history left.history may.more stage.first offset entry.offset same going.reading.began is le later;
   }
 
   near_left : (offset : Offset) → stage.stored.lsn.0 ≤ offset.lsn.0 → top_position (records_at stage) ≤ stage.lsn.0 → lag left.history (records_at stage) (Some offset) ≤ max entry.config.every (lag entry.history (joined entry.groups) entry.offset)
@@ -219,8 +222,8 @@ module _ (entry : Entry) (stage : Stage) (left : Left) (faithful : WasFaithful e
   -- ---- all of it
 
   pub follows_at : (offset : Offset) → IsOfSession stage.first offset → stage.stored.lsn.0 ≤ offset.lsn.0 → offset.lsn.0 ≤ stage.lsn.0 → IsOffsetOf stage.history stage.confirmed (records_at stage) offset
-      → Follows entry left stage.groups (Some offset)
-  follows_at offset is from to of =
+      → AllZip IsLaterCursor stage.first.cursors offset.cursors → Follows entry left stage.groups (Some offset)
+  follows_at offset is from to of later =
       let low : left.confirmed.0 ≤ offset.lsn.0 = le_on left.confirmed.0 stage.stored.lsn.0 offset.lsn.0 may.confirmed from in
       let over : AllByRecursion (λ (c : Commit). offset.lsn.0 < c.lsn.0) (placed.parts.later ++ new entry stage may.more fit_longer) =
       all_weaker (λ (c : Commit). stage.lsn.0 < c.lsn.0) (λ (c : Commit). offset.lsn.0 < c.lsn.0) (placed.parts.later ++ new entry stage may.more fit_longer) (λ c lt. lt_on offset.lsn.0 stage.lsn.0 c.lsn.0 to lt) over_later in
@@ -229,7 +232,8 @@ module _ (entry : Entry) (stage : Stage) (left : Left) (faithful : WasFaithful e
       record {
         faithful = caught_up_stores_are_faithful left.history left.confirmed (records_at stage) offset (placed.parts.old ++ read_at stage) (placed.parts.later ++ new entry stage may.more fit_longer) (far_at entry stage) 0 over
             (offset_left offset is.incarnation low of) up;
-        onward = onward_at offset is (le_on stage.first.lsn.0 stage.stored.lsn.0 offset.lsn.0 kept.from from);
+        onward = onward_at offset is (le_on stage.first.lsn.0 stage.stored.lsn.0 offset.lsn.0 kept.from from) later;
+        no_fall = le_on entry.confirmed.0 stage.confirmed.0 left.confirmed.0 going.reading.no_fall may.no_fall;
         adds = adds_at offset is;
         grouped = kept.grouped;
         lag_is = lag_left offset from;
@@ -238,9 +242,9 @@ module _ (entry : Entry) (stage : Stage) (left : Left) (faithful : WasFaithful e
 pub sources_may_end : SourcesMayEnd
 sources_may_end entry stage left faithful may going =
     let k = going.kept (stood_of entry faithful) faithful in
-    follows_at entry stage left faithful may going stage.stored going.reading.of_session (le_refl stage.stored.lsn.0) k.to k.stored_is
+    follows_at entry stage left faithful may going stage.stored going.reading.of_session (le_refl stage.stored.lsn.0) k.to k.stored_is going.reading.stored_later
 
 pub stores_may_end : StoresMayEnd
 stores_may_end entry stage left faithful may going =
     let k = going.kept (stood_of entry faithful) faithful in
-    follows_at entry stage left faithful may going (next_offset stage) (record { identity = refl; infos = refl; start = refl; incarnation = refl }) k.to (le_refl stage.lsn.0) k.next_is
+    follows_at entry stage left faithful may going (next_offset stage) (record { identity = refl; infos = refl; start = refl; incarnation = refl }) k.to (le_refl stage.lsn.0) k.next_is going.reading.counted.come.later

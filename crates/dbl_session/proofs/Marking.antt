@@ -25,6 +25,7 @@ use Rattle.dbl_follow.specs.declared.window.Window.{Window}
 use Rattle.dbl_follow.specs.declared.window.Window.TheVariants.{Absent, Armed, Open}
 use Rattle.dbl_session.specs.Marked.{IsMarkAt, AreOwnMarks, IsAwaited, IsMarked, IsWindowAt}
 use Rattle.dbl_session.specs.Counted.{WasRead, IsOnTable, IsWaiting, IsCounted}
+use Rattle.dbl_session.proofs.Counts.{come_stays}
 
 -- a mark stands at one of the commits that there are
 place_lt : {X : Type 0} (xs : List X) (k : ℕ) (x : X) → slice_get xs k ≡ Some x → k < length xs
@@ -163,12 +164,5 @@ module _ (old new : History) (g : Grows old new) where
       marks = ap length (no_mark_more old new g) ∙ is.marks;
       windows = is.windows;
       waits = waiting_stays chunk cursors window is.waits;
-      full = is.full;
-      ended = is.ended;
-      each = is.each;
-      tables = is.tables;
-      read = is.read;
-      many = is.many;
-      were = all_weaker (WasRead infos old cursors) (WasRead infos new cursors) is.read (was_read_stays cursors) is.were;
-      apart = is.apart;
+      come = come_stays infos chunk closed old new begun cursors (was_read_stays cursors) is.come;
     }

@@ -107,8 +107,9 @@ module _ (entry : Entry) (stage : Stage) (m : Message) (commit : Commit) (new : 
       tables = going.reading.grown.tables;
       commits = record { more = going.reading.more; is = going.reading.grown.commits };
       records = record { more = k.adds.more ++ some; is = joined_is ∙ all_is };
-      offset = offset_goes entry stage.history stage.history [] stage.first stage.stored entry.offset (itself stage.history) going.reading.began going.reading.of_session k.from;
+      offset = offset_goes entry stage.history stage.history [] stage.first stage.stored entry.offset (itself stage.history) going.reading.began going.reading.of_session k.from going.reading.stored_later;
     };
+    no_fall = going.reading.no_fall;
     adds = record {
       more = k.adds.more ++ some;
       is = joined_is ∙ all_is;

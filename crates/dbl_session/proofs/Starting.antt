@@ -33,6 +33,7 @@ use Rattle.dbl_session.specs.Stages.{Stage, IsParted}
 use Rattle.dbl_session.specs.Counted.{ended_of}
 use Rattle.dbl_session.specs.Going.{IsFirstOf, BeganWith, IsKept}
 use Rattle.dbl_session.specs.Steps.{SessionsBegin, begun_at, following_of}
+use Rattle.dbl_stores.proofs.Onward.{cursors_stay}
 use Rattle.dbl_stores.proofs.Lists.{is_longer, still_position, typed_more}
 use Rattle.dbl_stores.proofs.Splits.{split_once, split_front}
 use Rattle.dbl_session.proofs.Sending.{far_on}
@@ -207,6 +208,8 @@ sessions_begin entry history first some small grows fit_found fit infos cursors 
     began = began;
     first_small = small;
     of_session = record { identity = refl; infos = refl; start = refl; incarnation = refl };
+    stored_later = cursors_stay first.cursors;
+    no_fall = le_refl entry.confirmed.0;
     more = grows.others;
     grown = record { tables = grows.tables; commits = grows.commits };
     fit = fit;
@@ -222,14 +225,18 @@ sessions_begin entry history first some small grows fit_found fit infos cursors 
       marks = ap length (no_mark_more entry.history history grows) ∙ plus_none (length (marks_in entry.history.commits));
       windows = refl;
       waits = tt;
-      full = 0;
-      ended = 0;
-      each = refl;
-      tables = and_none (ended_of first.cursors);
-      read = [];
-      many = no_rows entry.config.chunk;
-      were = tt;
-      apart = record { apart = λ i j pair one two. (let wrong : ⊥ = cc in absurd wrong) };
+      come = record {
+        full = 0;
+        ended = 0;
+        each = refl;
+        tables = and_none (ended_of first.cursors);
+        read = [];
+        many = no_rows entry.config.chunk;
+        were = tt;
+        unread = tt;
+        apart = record { apart = λ i j pair one two. (let wrong : ⊥ = cc in absurd wrong) };
+        later = cursors_stay first.cursors;
+      };
     };
     told = record { more = []; gained = sym (append-nil entry.groups); each = refl };
   };

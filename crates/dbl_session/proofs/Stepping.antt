@@ -19,7 +19,8 @@ use Rattle.dbl_window.proofs.HonestLemmas.{captured_stays}
 use Rattle.dbl_session.specs.Entries.{Entry}
 use Rattle.dbl_session.specs.Stages.{Stage, records_at, next_offset, commits_at, read_at, IsParted, behind_of, far_at}
 use Rattle.dbl_session.specs.Marked.{IsAwaited, IsWindowAt}
-use Rattle.dbl_session.specs.Going.{IsReading, IsGoing, begun_behind}
+use Rattle.dbl_offset.specs.declared.offset.Offset.{Offset}
+use Rattle.dbl_session.specs.Going.{IsReading, IsNear, IsGoing, begun_behind}
 use Rattle.dbl_session.specs.Steps.{OthersKeepGoing, ConfirmsKeepGoing, MessagesKeepGoing, StoresKeepGoing, stored_at}
 use Rattle.dbl_stores.proofs.Lists.{longer, is_longer, still_at, still_position}
 use Rattle.dbl_session.proofs.Growing.{first_longer, confirmed_so, reads_longer, parts_longer, offset_longer, up_longer, near_longer}
@@ -38,6 +39,8 @@ others_longer entry stage more others g fit going = record {
     began = first_longer entry stage.history more stage.first entry.offset r.began;
     first_small = r.first_small;
     of_session = r.of_session;
+    stored_later = r.stored_later;
+    no_fall = r.no_fall;
     more = r.more ++ more;
     grown = record { tables = r.grown.tables; commits = ap (λ (l : List RawCommit). l ++ more) r.grown.commits ∙ append_assoc entry.history.commits r.more more };
     fit = fit;
@@ -103,8 +106,11 @@ both_le a b c d is one two = omega (arith, is, one, two)
 le_on : (a b c : ℕ) → a ≤ b → b ≤ c → a ≤ c
 le_on a b c one two = omega (arith, one, two)
 
-abbrev parts_confirmed : (stage : Stage) (confirmed : Lsn) → IsParted stage → IsParted (record stage { confirmed = confirmed })
-parts_confirmed stage confirmed parts = record {
+le_greater : (a b c d : ℕ) → a ≤ b → d ≡ max b c → a ≤ d
+le_greater a b c d le is = omega (arith, le, is)
+
+abbrev parts_as : (stage : Stage) (confirmed : Lsn) (stored : Offset) (since : ℕ) → IsParted stage → IsParted (record stage { confirmed = confirmed; stored = stored; since = since })
+parts_as stage confirmed stored since parts = record {
   old = parts.old;
   later = parts.later;
   spelled = parts.spelled;
@@ -115,12 +121,29 @@ parts_confirmed stage confirmed parts = record {
   order = parts.order;
 }
 
+-- it is as near with other messages, and with another confirmed position
+near_as : (entry : Entry) (stage : Stage) (messages : List Message) (confirmed : Lsn) → IsNear entry stage → IsNear entry (record stage { messages = messages; confirmed = confirmed })
+near_as entry stage messages confirmed near = record {
+  before = near.before;
+  since = near.since;
+  later = near.later;
+  spelled = near.spelled;
+  settled = near.settled;
+  followed = near.followed;
+  many = near.many;
+  over = near.over;
+  few = near.few;
+  top = near.top;
+}
+
 confirmed_going : (entry : Entry) (stage : Stage) (confirmed upto : Lsn) → upto.0 ≤ stage.stored.lsn.0 → confirmed.0 ≡ max stage.confirmed.0 upto.0 → IsGoing entry stage → IsGoing entry (record stage { confirmed = confirmed })
 confirmed_going entry stage confirmed upto le is going = record {
   reading = record {
     began = going.reading.began;
     first_small = going.reading.first_small;
     of_session = going.reading.of_session;
+    stored_later = going.reading.stored_later;
+    no_fall = le_greater entry.confirmed.0 stage.confirmed.0 upto.0 confirmed.0 going.reading.no_fall is;
     more = going.reading.more;
     grown = going.reading.grown;
     fit = going.reading.fit;
@@ -137,7 +160,7 @@ confirmed_going entry stage confirmed upto le is going = record {
   };
   placed = λ stood. record {
     position = (going.placed stood).position;
-    parts = parts_confirmed stage confirmed (going.placed stood).parts;
+    parts = parts_as stage confirmed stage.stored stage.since (going.placed stood).parts;
     awaited = (going.placed stood).awaited;
   };
   kept = λ stood faithful. (
@@ -157,18 +180,7 @@ confirmed_going entry stage confirmed upto le is going = record {
         adds = k.adds;
         within = k.within;
         grouped = k.grouped;
-        near = record {
-          before = k.near.before;
-          since = k.near.since;
-          later = k.near.later;
-          spelled = k.near.spelled;
-          settled = k.near.settled;
-          followed = k.near.followed;
-          many = k.near.many;
-          over = k.near.over;
-          few = k.near.few;
-          top = k.near.top;
-        };
+        near = near_as entry stage stage.messages confirmed k.near;
         stand = k.stand;
       });
 }
@@ -200,6 +212,8 @@ messages_keep_going entry stage m fields clean none right going = record {
     began = going.reading.began;
     first_small = going.reading.first_small;
     of_session = going.reading.of_session;
+    stored_later = going.reading.stored_later;
+    no_fall = going.reading.no_fall;
     more = going.reading.more;
     grown = going.reading.grown;
     fit = going.reading.fit;
@@ -236,35 +250,12 @@ messages_keep_going entry stage m fields clean none right going = record {
         adds = k.adds;
         within = k.within;
         grouped = k.grouped;
-        near = record {
-          before = k.near.before;
-          since = k.near.since;
-          later = k.near.later;
-          spelled = k.near.spelled;
-          settled = k.near.settled;
-          followed = k.near.followed;
-          many = k.near.many;
-          over = k.near.over;
-          few = k.near.few;
-          top = k.near.top;
-        };
+        near = near_as entry stage (m ∷ stage.messages) stage.confirmed k.near;
         stand = k.stand;
       });
 }
 
 -- ---- a store
-
-abbrev parts_stored : (stage : Stage) → IsParted stage → IsParted (stored_at stage)
-parts_stored stage parts = record {
-  old = parts.old;
-  later = parts.later;
-  spelled = parts.spelled;
-  stated = parts.stated;
-  last = parts.last;
-  under = parts.under;
-  over = parts.over;
-  order = parts.order;
-}
 
 pub stores_keep_going : StoresKeepGoing
 stores_keep_going entry stage going = record {
@@ -272,6 +263,8 @@ stores_keep_going entry stage going = record {
     began = going.reading.began;
     first_small = going.reading.first_small;
     of_session = record { identity = refl; infos = refl; start = refl; incarnation = refl };
+    stored_later = going.reading.counted.come.later;
+    no_fall = going.reading.no_fall;
     more = going.reading.more;
     grown = going.reading.grown;
     fit = going.reading.fit;
@@ -288,7 +281,7 @@ stores_keep_going entry stage going = record {
   };
   placed = λ stood. record {
     position = (going.placed stood).position;
-    parts = parts_stored stage (going.placed stood).parts;
+    parts = parts_as stage stage.confirmed (next_offset stage) 0 (going.placed stood).parts;
     awaited = (going.placed stood).awaited;
   };
   kept = λ stood faithful. (

@@ -1,6 +1,6 @@
 -- How many windows a session has read, beside the rows of its tables. Source: own.
 use Rattle.std.specs.Prelude.{◌≡◌, ℕ, ◌+◌, ◌*◌, ◌≤◌, false, Some, List, length, count_by, slice_get}
-use Rattle.std.specs.List.{AllByRecursion}
+use Rattle.std.specs.List.{AllByRecursion, AllZip}
 use Rattle.dbl_value.specs.declared.value.Val.{Val}
 use Rattle.dbl_table.specs.declared.row.Key.{Key}
 use Rattle.dbl_table.specs.declared.table.TableInfo.{TableInfo}
@@ -9,6 +9,7 @@ use Rattle.dbl_history.specs.KeyBounds.{IsUpTo}
 use Rattle.dbl_history.specs.declared.cursor.Cursor.{Cursor}
 use Rattle.dbl_honest.specs.Growth.{marks_in}
 use Rattle.dbl_honest.specs.Selected.{rows_behind}
+use Rattle.dbl_stores.specs.Onward.{IsLaterCursor}
 use Rattle.dbl_window.specs.Plans.{Chunk}
 use Rattle.dbl_window.specs.Selected.{IsSelected}
 use Rattle.dbl_follow.specs.declared.window.Window.{Window}
@@ -61,18 +62,28 @@ IsWaiting infos limit history cursors Absent = Unit {0}
 IsWaiting infos limit history cursors (Armed chunk) = IsOnTable infos limit history cursors chunk
 IsWaiting infos limit history cursors (Open chunk) = IsOnTable infos limit history cursors chunk
 
--- Two marks were written for each window that was read. One window may wait; each other one is closed, and ended its table, or was
--- full: it read as many rows as it may, at keys that no other window of the session read.
-pub record IsCounted (infos : List TableInfo) (chunk number closed : ℕ) (old new : History) (window : Window)
-    (begun cursors : List Cursor) : Type 0 where
-  pub marks : length (marks_in new.commits) ≡ length (marks_in old.commits) + 2 * number
-  pub windows : number ≡ closed + waiting window
-  pub waits : IsWaiting infos chunk new cursors window
+-- a pair of a captured table and a key up to which the table's cursor hadn't come
+abbrev pub WasUnread : List Cursor → ℕ × Key → Type 0
+WasUnread cursors pair = (cursor : Cursor) → slice_get cursors pair.0 ≡ Some cursor → IsUpTo cursor.last pair.1 → ⊥
+
+-- What so many closed windows make of the cursors. Each ended its table, or was full: it read as many rows as it may, at keys up to
+-- which its table's cursor hadn't come before, and which no other of them read. Of no table is less read than was.
+pub record HaveComeOn (infos : List TableInfo) (chunk closed : ℕ) (history : History) (begun cursors : List Cursor) : Type 0 where
   pub full : ℕ
   pub ended : ℕ
   pub each : closed ≡ full + ended
   pub tables : ended_of begun + ended ≡ ended_of cursors
   pub read : List (ℕ × Key)
   pub many : length read ≡ full * chunk
-  pub were : AllByRecursion (WasRead infos new cursors) read
+  pub were : AllByRecursion (WasRead infos history cursors) read
+  pub unread : AllByRecursion (WasUnread begun) read
   pub apart : AreApart read
+  pub later : AllZip IsLaterCursor begun cursors
+
+-- Two marks were written for each window that was read. One window may wait, and each other one is closed.
+pub record IsCounted (infos : List TableInfo) (chunk number closed : ℕ) (old new : History) (window : Window)
+    (begun cursors : List Cursor) : Type 0 where
+  pub marks : length (marks_in new.commits) ≡ length (marks_in old.commits) + 2 * number
+  pub windows : number ≡ closed + waiting window
+  pub waits : IsWaiting infos chunk new cursors window
+  pub come : HaveComeOn infos chunk closed new begun cursors

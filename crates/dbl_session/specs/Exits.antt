@@ -39,12 +39,14 @@ FirstOffsetsFollow = (entry : Entry) (history : History) (left : Left) (first : 
 
 -- ---- while it reads
 
--- What a call of the source may leave of a history: it went on, by commits of others and by marks of the session.
+-- What a call of the source may leave of a history: it went on, by commits of others and by marks of the session. The confirmed position
+-- doesn't fall.
 pub record MayBeLeft (stage : Stage) (left : Left) : Type 0 where
   pub more : List RawCommit
   pub grown : HasGrown stage.history left.history more
   pub marks : AllByRecursion (λ commit. IsMarkedBy stage.first.incarnation commit.body) more
   pub fit : IsFitHistory left.history
+  pub no_fall : stage.confirmed.0 ≤ left.confirmed.0
   pub confirmed : left.confirmed.0 ≤ stage.stored.lsn.0
 
 -- The source ended it.

@@ -14,7 +14,7 @@ use Rattle.dbl_faithful.specs.CaughtUp.{IsCaughtUp}
 use Rattle.dbl_stores.specs.Stores.{IsCommitAt, IsPositionOf, top_position}
 use Rattle.dbl_stores.specs.Behind.{IsUnread, IsOffsetOf}
 use Rattle.dbl_stores.specs.Kept.{HasGrown, IsTakenOver}
-use Rattle.dbl_stores.specs.Onward.{IsFirstOffset, Adds}
+use Rattle.dbl_stores.specs.Onward.{IsFirstOffset, IsLaterCursor, Adds}
 use Rattle.dbl_session.specs.Entries.{Entry, StoodInLog, WasFaithful}
 use Rattle.dbl_session.specs.Stages.{Stage, records_at, next_offset, commits_at, read_at, IsParted, IsOfSession, behind_of, far_at}
 use Rattle.dbl_session.specs.Marked.{AreOwnMarks, IsAwaited, IsWindowAt, IsOwnWindow}
@@ -41,12 +41,14 @@ begun_behind entry first = max (top_position (joined entry.groups)) first.lsn.0
 
 -- ---- what an honest source makes of it
 
--- The history went on since the session began, and what is captured is of its catalogue. What was read states its commits, without a
--- fault, and the follower has followed those. Each window that was closed is told in the log.
+-- The history went on since the session began, what is captured is of its catalogue, and the confirmed position didn't fall. What was
+-- read states its commits, without a fault, and the follower has followed those. Each window that was closed is told in the log.
 pub record IsReading (entry : Entry) (stage : Stage) : Type 0 where
   pub began : BeganWith entry stage.history stage.first
   pub first_small : stage.first.incarnation < 2 ^ 64
   pub of_session : IsOfSession stage.first stage.stored
+  pub stored_later : AllZip IsLaterCursor stage.first.cursors stage.stored.cursors
+  pub no_fall : entry.confirmed.0 ≤ stage.confirmed.0
   pub more : List RawCommit
   pub grown : HasGrown entry.history stage.history more
   pub fit : IsFitHistory stage.history

@@ -21,11 +21,13 @@ use Rattle.dbl_session.specs.Entries.{Entry, stores_at, stores_left, appends_beh
 
 -- ---- faithful at every exit
 
--- What is left is faithful, and goes on from what the session found: nothing is taken back, what it appended stands behind where it
--- began and rises, in groups that are the cut of it, and a restart repeats no more commits than before, or than an offset may lag.
+-- What is left is faithful, and goes on from what the session found: nothing is taken back, the confirmed position doesn't fall, what it
+-- appended stands behind where it began and rises, in groups that are the cut of it, and a restart repeats no more commits than before,
+-- or than an offset may lag.
 pub record Follows (entry : Entry) (left : Left) (groups : List (List Record)) (offset : Option Offset) : Type 0 where
   pub faithful : IsFaithful left.history left.confirmed (joined groups) offset
   pub onward : GoesOnward entry.config (stores_at entry) (stores_left left groups offset)
+  pub no_fall : entry.confirmed.0 ≤ left.confirmed.0
   pub adds : Adds (appends_behind entry.offset offset) (joined entry.groups) (joined groups)
   pub grouped : groups ≡ entry.groups ++ cut adds.more
   pub lag_is : lag left.history (joined groups) offset

@@ -19,7 +19,7 @@ use Rattle.dbl_work.specs.declared.work.Work.{Work}
 use Rattle.dbl_work.specs.Works.{next_of}
 use Rattle.dbl_exits.specs.Ends.{HasNoneNext, table_in}
 use Rattle.dbl_exits.specs.Sessions.{InSession, standing_at}
-use Rattle.dbl_causes.specs.Written.{AddsExactly, AreClosed, marks_more}
+use Rattle.dbl_causes.specs.Written.{AreClosed, EndsExactly, marks_more}
 use Rattle.dbl_causes.proofs.Written.{marks_are_exact}
 
 -- ---- no window is next
@@ -53,20 +53,23 @@ module _ {S K D : Type 0} {tell : Bool} {stands : S → Standing → Type 0} {ho
   cursors_are : (next_of work).cursors ≡ t.stage.following.cursors
   cursors_are = ap (λ (f : Following). f.cursors) t.work_is.follower_is
 
+  infos_are : (next_of work).infos ≡ t.stage.first.infos
+  infos_are = ap (λ (o : Offset). o.infos) t.work_is.offset_is
+
   none_open : HasNoneNext work → t.stage.following.window ≡ Absent → position (λ cursor. not cursor.done) t.stage.following.cursors ≡ None
   none_open none absent =
       let own : work.follower.window ≡ Absent = ap (λ (f : Following). f.window) t.work_is.follower_is ∙ absent in
       subst (λ (l : List Cursor). position (λ cursor. not cursor.done) l ≡ None) cursors_are (ap (λ (w : Window). table_in w work) (sym own) ∙ none)
 
-  pub exact_budget : (stored : Option Offset) (chunks : ℕ) → stored ≡ Some (next_of work) → AreClosed work chunks → HasNoneNext work → AddsExactly chunks (marks_more Budget stored) entry.history t.stage.history
+  pub exact_budget : (stored : Option Offset) (chunks : ℕ) → stored ≡ Some (next_of work) → AreClosed work chunks → HasNoneNext work → EndsExactly entry stored chunks (marks_more Budget stored) t.stage.history
   exact_budget stored chunks is closed none =
-      subst (λ (o : Option Offset). AddsExactly chunks (marks_more Budget o) entry.history t.stage.history) (sym is)
-      (marks_are_exact entry t.stage (next_of work) chunks (counted chunks closed) cursors_are (none_open none) t.going.reading).0
+      subst (λ (o : Option Offset). EndsExactly entry o chunks (marks_more Budget o) t.stage.history) (sym is)
+      (marks_are_exact entry t.stage (next_of work) chunks (counted chunks closed) infos_are cursors_are (none_open none) t.going.reading).0
 
-  pub exact_complete : (stored : Option Offset) (chunks : ℕ) → stored ≡ Some (next_of work) → AreClosed work chunks → HasNoneNext work → work.follower.window ≡ Absent → AddsExactly chunks (marks_more Complete stored) entry.history t.stage.history
+  pub exact_complete : (stored : Option Offset) (chunks : ℕ) → stored ≡ Some (next_of work) → AreClosed work chunks → HasNoneNext work → work.follower.window ≡ Absent → EndsExactly entry stored chunks (marks_more Complete stored) t.stage.history
   exact_complete stored chunks is closed none absent =
-      subst (λ (o : Option Offset). AddsExactly chunks (marks_more Complete o) entry.history t.stage.history) (sym is)
-      ((marks_are_exact entry t.stage (next_of work) chunks (counted chunks closed) cursors_are (none_open none) t.going.reading).1 (ap (λ (f : Following). f.window) (sym t.work_is.follower_is) ∙ absent))
+      subst (λ (o : Option Offset). EndsExactly entry o chunks (marks_more Complete o) t.stage.history) (sym is)
+      ((marks_are_exact entry t.stage (next_of work) chunks (counted chunks closed) infos_are cursors_are (none_open none) t.going.reading).1 (ap (λ (f : Following). f.window) (sym t.work_is.follower_is) ∙ absent))
 
-  pub exact_left : (chunks more : ℕ) (left : Left) → left ≡ left_of (standing_at t.stage) → AddsExactly chunks more entry.history t.stage.history → AddsExactly chunks more entry.history left.history
-  exact_left chunks more left same exact = subst (λ (l : Left). AddsExactly chunks more entry.history l.history) (sym same) exact
+  pub exact_left : (stored : Option Offset) (chunks more : ℕ) (left : Left) → left ≡ left_of (standing_at t.stage) → EndsExactly entry stored chunks more t.stage.history → EndsExactly entry stored chunks more left.history
+  exact_left stored chunks more left same exact = subst (λ (l : Left). EndsExactly entry stored chunks more l.history) (sym same) exact

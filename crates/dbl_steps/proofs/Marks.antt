@@ -16,7 +16,7 @@ use Rattle.dbl_work.specs.declared.report.Ending.TheVariants.{Budget, Complete}
 use Rattle.dbl_work.specs.declared.work.Work.{Work}
 use Rattle.dbl_exits.specs.Sessions.{IsWorkOf}
 use Rattle.dbl_exits.proofs.Marks.{own_few}
-use Rattle.dbl_causes.specs.Written.{AddsExactly, AreClosed, marks_more}
+use Rattle.dbl_causes.specs.Written.{AreClosed, EndsExactly, marks_more}
 use Rattle.dbl_causes.proofs.Written.{few_marks_are_left, marks_append, marks_are_exact}
 use Rattle.dbl_steps.specs.Marks.{EndsLeaveExactMarks, OthersAddNoMarks, OthersLeaveFewMarks, WindowsLeaveFewMarks}
 
@@ -68,11 +68,11 @@ windows_leave_few_marks entry stage work plan left chunks is going closed absent
     absent_at = sym (ap (λ (f : Following). f.window) is.follower_is) ∙ absent
 
 pub ends_leave_exact_marks : EndsLeaveExactMarks
-ends_leave_exact_marks entry stage work offset chunks is going closed cursors none =
+ends_leave_exact_marks entry stage work offset chunks is going closed infos cursors none =
     (all.0, λ absent. all.1 (sym (ap (λ (f : Following). f.window) is.follower_is) ∙ absent))
   where
     none_at : stage.following.window ≡ Absent → position (λ (c : Cursor). not c.done) stage.following.cursors ≡ None
     none_at absent = subst (λ (f : Following). position (λ (c : Cursor). not c.done) f.cursors ≡ None) is.follower_is (none (ap (λ (f : Following). f.window) is.follower_is ∙ absent))
 
-    all : AddsExactly chunks (marks_more Budget (Some offset)) entry.history stage.history × (stage.following.window ≡ Absent → AddsExactly chunks (marks_more Complete (Some offset)) entry.history stage.history)
-    all = marks_are_exact entry stage offset chunks (windows_at entry stage work chunks is closed) (cursors ∙ ap (λ (f : Following). f.cursors) is.follower_is) none_at going.reading
+    all : EndsExactly entry (Some offset) chunks (marks_more Budget (Some offset)) stage.history × (stage.following.window ≡ Absent → EndsExactly entry (Some offset) chunks (marks_more Complete (Some offset)) stage.history)
+    all = marks_are_exact entry stage offset chunks (windows_at entry stage work chunks is closed) infos (cursors ∙ ap (λ (f : Following). f.cursors) is.follower_is) none_at going.reading

@@ -13,7 +13,7 @@ use Rattle.dbl_work.specs.declared.report.Ending.TheVariants.{Budget, Complete}
 use Rattle.dbl_work.specs.declared.work.Work.{Work}
 use Rattle.dbl_work.specs.Windowed.{MayHaveMarks, own_marks}
 use Rattle.dbl_exits.specs.Sessions.{IsWorkOf, standing_at}
-use Rattle.dbl_causes.specs.Written.{AddsExactly, AddsNoMore, AreClosed, marks_more}
+use Rattle.dbl_causes.specs.Written.{AddsNoMore, AreClosed, EndsExactly, marks_more}
 
 -- Others' commits add none.
 abbrev pub OthersAddNoMarks : Type 0
@@ -32,10 +32,12 @@ WindowsLeaveFewMarks = (entry : Entry) (stage : Stage) (work : Work) (plan : Pla
     → MayHaveMarks (own_marks plan) (standing_at stage) left
     → AddsNoMore chunks entry.history left.history
 
--- It has stored its cursors, and every table is done unless a window waits: then they are told exactly.
+-- It has stored its cursors, and every table is done unless a window waits: then they are told exactly, and the closed windows have
+-- brought the cursors on.
 abbrev pub EndsLeaveExactMarks : Type 0
 EndsLeaveExactMarks = (entry : Entry) (stage : Stage) (work : Work) (offset : Offset) (chunks : ℕ)
-    → IsWorkOf entry stage work → IsGoing entry stage → AreClosed work chunks → offset.cursors ≡ work.follower.cursors
+    → IsWorkOf entry stage work → IsGoing entry stage → AreClosed work chunks → offset.infos ≡ stage.first.infos
+    → offset.cursors ≡ work.follower.cursors
     → (work.follower.window ≡ Absent → position (λ cursor. not cursor.done) work.follower.cursors ≡ None)
-    → AddsExactly chunks (marks_more Budget (Some offset)) entry.history stage.history
-    × (work.follower.window ≡ Absent → AddsExactly chunks (marks_more Complete (Some offset)) entry.history stage.history)
+    → EndsExactly entry (Some offset) chunks (marks_more Budget (Some offset)) stage.history
+    × (work.follower.window ≡ Absent → EndsExactly entry (Some offset) chunks (marks_more Complete (Some offset)) stage.history)

@@ -1,13 +1,14 @@
 -- Stores that only go on.
 use Rattle.std.proofs.Common.{◌≡◌, ◌∙◌, inl, inr, ◌+◌, ◌<◌, ℕ, suc, Bool, true, false, cond, filter, length, take, drop, subst, arith, List, [], ◌∷◌, ◌++◌, Option, Some, None, refl, sym, ap, append_assoc, append-nil, le_refl}
 use Rattle.std.specs.Prelude.{nat_lt, slice_get, option_map, unwrap_or}
-use Rattle.std.specs.List.{AllByRecursion}
+use Rattle.std.specs.List.{AllByRecursion, AllZip}
 use Rattle.std.proofs.lemmas.Bool.Decides.{Decides-ltb}
 use Rattle.dbl_record.specs.declared.record.Record.{Record}
 use Rattle.dbl_record.specs.Places.{Place, place_of, IsBefore}
 use Rattle.dbl_table.specs.declared.config.Config.{Config}
 use Rattle.dbl_table.specs.declared.table.TableInfo.{TableInfo}
 use Rattle.dbl_table.specs.declared.change.Commit.{Commit}
+use Rattle.dbl_history.specs.declared.cursor.Cursor.{Cursor}
 use Rattle.dbl_history.specs.History.{History}
 use Rattle.dbl_offset.specs.declared.offset.Offset.{Offset}
 use Rattle.dbl_event.specs.Snapshots.{chunk_records}
@@ -16,12 +17,29 @@ use Rattle.dbl_faithful.specs.ToldEvents.{ToldEvent, commits_behind, told_behind
 use Rattle.dbl_faithful.proofs.Items.{taken_at, drop_get, all_by_place, at_all, zip_at}
 use Rattle.dbl_faithful.proofs.RightSnapshots.{event_position, listing, listing_places}
 use Rattle.dbl_faithful.proofs.Told.{told_place, print_place, told_at, behind_rise}
-use Rattle.dbl_stores.specs.Onward.{OffsetGoesOn, PlacesRise}
+use Rattle.dbl_stores.specs.Onward.{IsLaterCursor, OffsetGoesOn, PlacesRise}
 use Rattle.dbl_stores.specs.Laws.{StoresStayOnward, AddsGoOn, AddsAreOne, SentRecordsRise, WindowsRise}
+
+-- ---- cursors
+
+pub cursors_stay : (cursors : List Cursor) → AllZip IsLaterCursor cursors cursors
+cursors_stay [] = tt
+cursors_stay (c ∷ cursors) = (record { last = λ key up. up; done = λ is. is }, cursors_stay cursors)
+
+pub cursors_go_on : (a b c : List Cursor) → AllZip IsLaterCursor a b → AllZip IsLaterCursor b c → AllZip IsLaterCursor a c
+cursors_go_on [] [] c one two = two
+cursors_go_on [] (y ∷ b) c one two = absurd one
+cursors_go_on (x ∷ a) [] c one two = absurd one
+cursors_go_on (x ∷ a) (y ∷ b) [] one two = absurd two
+cursors_go_on (x ∷ a) (y ∷ b) (z ∷ c) one two =
+    (record { last = λ key up. two.0.last key (one.0.last key up); done = λ is. two.0.done (one.0.done is) }, cursors_go_on a b c one.1 two.1)
+
+-- ---- offsets
 
 stays : (config : Config) (history : History) (offset : Option Offset) → OffsetGoesOn config history history offset offset
 stays config history None = tt
-stays config history (Some offset) = record { identity = refl; infos = refl; start = refl; lsn = le_refl offset.lsn.0; incarnation = inl refl }
+stays config history (Some offset) =
+    record { identity = refl; infos = refl; start = refl; lsn = le_refl offset.lsn.0; cursors = cursors_stay offset.cursors; incarnation = inl refl }
 
 pub stores_stay_onward : StoresStayOnward
 stores_stay_onward config stores = record {

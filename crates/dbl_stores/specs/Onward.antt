@@ -1,10 +1,13 @@
 -- How a session changes the stores: they only go on. Source: own.
-use Rattle.std.specs.Prelude.{◌≡◌, ◌⊎◌, ℕ, ◌+◌, ◌<◌, ◌≤◌, Option, Some, None, List, [], ◌∷◌, ◌++◌, map}
-use Rattle.std.specs.List.{AllByRecursion}
+use Rattle.std.specs.Prelude.{◌≡◌, ◌⊎◌, ℕ, ◌+◌, ◌<◌, ◌≤◌, true, Option, Some, None, List, [], ◌∷◌, ◌++◌, map}
+use Rattle.std.specs.List.{AllByRecursion, AllZip}
 use Rattle.dbl_record.specs.declared.record.Record.{Record}
 use Rattle.dbl_record.specs.Places.{place_of, IsBefore}
 use Rattle.dbl_table.specs.declared.config.Config.{Config}
+use Rattle.dbl_table.specs.declared.row.Key.{Key}
+use Rattle.dbl_history.specs.declared.cursor.Cursor.{Cursor}
 use Rattle.dbl_history.specs.History.{History}
+use Rattle.dbl_history.specs.KeyBounds.{IsUpTo}
 use Rattle.dbl_offset.specs.declared.offset.Offset.{Offset}
 use Rattle.dbl_stores.specs.Stores.{Stores, IsPositionOf}
 
@@ -15,12 +18,19 @@ pub record Extends {A : Type 0} (old new : List A) : Type 0 where
 
 -- ---- onward
 
--- A later offset of the same connector: it isn't before the old one, and is of the same session or of the next.
+-- Of a table was read no less: each key up to which it was read is still one, and where it was read to its end it still is.
+pub record IsLaterCursor (old new : Cursor) : Type 0 where
+  pub last : (key : Key) → IsUpTo old.last key → IsUpTo new.last key
+  pub done : old.done ≡ true → new.done ≡ true
+
+-- A later offset of the same connector: it isn't before the old one, in the log and in each table's snapshot, and is of the same session
+-- or of the next.
 pub record IsLaterOffset (old new : Offset) : Type 0 where
   pub identity : new.identity ≡ old.identity
   pub infos : new.infos ≡ old.infos
   pub start : new.start ≡ old.start
   pub lsn : old.lsn.0 ≤ new.lsn.0
+  pub cursors : AllZip IsLaterCursor old.cursors new.cursors
   pub incarnation : (new.incarnation ≡ old.incarnation) ⊎ (new.incarnation ≡ old.incarnation + 1)
 
 -- A first offset: of what the session was asked for, and from a position of the history on that isn't before what stood there when

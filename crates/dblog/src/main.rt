@@ -37,7 +37,7 @@ fn now_ms(rt: &impl Clock) -> i64 {
 }
 
 // The stores are files of the current folder. A disk over a file opens it, and creates it where it is absent, at its first call,
-// so a command that doesn't read a store leaves its file alone.
+// so a command that neither reads nor writes a store leaves its file alone.
 fn main(rt: HostRuntime) -> ExitCode {
     let mut output = StdOutput::make(io::writer(&rt));
     let status = match words(&rt) {

@@ -257,8 +257,8 @@ returns-clause-exactly g c s was honest had =
     let u = subst (λ (n : ℤ). IsUnderWay g.S.Source.stands None (g.S.Source.told c.args.src.now) (beginning_at c.args.config.now n c.args.offsets.now.offset way.0) c.open_session.new.store.offset c.in_ok-work.work c.open_session.new.report c.open_session.new.src (g.S.Source.told c.open_session.new.src)) (to_z-of_z c.ranges.now_ms) way.1 in
     let all = c.run.ensures.all None (g.S.Source.told c.args.src.now) b u in
     exactly_by c.run.result _ _ _ _ _ (c.run.ensures.ran false entry in_session honest) all c.run.ensures.none c.run.ensures.waited
-    (λ t e none left may. exact_left t c.run.new.report.chunks _ left (g.met.S.Source.only _ (standing_at t.stage) left t.source_is may) (exact_budget t c.run.new.store.offset c.run.new.report.chunks e.stored_is e.is.is.windows none))
-    (λ t e none absent left may. exact_left t c.run.new.report.chunks _ left (g.met.S.Source.only _ (standing_at t.stage) left t.source_is may) (exact_complete t c.run.new.store.offset c.run.new.report.chunks e.stored_is e.is.is.windows none absent))
+    (λ t e none left may. exact_left t c.run.new.store.offset c.run.new.report.chunks _ left (g.met.S.Source.only _ (standing_at t.stage) left t.source_is may) (exact_budget t c.run.new.store.offset c.run.new.report.chunks e.stored_is e.is.is.windows none))
+    (λ t e none absent left may. exact_left t c.run.new.store.offset c.run.new.report.chunks _ left (g.met.S.Source.only _ (standing_at t.stage) left t.source_is may) (exact_complete t c.run.new.store.offset c.run.new.report.chunks e.stored_is e.is.is.windows none absent))
 
 pub returns-in_err-work-clause-exhausted : goal.returns-in_err-work-clause-exhausted
 returns-in_err-work-clause-exhausted g c h is = residual_on c.open_session.result c.from_residual.result _ h (c.open_session.ensures.exhausted h is) c.in_err-work.was c.from_residual.ensures.1

@@ -1,3 +1,4 @@
+use std::alloc::Global;
 use std::io::{self, Write};
 
 /// What a run of the program answered.
@@ -27,10 +28,16 @@ impl Answer {
         self.tell_text(writer)
     }
 
+    /// What `tell` writes.
+    pub fn told(&self, alloc: Global) -> io::Result<Vec<u8>> {
+        let mut told = Vec::new(alloc);
+        self.tell(&mut told)?;
+        Ok(told)
+    }
+
     pub fn tell_status<W: Write>(&self, writer: &mut W) -> io::Result<()> {
         let status = self.status;
-        writeln!(writer, "status {status}")?;
-        Ok(())
+        writeln!(writer, "status {status}")
     }
 
     /// Writes the text, or its last lines behind the number of its bytes.

@@ -21,10 +21,10 @@ pub struct Disks {
 
 // A disk that holds these bytes, which are synced. A case has no disk of more than a million of them.
 fn holding(alloc: Global, bytes: &[u8]) -> Result<MemDisk, AllocError> {
-    let mut disk = MemDisk::make(alloc, Vec::new(alloc));
     if bytes.len() > 1_000_000 {
         return Err(AllocError);
     }
+    let mut disk = MemDisk::make(alloc, Vec::new(alloc));
     match disk.write_at(0, bytes) {
         Ok(()) => disk.crash(Choice::New),
         Err(_) => Err(AllocError),

@@ -6,6 +6,7 @@ mod answer;
 mod disks;
 mod fuses;
 mod run;
+mod statuses;
 mod step;
 mod stops;
 mod sweep;
@@ -16,6 +17,14 @@ use crate::transcript::Transcript;
 use std::alloc::Global;
 use std::io::{self, BufRead, BufReader, BufWriter, Read, Write};
 
+fn take_line<W: Write>(
+    line: io::Result<String>,
+    transcript: &mut Transcript,
+    writer: &mut W,
+) -> io::Result<()> {
+    transcript.take(line?.as_str(), writer)
+}
+
 // Takes each line that is read, and ends the last run.
 fn take_lines<R: Read + Drop, W: Write>(
     alloc: Global,
@@ -24,7 +33,7 @@ fn take_lines<R: Read + Drop, W: Write>(
     writer: &mut W,
 ) -> io::Result<()> {
     for line in BufReader::new(alloc, reader)?.lines(alloc) {
-        transcript.take(line?.as_str(), writer)?;
+        take_line(line, transcript, writer)?;
     }
     transcript.end(writer)
 }

@@ -6,6 +6,7 @@ use dbl_base::{MemInput, MemOutput, Text};
 use dbl_disk::FuseDisk;
 use dbl_program::Finished;
 use std::alloc::{AllocError, Global};
+use std::mem;
 
 /// What a run of the program is made with.
 #[derive(Drop)]
@@ -70,8 +71,8 @@ impl Run {
         text: &str,
     ) -> Result<(), AllocError> {
         for number in from..=to {
-            let line = numbered_line(alloc, text, number)?;
-            self.input.extend_from_slice(line.as_slice())?;
+            let digits = format!(in alloc; "{number}")?;
+            add_numbered_line(&mut self.input, text, digits.as_str())?;
         }
         Ok(())
     }
@@ -103,6 +104,11 @@ impl Run {
         self.sweep
     }
 
+    /// How many calls the disks pass.
+    pub fn fuses(&self) -> Fuses {
+        self.fuses
+    }
+
     /// The run makes the stores that it runs over, so that a second one of it would refuse them.
     pub fn makes_stores(&self) -> bool {
         match self.words.first() {
@@ -111,94 +117,79 @@ impl Run {
         }
     }
 
-    /// The same run once more.
-    pub fn again(&self, alloc: Global) -> Result<Run, AllocError> {
-        let mut words = Vec::new(alloc);
-        for word in &self.words {
-            words.push(word.copy(alloc)?)?;
-        }
-        Ok(Run {
-            words,
-            now_ms: self.now_ms,
-            input: self.input.clone()?,
-            failing_reads: self.failing_reads.clone()?,
-            failing_writes: self.failing_writes.clone()?,
-            tail: self.tail,
-            fuses: self.fuses,
-            sweep: self.sweep,
-        })
+    /// What the program answers where the disks pass so many calls. It leaves them changed.
+    pub fn perform(
+        &self,
+        alloc: Global,
+        fuses: Fuses,
+        disks: &mut Disks,
+    ) -> Result<Answer, AllocError> {
+        let input = self.input.clone()?;
+        let mut input = MemInput::make(input, self.failing_reads.clone()?);
+        let mut output = MemOutput::make(alloc, self.failing_writes.clone()?);
+        self.answer(alloc, fuses, disks, &mut input, &mut output)
     }
 
-    /// What the program answers, and the disks as it leaves them.
-    pub fn perform(self, alloc: Global, disks: Disks) -> Result<(Answer, Disks), AllocError> {
-        let Run {
-            words,
-            now_ms,
-            input,
-            failing_reads,
-            failing_writes,
-            tail,
-            fuses,
-            sweep: _,
-        } = self;
-        let input = MemInput::make(input, failing_reads);
-        let mut output = MemOutput::make(alloc, failing_writes);
-        let (status, left) = run_on(alloc, words, now_ms, input, &mut output, disks, fuses);
+    fn answer(
+        &self,
+        alloc: Global,
+        fuses: Fuses,
+        disks: &mut Disks,
+        input: &mut MemInput,
+        output: &mut MemOutput,
+    ) -> Result<Answer, AllocError> {
+        let status = self.run_on(alloc, fuses, disks, input, output);
         let text = output.bytes().as_slice().to_vec(alloc)?;
-        Ok((Answer::make(status, text, tail), left))
+        Ok(Answer::make(status, text, self.tail))
+    }
+
+    // The status with which the program ends.
+    fn run_on(
+        &self,
+        alloc: Global,
+        fuses: Fuses,
+        disks: &mut Disks,
+        input: &mut MemInput,
+        output: &mut MemOutput,
+    ) -> u8 {
+        let Disks {
+            wal,
+            topics,
+            offsets,
+        } = mem::replace(disks, Disks::empty(alloc));
+        let finished = dbl_program::run(
+            alloc,
+            &self.words,
+            self.now_ms,
+            input,
+            output,
+            FuseDisk::make(wal, fuses.wal),
+            FuseDisk::make(topics, fuses.topics),
+            FuseDisk::make(offsets, fuses.offsets),
+        );
+        let Finished {
+            status,
+            wal,
+            topics,
+            offsets,
+        } = finished;
+        *disks = Disks {
+            wal: wal.into_inner(),
+            topics: topics.into_inner(),
+            offsets: offsets.into_inner(),
+        };
+        status
     }
 }
 
-// The line with the number for each `#`, and its newline.
-fn numbered_line(alloc: Global, text: &str, number: u32) -> Result<Vec<u8>, AllocError> {
-    let digits = format!(in alloc; "{number}")?;
-    let mut line = Vec::new(alloc);
+// Adds the line with the digits for each `#`, and its newline.
+fn add_numbered_line(input: &mut Vec<u8>, text: &str, digits: &str) -> Result<(), AllocError> {
     for (index, part) in text.split('#').enumerate() {
         if index > 0 {
-            line.extend_from_slice(digits.as_bytes())?;
+            input.extend_from_slice(digits.as_bytes())?;
         }
-        line.extend_from_slice(part.as_bytes())?;
+        input.extend_from_slice(part.as_bytes())?;
     }
-    line.push(b'\n')?;
-    Ok(line)
-}
-
-// The status with which the program ends, and the disks as it leaves them.
-fn run_on(
-    alloc: Global,
-    words: Vec<Text>,
-    now_ms: i64,
-    input: MemInput,
-    output: &mut MemOutput,
-    disks: Disks,
-    fuses: Fuses,
-) -> (u8, Disks) {
-    let Disks {
-        wal,
-        topics,
-        offsets,
-    } = disks;
-    let mut input = input;
-    let finished = dbl_program::run(
-        alloc,
-        &words,
-        now_ms,
-        &mut input,
-        output,
-        FuseDisk::make(wal, fuses.wal),
-        FuseDisk::make(topics, fuses.topics),
-        FuseDisk::make(offsets, fuses.offsets),
-    );
-    let Finished {
-        status,
-        wal,
-        topics,
-        offsets,
-    } = finished;
-    let left = Disks {
-        wal: wal.into_inner(),
-        topics: topics.into_inner(),
-        offsets: offsets.into_inner(),
-    };
-    (status, left)
+    input.push(b'\n')?;
+    Ok(())
 }

@@ -3,7 +3,7 @@ use crate::sweep::Sweep;
 use dbl_disk::Choice;
 
 /// What a line of a case says.
-#[derive(Drop)]
+#[derive(Clone, Copy)]
 pub enum Step<'a> {
     /// Nothing: the line is empty or a comment.
     Comment,
@@ -24,7 +24,7 @@ pub enum Step<'a> {
 }
 
 /// What a line says of the run that it belongs to.
-#[derive(Drop)]
+#[derive(Clone, Copy)]
 pub enum Part<'a> {
     /// One word more.
     Word { word: &'a str },
@@ -125,28 +125,27 @@ fn fuse(rest: &str) -> Option<Part<'_>> {
 fn each(rest: &str) -> Option<Part<'_>> {
     let (what, rest) = rest.split_once(' ')?;
     let sweep = match what {
-        "cut" => Sweep::Cut {
-            place: disk_named(rest)?,
-        },
-        "byte" => Sweep::Byte {
-            place: disk_named(rest)?,
-        },
-        "bit" => Sweep::Bit {
-            place: disk_named(rest)?,
-        },
-        "stop" => Sweep::Stop {
-            place: disk_named(rest)?,
-        },
-        "fuse" => {
-            let (name, most) = rest.split_once(' ')?;
-            Sweep::Fuse {
-                place: disk_named(name)?,
-                most: most.parse::<u64>().ok()?,
-            }
-        }
-        _ => return None,
+        "fuse" => each_fuse(rest)?,
+        _ => each_of(what, disk_named(rest)?)?,
     };
     Some(Part::Each { sweep })
+}
+
+fn each_of(what: &str, place: Place) -> Option<Sweep> {
+    match what {
+        "cut" => Some(Sweep::Cut { place }),
+        "byte" => Some(Sweep::Byte { place }),
+        "bit" => Some(Sweep::Bit { place }),
+        "stop" => Some(Sweep::Stop { place }),
+        _ => None,
+    }
+}
+
+fn each_fuse(rest: &str) -> Option<Sweep> {
+    let (name, most) = rest.split_once(' ')?;
+    let place = disk_named(name)?;
+    let most = most.parse::<u64>().ok()?;
+    Some(Sweep::Fuse { place, most })
 }
 
 fn moment(rest: &str) -> Option<Part<'_>> {

@@ -3,6 +3,7 @@
 use crate::answer::Answer;
 use crate::disks::{Disks, Place};
 use crate::run::Run;
+use crate::statuses;
 use dbl_disk::Choice;
 use std::alloc::{AllocError, Global};
 use std::io::{self, Write};
@@ -42,11 +43,8 @@ pub fn tell_stops<W: Write>(
 }
 
 fn tell<W: Write>(told: &Told, writer: &mut W) -> io::Result<()> {
-    write!(writer, "statuses")?;
-    for status in &told.statuses {
-        write!(writer, " {status}")?;
-    }
-    writer.write_all(b"\nthen\n")?;
+    statuses::tell(&told.statuses, writer)?;
+    writer.write_all(b"then\n")?;
     for rows in &told.rows {
         writer.write_all(rows.as_slice())?;
     }
@@ -62,59 +60,74 @@ fn stop(
     calls: u64,
     told: &mut Told,
 ) -> io::Result<u8> {
-    let mut stopped = run.again(alloc)?;
-    stopped.set_fuse(place, calls);
-    let (answer, left) = stopped.perform(alloc, disks.crash(Choice::New)?)?;
-    let status = answer.status();
-    if !told.statuses.contains(&status) {
-        told.statuses.push(status)?;
-    }
+    let mut left = disks.crash(Choice::New)?;
+    let status = stopped(alloc, run, place, calls, &mut left)?;
+    statuses::add(&mut told.statuses, status)?;
+    end_each(alloc, run, &left, told)?;
+    Ok(status)
+}
+
+// The status of the run where a disk passes so many calls.
+fn stopped(
+    alloc: Global,
+    run: &Run,
+    place: Place,
+    calls: u64,
+    disks: &mut Disks,
+) -> Result<u8, AllocError> {
+    let mut fuses = run.fuses();
+    fuses.set(place, calls);
+    let answer = run.perform(alloc, fuses, disks)?;
+    Ok(answer.status())
+}
+
+// Ends the work for each choice of what a crash leaves of the disks.
+fn end_each(alloc: Global, run: &Run, left: &Disks, told: &mut Told) -> io::Result<()> {
     for choice in [Choice::Old, Choice::New, Choice::Fill(1)] {
-        let rows = rows_in_the_end(alloc, run, left.crash(choice)?)?;
-        if !told.rows.contains(&rows) {
-            told.rows.push(rows)?;
+        end_one(alloc, run, &mut left.crash(choice)?, told)?;
+    }
+    Ok(())
+}
+
+// Ends the work on these disks, and adds what `apply` then answers.
+fn end_one(alloc: Global, run: &Run, disks: &mut Disks, told: &mut Told) -> io::Result<()> {
+    end_work(alloc, run, disks)?;
+    let rows = perform(alloc, "apply", disks)?.told(alloc)?;
+    if !told.rows.contains(&rows) {
+        told.rows.push(rows)?;
+    }
+    Ok(())
+}
+
+// Resumes until a session was complete; where none has begun yet, the run is made again, or a capture of the stores that it made.
+fn end_work(alloc: Global, run: &Run, disks: &mut Disks) -> Result<(), AllocError> {
+    for _ in 0..RUNS {
+        if go_on(alloc, run, disks)? == 0 {
+            break;
         }
+    }
+    Ok(())
+}
+
+// The status of one run more.
+fn go_on(alloc: Global, run: &Run, disks: &mut Disks) -> Result<u8, AllocError> {
+    let status = perform(alloc, "resume --every 1", disks)?.status();
+    if status == 4 {
+        return begin_again(alloc, run, disks);
     }
     Ok(status)
 }
 
-// What `apply` answers once the work has ended.
-fn rows_in_the_end(alloc: Global, run: &Run, disks: Disks) -> io::Result<Vec<u8>> {
-    let ended = end_work(alloc, run, disks)?;
-    let (answer, _left) = perform(alloc, "apply", ended)?;
-    let mut rows = Vec::new(alloc);
-    answer.tell(&mut rows)?;
-    Ok(rows)
+fn begin_again(alloc: Global, run: &Run, disks: &mut Disks) -> Result<u8, AllocError> {
+    let answer = if run.makes_stores() {
+        perform(alloc, "capture", disks)?
+    } else {
+        run.perform(alloc, run.fuses(), disks)?
+    };
+    Ok(answer.status())
 }
 
-// Resumes until a session was complete; where none has begun yet, the run is made again, or a capture of the stores that it made.
-fn end_work(alloc: Global, run: &Run, disks: Disks) -> Result<Disks, AllocError> {
-    let mut disks = disks;
-    for _ in 0..RUNS {
-        let (answer, left) = go_on(alloc, run, disks)?;
-        disks = left;
-        if answer.status() == 0 {
-            break;
-        }
-    }
-    Ok(disks)
-}
-
-fn go_on(alloc: Global, run: &Run, disks: Disks) -> Result<(Answer, Disks), AllocError> {
-    let (answer, left) = perform(alloc, "resume --every 1", disks)?;
-    if answer.status() == 4 {
-        return begin_again(alloc, run, left);
-    }
-    Ok((answer, left))
-}
-
-fn begin_again(alloc: Global, run: &Run, disks: Disks) -> Result<(Answer, Disks), AllocError> {
-    if run.makes_stores() {
-        return perform(alloc, "capture", disks);
-    }
-    run.again(alloc)?.perform(alloc, disks)
-}
-
-fn perform(alloc: Global, words: &str, disks: Disks) -> Result<(Answer, Disks), AllocError> {
-    Run::make(alloc, words, Vec::new(alloc))?.perform(alloc, disks)
+fn perform(alloc: Global, words: &str, disks: &mut Disks) -> Result<Answer, AllocError> {
+    let run = Run::make(alloc, words, Vec::new(alloc))?;
+    run.perform(alloc, run.fuses(), disks)
 }

@@ -6,7 +6,6 @@ use crate::trials::tell_each;
 use dbl_disk::Choice;
 use std::alloc::{AllocError, Global};
 use std::io::{self, Write};
-use std::mem;
 
 /// The run that the lines so far make ready, if they do, and the disks of the case.
 #[derive(Drop)]
@@ -61,14 +60,18 @@ impl Transcript {
 
     /// Ends the run that is made ready, and writes its answer.
     pub fn end<W: Write>(&mut self, writer: &mut W) -> io::Result<()> {
-        let Some(run) = self.run.take() else {
-            return Ok(());
-        };
-        if let Some(sweep) = run.sweep() {
-            return tell_each(self.alloc, &run, &self.disks, sweep, writer);
+        match self.run.take() {
+            Some(run) => self.tell(&run, writer),
+            None => Ok(()),
         }
-        let answer = self.perform(run)?;
-        answer.tell(writer)
+    }
+
+    // Writes what the run answers.
+    fn tell<W: Write>(&mut self, run: &Run, writer: &mut W) -> io::Result<()> {
+        match run.sweep() {
+            Some(sweep) => tell_each(self.alloc, run, &self.disks, sweep, writer),
+            None => self.perform(run)?.tell(writer),
+        }
     }
 
     // Puts empty disks in place of the case's.
@@ -82,11 +85,8 @@ impl Transcript {
     }
 
     // Makes the run, which leaves the disks to the next one.
-    fn perform(&mut self, run: Run) -> Result<Answer, AllocError> {
-        let disks = mem::replace(&mut self.disks, Disks::empty(self.alloc));
-        let (answer, left) = run.perform(self.alloc, disks)?;
-        self.disks = left;
-        Ok(answer)
+    fn perform(&mut self, run: &Run) -> Result<Answer, AllocError> {
+        run.perform(self.alloc, run.fuses(), &mut self.disks)
     }
 
     // Puts bytes on a disk.
@@ -116,10 +116,10 @@ impl Transcript {
 
     // Ends the run, writes its status alone, and begins one on its text.
     fn pipe<W: Write>(&mut self, words: &str, line: &str, writer: &mut W) -> io::Result<()> {
-        let Some(run) = self.run.take() else {
-            return tell_refusal(line, writer);
+        let answer = match self.run.take() {
+            Some(run) => self.perform(&run)?,
+            None => return tell_refusal(line, writer),
         };
-        let answer = self.perform(run)?;
         answer.tell_status(writer)?;
         self.begin(words, answer.into_text())?;
         tell_line(line, writer)
@@ -164,12 +164,10 @@ impl Transcript {
 }
 
 fn tell_line<W: Write>(line: &str, writer: &mut W) -> io::Result<()> {
-    writeln!(writer, "{line}")?;
-    Ok(())
+    writeln!(writer, "{line}")
 }
 
 // So a slip in a case shows in the answers.
 fn tell_refusal<W: Write>(line: &str, writer: &mut W) -> io::Result<()> {
-    writeln!(writer, "? {line}")?;
-    Ok(())
+    writeln!(writer, "? {line}")
 }

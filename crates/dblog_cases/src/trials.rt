@@ -1,8 +1,9 @@
 //! Runs on the disks of a case with one thing changed at a time.
 
-use crate::answer::Answer;
 use crate::disks::Disks;
+use crate::fuses::Fuses;
 use crate::run::Run;
+use crate::statuses;
 use crate::stops::tell_stops;
 use crate::sweep::Sweep;
 use dbl_disk::Choice;
@@ -57,26 +58,20 @@ fn change(
     }
 }
 
-// The run with this number.
-fn next(alloc: Global, run: &Run, sweep: Sweep, number: u64) -> Result<Run, AllocError> {
-    let mut next = run.again(alloc)?;
-    if let Sweep::Fuse { place, most: _ } = sweep {
-        next.set_fuse(place, number);
-    }
-    Ok(next)
-}
-
-// What the program answers in the run with this number, and how it leaves the disks.
-fn perform(
-    alloc: Global,
-    run: &Run,
-    disks: &Disks,
-    sweep: Sweep,
-    number: u64,
-) -> Result<(Answer, Disks), AllocError> {
+// The disks that the run with this number finds.
+fn find(alloc: Global, disks: &Disks, sweep: Sweep, number: u64) -> Result<Disks, AllocError> {
     let mut found = disks.crash(Choice::New)?;
     change(alloc, &mut found, disks, sweep, number)?;
-    next(alloc, run, sweep, number)?.perform(alloc, found)
+    Ok(found)
+}
+
+// How many calls of the run with this number they pass.
+fn fuses_of(run: &Run, sweep: Sweep, number: u64) -> Fuses {
+    let mut fuses = run.fuses();
+    if let Sweep::Fuse { place, most: _ } = sweep {
+        fuses.set(place, number);
+    }
+    fuses
 }
 
 fn status_of(
@@ -86,7 +81,8 @@ fn status_of(
     sweep: Sweep,
     number: u64,
 ) -> Result<u8, AllocError> {
-    let (answer, _left) = perform(alloc, run, disks, sweep, number)?;
+    let mut found = find(alloc, disks, sweep, number)?;
+    let answer = run.perform(alloc, fuses_of(run, sweep, number), &mut found)?;
     Ok(answer.status())
 }
 
@@ -116,15 +112,9 @@ fn tell_statuses<W: Write>(
     let mut seen = Vec::new(alloc);
     for number in 0..count(sweep, disks) {
         let status = status_of(alloc, run, disks, sweep, number)?;
-        if !seen.contains(&status) {
-            seen.push(status)?;
-        }
+        statuses::add(&mut seen, status)?;
     }
-    write!(writer, "statuses")?;
-    for status in &seen {
-        write!(writer, " {status}")?;
-    }
-    writer.write_all(b"\n")
+    statuses::tell(&seen, writer)
 }
 
 fn tell_answers<W: Write>(
@@ -137,10 +127,16 @@ fn tell_answers<W: Write>(
     let mut last = Vec::new(alloc);
     for number in 0..count(sweep, disks) {
         let told = tell_run(alloc, run, disks, sweep, number)?;
-        if told != last {
-            writer.write_all(told.as_slice())?;
-            last = told;
-        }
+        tell_other(told, &mut last, writer)?;
+    }
+    Ok(())
+}
+
+// Writes what is told, where it isn't what was told last.
+fn tell_other<W: Write>(told: Vec<u8>, last: &mut Vec<u8>, writer: &mut W) -> io::Result<()> {
+    if told != *last {
+        writer.write_all(told.as_slice())?;
+        *last = told;
     }
     Ok(())
 }
@@ -157,7 +153,7 @@ fn tell_run(
     Ok(told)
 }
 
-// Writes what the run with this number answers, and behind a fuse what a run without one then does.
+// Writes what the run with this number answers.
 fn tell(
     alloc: Global,
     run: &Run,
@@ -166,17 +162,29 @@ fn tell(
     number: u64,
     told: &mut Vec<u8>,
 ) -> io::Result<()> {
-    let (answer, left) = perform(alloc, run, disks, sweep, number)?;
+    let mut found = find(alloc, disks, sweep, number)?;
+    tell_on(alloc, run, &mut found, sweep, number, told)
+}
+
+// Writes what it answers on the disks that it finds, and behind a fuse what a run without one then does.
+fn tell_on(
+    alloc: Global,
+    run: &Run,
+    found: &mut Disks,
+    sweep: Sweep,
+    number: u64,
+    told: &mut Vec<u8>,
+) -> io::Result<()> {
+    let answer = run.perform(alloc, fuses_of(run, sweep, number), found)?;
     answer.tell(told)?;
     match sweep {
-        Sweep::Fuse { .. } => tell_again(alloc, run, left, told),
+        Sweep::Fuse { .. } => tell_again(alloc, run, found, told),
         _ => Ok(()),
     }
 }
 
 // Writes what the run answers on the disks that a run before it left.
-fn tell_again(alloc: Global, run: &Run, left: Disks, told: &mut Vec<u8>) -> io::Result<()> {
-    let (answer, _left) = run.again(alloc)?.perform(alloc, left)?;
+fn tell_again(alloc: Global, run: &Run, left: &mut Disks, told: &mut Vec<u8>) -> io::Result<()> {
     told.write_all(b"again\n")?;
-    answer.tell(told)
+    run.perform(alloc, run.fuses(), left)?.tell(told)
 }

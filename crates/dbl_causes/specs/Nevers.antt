@@ -1,5 +1,6 @@
 -- What never makes a session halt, over a source that stands, and one that is honest.
-use Rattle.std.specs.Prelude.{◌≡◌, ◌⊎◌, ℕ, ◌+◌, not, position, map, Contains, Option, Some, IsSome, List, slice_get}
+use Rattle.std.specs.Prelude.{◌≡◌, ◌⊎◌, ℕ, ◌+◌, ◌≤◌, length, not, position, map, Option, Some, IsSome, List, slice_get}
+use Rattle.std.specs.List.{AllByRecursion}
 use Rattle.dbl_value.specs.declared.error.ValueError.{ValueError}
 use Rattle.dbl_record.specs.declared.record.Record.{Record}
 use Rattle.dbl_record.specs.Cuts.{joined}
@@ -12,8 +13,9 @@ use Rattle.dbl_table.specs.Rows.{all_changes}
 use Rattle.dbl_history.specs.declared.cursor.Cursor.{Cursor}
 use Rattle.dbl_history.specs.Fit.{AreInfosOf}
 use Rattle.dbl_history.specs.History.{History}
+use Rattle.dbl_history.specs.KeyBounds.{IsAbove, IsUpTo}
 use Rattle.dbl_history.specs.MarkTexts.{mark_text}
-use Rattle.dbl_history.specs.MarkTexts.Side.{High}
+use Rattle.dbl_history.specs.MarkTexts.Side.{High, Low}
 use Rattle.dbl_history.specs.Typed.{typed}
 use Rattle.dbl_commit.specs.declared.txn_error.TxnError.{TxnError}
 use Rattle.dbl_event.specs.declared.closed.Closed.{Closed}
@@ -39,7 +41,7 @@ use Rattle.dbl_work.specs.Causes.{IsLongRecord}
 use Rattle.dbl_work.specs.Takes.{IsClashIn}
 use Rattle.dbl_exits.specs.Sessions.{IsCapturing}
 use Rattle.dbl_causes.specs.Stored.{identity_of}
-use Rattle.dbl_causes.specs.Halted.{IsTxnFault}
+use Rattle.dbl_causes.specs.Halted.{EndsCommit, IsTxnFault}
 
 -- ---- an honest source
 
@@ -69,38 +71,48 @@ IsHonestHalt entry stands h = Unit {0}
 
 -- ---- faithful stores besides
 
--- The window that a session closes next, by the offset that it stored and by its report: its high mark stands there, its table is the
--- first that isn't done, and it is right: its rows are those of the table behind its cursor, as they are at the mark, in the order of their
--- keys.
-pub record IsOwnClosed (infos : List TableInfo) (offset : Offset) (report : Report) (history : History) (place : ℕ) (closed : Closed) : Type 0 where
+-- The window that a session closes next, by the offset that it stored and by its report: its marks stand there, its table is the first that
+-- isn't done, and its rows are those that the table has behind its cursor at the high mark, but for what was changed between the marks: in
+-- the order of their keys, up to the key up to which it was read, and no more than a chunk may have.
+pub record IsOwnClosed (infos : List TableInfo) (chunk : ℕ) (offset : Offset) (report : Report) (history : History) (place : ℕ) (closed : Closed) : Type 0 where
   pub here : IsMarkAt history (mark_text offset.incarnation (report.chunks + 1) High) place
   pub first : position (λ cursor. not cursor.done) offset.cursors ≡ Some closed.table
   pub cursor : Cursor
   pub cursor_is : slice_get offset.cursors closed.table ≡ Some cursor
   pub low : ℕ
-  pub right : IsRightWindow infos (all_changes (typed infos history)) (moment_after_first (typed infos history) low)
+  pub opened : IsMarkAt history (mark_text offset.incarnation (report.chunks + 1) Low) low
+  pub right : IsRightWindow infos (all_changes (typed infos history)) (moment_after_first (typed infos history) (low + 1))
       (moment_after_first (typed infos history) (place + 1)) cursor.last closed
   pub ordered : AreInKeyOrder closed.rows
+  pub few : length closed.rows ≤ chunk
+  pub within : AllByRecursion (λ row. IsAbove cursor.last row.0 × IsUpTo closed.through row.0) closed.rows
   -- the key up to which it was read is the cursor's, or that of a row that the table had at some place
   pub through : (closed.through ≡ cursor.last) ⊎ ((key : Key) × (closed.through ≡ Some key) × (at : ℕ) × IsSome (rows_behind infos history at closed.table key))
 
--- Of an honest source and faithful stores a clash is of the history: of a commit's changes, or of the rows of the window that is closed.
-pub record IsOwnClash (entry : Entry) (offset : Offset) (report : Report) (history : History) (h : Halt) : Type 0 where
+-- Of an honest source and faithful stores the commit that the newest message ends is the history's.
+pub record IsNewest (infos : List TableInfo) (history : History) (reading : Reading) : Type 0 where
+  pub commit : Commit
+  pub ends : EndsCommit infos reading commit
+  pub place : ℕ
+  pub stands : slice_get (typed infos history) place ≡ Some commit
+
+-- A clash is of its changes, or of the rows of the window that it closes.
+pub record IsOwnClash (entry : Entry) (offset : Offset) (report : Report) (history : History) (reading : Reading) (h : Halt) : Type 0 where
   pub infos : List TableInfo
   pub captured : IsCapturing entry infos
-  pub clash : ((commit : Commit) × Contains (typed infos history) commit × IsClashIn (clash_of (identity_of entry) infos commit) h)
-      ⊎ ((place : ℕ) × (closed : Closed) × IsOwnClosed infos offset report history place closed
+  pub newest : IsNewest infos history reading
+  pub clash : IsClashIn (clash_of (identity_of entry) infos newest.commit) h
+      ⊎ ((closed : Closed) × IsOwnClosed infos entry.config.chunk offset report history newest.place closed
       × IsClashIn (snapshot_clash (identity_of entry) infos closed) h)
 
 -- And so is a record that is too long.
-pub record IsOwnLong (entry : Entry) (offset : Offset) (report : Report) (history : History) (h : Halt) : Type 0 where
+pub record IsOwnLong (entry : Entry) (offset : Offset) (report : Report) (history : History) (reading : Reading) (h : Halt) : Type 0 where
   pub infos : List TableInfo
   pub captured : IsCapturing entry infos
-  pub commit : Commit
-  pub long : (Contains (typed infos history) commit × IsLongRecord (envelopes (identity_of entry) infos commit entry.now) h)
-      ⊎ ((place : ℕ) × (closed : Closed) × IsOwnClosed infos offset report history place closed
-      × (slice_get (typed infos history) place ≡ Some commit)
-      × IsLongRecord (snapshot (identity_of entry) infos closed commit entry.now) h)
+  pub newest : IsNewest infos history reading
+  pub long : IsLongRecord (envelopes (identity_of entry) infos newest.commit entry.now) h
+      ⊎ ((closed : Closed) × IsOwnClosed infos entry.config.chunk offset report history newest.place closed
+      × IsLongRecord (snapshot (identity_of entry) infos closed newest.commit entry.now) h)
 
 -- An offset that is too long is one to the stores, as they would have it: each of its cursors is told by a record of the log.
 pub record IsOwnOffset (entry : Entry) (t : Standing) (records : List Record) (h : Halt) : Type 0 where
@@ -113,16 +125,16 @@ pub record IsOwnOffset (entry : Entry) (t : Standing) (records : List Record) (h
 -- of these stores, where the sink holds these groups
 abbrev pub IsFaithfulHalt : Entry → Option Offset → Report → (Standing → Type 0) → (List (List Record) → Type 0) → Halt → Type 0
 IsFaithfulHalt entry stored report stands holds (halt.Clash table column) =
-    (t : Standing) × stands t × (offset : Offset) × (stored ≡ Some offset) × IsOwnClash entry offset report t.history (halt.Clash table column)
+    (t : Standing) × stands t × (reading : Reading) × (t.reading ≡ Some reading)
+    × (offset : Offset) × (stored ≡ Some offset) × IsOwnClash entry offset report t.history reading (halt.Clash table column)
 IsFaithfulHalt entry stored report stands holds (halt.RecordTooLong len) =
-    (t : Standing) × stands t × (offset : Offset) × (stored ≡ Some offset) × IsOwnLong entry offset report t.history (halt.RecordTooLong len)
+    (t : Standing) × stands t × (reading : Reading) × (t.reading ≡ Some reading)
+    × (offset : Offset) × (stored ≡ Some offset) × IsOwnLong entry offset report t.history reading (halt.RecordTooLong len)
 IsFaithfulHalt entry stored report stands holds (halt.OffsetTooLong len) =
     (t : Standing) × stands t × (groups : List (List Record)) × holds groups × IsOwnOffset entry t (joined groups) (halt.OffsetTooLong len)
 IsFaithfulHalt entry stored report stands holds h = Unit {0}
 
--- ---- any source that stands
-
--- the first offset, of what the catalogue has of each table, with nothing read of any
+-- of any source that stands: the first offset, of what the catalogue has of each table, with nothing read of any
 pub record IsFirstLong (config : Config) (history : History) (h : Halt) : Type 0 where
   pub infos : List TableInfo
   pub names : map (λ info. info.name) infos ≡ config.tables

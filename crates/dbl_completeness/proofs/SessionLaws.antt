@@ -1,6 +1,8 @@
 -- A supported session over kept disks: each error but those of the outside is refused by what it met.
-use Rattle.std.proofs.Common.{◌≡◌, inl, inr, ◌∙◌, ℕ, ℤ, Option, Some, None, Ok, Err, List, [], ◌∷◌, refl, sym, ap, subst}
+use Rattle.std.proofs.Common.{◌≡◌, inl, inr, ◌∙◌, ◌≤◌, ℕ, ℤ, Option, Some, None, Ok, Err, List, [], ◌∷◌, map, refl, sym, ap, subst}
 use Rattle.std.specs.Prelude.{IfErr}
+use Rattle.std.specs.List.{AllByRecursion}
+use Rattle.dbl_base.specs.declared.lsn.Lsn.{Lsn}
 use Rattle.dbl_base.specs.Lines.{lines_text}
 use Rattle.dbl_pgmsg.specs.declared.messages.Message.{Message}
 use Rattle.dbl_table.specs.declared.config.Config.{Config}
@@ -24,8 +26,12 @@ use Rattle.dbl_supported.proofs.Ending.{first_captures, not_absent, not_clash, n
 use Rattle.dbl_restarts.specs.Restarts.{entry_at}
 use Rattle.dbl_init.specs.declared.error.Store.TheVariants.{Wal, Topics, Offsets}
 use Rattle.dbl_causes.specs.Reported.{IsBehindOf}
+use Rattle.dbl_exits.specs.Found.{IsFirstStored}
 use Rattle.dbl_exits.specs.Sessions.{Captures}
-use Rattle.dbl_kept.specs.Causes.{IsCauseOf, IsHaltAt, IsKeptHalt, IsOwnTxn, standing_left}
+use Rattle.dbl_history.specs.Fit.{AreInfosOf}
+use Rattle.dbl_history.specs.History.{History, RawCommit}
+use Rattle.dbl_window.proofs.HonestLemmas.{captured_stays}
+use Rattle.dbl_kept.specs.Causes.{HasRead, IsCauseOf, IsHaltAt, IsKeptHalt, standing_left}
 use Rattle.dbl_kept.specs.Contents.{Contents, confirmed_at, found_in, history_at, records_at}
 use Rattle.dbl_kept.specs.Kept.{IsKept}
 use Rattle.dbl_kept.proofs.KeptLaws.{disks_are_read_once}
@@ -40,7 +46,7 @@ use Rattle.dbl_session_text.specs.Reports.{ending_status}
 use Rattle.dbl_saying.specs.Says.{Writes}
 use Rattle.dbl_session_runs.specs.Ends.{SaysSession, connect_line, connect_status}
 use Rattle.dbl_completeness.specs.Laws.{SupportedRunsSucceed, SupportedSessionsSucceed}
-use Rattle.dbl_completeness.specs.Sessions.{IsReadFrom, IsSessionDone, IsSupportedOver, IsSupportedRun, NoneFailed}
+use Rattle.dbl_completeness.specs.Sessions.{IsReadFrom, IsSessionDone, IsSupportedOver, IsSupportedRun, MayHaveRead, NoneFailed}
 
 -- ---- what it met
 
@@ -50,26 +56,40 @@ not_faulty infos reading number error clean fault =
     let wrong : None ≡ Some error = sym all.0 ∙ fault.fault in
     cc
 
+-- where a session reads, by what it found and what it stored
+reads_from : (config : Config) (history : History) (found stored : Option Offset) (infos : List TableInfo) (after : Lsn) → IsFirstStored config history found stored → IsBehindOf found stored infos after
+    → Captures config history found infos × IsReadFrom history found after
+reads_from config history (Some offset) stored infos after first behind = behind
+reads_from config history None None infos after first behind = absurd behind
+reads_from config history None (Some begun) infos after first behind = (
+  (
+    ap (map (λ (info : TableInfo). info.name)) behind.0 ∙ first.is.tables,
+    captured_stays first.later history infos (sym first.grown.tables) (subst (AreInfosOf first.later) (sym behind.0) first.infos),
+  ),
+  subst (λ (l : Lsn). AllByRecursion (λ (commit : RawCommit). commit.lsn.0 ≤ l.0) history.commits) (sym behind.1) first.is.not_before,
+)
+
 module _ (config : Config) (now : ℤ) (old left : Contents) (begins : CanBegin config (history_at old) old.offset) (supported : IsSupportedOver config now old left)
-    (kept : IsKept left) (kept_stored stored : Option Offset) (left_is : left.offset ≡ kept_stored) (kept_report report : Report) where
+    (kept : IsKept left) (kept_stored stored : Option Offset) (left_is : left.offset ≡ kept_stored) (kept_report report : Report)
+    (first : IsFirstStored config (history_at old) old.offset kept_stored) (told_first : IsFirstStored config (history_at old) old.offset stored) where
   -- the offset that it stored last is one to what it leaves
   of_left : (offset : Offset) → kept_stored ≡ Some offset → IsOffsetOf (history_at left) (confirmed_at left) (records_at left) offset
   of_left offset is =
       let faithful : IsFaithfulTo (history_at left) (confirmed_at left) (records_at left) offset = subst (IsFaithful (history_at left) (confirmed_at left) (records_at left)) (left_is ∙ is) kept.faithful in
       faithful.behind.offset_is
 
-  -- a later session reads behind the LSN that it found
-  not_txn : (number : ℕ) (error : TxnError) → IsOwnTxn config old left.wal number error → IsHaltAt config now old.offset stored report left.wal (halt.Txn number error) → (found : Option Offset) → old.offset ≡ found → ⊥
-  not_txn number error own halted None none =
-      let reads : IsReadFrom old.offset own.reading.after = subst (λ (o : Option Offset). IsReadFrom o own.reading.after) (sym none) tt in
-      not_faulty own.infos own.reading number error (supported.messages own.infos own.captured own.reading.after own.reading.messages own.rest reads own.front) own.fault
-  not_txn number error own halted (Some offset) is =
+  not_txn : (number : ℕ) (error : TxnError) → IsHaltAt config now old.offset stored report left.wal (halt.Txn number error) → ⊥
+  not_txn number error halted =
       let was = halted.was in
-      let infos = was.by.offset.infos in
-      let behind = subst (λ (o : Option Offset). IsBehindOf o stored infos halted.reading.after) is was.behind in
-      let captures : Captures config (history_at old) old.offset infos = subst (λ (o : Option Offset). Captures config (history_at old) o infos) (sym is) behind.0 in
-      let reads : IsReadFrom old.offset halted.reading.after = subst (λ (o : Option Offset). IsReadFrom o halted.reading.after) (sym is) behind.1 in
-      not_faulty infos halted.reading number error (supported.messages infos captures halted.reading.after halted.reading.messages was.rest reads was.front) halted.is
+      let behind = reads_from config (history_at old) old.offset stored was.by.offset.infos halted.reading.after told_first was.behind in
+      not_faulty was.by.offset.infos halted.reading number error (supported.messages was.by.offset.infos halted.reading behind.0 (record { from = behind.1; rest = was.rest; front = was.front })) halted.is
+
+  may_have : (reading : Reading) → HasRead config old.offset kept_stored left.wal reading → MayHaveRead old left.wal reading
+  may_have reading was = record {
+    from = (reads_from config (history_at old) old.offset kept_stored was.by.offset.infos reading.after first was.behind).1;
+    rest = was.rest;
+    front = was.front;
+  }
 
   never : (h : Halt) → IsOwnHalt h → IsKeptHalt config now old kept_stored kept_report left h → IsCauseOf config now old stored report left.wal h → ⊥
   never halt.Source own kept cause = absurd own
@@ -77,18 +97,18 @@ module _ (config : Config) (now : ℤ) (old left : Contents) (begins : CanBegin 
   never halt.Offsets own kept cause = absurd own
   never halt.Memory own kept cause = absurd own
   never (halt.Message number error) own kept cause = absurd kept
-  never (halt.Txn number error) own kept cause = absurd (not_txn number error kept cause.0 old.offset refl)
+  never (halt.Txn number error) own kept cause = absurd (not_txn number error cause.0)
   never (halt.Chunk table row) own kept cause = absurd kept
   never (halt.Cell table column error) own kept cause =
-      absurd (not_unreadable (entry_at config now (found_in old)) kept.0 (history_at left) table column error (supported.content kept.0 kept.1) kept.2)
+      absurd (not_unreadable kept.0 (history_at left) table column error (supported.cells kept.0 kept.1) kept.2)
   never (halt.Clash table column) own kept cause =
-      let clash = kept.2 in
-      absurd (not_clash (entry_at config now (found_in old)) (standing_left left) (records_at left) kept.0 kept_report (halt.Clash table column) clash (supported.content clash.infos clash.captured)
-      (supported.windows clash.infos clash.captured) (of_left kept.0 kept.1))
+      let clash = kept.5 in
+      absurd (not_clash (entry_at config now (found_in old)) (standing_left left) (records_at left) kept.3 kept_report kept.0 (halt.Clash table column) clash (supported.commits clash.infos kept.0 clash.captured (may_have kept.0 kept.1))
+      (supported.windows clash.infos clash.captured) (of_left kept.3 kept.4))
   never (halt.RecordTooLong len) own kept cause =
-      let long = kept.2 in
-      absurd (not_long (entry_at config now (found_in old)) (standing_left left) (records_at left) kept.0 kept_report (halt.RecordTooLong len) long (supported.content long.infos long.captured)
-      (supported.windows long.infos long.captured) (of_left kept.0 kept.1))
+      let long = kept.5 in
+      absurd (not_long (entry_at config now (found_in old)) (standing_left left) (records_at left) kept.3 kept_report kept.0 (halt.RecordTooLong len) long (supported.commits long.infos kept.0 long.captured (may_have kept.0 kept.1))
+      (supported.windows long.infos long.captured) (of_left kept.3 kept.4))
   never (halt.OffsetTooLong len) own kept cause =
       absurd (not_offset (entry_at config now (found_in old)) (standing_left left) (records_at left) (halt.OffsetTooLong len) supported.offsets kept)
   never (halt.Model error) own kept cause = absurd (not_model config.tables (history_at old) (first_captures config (history_at old) old.offset cause.0 begins) error cause.1)
@@ -133,7 +153,11 @@ module _ (asked : Asked) (now : ℤ) (wals logs stores : List ℕ → Type 0) (w
       let kept_halt = halts begun in
       let found = kept_halt.each may.w may.t may.f run.left may.wal may.topics may.offsets may.read in
       let left_is : run.left.offset ≡ kept_halt.stored = one_store may.f run.left.offset kept_halt.stored may.read.store (kept_halt.store may.f may.offsets) in
-      absurd (never begun.config now begun.held run.left run.can run.supported run.kept kept_halt.stored halted.stored left_is kept_halt.report halted.report halted.halt own found cause)
+      let of_begun = subst (λ (c : Config). IsFirstStored c (history_at halted.begun.held) halted.begun.held.offset halted.stored) one halted.first in
+      let told_first = subst (λ (c : Contents). IsFirstStored begun.config (history_at c) c.offset halted.stored) same of_begun in
+      let told_is : halted.stored ≡ kept_halt.stored = sym (one_store may.f run.left.offset halted.stored may.read.store (halted.store may.f may.offsets)) ∙ left_is in
+      let first = subst (IsFirstStored begun.config (history_at begun.held) begun.held.offset) told_is told_first in
+      absurd (never begun.config now begun.held run.left run.can run.supported run.kept kept_halt.stored halted.stored left_is kept_halt.report halted.report first told_first halted.halt own found cause)
 
   ended : (e : ConnectError) → IsConnectError e → IsKeptError asked now wals logs stores w t f e → EndsBefore asked now wals logs stores w t f e → IsOutside e
   ended e kind kept (inl outside) = outside

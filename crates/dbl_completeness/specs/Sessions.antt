@@ -1,5 +1,6 @@
 -- When a session over kept disks must have its way: what it was asked for, what it may meet, and that no device failed. Source: own.
-use Rattle.std.specs.Prelude.{◌≡◌, ◌≢◌, ◌⊎◌, ℕ, ℤ, ◌++◌, Option, Some, None, List, reverse}
+use Rattle.std.specs.Prelude.{◌≡◌, ◌≢◌, ◌⊎◌, ◌≤◌, ℕ, ℤ, ◌++◌, Option, Some, None, List, reverse}
+use Rattle.std.specs.List.{AllByRecursion}
 use Rattle.dbl_base.specs.declared.lsn.Lsn.{Lsn}
 use Rattle.dbl_pgmsg.specs.declared.messages.Message.{Message}
 use Rattle.dbl_table.specs.declared.config.Config.{Config}
@@ -9,7 +10,9 @@ use Rattle.dbl_sound.specs.Standings.{sent}
 use Rattle.dbl_sound.specs.Wals.{Wal}
 use Rattle.dbl_saying.specs.declared.halt.Halt.TheVariants.{InputFailed, Memory as NoMemory}
 use Rattle.dbl_saying.specs.Faults.{output_failed_status, status_of}
-use Rattle.dbl_supported.specs.Supported.{CanBegin, IsSupported, OffsetsAreShort, WindowsAreSupported}
+use Rattle.dbl_honest.specs.Standings.{Reading}
+use Rattle.dbl_supported.specs.Supported.{CanBegin, CanSend, OffsetsAreShort, RowsAreReadable, WindowsAreSupported}
+use Rattle.dbl_history.specs.History.{History}
 use Rattle.dbl_offset.specs.declared.offset.Offset.{Offset}
 use Rattle.dbl_exits.specs.Sessions.{Captures}
 use Rattle.dbl_restarts.specs.Restarts.{entry_at}
@@ -23,20 +26,26 @@ use Rattle.dbl_session_runs.specs.Ends.{store_status}
 
 -- ---- what it may meet
 
--- a session that found this offset reads behind its LSN; and where none is stored, behind whichever place
-abbrev pub IsReadFrom : Option Offset → Lsn → Type 0
-IsReadFrom None after = Unit {0}
-IsReadFrom (Some offset) after = after ≡ offset.lsn
+-- A session that found this offset reads behind its LSN; and where none is stored, behind a place that none of the commits that stood there
+-- is above.
+abbrev pub IsReadFrom : History → Option Offset → Lsn → Type 0
+IsReadFrom history None after = AllByRecursion (λ commit. commit.lsn.0 ≤ after.0) history.commits
+IsReadFrom history (Some offset) after = after ≡ offset.lsn
 
--- No transaction of these tables has a fault, of those that a source's log is sent as where such a session reads.
-abbrev pub AreClean : Option Offset → List TableInfo → Wal → Type 0
-AreClean found infos wal = (after : Lsn) (newest rest : List Message) → IsReadFrom found after → sent wal after ≡ reverse newest ++ rest → IsAccepted infos after newest
+-- so it may have read these messages, the newest first, of those that a source's log is sent as
+pub record MayHaveRead (old : Contents) (wal : Wal) (reading : Reading) : Type 0 where
+  pub from : IsReadFrom (history_at old) old.offset reading.after
+  pub rest : List Message
+  pub front : sent wal reading.after ≡ reverse reading.messages ++ rest
 
--- Of the tables that are captured the source's log, as a session leaves it, holds nothing that isn't supported: no transaction, no cell, no
--- record of a commit and of a window; and no offset to what is left is too long.
+-- Of the tables that are captured the source's log, as a session leaves it, holds nothing that isn't supported: no transaction and no record of
+-- a commit, of those that it may read; no cell, no record of a window; and no offset to what is left is too long.
 pub record IsSupportedOver (config : Config) (now : ℤ) (old left : Contents) : Type 0 where
-  pub messages : (infos : List TableInfo) → Captures config (history_at old) old.offset infos → AreClean old.offset infos left.wal
-  pub content : (infos : List TableInfo) → Captures config (history_at old) old.offset infos → IsSupported (entry_at config now (found_in old)) (history_at left) infos
+  pub messages : (infos : List TableInfo) (reading : Reading) → Captures config (history_at old) old.offset infos → MayHaveRead old left.wal reading
+      → IsAccepted infos reading.after reading.messages
+  pub cells : (infos : List TableInfo) → Captures config (history_at old) old.offset infos → RowsAreReadable infos (history_at left)
+  pub commits : (infos : List TableInfo) (reading : Reading) → Captures config (history_at old) old.offset infos → MayHaveRead old left.wal reading
+      → CanSend (entry_at config now (found_in old)) infos reading
   pub windows : (infos : List TableInfo) → Captures config (history_at old) old.offset infos
       → WindowsAreSupported (entry_at config now (found_in old)) (standing_left left) (records_at left) infos
   pub offsets : OffsetsAreShort (entry_at config now (found_in old)) (standing_left left) (records_at left)

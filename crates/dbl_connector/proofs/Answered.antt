@@ -387,6 +387,7 @@ module _ {W T F : Type 0} (seen_w : W → Option (List ℕ)) (may_w : W → List
         ungained = ungained_of;
         report = report;
         within = subst (λ (n : ℕ). report.messages ≤ n) (asks_budget asked _ fo.offset config asks) ran.bounded;
+        marked = λ own bytes left leaves is. ran.most first first_stands own (left_in left.wal) (record { crashed = bytes; may = leaves; wal = left.wal; is = is; left = refl });
         raised = λ other exhausted. err_one result h other is (ran.exhausted other exhausted);
         captured = λ none name among cannot. (
             let must = ran.must_absent first first_stands none name among cannot in

@@ -140,6 +140,14 @@ module _ (config : Config) (now : ℤ) (old : Contents) (new : Option Offset) (r
         fault = honest.4.fault;
       }
 
+  -- what else is said of the messages that were read is said of these
+  read_so : (t : Standing) → stands t → (reading : Reading) → t.reading ≡ Some reading → (h : Halt) → ((u : Standing) × stands u × IsStoodHalt config now old.offset new report u h) → WasStood config old.offset new report t reading
+  read_so t is reading reads h stood =
+      let same : t ≡ stood.0 = one t is ∙ sym (one stood.0 stood.1) in
+      let both : Some stood.2.reading ≡ Some reading = sym stood.2.was.is ∙ (ap (λ (s : Standing). s.reading) (sym same) ∙ reads) in
+      let one_reading : stood.2.reading ≡ reading = cc in
+      subst (λ (s : Standing). WasStood config old.offset new report s reading) (sym same) (subst (WasStood config old.offset new report stood.0) one_reading stood.2.was)
+
   pub cause_of : (h : Halt) → IsHaltOver config now old new report stands h → IsCauseOf config now old new report wal h
   unfolding has_read
   cause_of halt.Source over = tt
@@ -199,10 +207,14 @@ module _ (config : Config) (now : ℤ) (old : Contents) (new : Option Offset) (r
       (here.2, here.3, subst (λ (s : Standing). IsOwnCell here.2 s.history table column error) all here.4)
   kept_halt left holds (halt.Clash table column) same hold own behind within over content =
       let all : content.0 ≡ standing_in left.wal place = one content.0 content.1 ∙ ap (λ (x : Wal). standing_in x place) (sym same) in
-      (content.2, content.3, subst (λ (s : Standing). IsOwnClash (entry_at config now (found_in old)) content.2 report s.history (halt.Clash table column)) all content.4)
+      let was = read_so content.0 content.1 content.2 content.3 (halt.Clash table column) over.stood in
+      let front = has_read config old.offset new report content.0 content.2 left.wal place all was in
+      (content.2, front, was.many, content.4, content.5, subst (λ (s : Standing). IsOwnClash (entry_at config now (found_in old)) content.4 report s.history content.2 (halt.Clash table column)) all content.6)
   kept_halt left holds (halt.RecordTooLong len) same hold own behind within over content =
       let all : content.0 ≡ standing_in left.wal place = one content.0 content.1 ∙ ap (λ (x : Wal). standing_in x place) (sym same) in
-      (content.2, content.3, subst (λ (s : Standing). IsOwnLong (entry_at config now (found_in old)) content.2 report s.history (halt.RecordTooLong len)) all content.4)
+      let was = read_so content.0 content.1 content.2 content.3 (halt.RecordTooLong len) over.stood in
+      let front = has_read config old.offset new report content.0 content.2 left.wal place all was in
+      (content.2, front, was.many, content.4, content.5, subst (λ (s : Standing). IsOwnLong (entry_at config now (found_in old)) content.4 report s.history content.2 (halt.RecordTooLong len)) all content.6)
   kept_halt left holds (halt.OffsetTooLong len) same hold own behind within over content =
       let all : content.0 ≡ standing_in left.wal place = one content.0 content.1 ∙ ap (λ (x : Wal). standing_in x place) (sym same) in
       let here = subst (λ (s : Standing). IsOwnOffset (entry_at config now (found_in old)) s (joined content.2) (halt.OffsetTooLong len)) all content.4 in

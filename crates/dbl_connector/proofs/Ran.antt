@@ -27,7 +27,7 @@ use Rattle.dbl_causes.specs.Musts.{CapturesAll, MustExhaust}
 use Rattle.dbl_causes.specs.Nevers.{IsFaithfulHalt, IsHonestHalt}
 use Rattle.dbl_causes.specs.Reported.{HasSettled, HasStoodBehind, IsFollowed}
 use Rattle.dbl_causes.specs.Tallied.{IsTalliedBehind}
-use Rattle.dbl_causes.specs.Written.{EndsExactly, marks_more}
+use Rattle.dbl_causes.specs.Written.{AddsAtMost, EndsExactly, marks_more}
 use Rattle.dbl_steps.specs.Awaited.{IsWithinLog}
 use Rattle.dbl_steps.specs.Captured.{MustHaltAbsent}
 use Rattle.dbl_steps.specs.Owned.{IsLongBy}
@@ -50,6 +50,8 @@ pub record Ran {W T F : Type 0} (seen_w : W → Option (List ℕ)) (may_w : W �
   pub held : Holds seen_f may_f fo fo.offset → (result ≡ Err halt.Offsets → ⊥) → Holds seen_f may_f fn fn.offset
   pub marks : (s : Standing) → StandsFor seen_w may_w so s → HadOwnTables (entry_at config now s fo.offset)
       → (left : Left) → SourceLeaves may_w sn left → AddsFew (entry_at config now s fo.offset) left
+  pub most : (s : Standing) → StandsFor seen_w may_w so s → HadOwnTables (entry_at config now s fo.offset)
+      → (left : Left) → SourceLeaves may_w sn left → AddsAtMost fn.offset report.chunks s.history left.history
   pub exactly : (s : Standing) → StandsFor seen_w may_w so s → HadOwnTables (entry_at config now s fo.offset)
       → IfOk result (λ ending. (left : Left) → SourceLeaves may_w sn left → EndsExactly (entry_at config now s fo.offset) fn.offset report.chunks (marks_more ending fn.offset) left.history)
   pub unclosed : (entry : Entry) → IsEntryOf config now entry → Found (StandsFor seen_w may_w) (HoldsGroups seen_t may_t) seen_f may_f entry so lo fo

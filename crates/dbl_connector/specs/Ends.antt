@@ -25,7 +25,7 @@ use Rattle.dbl_exits.specs.Closed.{HasNoHigh}
 use Rattle.dbl_exits.specs.Found.{HasStored, IsFirstStored}
 use Rattle.dbl_causes.specs.Gained.{Gains}
 use Rattle.dbl_causes.specs.Reported.{AllCouldBeSent, course_at}
-use Rattle.dbl_causes.specs.Written.{HaveBrought}
+use Rattle.dbl_causes.specs.Written.{AddsAtMost, HaveBrought}
 use Rattle.dbl_init.specs.declared.error.Store.{Store}
 use Rattle.dbl_init.specs.declared.error.Store.TheVariants.{Wal as WalStore, Topics, Offsets}
 use Rattle.dbl_steps.specs.Captured.{IsOfTable}
@@ -153,6 +153,9 @@ pub record HasHalted (asked : Asked) (now : ℤ) (wals logs stores : List ℕ �
   -- no more messages than the words allow
   pub within : report.messages ≤ budget_of asked
   pub gained : AreGained logs begun.held report
+  -- no more marks than two for each window that its report counts, and two; and none where no offset is stored
+  pub marked : HasOwnTables begun.held → (bytes : List ℕ) (left : Contents) → wals bytes → IsWal bytes left.wal
+      → AddsAtMost stored report.chunks (history_at begun.held) (history_at left)
   pub cause : (bytes : List ℕ) (wal : Wal) → wals bytes → IsWal bytes wal → IsCauseOf begun.config now begun.held stored report wal halt
   -- where it stored none, it read nothing
   pub unread : stored ≡ begun.held.offset → (report.messages ≡ 0) × (report.commits ≡ 0)

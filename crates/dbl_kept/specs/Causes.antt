@@ -141,7 +141,8 @@ abbrev pub standing_left : Contents → Standing
 standing_left left = record { history = history_at left; confirmed = confirmed_at left; reading = None }
 
 -- No message and no row is at fault for its form, no log is gone, and no watermark is missing. A transaction is at fault by its content
--- alone; a cell, a clash, and a record that is too long are of the source's history; and an offset that is too long is one to what is left.
+-- alone; a cell is of the source's history; a clash, and a record that is too long, are of the commit that the newest message ends, which the
+-- history has, or of the rows of the window that it closes; and an offset that is too long is one to what is left.
 abbrev pub IsKeptHalt : Config → ℤ → Contents → Option Offset → Report → Contents → Halt → Type 0
 IsKeptHalt config now old stored report left (halt.Message number error) = ⊥
 IsKeptHalt config now old stored report left (halt.Chunk table row) = ⊥
@@ -150,9 +151,11 @@ IsKeptHalt config now old stored report left (halt.WatermarkMissing value at) = 
 IsKeptHalt config now old stored report left (halt.Txn number error) = IsOwnTxn config old left.wal number error
 IsKeptHalt config now old stored report left (halt.Cell table column error) = IsCellOf config old (history_at left) (halt.Cell table column error)
 IsKeptHalt config now old stored report left (halt.Clash table column) =
-    (offset : Offset) × (stored ≡ Some offset) × IsOwnClash (entry_at config now (found_in old)) offset report (history_at left) (halt.Clash table column)
+    (reading : Reading) × HasRead config old.offset stored left.wal reading × (length reading.messages ≡ report.messages)
+    × (offset : Offset) × (stored ≡ Some offset) × IsOwnClash (entry_at config now (found_in old)) offset report (history_at left) reading (halt.Clash table column)
 IsKeptHalt config now old stored report left (halt.RecordTooLong len) =
-    (offset : Offset) × (stored ≡ Some offset) × IsOwnLong (entry_at config now (found_in old)) offset report (history_at left) (halt.RecordTooLong len)
+    (reading : Reading) × HasRead config old.offset stored left.wal reading × (length reading.messages ≡ report.messages)
+    × (offset : Offset) × (stored ≡ Some offset) × IsOwnLong (entry_at config now (found_in old)) offset report (history_at left) reading (halt.RecordTooLong len)
 IsKeptHalt config now old stored report left (halt.OffsetTooLong len) =
     IsOwnOffset (entry_at config now (found_in old)) (standing_left left) (records_at left) (halt.OffsetTooLong len)
 IsKeptHalt config now old stored report left h = Unit {0}

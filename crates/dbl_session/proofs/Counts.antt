@@ -179,6 +179,10 @@ pair_of table entry = (table, entry.0)
 le_on : (a b c : ℕ) → a ≤ b → b ≤ c → a ≤ c
 le_on a b c one two = omega (arith, one, two)
 
+not_yet : (old new : Bool) → (old ≡ true → new ≡ true) → new ≡ false → old ≡ false
+not_yet true new on is = let wrong : true ≡ false = sym (on refl) ∙ is in cc
+not_yet false new on is = refl
+
 module _ (infos : List TableInfo) (limit : ℕ) (history : History) (cursors : List Cursor) (chunk : Chunk) (is : IsOnTable infos limit history cursors chunk) where
   abbrev selected_rows : List (Key × Row)
   selected_rows = is.selected.rows
@@ -222,25 +226,27 @@ module _ (infos : List TableInfo) (limit : ℕ) (history : History) (cursors : L
 
   -- the cursors hadn't come to any of them
   unread_now : (j : ℕ) (pair : ℕ × Key) → slice_get new_pairs j ≡ Some pair → WasUnread cursors pair
-  unread_now j pair at_new cursor at read =
+  unread_now j pair at_new cursor at =
       let from = mapped (pair_of chunk.plan.table) selected_rows j pair at_new in
       let table : pair.0 ≡ chunk.plan.table = ap (λ (p : ℕ × Key). p.0) from.2 in
       let key : pair.1 ≡ from.0.0 = ap (λ (p : ℕ × Key). p.1) from.2 in
       let same : cursor ≡ is.cursor = first_some cursor is.cursor (sym at ∙ (ap (λ (n : ℕ). slice_get cursors n) table ∙ is.cursor_is)) in
-      let up : IsUpTo is.selected.plan.above pair.1 = subst (λ (b : Option Key). IsUpTo b pair.1) (ap (λ (c : Cursor). c.last) same ∙ above_is) read in
-      let above : IsAbove is.selected.plan.above pair.1 = subst (IsAbove is.selected.plan.above) (sym key) (each_above is.selected.plan.above selected_rows j from.0 is.rows.first.ordered from.1) in
-      (bounds_part is.selected.plan.above pair.1).not_both above up
+      let above : IsAbove is.selected.plan.above pair.1 = subst (IsAbove is.selected.plan.above) (sym key) (each_above is.selected.plan.above selected_rows j from.0 is.rows.first.ordered from.1) in (
+        ap (λ (c : Cursor). c.done) same ∙ is.not_done,
+        λ read. (bounds_part is.selected.plan.above pair.1).not_both above (subst (λ (b : Option Key). IsUpTo b pair.1) (ap (λ (c : Cursor). c.last) same ∙ above_is) read),
+      )
 
   unread_before : (begun : List Cursor) → AllZip IsLaterCursor begun cursors → AllByRecursion (WasUnread begun) new_pairs
-  unread_before begun later = all_by_place (WasUnread begun) new_pairs (λ j pair at cursor at_begun up.
+  unread_before begun later = all_by_place (WasUnread begun) new_pairs (λ j pair at cursor at_begun.
       (let now = zip_beside IsLaterCursor begun cursors pair.0 cursor later at_begun in
-      unread_now j pair at now.0 now.1 (now.2.last pair.1 up)))
+      let unread = unread_now j pair at now.0 now.1 in
+      (not_yet cursor.done now.0.done now.2.done unread.0, λ up. unread.1 (now.2.last pair.1 up))))
 
   -- none of them was read before
   not_before : (read : List (ℕ × Key)) → AllByRecursion (WasRead infos history cursors) read → (i j : ℕ) (pair : ℕ × Key) → slice_get read i ≡ Some pair → slice_get new_pairs j ≡ Some pair → ⊥
   not_before read were i j pair at_read at_new =
       let was : WasRead infos history cursors pair = at_all (WasRead infos history cursors) read i pair were at_read in
-      unread_now j pair at_new was.cursor was.cursor_is was.read
+      (unread_now j pair at_new was.cursor was.cursor_is).1 was.read
 
   -- where a pair of both lists stands
   abbrev Found : List (ℕ × Key) → ℕ → ℕ × Key → Type 0

@@ -62,12 +62,13 @@ IsWaiting infos limit history cursors Absent = Unit {0}
 IsWaiting infos limit history cursors (Armed chunk) = IsOnTable infos limit history cursors chunk
 IsWaiting infos limit history cursors (Open chunk) = IsOnTable infos limit history cursors chunk
 
--- a pair of a captured table and a key up to which the table's cursor hadn't come
+-- a pair of a captured table that wasn't read to its end, and of a key up to which its cursor hadn't come
 abbrev pub WasUnread : List Cursor → ℕ × Key → Type 0
-WasUnread cursors pair = (cursor : Cursor) → slice_get cursors pair.0 ≡ Some cursor → IsUpTo cursor.last pair.1 → ⊥
+WasUnread cursors pair =
+    (cursor : Cursor) → slice_get cursors pair.0 ≡ Some cursor → (cursor.done ≡ false) × (IsUpTo cursor.last pair.1 → ⊥)
 
--- What so many closed windows make of the cursors. Each ended its table, or was full: it read as many rows as it may, at keys up to
--- which its table's cursor hadn't come before, and which no other of them read. Of no table is less read than was.
+-- What so many closed windows make of the cursors. Each ended its table, or was full: it read as many rows as it may, of a table that
+-- wasn't read to its end before, at keys up to which its cursor hadn't come, and which no other of them read. No cursor falls.
 pub record HaveComeOn (infos : List TableInfo) (chunk closed : ℕ) (history : History) (begun cursors : List Cursor) : Type 0 where
   pub full : ℕ
   pub ended : ℕ

@@ -1,7 +1,7 @@
 -- What makes a session halt over an honest source and faithful stores: clashes, records and offsets of the source's history.
-use Rattle.std.proofs.Common.{◌≡◌, ◌∙◌, ◌⊎◌, inl, inr, ◌+◌, ℕ, ℤ, zero, suc, Option, Some, None, List, [], ◌∷◌, ◌++◌, length, take, refl, sym, ap, ap₂, subst, arith, append_assoc, length-append}
-use Rattle.std.specs.Prelude.{Contains, IsSome, not, slice_get}
-use Rattle.std.specs.List.{position}
+use Rattle.std.proofs.Common.{◌≡◌, ◌∙◌, ◌⊎◌, inl, inr, ◌+◌, ◌≤◌, ℕ, ℤ, zero, suc, Option, Some, None, List, [], ◌∷◌, ◌++◌, length, drop, take, refl, sym, ap, ap₂, subst, arith, append_assoc, length-append}
+use Rattle.std.specs.Prelude.{IsSome, not, slice_get}
+use Rattle.std.specs.List.{AllByRecursion, position}
 use Rattle.dbl_base.specs.declared.lsn.Lsn.{Lsn}
 use Rattle.dbl_pgmsg.specs.declared.messages.Message.{Message}
 use Rattle.dbl_record.specs.declared.record.Record.{Record}
@@ -14,10 +14,11 @@ use Rattle.dbl_table.specs.declared.change.Change.{Change}
 use Rattle.dbl_table.specs.declared.change.Commit.{Commit}
 use Rattle.dbl_table.specs.Rows.{all_changes, changes_of}
 use Rattle.dbl_history.specs.declared.cursor.Cursor.{Cursor}
+use Rattle.dbl_history.specs.KeyBounds.{IsAbove, IsUpTo}
 use Rattle.dbl_history.specs.History.{History, RawCommit}
 use Rattle.dbl_history.specs.History as raw
-use Rattle.dbl_history.specs.MarkTexts.{mark_text}
-use Rattle.dbl_history.specs.MarkTexts.Side.{High}
+use Rattle.dbl_history.specs.MarkTexts.{Side, mark_text}
+use Rattle.dbl_history.specs.MarkTexts.Side.{High, Low}
 use Rattle.dbl_history.specs.Typed.{typed_commit}
 use Rattle.dbl_event.specs.Clashes.{Clash, clash_of, snapshot_clash}
 use Rattle.dbl_event.specs.EventJson.{envelopes}
@@ -25,17 +26,18 @@ use Rattle.dbl_event.specs.Snapshots.{AreInKeyOrder, snapshot}
 use Rattle.dbl_ageing.specs.Windows.{IsRightWindow}
 use Rattle.dbl_ageing.proofs.Lists.{slice_get-seam}
 use Rattle.dbl_faithful.proofs.Items.{mapped}
-use Rattle.dbl_faithful.proofs.Words.{contains_at}
 use Rattle.dbl_honest.specs.Growth.{Grows}
 use Rattle.dbl_honest.specs.Standings.{left_of}
 use Rattle.dbl_honest.proofs.GrowthLemmas.{grows_none}
 use Rattle.dbl_offset.specs.declared.offset.Offset.{Offset}
 use Rattle.dbl_window.specs.Plans.{Chunk, Plan, high_text}
-use Rattle.dbl_window.specs.Changing.{AreLeft}
+use Rattle.dbl_window.specs.Changing.{AreLeft, left_from}
 use Rattle.dbl_window.specs.Laws.{between}
 use Rattle.dbl_window.specs.Promise.{WasGiven, moment_after_first}
 use Rattle.dbl_window.proofs.HonestLemmas.{captured_stays}
 use Rattle.dbl_window.proofs.LawLemmas.{selected_given}
+use Rattle.dbl_window.proofs.LeftLemmas.{left-None}
+use Rattle.dbl_window.proofs.OrderLemmas.{each_row, within}
 use Rattle.dbl_window.proofs.PromiseLemmas.{kept_promise}
 use Rattle.dbl_follow.specs.declared.window.Window.{Window}
 use Rattle.dbl_follow.specs.declared.window.Window.TheVariants.{Open}
@@ -62,15 +64,15 @@ use Rattle.dbl_work.specs.Takes.{IsClashIn}
 use Rattle.dbl_work.specs.Works.{IsOwnChunk, IsOwnWaiting, next_of}
 use Rattle.dbl_exits.specs.Sessions.{Captures, IsCapturing}
 use Rattle.dbl_causes.specs.Stored.{identity_of, named_by}
-use Rattle.dbl_history.specs.KeyedRows.{last_key}
+use Rattle.dbl_history.specs.KeyedRows.{last_key, row_in}
 use Rattle.dbl_honest.specs.Selected.{rows_behind}
 use Rattle.dbl_session.proofs.Counts.{was_selected}
 use Rattle.dbl_table.specs.declared.row.Row.{Row}
-use Rattle.dbl_causes.specs.Nevers.{IsOwnClash, IsOwnClosed, IsOwnLong}
+use Rattle.dbl_causes.specs.Nevers.{IsNewest, IsOwnClash, IsOwnClosed, IsOwnLong}
 use Rattle.dbl_causes.specs.Underway.{IsOrderedWindow}
 use Rattle.dbl_causes.specs.Carried.{Beginning}
 use Rattle.dbl_causes.proofs.Halting.{incarnation_stored}
-use Rattle.dbl_steps.specs.Owned.{ClashesAreOwn, EndsNext, FirstLongOffsetsAreOwn, FirstOffsetsAreLong, IsOverFaithful, LongOffsetsAreOwn, LongRecordsAreOwn}
+use Rattle.dbl_steps.specs.Owned.{ClashesAreOwn, EndsNext, FirstLongOffsetsAreOwn, FirstOffsetsAreLong, IsOverFaithful, LongOffsetsAreOwn, LongRecordsAreOwn, read_with}
 
 -- ---- moments of marks
 
@@ -107,6 +109,10 @@ module _ (entry : Entry) (stage : Stage) (going : IsGoing entry stage) where
 
   identity_is : stage.first.identity ≡ identity_of entry
   identity_is = named_of entry.offset going.reading.began
+
+some_case : {X : Type 0} (o : Option X) → (o ≡ None) ⊎ ((x : X) × (o ≡ Some x))
+some_case None = inl refl
+some_case (Some x) = inr (x, refl)
 
 -- ---- the last key of some rows: the bound, or that of one of them
 
@@ -148,8 +154,8 @@ module _ (entry : Entry) (stage : Stage) (b : Beginning) (ms : List Message) (st
   at_place : slice_get (commits_at stage) (length before) ≡ Some commit
   at_place = ap (λ (l : List Commit). slice_get l (length before)) parted.1 ∙ slice_get-seam before commit parted.0
 
-  contained : Contains (commits_at stage) commit
-  contained = contains_at (commits_at stage) (length before) commit at_place
+  abbrev newest : IsNewest stage.first.infos stage.history (read_with stage m)
+  newest = record { commit = commit; ends = record { message = m; earlier = stage.messages; newest = refl; accepted = (e.clean, o.going.reading.accepted); ends = e.ends }; place = length before; stands = at_place }
 
   follows_identity : stage.following.identity ≡ identity_of entry
   follows_identity = o.going.reading.follows_identity ∙ identity_is entry stage o.going
@@ -178,29 +184,43 @@ module _ (entry : Entry) (stage : Stage) (b : Beginning) (ms : List Message) (st
     body_is : commit.body ≡ Mark (high_text chunk.plan)
     body_is = marked_so commit.body (high_text chunk.plan) closes.mark_is
 
-    text_own : high_text chunk.plan ≡ mark_text stage.first.incarnation stage.number High
-    text_own = ap₂ (λ (i n : ℕ). mark_text i n High) own.0 own.1
+    text_own : (side : Side) → mark_text chunk.plan.incarnation chunk.plan.number side ≡ mark_text stage.first.incarnation stage.number side
+    text_own side = ap₂ (λ (i n : ℕ). mark_text i n side) own.0 own.1
 
-    high_own : high_text w.selected.plan ≡ mark_text stage.first.incarnation stage.number High
-    high_own = ap (λ (x : Plan). high_text x) (sym w.plan) ∙ text_own
+    selected_own : (side : Side) → mark_text w.selected.plan.incarnation w.selected.plan.number side ≡ mark_text stage.first.incarnation stage.number side
+    selected_own side = ap (λ (x : Plan). mark_text x.incarnation x.number side) (sym w.plan) ∙ text_own side
 
     -- the history's commit at this place
     raw_at : (c : RawCommit) × (slice_get stage.history.commits (length before) ≡ Some c) × (commit ≡ typed_commit stage.first.infos c)
     raw_at = mapped (typed_commit stage.first.infos) stage.history.commits (length before) commit at_place
 
     raw_is : raw_at.0.body ≡ raw.Mark (mark_text stage.first.incarnation stage.number High)
-    raw_is = raw_mark stage.first.infos raw_at.0.body (high_text chunk.plan) (sym (ap (λ (c : Commit). c.body) raw_at.2) ∙ body_is) ∙ ap (λ (l : List ℕ). raw.Mark l) text_own
+    raw_is = raw_mark stage.first.infos raw_at.0.body (high_text chunk.plan) (sym (ap (λ (c : Commit). c.body) raw_at.2) ∙ body_is) ∙ ap (λ (l : List ℕ). raw.Mark l) (text_own High)
 
     -- it is the window's high mark
     same_place : length before ≡ w.high
     same_place =
         k.own_marks.once (length before) w.high stage.number High raw_at.0 w.marked.high_is.commit k.small raw_at.1 w.marked.high_is.stands raw_is
-        (w.marked.high_is.is_mark ∙ ap (λ (l : List ℕ). raw.Mark l) high_own)
+        (w.marked.high_is.is_mark ∙ ap (λ (l : List ℕ). raw.Mark l) (selected_own High))
 
     given : WasGiven stage.first.infos (commits_at stage) (w.low + 1) w.high chunk
     given =
         selected_given stage.first.infos stage.history (w.low + 1) w.high w.selected chunk w.marked.rows w.plan w.through w.done
         (subst (λ (n : ℕ). AreLeft stage.first.infos w.selected.plan.table w.selected.rows (between stage.first.infos stage.history (w.low + 1) n) chunk.rows) same_place w.left)
+
+    -- its rows stand behind the bound, up to where it was read: changes leave no others than were selected
+    within_own : AllByRecursion (λ (row : Key × Row). IsAbove waits.cursor.last row.0 × IsUpTo chunk.through row.0) chunk.rows
+    within_own = each_row (λ key cells. IsAbove waits.cursor.last key × IsUpTo chunk.through key) chunk.rows ordered (λ key cells there. elim (some_case (row_in given.selected key)) [
+      | inl none ↦ (
+          let same : all_changes (drop (w.low + 1) (take w.high (commits_at stage))) ≡ all_changes (drop (w.low + 1) (take w.high (commits_at stage))) = refl in
+          let gone : None ≡ Some cells = sym (left-None stage.first.infos chunk.plan.table key (all_changes (drop (w.low + 1) (take w.high (commits_at stage))))) ∙ (ap₂ (left_from stage.first.infos chunk.plan.table key) (sym none) same ∙ (sym (given.left key) ∙ there)) in
+          absurd (cc)
+          )
+      | inr found ↦ (
+          let range = within chunk.plan.info chunk.plan.above given.selected key found.0 given.first.ordered given.first.keys found.1 in
+          (subst (λ (b : Option Key). IsAbove b key) waits.above range.above, subst (λ (b : Option Key). IsUpTo b key) (sym given.through_is) range.up_to)
+          )
+    ])
 
     -- the mark has no changes
     behind_it : moment_after_first (commits_at stage) w.high ≡ moment_after_first (commits_at stage) (length before + 1)
@@ -239,81 +259,69 @@ module _ (entry : Entry) (stage : Stage) (b : Beginning) (ms : List Message) (st
             let read = was_selected stage.first.infos entry.config.chunk stage.history stage.following.cursors chunk waits place row at in
             inr (row.0, sym is_last ∙ last, read.place, subst IsSome (sym read.was) refl)
 
-    own_closed : IsOwnClosed stage.first.infos o.rests.is.offset later stage.history (length before) (closed_of chunk)
+    own_text : (side : Side) → mark_text stage.first.incarnation stage.number side ≡ mark_text o.rests.is.offset.incarnation (later.chunks + 1) side
+    own_text side = ap₂ (λ (i n : ℕ). mark_text i n side) incarnation_own number_own
+
+    own_chunk : IsOwnChunk work.offset.incarnation work.number work.offset.infos work.follower.cursors work.chunk chunk
+    own_chunk = subst (IsOwnWaiting work.offset.incarnation work.number work.offset.infos work.follower.cursors work.chunk) waiting_open o.rests.is.is.own
+
+    own_closed : IsOwnClosed stage.first.infos entry.config.chunk o.rests.is.offset later stage.history (length before) (closed_of chunk)
     own_closed = record {
       here = record {
         commit = raw_at.0;
         stands = raw_at.1;
-        is_mark = raw_is ∙ ap₂ (λ (i n : ℕ). raw.Mark (mark_text i n High)) incarnation_own number_own;
+        is_mark = raw_is ∙ ap (λ (l : List ℕ). raw.Mark l) (own_text High);
       };
       first = ap (position (λ (c : Cursor). not c.done)) offset_cursors ∙ first_open;
       cursor = waits.cursor;
       cursor_is = ap (λ (l : List Cursor). slice_get l chunk.plan.table) offset_cursors ∙ waits.cursor_is;
-      low = w.low + 1;
+      low = w.low;
+      opened = record {
+        commit = w.marked.low_is.commit;
+        stands = w.marked.low_is.stands;
+        is_mark = w.marked.low_is.is_mark ∙ ap (λ (l : List ℕ). raw.Mark l) (selected_own Low ∙ own_text Low);
+      };
       right = right;
       ordered = ordered;
+      few = subst (λ (n : ℕ). length chunk.rows ≤ n) o.work_is.chunk_is own_chunk.few;
+      within = within_own;
       through = through_own;
     }
       where
         first_open : position (λ (c : Cursor). not c.done) stage.following.cursors ≡ Some chunk.plan.table
         first_open = ap (λ (f : Following). position (λ (c : Cursor). not c.done) f.cursors) (sym o.work_is.follower_is) ∙ own_chunk.table
-          where
-            own_chunk : IsOwnChunk work.offset.incarnation work.number work.offset.infos work.follower.cursors work.chunk chunk
-            own_chunk = subst (IsOwnWaiting work.offset.incarnation work.number work.offset.infos work.follower.cursors work.chunk) waiting_open o.rests.is.is.own
 
   -- ---- clashes
 
-  clash_own : (h : Halt) (closed : Option Chunk) → closing stage.following.window (mark_of commit) ≡ closed → IsClashIn (clash_in stage.following closed commit) h → IsOwnClash entry o.rests.is.offset later stage.history h
+  clash_own : (h : Halt) (closed : Option Chunk) → closing stage.following.window (mark_of commit) ≡ closed → IsClashIn (clash_in stage.following closed commit) h → IsOwnClash entry o.rests.is.offset later stage.history (read_with stage m) h
   clash_own h None is found = record {
     infos = stage.first.infos;
     captured = capturing entry stage o.going;
-    clash = inl (
-      commit,
-      contained,
-      subst (λ (x : Option Clash). IsClashIn x h) (ap₂ (λ (i : Identity) (l : List TableInfo). clash_of i l commit) follows_identity o.going.reading.follows_infos) found,
-    );
+    newest = newest;
+    clash = inl (subst (λ (x : Option Clash). IsClashIn x h) (ap₂ (λ (i : Identity) (l : List TableInfo). clash_of i l commit) follows_identity o.going.reading.follows_infos) found);
   }
-  clash_own h (Some chunk) is found = record {
-    infos = stage.first.infos;
-    captured = capturing entry stage o.going;
-    clash = inr (
-      length before,
-      closed_of chunk,
-      own_closed chunk is,
-      subst (λ (x : Option Clash). IsClashIn x h) (ap₂ (λ (i : Identity) (l : List TableInfo). snapshot_clash i l (closed_of chunk)) follows_identity o.going.reading.follows_infos) found,
-    );
-  }
+  clash_own h (Some chunk) is found =
+      let here = subst (λ (x : Option Clash). IsClashIn x h) (ap₂ (λ (i : Identity) (l : List TableInfo). snapshot_clash i l (closed_of chunk)) follows_identity o.going.reading.follows_infos) found in
+      record { infos = stage.first.infos; captured = capturing entry stage o.going; newest = newest; clash = inr (closed_of chunk, own_closed chunk is, here) }
 
-  clash_here : (h : Halt) → IsClashIn (clash_by work.follower commit) h → IsOwnClash entry o.rests.is.offset later stage.history h
+  clash_here : (h : Halt) → IsClashIn (clash_by work.follower commit) h → IsOwnClash entry o.rests.is.offset later stage.history (read_with stage m) h
   clash_here h found =
       clash_own h (closing stage.following.window (mark_of commit)) refl (subst (λ (f : Following). IsClashIn (clash_by f commit) h) o.work_is.follower_is found)
 
   -- ---- records that are too long
 
-  long_own : (h : Halt) (closed : Option Chunk) → closing stage.following.window (mark_of commit) ≡ closed → IsLongRecord (records_of stage.following closed commit entry.now) h → IsOwnLong entry o.rests.is.offset later stage.history h
+  long_own : (h : Halt) (closed : Option Chunk) → closing stage.following.window (mark_of commit) ≡ closed → IsLongRecord (records_of stage.following closed commit entry.now) h → IsOwnLong entry o.rests.is.offset later stage.history (read_with stage m) h
   long_own h None is found = record {
     infos = stage.first.infos;
     captured = capturing entry stage o.going;
-    commit = commit;
-    long = inl (
-      contained,
-      subst (λ (l : List Record). IsLongRecord l h) (ap₂ (λ (i : Identity) (l : List TableInfo). envelopes i l commit entry.now) follows_identity o.going.reading.follows_infos) found,
-    );
+    newest = newest;
+    long = inl (subst (λ (l : List Record). IsLongRecord l h) (ap₂ (λ (i : Identity) (l : List TableInfo). envelopes i l commit entry.now) follows_identity o.going.reading.follows_infos) found);
   }
-  long_own h (Some chunk) is found = record {
-    infos = stage.first.infos;
-    captured = capturing entry stage o.going;
-    commit = commit;
-    long = inr (
-      length before,
-      closed_of chunk,
-      own_closed chunk is,
-      at_place,
-      subst (λ (l : List Record). IsLongRecord l h) (ap₂ (λ (i : Identity) (l : List TableInfo). snapshot i l (closed_of chunk) commit entry.now) follows_identity o.going.reading.follows_infos) found,
-    );
-  }
+  long_own h (Some chunk) is found =
+      let here = subst (λ (l : List Record). IsLongRecord l h) (ap₂ (λ (i : Identity) (l : List TableInfo). snapshot i l (closed_of chunk) commit entry.now) follows_identity o.going.reading.follows_infos) found in
+      record { infos = stage.first.infos; captured = capturing entry stage o.going; newest = newest; long = inr (closed_of chunk, own_closed chunk is, here) }
 
-  long_here : (h : Halt) → IsLongRecord (records_by work.follower commit work.now_ms) h → IsOwnLong entry o.rests.is.offset later stage.history h
+  long_here : (h : Halt) → IsLongRecord (records_by work.follower commit work.now_ms) h → IsOwnLong entry o.rests.is.offset later stage.history (read_with stage m) h
   long_here h found =
       long_own h (closing stage.following.window (mark_of commit)) refl
       (subst (λ (f : Following). IsLongRecord (records_by f commit entry.now) h) o.work_is.follower_is (subst (λ (now : ℤ). IsLongRecord (records_by work.follower commit now) h) o.work_is.now_is found))

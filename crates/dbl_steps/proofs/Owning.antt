@@ -181,13 +181,13 @@ module _ {S K D : Type 0} {stands : S → Standing → Type 0} {holds : K → Li
       clash_at (Some c) h found same_clash =
           subst Here (sym found)
           (let own = clashes_are_own entry (record s.stage { history = t.history }) b ms stored work report m commit later (halt.Clash c.table c.column) (over b ms stored report rests) ends_next chunks (subst (λ (x : Option Clash). IsClashIn x (halt.Clash c.table c.column)) (sym same_clash) refl) in
-          (t, is, own.0, own.1, own.2))
+          (t, is, record { after = s.stage.first.lsn; messages = m ∷ s.stage.messages }, reading_is, own.0, own.1, own.2))
 
       long_at : (h : Halt) → IsLongRecord (records_by work.follower commit work.now_ms) h → Here h
       long_at h long =
           subst Here (sym long.is)
           (let own = long_records_are_own entry (record s.stage { history = t.history }) b ms stored work report m commit later _ (over b ms stored report rests) ends_next chunks (subst (IsLongRecord (records_by work.follower commit work.now_ms)) long.is long) in
-          (t, is, own.0, own.1, own.2))
+          (t, is, record { after = s.stage.first.lsn; messages = m ∷ s.stage.messages }, reading_is, own.0, own.1, own.2))
 
       pub follow_own : (h : Halt) → (h ≡ halt.Memory) ⊎ ((h ≡ halt.Sink) ⊎ (IsClashIn (clash_by next.follower commit) h ⊎ ((clash_by next.follower commit ≡ None) × IsLongRecord (records_by next.follower commit next.now_ms) h))) → Here h
       follow_own h (inl memory) = subst Here (sym memory) tt

@@ -1,5 +1,5 @@
 -- What makes a session halt is of the source's history, where the source is honest and the stores were faithful.
-use Rattle.std.specs.Prelude.{◌≡◌, map, None, Some, Option, List}
+use Rattle.std.specs.Prelude.{◌≡◌, map, None, Some, Option, List, ◌∷◌}
 use Rattle.dbl_pgmsg.specs.declared.messages.Message.{Message}
 use Rattle.dbl_record.specs.Cuts.{joined}
 use Rattle.dbl_table.specs.declared.change.Commit.{Commit}
@@ -10,7 +10,7 @@ use Rattle.dbl_history.specs.History.{History}
 use Rattle.dbl_base.specs.declared.lsn.Lsn.{Lsn}
 use Rattle.dbl_commit.specs.Stated.{ended, transaction_fault}
 use Rattle.dbl_honest.specs.Calls.{Moved}
-use Rattle.dbl_honest.specs.Standings.{Standing}
+use Rattle.dbl_honest.specs.Standings.{Reading, Standing}
 use Rattle.dbl_offset.specs.declared.offset.Offset.{Offset}
 use Rattle.dbl_follow.specs.Steps.{clash_by, records_by}
 use Rattle.dbl_session.specs.Entries.{Entry, WasFaithful}
@@ -35,6 +35,10 @@ pub record EndsNext (stage : Stage) (m : Message) (commit : Commit) : Type 0 whe
   pub clean : transaction_fault stage.first.infos stage.first.lsn m stage.messages ≡ None
   pub ends : ended stage.first.infos m stage.messages ≡ Some commit
   pub right : ReadsOn stage m
+
+-- what was read, with it
+abbrev pub read_with : Stage → Message → Reading
+read_with stage m = record { after = stage.first.lsn; messages = m ∷ stage.messages }
 
 -- Over faithful stores a session is under way: what it has in hand is where it stands, and what it reports.
 pub record IsOverFaithful (entry : Entry) (stage : Stage) (b : Beginning) (ms : List Message) (stored : Option Offset) (work : Work) (report : Report) : Type 0 where
@@ -72,7 +76,7 @@ ClashesAreOwn = (entry : Entry) (stage : Stage) (b : Beginning) (ms : List Messa
     (m : Message) (commit : Commit) (later : Report) (h : Halt)
     → IsOverFaithful entry stage b ms stored work report → EndsNext stage m commit → later.chunks ≡ report.chunks
     → IsClashIn (clash_by work.follower commit) h
-    → (offset : Offset) × (stored ≡ Some offset) × IsOwnClash entry offset later stage.history h
+    → (offset : Offset) × (stored ≡ Some offset) × IsOwnClash entry offset later stage.history (read_with stage m) h
 
 -- And so it is of one of them that is too long.
 abbrev pub LongRecordsAreOwn : Type 0
@@ -80,7 +84,7 @@ LongRecordsAreOwn = (entry : Entry) (stage : Stage) (b : Beginning) (ms : List M
     (m : Message) (commit : Commit) (later : Report) (h : Halt)
     → IsOverFaithful entry stage b ms stored work report → EndsNext stage m commit → later.chunks ≡ report.chunks
     → IsLongRecord (records_by work.follower commit work.now_ms) h
-    → (offset : Offset) × (stored ≡ Some offset) × IsOwnLong entry offset later stage.history h
+    → (offset : Offset) × (stored ≡ Some offset) × IsOwnLong entry offset later stage.history (read_with stage m) h
 
 -- The next offset is too long: it is one to the stores as they are.
 abbrev pub LongOffsetsAreOwn : Type 0

@@ -1,12 +1,11 @@
 -- A session that met nothing that isn't supported: each halt for what it met is refused by what it met.
 use Rattle.std.proofs.Common.{◌≡◌, ◌∙◌, ◌⊎◌, inl, inr, ℕ, ◌≤◌, ◌^◌, Option, Some, None, List, [], ◌∷◌, ◌++◌, length, Ok, Err, refl, sym, ap, subst, arith}
-use Rattle.std.specs.Prelude.{Contains, slice_get}
+use Rattle.std.specs.Prelude.{slice_get}
 use Rattle.std.specs.List.{AllByRecursion}
 use Rattle.dbl_pgmsg.specs.declared.messages.Message.{Message}
 use Rattle.dbl_value.specs.declared.error.ValueError.{ValueError}
 use Rattle.dbl_record.specs.declared.record.Record.{Record}
 use Rattle.dbl_record.specs.Groups.{group_form}
-use Rattle.dbl_table.specs.declared.change.Commit.{Commit}
 use Rattle.dbl_table.specs.declared.config.Config.{Config}
 use Rattle.dbl_table.specs.declared.error.ModelError.{ModelError}
 use Rattle.dbl_table.specs.declared.table.RawTable.{RawTable}
@@ -14,7 +13,6 @@ use Rattle.dbl_table.specs.declared.table.TableInfo.{TableInfo}
 use Rattle.dbl_table.specs.declared.table.TableName.{TableName}
 use Rattle.dbl_table.specs.Made.{table_fault}
 use Rattle.dbl_history.specs.History.{History}
-use Rattle.dbl_history.specs.Typed.{typed}
 use Rattle.dbl_commit.specs.declared.txn_error.TxnError.{TxnError}
 use Rattle.dbl_commit.specs.Blocks.{IsAccepted}
 use Rattle.dbl_event.specs.declared.closed.Closed.{Closed}
@@ -22,7 +20,7 @@ use Rattle.dbl_event.specs.Clashes.{Clash, clash_of, snapshot_clash}
 use Rattle.dbl_event.specs.EventJson.{envelopes}
 use Rattle.dbl_event.specs.Snapshots.{snapshot}
 use Rattle.dbl_faithful.proofs.Items.{at_all}
-use Rattle.dbl_honest.specs.Standings.{Standing}
+use Rattle.dbl_honest.specs.Standings.{Reading, Standing}
 use Rattle.dbl_honest.specs.Told.{Told}
 use Rattle.dbl_offset.specs.declared.offset.Offset.{Offset}
 use Rattle.dbl_stores.specs.Behind.{IsOffsetOf}
@@ -38,7 +36,7 @@ use Rattle.dbl_causes.specs.Nevers.{IsOwnCell, IsOwnClash, IsOwnClosed, IsOwnLon
 use Rattle.dbl_causes.specs.Stored.{identity_of}
 use Rattle.dbl_record.specs.Cuts.{joined}
 use Rattle.dbl_supported.specs.Laws.{SaysWhy, SupportedSessionsEnd}
-use Rattle.dbl_supported.specs.Supported.{CanBegin, HasMetSupported, IsClean, IsSupported, MayStillHalt, OffsetsAreShort, WindowsAreSupported}
+use Rattle.dbl_supported.specs.Supported.{CanBegin, CanSend, HasMetSupported, IsClean, MayStillHalt, OffsetsAreShort, RowsAreReadable, WindowsAreSupported}
 
 -- ---- it could begin
 
@@ -79,10 +77,10 @@ not_fault infos t number error clean own =
     let wrong : None ≡ Some error = sym all.0 ∙ own.fault.fault in
     cc
 
-pub not_unreadable : (entry : Entry) (infos : List TableInfo) (history : History) (table : TableName) (column : List ℕ) (error : ValueError) → IsSupported entry history infos → IsOwnCell infos history table column error → ⊥
-not_unreadable entry infos history table column error supported own =
+pub not_unreadable : (infos : List TableInfo) (history : History) (table : TableName) (column : List ℕ) (error : ValueError) → RowsAreReadable infos history → IsOwnCell infos history table column error → ⊥
+not_unreadable infos history table column error readable own =
     let cell = own.cell in
-    let clean = supported.cells cell.place own.plan.table own.plan.info cell.key cell.cells own.captured.here cell.row cell.number cell.column cell.text cell.column_is cell.cell in
+    let clean = readable cell.place own.plan.table own.plan.info cell.key cell.cells own.captured.here cell.row cell.number cell.column cell.text cell.column_is cell.cell in
     let wrong : None ≡ Some error = sym clean ∙ cell.fault in
     cc
 
@@ -90,31 +88,30 @@ pub no_clash : (clash : Option Clash) (h : Halt) → clash ≡ None → IsClashI
 no_clash None h none is = is
 no_clash (Some clash) h none is = absurd (let wrong : Some clash ≡ None = none in cc)
 
-pub not_clash : (entry : Entry) (t : Standing) (records : List Record) (offset : Offset) (report : Report) (h : Halt) (own : IsOwnClash entry offset report t.history h) → IsSupported entry t.history own.infos
+pub not_clash : (entry : Entry) (t : Standing) (records : List Record) (offset : Offset) (report : Report) (reading : Reading) (h : Halt) (own : IsOwnClash entry offset report t.history reading h) → CanSend entry own.infos reading
     → WindowsAreSupported entry t records own.infos → IsOffsetOf t.history t.confirmed records offset → ⊥
-not_clash entry t records offset report h own supported windows of = by own.clash
+not_clash entry t records offset report reading h own can windows of = by own.clash
   where
-    by : ((commit : Commit) × Contains (typed own.infos t.history) commit × IsClashIn (clash_of (identity_of entry) own.infos commit) h)
-        ⊎ ((place : ℕ) × (closed : Closed) × IsOwnClosed own.infos offset report t.history place closed
+    by : IsClashIn (clash_of (identity_of entry) own.infos own.newest.commit) h
+        ⊎ ((closed : Closed) × IsOwnClosed own.infos entry.config.chunk offset report t.history own.newest.place closed
         × IsClashIn (snapshot_clash (identity_of entry) own.infos closed) h) → ⊥
-    by (inl commit) = no_clash (clash_of (identity_of entry) own.infos commit.0) h (supported.commits commit.0 commit.1).clear commit.2
-    by (inr window) = no_clash (snapshot_clash (identity_of entry) own.infos window.1) h (windows offset report window.0 window.1 of window.2).clear window.3
+    by (inl clash) = no_clash (clash_of (identity_of entry) own.infos own.newest.commit) h (can own.newest.commit own.newest.ends).clear clash
+    by (inr window) = no_clash (snapshot_clash (identity_of entry) own.infos window.0) h (windows offset report own.newest.place window.0 of window.1).clear window.2
 
 pub short_one : (records : List Record) (h : Halt) → AreShort records → IsLongRecord records h → ⊥
 short_one records h short long =
     let fits : length (group_form (long.item ∷ [])) ≤ 2 ^ 28 = at_all (λ (item : Record). length (group_form (item ∷ [])) ≤ 2 ^ 28) records long.place long.item short long.stands in
     omega (arith, fits, long.long)
 
-pub not_long : (entry : Entry) (t : Standing) (records : List Record) (offset : Offset) (report : Report) (h : Halt) (own : IsOwnLong entry offset report t.history h) → IsSupported entry t.history own.infos
+pub not_long : (entry : Entry) (t : Standing) (records : List Record) (offset : Offset) (report : Report) (reading : Reading) (h : Halt) (own : IsOwnLong entry offset report t.history reading h) → CanSend entry own.infos reading
     → WindowsAreSupported entry t records own.infos → IsOffsetOf t.history t.confirmed records offset → ⊥
-not_long entry t records offset report h own supported windows of = by own.long
+not_long entry t records offset report reading h own can windows of = by own.long
   where
-    by : (Contains (typed own.infos t.history) own.commit × IsLongRecord (envelopes (identity_of entry) own.infos own.commit entry.now) h)
-        ⊎ ((place : ℕ) × (closed : Closed) × IsOwnClosed own.infos offset report t.history place closed
-        × (slice_get (typed own.infos t.history) place ≡ Some own.commit)
-        × IsLongRecord (snapshot (identity_of entry) own.infos closed own.commit entry.now) h) → ⊥
-    by (inl commit) = short_one (envelopes (identity_of entry) own.infos own.commit entry.now) h (supported.commits own.commit commit.0).short commit.1
-    by (inr window) = short_one (snapshot (identity_of entry) own.infos window.1 own.commit entry.now) h ((windows offset report window.0 window.1 of window.2).short own.commit window.3) window.4
+    by : IsLongRecord (envelopes (identity_of entry) own.infos own.newest.commit entry.now) h
+        ⊎ ((closed : Closed) × IsOwnClosed own.infos entry.config.chunk offset report t.history own.newest.place closed
+        × IsLongRecord (snapshot (identity_of entry) own.infos closed own.newest.commit entry.now) h) → ⊥
+    by (inl long) = short_one (envelopes (identity_of entry) own.infos own.newest.commit entry.now) h (can own.newest.commit own.newest.ends).short long
+    by (inr window) = short_one (snapshot (identity_of entry) own.infos window.0 own.newest.commit entry.now) h ((windows offset report own.newest.place window.0 of window.1).short own.newest.commit own.newest.stands) window.2
 
 pub not_offset : (entry : Entry) (t : Standing) (records : List Record) (h : Halt) → OffsetsAreShort entry t records → IsOwnOffset entry t records h → ⊥
 not_offset entry t records h short own =
@@ -133,16 +130,16 @@ module _ (entry : Entry) (stored : Option Offset) (report : Report) (told : Opti
   outside (halt.Message number error) why = why.own
   outside (halt.Txn number error) why = not_fault why.own.2 why.own.0 number error (met.messages why.own.0 why.own.2 why.own.1 why.own.3) why.own.4
   outside (halt.Chunk table row) why = why.own
-  outside (halt.Cell table column error) why = not_unreadable entry why.own.2 why.own.0.history table column error (met.content why.own.0 why.own.2 why.own.1 why.own.3) why.own.4
+  outside (halt.Cell table column error) why = not_unreadable why.own.2 why.own.0.history table column error (met.cells why.own.0 why.own.2 why.own.1 why.own.3) why.own.4
   outside (halt.Clash table column) why =
-      let own = why.content.4 in
-      let these = why.offset (λ may. may) why.content.2 why.content.0 why.content.3 why.content.1 in
-      not_clash entry why.content.0 (joined these.0) why.content.2 report (halt.Clash table column) own (met.content why.content.0 own.infos why.content.1 own.captured)
+      let own = why.content.6 in
+      let these = why.offset (λ may. may) why.content.4 why.content.0 why.content.5 why.content.1 in
+      not_clash entry why.content.0 (joined these.0) why.content.4 report why.content.2 (halt.Clash table column) own (met.commits why.content.0 own.infos why.content.2 why.content.1 own.captured why.content.3)
       (met.windows why.content.0 these.0 own.infos why.content.1 these.1 own.captured) these.2
   outside (halt.RecordTooLong len) why =
-      let own = why.content.4 in
-      let these = why.offset (λ may. may) why.content.2 why.content.0 why.content.3 why.content.1 in
-      not_long entry why.content.0 (joined these.0) why.content.2 report (halt.RecordTooLong len) own (met.content why.content.0 own.infos why.content.1 own.captured)
+      let own = why.content.6 in
+      let these = why.offset (λ may. may) why.content.4 why.content.0 why.content.5 why.content.1 in
+      not_long entry why.content.0 (joined these.0) why.content.4 report why.content.2 (halt.RecordTooLong len) own (met.commits why.content.0 own.infos why.content.2 why.content.1 own.captured why.content.3)
       (met.windows why.content.0 these.0 own.infos why.content.1 these.1 own.captured) these.2
   outside (halt.OffsetTooLong len) why = not_offset entry why.content.0 (joined why.content.2) (halt.OffsetTooLong len) (met.offsets why.content.0 why.content.2 why.content.1 why.content.3) why.content.4
   outside (halt.Model error) why = not_model entry.config.tables entry.history (first_captures entry.config entry.history entry.offset why.cause.0 begins) error why.absent

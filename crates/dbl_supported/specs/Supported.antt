@@ -1,6 +1,6 @@
 -- What a session supports of a source's history, of what is read of it, and of the stores. Source: own; the placeholder is that of the
 -- Debezium connector manual, `unavailable.value.placeholder`.
-use Rattle.std.specs.Prelude.{◌≡◌, ℕ, ℤ, ◌<◌, ◌^◌, Contains, Option, Some, None, List, slice_get, ◌≤◌, length}
+use Rattle.std.specs.Prelude.{◌≡◌, ℕ, ℤ, ◌<◌, ◌^◌, Option, Some, None, List, slice_get, ◌≤◌, length}
 use Rattle.std.specs.List.{AllByRecursion}
 use Rattle.dbl_journal.specs.Form.{entry_limit}
 use Rattle.dbl_value.specs.declared.value.Val.{Val}
@@ -33,6 +33,7 @@ use Rattle.dbl_work.specs.declared.report.Report.{Report}
 use Rattle.dbl_work.specs.Begins.{CanBeCaptured}
 use Rattle.dbl_work.specs.Works.{AreShort}
 use Rattle.dbl_exits.specs.Sessions.{IsCapturing}
+use Rattle.dbl_causes.specs.Halted.{EndsCommit}
 use Rattle.dbl_causes.specs.Nevers.{IsOwnClosed}
 use Rattle.dbl_causes.specs.Stored.{identity_of}
 
@@ -69,17 +70,16 @@ pub record CanBeClosed (identity : Identity) (infos : List TableInfo) (now : ℤ
 
 -- ---- what a session meets
 
--- Of what it captures the history has no commit, and no chunk, with content that isn't supported: each cell can be read; and the records of
--- each commit can be sent.
-pub record IsSupported (entry : Entry) (history : History) (infos : List TableInfo) : Type 0 where
-  pub cells : RowsAreReadable infos history
-  pub commits : (commit : Commit) → Contains (typed infos history) commit → CanBeSent (identity_of entry) infos entry.now commit
+-- The records of the commit that the newest of these messages ends can be sent.
+abbrev pub CanSend : Entry → List TableInfo → Reading → Type 0
+CanSend entry infos reading = (commit : Commit) → EndsCommit infos reading commit → CanBeSent (identity_of entry) infos entry.now commit
 
 -- The records of each window that is right there can be sent, which an offset to these records has read up to some key: that of a row, or one
--- that a record of the log tells, so that its own records are no longer than those are.
+-- that a record of the log tells, so that its own records are no longer than those are. Its rows are those of the table up to that key, and no
+-- more than a chunk may have.
 abbrev pub WindowsAreSupported : Entry → Standing → List Record → List TableInfo → Type 0
 WindowsAreSupported entry t records infos = (offset : Offset) (report : Report) (place : ℕ) (closed : Closed)
-    → IsOffsetOf t.history t.confirmed records offset → IsOwnClosed infos offset report t.history place closed
+    → IsOffsetOf t.history t.confirmed records offset → IsOwnClosed infos entry.config.chunk offset report t.history place closed
     → CanBeClosed (identity_of entry) infos entry.now (typed infos t.history) place closed
 
 -- none of the messages that were read has a fault, whatever is said of their content
@@ -94,7 +94,9 @@ OffsetsAreShort entry t records = (offset : Offset) → offset.identity ≡ iden
 -- What a session has met where it ends: what its source stands for then, and what its sink has.
 pub record HasMetSupported (entry : Entry) (stands : Standing → Type 0) (holds : List (List Record) → Type 0) : Type 0 where
   pub messages : (t : Standing) (infos : List TableInfo) → stands t → IsCapturing entry infos → IsClean infos t.reading
-  pub content : (t : Standing) (infos : List TableInfo) → stands t → IsCapturing entry infos → IsSupported entry t.history infos
+  pub cells : (t : Standing) (infos : List TableInfo) → stands t → IsCapturing entry infos → RowsAreReadable infos t.history
+  pub commits : (t : Standing) (infos : List TableInfo) (reading : Reading) → stands t → IsCapturing entry infos → t.reading ≡ Some reading
+      → CanSend entry infos reading
   pub windows : (t : Standing) (groups : List (List Record)) (infos : List TableInfo) → stands t → holds groups → IsCapturing entry infos
       → WindowsAreSupported entry t (joined groups) infos
   pub offsets : (t : Standing) (groups : List (List Record)) → stands t → holds groups → OffsetsAreShort entry t (joined groups)

@@ -39,6 +39,7 @@ use Rattle.dbl_connector.specs.declared.asked.Asked.{Asked}
 use Rattle.dbl_connector.specs.declared.asked.Asked.TheVariants.{First, Again}
 use Rattle.dbl_connector.specs.declared.error.ConnectError.{ConnectError}
 use Rattle.dbl_connector.specs.declared.error.ConnectError.TheVariants as connect
+use Rattle.dbl_connector.specs.declared.error.ConnectError.TheVariants.{Halted}
 use Rattle.dbl_connector.specs.Asked.{Refuses, asks_in, asks_of, tables_in}
 use Rattle.dbl_connector.specs.Ends.{End, EndsBefore, HasHalted, IsKeptError, IsRefused, no_source, no_log, no_offset, not_asked}
 use Rattle.dbl_connector.specs.Errors.{IsConnectError, IsOutside, IsOwnHalt}
@@ -70,28 +71,28 @@ reads_from config history None (Some begun) infos after first behind = (
 )
 
 module _ (config : Config) (now : ℤ) (old left : Contents) (begins : CanBegin config (history_at old) old.offset) (supported : IsSupportedOver config now old left)
-    (kept : IsKept left) (kept_stored stored : Option Offset) (left_is : left.offset ≡ kept_stored) (kept_report report : Report)
-    (first : IsFirstStored config (history_at old) old.offset kept_stored) (told_first : IsFirstStored config (history_at old) old.offset stored) where
+    (kept : IsKept left) (stored : Option Offset) (left_is : left.offset ≡ stored) (report : Report)
+    (first : IsFirstStored config (history_at old) old.offset stored) where
   -- the offset that it stored last is one to what it leaves
-  of_left : (offset : Offset) → kept_stored ≡ Some offset → IsOffsetOf (history_at left) (confirmed_at left) (records_at left) offset
+  of_left : (offset : Offset) → stored ≡ Some offset → IsOffsetOf (history_at left) (confirmed_at left) (records_at left) offset
   of_left offset is =
       let faithful : IsFaithfulTo (history_at left) (confirmed_at left) (records_at left) offset = subst (IsFaithful (history_at left) (confirmed_at left) (records_at left)) (left_is ∙ is) kept.faithful in
       faithful.behind.offset_is
 
-  not_txn : (number : ℕ) (error : TxnError) → IsHaltAt config now old.offset stored report left.wal (halt.Txn number error) → ⊥
-  not_txn number error halted =
-      let was = halted.was in
-      let behind = reads_from config (history_at old) old.offset stored was.by.offset.infos halted.reading.after told_first was.behind in
-      not_faulty was.by.offset.infos halted.reading number error (supported.messages was.by.offset.infos halted.reading behind.0 (record { from = behind.1; rest = was.rest; front = was.front })) halted.is
-
-  may_have : (reading : Reading) → HasRead config old.offset kept_stored left.wal reading → MayHaveRead old left.wal reading
+  may_have : (reading : Reading) → HasRead config old.offset stored left.wal reading → MayHaveRead old left.wal reading
   may_have reading was = record {
-    from = (reads_from config (history_at old) old.offset kept_stored was.by.offset.infos reading.after first was.behind).1;
+    from = (reads_from config (history_at old) old.offset stored was.by.offset.infos reading.after first was.behind).1;
     rest = was.rest;
     front = was.front;
   }
 
-  never : (h : Halt) → IsOwnHalt h → IsKeptHalt config now old kept_stored kept_report left h → IsCauseOf config now old stored report left.wal h → ⊥
+  not_txn : (number : ℕ) (error : TxnError) → IsHaltAt config now old.offset stored report left.wal (halt.Txn number error) → ⊥
+  not_txn number error halted =
+      let infos = halted.was.by.offset.infos in
+      let captures = (reads_from config (history_at old) old.offset stored infos halted.reading.after first halted.was.behind).0 in
+      not_faulty infos halted.reading number error (supported.messages infos halted.reading captures (may_have halted.reading halted.was)) halted.is
+
+  never : (h : Halt) → IsOwnHalt h → IsKeptHalt config now old stored report left h → IsCauseOf config now old stored report left.wal h → ⊥
   never halt.Source own kept cause = absurd own
   never halt.Sink own kept cause = absurd own
   never halt.Offsets own kept cause = absurd own
@@ -103,11 +104,11 @@ module _ (config : Config) (now : ℤ) (old left : Contents) (begins : CanBegin 
       absurd (not_unreadable kept.0 (history_at left) table column error (supported.cells kept.0 kept.1) kept.2)
   never (halt.Clash table column) own kept cause =
       let clash = kept.5 in
-      absurd (not_clash (entry_at config now (found_in old)) (standing_left left) (records_at left) kept.3 kept_report kept.0 (halt.Clash table column) clash (supported.commits clash.infos kept.0 clash.captured (may_have kept.0 kept.1))
+      absurd (not_clash (entry_at config now (found_in old)) (standing_left left) (records_at left) kept.3 report kept.0 (halt.Clash table column) clash (supported.commits clash.infos kept.0 clash.captured (may_have kept.0 kept.1))
       (supported.windows clash.infos clash.captured) (of_left kept.3 kept.4))
   never (halt.RecordTooLong len) own kept cause =
       let long = kept.5 in
-      absurd (not_long (entry_at config now (found_in old)) (standing_left left) (records_at left) kept.3 kept_report kept.0 (halt.RecordTooLong len) long (supported.commits long.infos kept.0 long.captured (may_have kept.0 kept.1))
+      absurd (not_long (entry_at config now (found_in old)) (standing_left left) (records_at left) kept.3 report kept.0 (halt.RecordTooLong len) long (supported.commits long.infos kept.0 long.captured (may_have kept.0 kept.1))
       (supported.windows long.infos long.captured) (of_left kept.3 kept.4))
   never (halt.OffsetTooLong len) own kept cause =
       absurd (not_offset (entry_at config now (found_in old)) (standing_left left) (records_at left) (halt.OffsetTooLong len) supported.offsets kept)
@@ -138,26 +139,29 @@ module _ (asked : Asked) (now : ℤ) (wals logs stores : List ℕ → Type 0) (w
       let asks : asks_in asked held ≡ Some run.begun.config = subst (λ (c : Contents). asks_in asked c ≡ Some run.begun.config) same run.begun.asks in
       not_both asked (tables_in held.wal) held.offset run.begun.config e refuses asks
 
+  -- by what it halted for over kept disks, which is as is said of it over all
   halted_so : (e : ConnectError) → IsConnectError e → IsKeptError asked now wals logs stores w t f e → HasHalted asked now wals logs stores w t f e → IsOutside e
-  halted_so e kind kept halted =
+  halted_so e kind kept_error told =
       let begun = run.begun in
       let may = run.may in
+      let kept_halt = subst (IsKeptError asked now wals logs stores w t f) told.is kept_error in
+      let halted = kept_halt.halted in
+      let halts : Halted told.halt ≡ Halted halted.halt = halted.is in
+      let one_halt : halted.halt ≡ told.halt = cc in
       let same : halted.begun.held ≡ begun.held = disks_are_read_once w t f halted.begun.held begun.held halted.begun.read begun.read in
       let asked_so : Some halted.begun.config ≡ Some begun.config = sym halted.begun.asks ∙ ap (λ (c : Contents). asks_in asked c) same ∙ begun.asks in
       let one : halted.begun.config ≡ begun.config = cc in
-      let told = halted.cause may.w run.left.wal may.wal may.read.source in
-      let here = subst (λ (c : Contents). IsCauseOf halted.begun.config now c halted.stored halted.report run.left.wal halted.halt) same told in
-      let cause = subst (λ (c : Config). IsCauseOf c now begun.held halted.stored halted.report run.left.wal halted.halt) one here in
-      let own = subst IsConnectError halted.is kind in
-      let halts = subst (IsKeptError asked now wals logs stores w t f) halted.is kept in
-      let kept_halt = halts begun in
-      let found = kept_halt.each may.w may.t may.f run.left may.wal may.topics may.offsets may.read in
-      let left_is : run.left.offset ≡ kept_halt.stored = one_store may.f run.left.offset kept_halt.stored may.read.store (kept_halt.store may.f may.offsets) in
+      let cause_told = subst (IsCauseOf halted.begun.config now halted.begun.held halted.stored halted.report run.left.wal) one_halt (halted.cause may.w run.left.wal may.wal may.read.source) in
+      let cause_here = subst (λ (c : Contents). IsCauseOf halted.begun.config now c halted.stored halted.report run.left.wal told.halt) same cause_told in
+      let cause = subst (λ (c : Config). IsCauseOf c now begun.held halted.stored halted.report run.left.wal told.halt) one cause_here in
+      let kept_told = kept_halt.each may.w may.t may.f run.left may.wal may.topics may.offsets may.read in
+      let kept_here = subst (λ (c : Contents). IsKeptHalt halted.begun.config now c halted.stored halted.report run.left told.halt) same kept_told in
+      let found = subst (λ (c : Config). IsKeptHalt c now begun.held halted.stored halted.report run.left told.halt) one kept_here in
+      let own = subst IsConnectError told.is kind in
+      let left_is : run.left.offset ≡ halted.stored = one_store may.f run.left.offset halted.stored may.read.store (halted.store may.f may.offsets) in
       let of_begun = subst (λ (c : Config). IsFirstStored c (history_at halted.begun.held) halted.begun.held.offset halted.stored) one halted.first in
-      let told_first = subst (λ (c : Contents). IsFirstStored begun.config (history_at c) c.offset halted.stored) same of_begun in
-      let told_is : halted.stored ≡ kept_halt.stored = sym (one_store may.f run.left.offset halted.stored may.read.store (halted.store may.f may.offsets)) ∙ left_is in
-      let first = subst (IsFirstStored begun.config (history_at begun.held) begun.held.offset) told_is told_first in
-      absurd (never begun.config now begun.held run.left run.can run.supported run.kept kept_halt.stored halted.stored left_is kept_halt.report halted.report first told_first halted.halt own found cause)
+      let first = subst (λ (c : Contents). IsFirstStored begun.config (history_at c) c.offset halted.stored) same of_begun in
+      absurd (never begun.config now begun.held run.left run.can run.supported run.kept halted.stored left_is halted.report first told.halt own found cause)
 
   ended : (e : ConnectError) → IsConnectError e → IsKeptError asked now wals logs stores w t f e → EndsBefore asked now wals logs stores w t f e → IsOutside e
   ended e kind kept (inl outside) = outside

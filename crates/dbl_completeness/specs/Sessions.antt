@@ -45,7 +45,7 @@ pub record IsSupportedOver (config : Config) (now : ℤ) (old left : Contents) :
       → IsAccepted infos reading.after reading.messages
   pub cells : (infos : List TableInfo) → Captures config (history_at old) old.offset infos → RowsAreReadable infos (history_at left)
   pub commits : (infos : List TableInfo) (reading : Reading) → Captures config (history_at old) old.offset infos → MayHaveRead old left.wal reading
-      → CanSend (entry_at config now (found_in old)) infos reading
+      → CanSend (entry_at config now (found_in old)) (history_at left) infos reading
   pub windows : (infos : List TableInfo) → Captures config (history_at old) old.offset infos
       → WindowsAreSupported (entry_at config now (found_in old)) (standing_left left) (records_at left) infos
   pub offsets : OffsetsAreShort (entry_at config now (found_in old)) (standing_left left) (records_at left)

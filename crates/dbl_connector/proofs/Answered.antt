@@ -48,7 +48,7 @@ use Rattle.dbl_connector.specs.declared.error.ConnectError.{ConnectError}
 use Rattle.dbl_connector.specs.declared.error.ConnectError.TheVariants as error
 use Rattle.dbl_connector.specs.declared.error.ConnectError.TheVariants.{Halted}
 use Rattle.dbl_connector.specs.Asked.{asks_in}
-use Rattle.dbl_connector.specs.Ends.{AddsFew, AreGained, EndsBefore, GainsRecords, HasBegun, HasClosedSent, HasReadClean, HasRun, IsKeptError, IsReported, IsStoredLast, IsUngained}
+use Rattle.dbl_connector.specs.Ends.{AddsFew, AreGained, EndsBefore, GainsRecords, HasBegun, HasClosedSent, HasHalted, HasReadClean, HasRun, IsKeptError, IsReported, IsStoredLast, IsUngained}
 use Rattle.dbl_connector.specs.Errors.{IsOutside, IsOwnHalt, halt_error}
 use Rattle.dbl_connector.specs.Followed.{AreFollowed, AreTallied, ComesByReading}
 use Rattle.dbl_connector.specs.Steps.{IsLogOf, IsSourceOf, IsStoreOf}
@@ -370,37 +370,41 @@ module _ {W T F : Type 0} (seen_w : W → Option (List ℕ)) (may_w : W → List
   still_at : (h : Halt) → result ≡ Err h → ComesByReading old h → (t : Standing) × StandsFor seen_w may_w sn t
   still_at h is reading = still_stands config now old fn.offset report (StandsFor seen_w may_w sn) h reading (halt_over h is)
 
+  halted_as : (asked : Asked) → asks_in asked old ≡ Some config → (h : Halt) → result ≡ Err h → IsOwnHalt h
+      → HasHalted asked now (may_w sn.journal.disk) (may_t ln.disk) (may_f (disk_of fn)) w t f (Halted h)
+  halted_as asked asks h is own = record {
+    begun = begun_of asked asks;
+    halt = h;
+    is = refl;
+    stored = fn.offset;
+    last = ran.stores;
+    store = left_store seen_w may_w seen_t may_t seen_f may_f is_w is_t is_f w t f so lo fo src lg st config now sn ln fn report result ran (λ failed. subst IsOwnHalt (err_one result h halt.Offsets is failed) own);
+    first = ran.firsts first first_stands;
+    ungained = ungained_of;
+    report = report;
+    within = subst (λ (n : ℕ). report.messages ≤ n) (asks_budget asked _ fo.offset config asks) ran.bounded;
+    marked = λ tables bytes left leaves is. ran.most first first_stands tables (left_in left.wal) (record { crashed = bytes; may = leaves; wal = left.wal; is = is; left = refl });
+    raised = λ other exhausted. err_one result h other is (ran.exhausted other exhausted);
+    captured = λ none name among cannot. (
+        let must = ran.must_absent first first_stands none name among cannot in
+        subst (λ (x : Halt). IsOfTable x × IsAbsentHalt config.tables (history_at old) x) (err_one result must.0 h must.1 is) (must.2, must.3));
+    gained = gained_by (counted_at h is own);
+    stays = (source_kept seen_w may_w seen_t may_t seen_f may_f is_w is_t is_f w t f so lo fo src lg st config now sn ln fn report result ran).crash;
+    cause = λ bytes wal leaves read. cause_of config now old fn.offset report (StandsFor seen_w may_w sn) wal sn.place (one_left bytes wal leaves read) h (halt_over h is);
+    unread = unread_by config now fo.offset fn.offset report None h (err_is result h _ ran.followed is);
+    followed = λ reading. (let at = still_at h is reading in followed_at h is at.0 at.1);
+    tallied = λ reading. (
+        let at = still_at h is reading in
+        tallied_as (Err h) is (λ failed. subst IsOwnHalt (err_one result h halt.Sink is failed) own) at.0 at.1);
+  }
+
   pub ends_before : (asked : Asked) → asks_in asked old ≡ Some config → (h : Halt) → result ≡ Err h
       → EndsBefore asked now (may_w sn.journal.disk) (may_t ln.disk) (may_f (disk_of fn)) w t f (halt_error h)
   ends_before asked asks h is = by (own_or h)
     where
       by : IsOutside (halt_error h) ⊎ ((halt_error h ≡ Halted h) × IsOwnHalt h) → EndsBefore asked now (may_w sn.journal.disk) (may_t ln.disk) (may_f (disk_of fn)) w t f (halt_error h)
       by (inl out) = inl out
-      by (inr own) = inr (inr (record {
-        begun = begun_of asked asks;
-        halt = h;
-        is = own.0;
-        stored = fn.offset;
-        last = ran.stores;
-        store = left_store seen_w may_w seen_t may_t seen_f may_f is_w is_t is_f w t f so lo fo src lg st config now sn ln fn report result ran (λ failed. subst IsOwnHalt (err_one result h halt.Offsets is failed) own.1);
-        first = ran.firsts first first_stands;
-        ungained = ungained_of;
-        report = report;
-        within = subst (λ (n : ℕ). report.messages ≤ n) (asks_budget asked _ fo.offset config asks) ran.bounded;
-        marked = λ own bytes left leaves is. ran.most first first_stands own (left_in left.wal) (record { crashed = bytes; may = leaves; wal = left.wal; is = is; left = refl });
-        raised = λ other exhausted. err_one result h other is (ran.exhausted other exhausted);
-        captured = λ none name among cannot. (
-            let must = ran.must_absent first first_stands none name among cannot in
-            subst (λ (x : Halt). IsOfTable x × IsAbsentHalt config.tables (history_at old) x) (err_one result must.0 h must.1 is) (must.2, must.3));
-        gained = gained_by (counted_at h is own.1);
-        stays = (source_kept seen_w may_w seen_t may_t seen_f may_f is_w is_t is_f w t f so lo fo src lg st config now sn ln fn report result ran).crash;
-        cause = λ bytes wal leaves read. cause_of config now old fn.offset report (StandsFor seen_w may_w sn) wal sn.place (one_left bytes wal leaves read) h (halt_over h is);
-        unread = unread_by config now fo.offset fn.offset report None h (err_is result h _ ran.followed is);
-        followed = λ reading. (let at = still_at h is reading in followed_at h is at.0 at.1);
-        tallied = λ reading. (
-            let at = still_at h is reading in
-            tallied_as (Err h) is (λ failed. subst IsOwnHalt (err_one result h halt.Sink is failed) own.1) at.0 at.1);
-      }))
+      by (inr own) = inr (inr (subst (HasHalted asked now (may_w sn.journal.disk) (may_t ln.disk) (may_f (disk_of fn)) w t f) (sym own.0) (halted_as asked asks h is own.1)))
 
   kept_each : (h : Halt) → result ≡ Err h → (kept : IsKept old) → (w1 t1 f1 : List ℕ) (left : Contents) → may_w sn.journal.disk w1 → may_t ln.disk t1 → may_f (disk_of fn) f1
       → ReadAs w1 t1 f1 left → IsKeptHalt config now old fn.offset report left h
@@ -416,6 +420,7 @@ module _ {W T F : Type 0} (seen_w : W → Option (List ℕ)) (may_w : W → List
   -- over kept disks
   pub never_of : (asked : Asked) → asks_in asked old ≡ Some config → (h : Halt) → result ≡ Err h → IsKept old
       → IsKeptError asked now (may_w sn.journal.disk) (may_t ln.disk) (may_f (disk_of fn)) w t f (halt_error h)
+  unfolding halted_as
   never_of asked asks h is kept = by (own_or h)
     where
       out : (e : ConnectError) → IsOutside e → IsKeptError asked now (may_w sn.journal.disk) (may_t ln.disk) (may_f (disk_of fn)) w t f e
@@ -429,12 +434,7 @@ module _ {W T F : Type 0} (seen_w : W → Option (List ℕ)) (may_w : W → List
 
       by : IsOutside (halt_error h) ⊎ ((halt_error h ≡ Halted h) × IsOwnHalt h) → IsKeptError asked now (may_w sn.journal.disk) (may_t ln.disk) (may_f (disk_of fn)) w t f (halt_error h)
       by (inl outside) = out (halt_error h) outside
-      by (inr own) = subst (IsKeptError asked now (may_w sn.journal.disk) (may_t ln.disk) (may_f (disk_of fn)) w t f) (sym own.0) (λ begun. record {
-        stored = fn.offset;
-        last = at_begun asked w t f (λ o c. IsStoredLast c o.offset fn.offset) begun old config read_here asks ran.stores;
-        store = left_store seen_w may_w seen_t may_t seen_f may_f is_w is_t is_f w t f so lo fo src lg st config now sn ln fn report result ran (λ failed. subst IsOwnHalt (err_one result h halt.Offsets is failed) own.1);
-        report = report;
-        gained = at_begun asked w t f (λ o c. AreGained (may_t ln.disk) o report) begun old config read_here asks (gained_by (counted_at h is own.1));
-        each = λ w1 t1 f1 left mw mt mf read. at_begun asked w t f (λ o c. IsKeptHalt c now o fn.offset report left h) begun old config read_here asks
-            (kept_each h is kept w1 t1 f1 left mw mt mf read);
+      by (inr own) = subst (IsKeptError asked now (may_w sn.journal.disk) (may_t ln.disk) (may_f (disk_of fn)) w t f) (sym own.0) (record {
+        halted = halted_as asked asks h is own.1;
+        each = kept_each h is kept;
       })

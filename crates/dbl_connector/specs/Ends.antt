@@ -153,7 +153,8 @@ pub record HasHalted (asked : Asked) (now : ℤ) (wals logs stores : List ℕ �
   -- no more messages than the words allow
   pub within : report.messages ≤ budget_of asked
   pub gained : AreGained logs begun.held report
-  -- no more marks than two for each window that its report counts, and two; and none where no offset is stored
+  -- where the offset captures what the catalogue has: no more marks than two for each window that its report counts, and two; and none where
+  -- no offset is stored
   pub marked : HasOwnTables begun.held → (bytes : List ℕ) (left : Contents) → wals bytes → IsWal bytes left.wal
       → AddsAtMost stored report.chunks (history_at begun.held) (history_at left)
   pub cause : (bytes : List ℕ) (wal : Wal) → wals bytes → IsWal bytes wal → IsCauseOf begun.config now begun.held stored report wal halt
@@ -214,20 +215,16 @@ abbrev pub IsComplete : End → Type 0
 IsComplete (Ok summary) = summary.ending ≡ Complete
 IsComplete (Err e) = ⊥
 
--- What a session over them halts for: its cause is of what the disks hold, whatever a crash leaves of them; and the offset that it stored last
--- is what the disk holds.
-pub record HasKeptHalt (asked : Asked) (now : ℤ) (wals logs stores : List ℕ → Type 0) (w t f : List ℕ) (begun : HasBegun asked w t f) (h : Halt) : Type 0 where
-  pub stored : Option Offset
-  pub last : IsStoredLast begun.config begun.held.offset stored
-  pub store : AreStores stores stored
-  pub report : Report
-  pub gained : AreGained logs begun.held report
+-- What a session over them halts for: it halted as is said of all disks that tell their bytes, and the cause is of what the disks hold,
+-- whatever a crash leaves of them.
+pub record HasKeptHalt (asked : Asked) (now : ℤ) (wals logs stores : List ℕ → Type 0) (w t f : List ℕ) (h : Halt) : Type 0 where
+  pub halted : HasHalted asked now wals logs stores w t f (Halted h)
   pub each : (w1 t1 f1 : List ℕ) (left : Contents) → wals w1 → logs t1 → stores f1 → ReadAs w1 t1 f1 left
-      → IsKeptHalt begun.config now begun.held stored report left h
+      → IsKeptHalt halted.begun.config now halted.begun.held halted.stored halted.report left h
 
 -- and no disk holds a wrong store
 abbrev pub IsKeptError : Asked → ℤ → (List ℕ → Type 0) → (List ℕ → Type 0) → (List ℕ → Type 0) → List ℕ → List ℕ → List ℕ → ConnectError → Type 0
-IsKeptError asked now wals logs stores w t f (Halted h) = (begun : HasBegun asked w t f) → HasKeptHalt asked now wals logs stores w t f begun h
+IsKeptError asked now wals logs stores w t f (Halted h) = HasKeptHalt asked now wals logs stores w t f h
 IsKeptError asked now wals logs stores w t f (NotAStore store at) = ⊥
 IsKeptError asked now wals logs stores w t f (BadEntry store index) = ⊥
 IsKeptError asked now wals logs stores w t f e = Unit {0}

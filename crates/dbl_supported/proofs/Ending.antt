@@ -88,14 +88,14 @@ pub no_clash : (clash : Option Clash) (h : Halt) → clash ≡ None → IsClashI
 no_clash None h none is = is
 no_clash (Some clash) h none is = absurd (let wrong : Some clash ≡ None = none in cc)
 
-pub not_clash : (entry : Entry) (t : Standing) (records : List Record) (offset : Offset) (report : Report) (reading : Reading) (h : Halt) (own : IsOwnClash entry offset report t.history reading h) → CanSend entry own.infos reading
+pub not_clash : (entry : Entry) (t : Standing) (records : List Record) (offset : Offset) (report : Report) (reading : Reading) (h : Halt) (own : IsOwnClash entry offset report t.history reading h) → CanSend entry t.history own.infos reading
     → WindowsAreSupported entry t records own.infos → IsOffsetOf t.history t.confirmed records offset → ⊥
 not_clash entry t records offset report reading h own can windows of = by own.clash
   where
     by : IsClashIn (clash_of (identity_of entry) own.infos own.newest.commit) h
         ⊎ ((closed : Closed) × IsOwnClosed own.infos entry.config.chunk offset report t.history own.newest.place closed
         × IsClashIn (snapshot_clash (identity_of entry) own.infos closed) h) → ⊥
-    by (inl clash) = no_clash (clash_of (identity_of entry) own.infos own.newest.commit) h (can own.newest.commit own.newest.ends).clear clash
+    by (inl clash) = no_clash (clash_of (identity_of entry) own.infos own.newest.commit) h (can own.newest).clear clash
     by (inr window) = no_clash (snapshot_clash (identity_of entry) own.infos window.0) h (windows offset report own.newest.place window.0 of window.1).clear window.2
 
 pub short_one : (records : List Record) (h : Halt) → AreShort records → IsLongRecord records h → ⊥
@@ -103,14 +103,14 @@ short_one records h short long =
     let fits : length (group_form (long.item ∷ [])) ≤ 2 ^ 28 = at_all (λ (item : Record). length (group_form (item ∷ [])) ≤ 2 ^ 28) records long.place long.item short long.stands in
     omega (arith, fits, long.long)
 
-pub not_long : (entry : Entry) (t : Standing) (records : List Record) (offset : Offset) (report : Report) (reading : Reading) (h : Halt) (own : IsOwnLong entry offset report t.history reading h) → CanSend entry own.infos reading
+pub not_long : (entry : Entry) (t : Standing) (records : List Record) (offset : Offset) (report : Report) (reading : Reading) (h : Halt) (own : IsOwnLong entry offset report t.history reading h) → CanSend entry t.history own.infos reading
     → WindowsAreSupported entry t records own.infos → IsOffsetOf t.history t.confirmed records offset → ⊥
 not_long entry t records offset report reading h own can windows of = by own.long
   where
     by : IsLongRecord (envelopes (identity_of entry) own.infos own.newest.commit entry.now) h
         ⊎ ((closed : Closed) × IsOwnClosed own.infos entry.config.chunk offset report t.history own.newest.place closed
         × IsLongRecord (snapshot (identity_of entry) own.infos closed own.newest.commit entry.now) h) → ⊥
-    by (inl long) = short_one (envelopes (identity_of entry) own.infos own.newest.commit entry.now) h (can own.newest.commit own.newest.ends).short long
+    by (inl long) = short_one (envelopes (identity_of entry) own.infos own.newest.commit entry.now) h (can own.newest).short long
     by (inr window) = short_one (snapshot (identity_of entry) own.infos window.0 own.newest.commit entry.now) h ((windows offset report own.newest.place window.0 of window.1).short own.newest.commit own.newest.stands) window.2
 
 pub not_offset : (entry : Entry) (t : Standing) (records : List Record) (h : Halt) → OffsetsAreShort entry t records → IsOwnOffset entry t records h → ⊥

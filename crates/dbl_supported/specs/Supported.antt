@@ -33,8 +33,7 @@ use Rattle.dbl_work.specs.declared.report.Report.{Report}
 use Rattle.dbl_work.specs.Begins.{CanBeCaptured}
 use Rattle.dbl_work.specs.Works.{AreShort}
 use Rattle.dbl_exits.specs.Sessions.{IsCapturing}
-use Rattle.dbl_causes.specs.Halted.{EndsCommit}
-use Rattle.dbl_causes.specs.Nevers.{IsOwnClosed}
+use Rattle.dbl_causes.specs.Nevers.{IsNewest, IsOwnClosed}
 use Rattle.dbl_causes.specs.Stored.{identity_of}
 
 -- ---- it can begin
@@ -70,13 +69,13 @@ pub record CanBeClosed (identity : Identity) (infos : List TableInfo) (now : ℤ
 
 -- ---- what a session meets
 
--- The records of the commit that the newest of these messages ends can be sent.
-abbrev pub CanSend : Entry → List TableInfo → Reading → Type 0
-CanSend entry infos reading = (commit : Commit) → EndsCommit infos reading commit → CanBeSent (identity_of entry) infos entry.now commit
+-- The records of the commit that the newest of these messages ends can be sent, where it stands in the history.
+abbrev pub CanSend : Entry → History → List TableInfo → Reading → Type 0
+CanSend entry history infos reading = (newest : IsNewest infos history reading) → CanBeSent (identity_of entry) infos entry.now newest.commit
 
 -- The records of each window that is right there can be sent, which an offset to these records has read up to some key: that of a row, or one
--- that a record of the log tells, so that its own records are no longer than those are. Its rows are those of the table up to that key, and no
--- more than a chunk may have.
+-- that a record of the log tells, so that its own records are no longer than those are. Its rows are those of the table behind a cursor, up to
+-- that key, but for what was changed between its marks, and no more than a chunk may have.
 abbrev pub WindowsAreSupported : Entry → Standing → List Record → List TableInfo → Type 0
 WindowsAreSupported entry t records infos = (offset : Offset) (report : Report) (place : ℕ) (closed : Closed)
     → IsOffsetOf t.history t.confirmed records offset → IsOwnClosed infos entry.config.chunk offset report t.history place closed
@@ -96,7 +95,7 @@ pub record HasMetSupported (entry : Entry) (stands : Standing → Type 0) (holds
   pub messages : (t : Standing) (infos : List TableInfo) → stands t → IsCapturing entry infos → IsClean infos t.reading
   pub cells : (t : Standing) (infos : List TableInfo) → stands t → IsCapturing entry infos → RowsAreReadable infos t.history
   pub commits : (t : Standing) (infos : List TableInfo) (reading : Reading) → stands t → IsCapturing entry infos → t.reading ≡ Some reading
-      → CanSend entry infos reading
+      → CanSend entry t.history infos reading
   pub windows : (t : Standing) (groups : List (List Record)) (infos : List TableInfo) → stands t → holds groups → IsCapturing entry infos
       → WindowsAreSupported entry t (joined groups) infos
   pub offsets : (t : Standing) (groups : List (List Record)) → stands t → holds groups → OffsetsAreShort entry t (joined groups)

@@ -15,7 +15,6 @@ use Rattle.dbl_feed.specs.Numbers.{commits_upto}
 use Rattle.dbl_feed.specs.TextRows.{no_text_rows}
 use Rattle.dbl_honest.specs.Growth.{marks_in}
 use Rattle.dbl_offset.specs.declared.offset.Offset.{Offset}
-use Rattle.dbl_offset.specs.Stores.{IsStore}
 use Rattle.dbl_offset.proofs.StoreLaws.{one_store}
 use Rattle.dbl_session.specs.Outcomes.{CoverRows}
 use Rattle.dbl_sound.specs.Sound.{committed_in, logged_in}
@@ -102,8 +101,8 @@ goes_again chunk every budget all offset old new stored goes = subst (λ (o : Op
 module _ (chunk every budget : ℕ) (now : ℤ) (told_wal told_topics told_offsets : Option (List ℕ)) (wals logs stores new_wals new_logs new_stores : List ℕ → Type 0) (status : ℕ)
     (kept : AreKept told_wal told_topics told_offsets wals logs stores)
     (headline : (w t f : List ℕ) → new_wals w → new_logs t → new_stores f → IsPromisedOf (IsCompleteRun (Resume chunk every budget) status) (asks_by (Resume chunk every budget)) wals logs stores w t f)
-    (w t f : List ℕ) (rest : AreAtRest wals logs stores w t f) (left : Contents) (may : MayBeLeft new_wals new_logs new_stores left)
-    (held : Contents) (read : ReadAs w t f held) (offset : Offset) (stored : held.offset ≡ Some offset) (pairs : List (ℕ × Key)) (cover : CoverRows offset.infos (whole_history held.wal) pairs) where
+    (w t f : List ℕ) (held : Contents) (read : ReadAs w t f held) (rest : AreAtRest wals logs stores held w t f)
+    (left : Contents) (may : MayBeLeft new_wals new_logs new_stores left) (offset : Offset) (stored : held.offset ≡ Some offset) (pairs : List (ℕ × Key)) (cover : CoverRows offset.infos (whole_history held.wal) pairs) where
   abbrev windows : ℕ
   windows = length offset.infos + length pairs / chunk
 
@@ -121,8 +120,8 @@ module _ (chunk every budget : ℕ) (now : ℤ) (told_wal told_topics told_offse
       let promised = headline may.w may.t may.f may.wal may.topics may.offsets in
       let came = promised.left.came in
       let there : promised.left.held ≡ left = disks_are_read_once may.w may.t may.f promised.left.held left promised.left.read may.read in
-      let wal : came.old.wal ≡ held.wal = one_wal w came.old.wal held.wal (subst (λ (b : List ℕ). IsWal b came.old.wal) (rest.wal_only came.wal came.may_wal) came.read.source) read.source in
-      let at : came.old.offset ≡ held.offset = one_store f came.old.offset held.offset (subst (λ (b : List ℕ). IsStore b came.old.offset) (rest.offsets_only came.offsets came.may_offsets) came.read.store) read.store in
+      let wal : came.old.wal ≡ held.wal = one_wal came.wal came.old.wal held.wal came.read.source (rest.wal_only came.wal came.may_wal) in
+      let at : came.old.offset ≡ held.offset = one_store came.offsets came.old.offset held.offset came.read.store (rest.offsets_only came.offsets came.may_offsets) in
       let goes = goes_again chunk every budget (tables_in came.old.wal) offset came.old promised.left.held (at ∙ stored) came.goes in
       let to_left : GoesFrom (config_again offset chunk every budget) came.old left = subst (GoesFrom (config_again offset chunk every budget) came.old) there goes in
       subst (λ (x : Wal). Extends (history_in x).commits (history_at left).commits) wal to_left.onward.commits
@@ -146,7 +145,7 @@ module _ (chunk every budget : ℕ) (now : ℤ) (told_wal told_topics told_offse
     where
       by : wals may.w ⊎ AddsFewMarks (config_again offset chunk every budget) held left → length (marks_in (history_at left).commits) ≤ length (marks_in (history_at held).commits) + 2 * windows
       by (inl before) =
-          let wal : left.wal ≡ held.wal = one_wal w left.wal held.wal (subst (λ (b : List ℕ). IsWal b left.wal) (rest.wal_only may.w before) may.read.source) read.source in
+          let wal : left.wal ≡ held.wal = one_wal may.w left.wal held.wal may.read.source (rest.wal_only may.w before) in
           omega (arith, ap (λ (x : Wal). length (marks_in (history_in x).commits)) wal)
       by (inr (inl none)) = omega (arith, ap length none)
       by (inr (inr (infos, captures, few))) =
@@ -178,10 +177,10 @@ module _ (chunk every budget : ℕ) (now : ℤ) (told_wal told_topics told_offse
   reads_few (Err e) answers answers_kept = tt
 
 pub generous_budgets_suffice_again : (wals logs stores new_wals new_logs new_stores : List ℕ → Type 0) → GenerousBudgetsSufficeAgain 1 wals logs stores new_wals new_logs new_stores
-generous_budgets_suffice_again wals logs stores new_wals new_logs new_stores chunk every budget now told_wal told_topics told_offsets status before after runs kept headline w t f wal_is topics_is offsets_is rest left may held read offset stored pairs cover =
+generous_budgets_suffice_again wals logs stores new_wals new_logs new_stores chunk every budget now told_wal told_topics told_offsets status before after runs kept headline w t f wal_is topics_is offsets_is held read rest left may offset stored pairs cover =
     let answers = runs.answers w t f wal_is topics_is offsets_is in
     let answers_kept = runs.kept kept w t f wal_is topics_is offsets_is in
-    let few = reads_few chunk every budget now told_wal told_topics told_offsets wals logs stores new_wals new_logs new_stores status kept headline w t f rest left may held read offset stored pairs cover runs.end answers answers_kept in
+    let few = reads_few chunk every budget now told_wal told_topics told_offsets wals logs stores new_wals new_logs new_stores status kept headline w t f held read rest left may offset stored pairs cover runs.end answers answers_kept in
     record {
       few = few;
       unspent = λ less three. not_spent budget (length (sent held.wal offset.lsn) + most_messages 1 held.wal.workload (length offset.infos + length pairs / chunk)) runs.end (spent_end runs.end status before after runs.says three) few runs.spent less;

@@ -10,7 +10,6 @@ use Rattle.dbl_feed.specs.declared.logged.LogTable.{LogTable}
 use Rattle.dbl_feed.specs.Numbers.{commits_upto}
 use Rattle.dbl_feed.specs.Sent.{messages_in, sent_after}
 use Rattle.dbl_honest.specs.Growth.{marks_in}
-use Rattle.dbl_disk.specs.Disks.{IsOnly}
 use Rattle.dbl_offset.specs.declared.offset.Offset.{Offset}
 use Rattle.dbl_offset.specs.Stores.{IsStore}
 use Rattle.dbl_session.specs.Outcomes.{CoverRows}
@@ -101,13 +100,14 @@ GenerousBudgetsSuffice more wals logs stores new_wals new_logs new_stores = (opt
     → (held : Contents) → ReadAs w t f held → (pairs : List (ℕ × Key)) → CoverWhole options held pairs
     → ReadsFew (most_messages more held.wal.workload (most_windows options held (length pairs))) options.messages status runs.end
 
--- The disks of the source's log and of the offset are at rest: a crash may leave what they tell, and nothing else of these two.
-pub record AreAtRest (wals logs stores : List ℕ → Type 0) (w t f : List ℕ) : Type 0 where
+-- The disks of the source's log and of the offset are at rest: a crash may leave what the three tell, and whatever it leaves of these two is
+-- read as the log and the offset that they hold.
+pub record AreAtRest (wals logs stores : List ℕ → Type 0) (held : Contents) (w t f : List ℕ) : Type 0 where
   pub wal : wals w
   pub topics : logs t
   pub offsets : stores f
-  pub wal_only : IsOnly w wals
-  pub offsets_only : IsOnly f stores
+  pub wal_only : (image : List ℕ) → wals image → IsWal image held.wal
+  pub offsets_only : (image : List ℕ) → stores image → IsStore image held.offset
 
 -- A `resume` over kept disks at rest opens no more windows, and reads no more messages but for those that were to be sent when it began: a
 -- budget beyond them isn't spent.
@@ -118,9 +118,9 @@ GenerousBudgetsSufficeAgain more wals logs stores new_wals new_logs new_stores =
     → AreKept told_wal told_topics told_offsets wals logs stores
     → ((w t f : List ℕ) → new_wals w → new_logs t → new_stores f
     → IsPromisedOf (IsCompleteRun (Resume chunk every budget) status) (asks_by (Resume chunk every budget)) wals logs stores w t f)
-    → (w t f : List ℕ) → told_wal ≡ Some w → told_topics ≡ Some t → told_offsets ≡ Some f → AreAtRest wals logs stores w t f
-    → (left : Contents) → MayBeLeft new_wals new_logs new_stores left
-    → (held : Contents) → ReadAs w t f held → (offset : Offset) → held.offset ≡ Some offset
+    → (w t f : List ℕ) → told_wal ≡ Some w → told_topics ≡ Some t → told_offsets ≡ Some f
+    → (held : Contents) → ReadAs w t f held → AreAtRest wals logs stores held w t f
+    → (left : Contents) → MayBeLeft new_wals new_logs new_stores left → (offset : Offset) → held.offset ≡ Some offset
     → (pairs : List (ℕ × Key)) → CoverRows offset.infos (whole_history held.wal) pairs
     → ReadsFew (length (sent held.wal offset.lsn) + most_messages more held.wal.workload (length offset.infos + length pairs / chunk)) budget status runs.end
 

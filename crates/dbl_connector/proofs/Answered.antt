@@ -1,6 +1,7 @@
 -- What a session comes to over opened stores, where they are kept and where not.
 use Rattle.std.proofs.Common.{◌≤◌, ◌≡◌, ◌∙◌, ◌⊎◌, inl, inr, ℕ, ℤ, ◌+◌, ◌==◌, Bool, false, if◌then◌else◌, arith, ◌++◌, Option, Some, None, List, length, Result, Ok, Err, refl, sym, ap, subst}
 use Rattle.std.specs.Prelude.{is_some}
+use Rattle.std.specs.List.{AllByRecursion}
 use Rattle.dbl_base.specs.declared.lsn.Lsn.{Lsn}
 use Rattle.dbl_record.specs.declared.record.Record.{Record}
 use Rattle.dbl_table.specs.declared.config.Config.{Config}
@@ -8,14 +9,16 @@ use Rattle.dbl_journal.specs.Stored.{OnDisk}
 use Rattle.dbl_history.specs.History.{IsRising}
 use Rattle.dbl_feed.specs.declared.place.Place.{Place}
 use Rattle.dbl_feed.proofs.LogLemmas.{is_rising}
-use Rattle.dbl_honest.specs.Standings.{Left, Standing}
+use Rattle.dbl_commit.specs.Past.{last_lsn}
+use Rattle.dbl_honest.specs.Standings.{Left, Reading, Standing}
+use Rattle.dbl_honest.specs.Stated.{commits_after}
 use Rattle.dbl_topic.specs.Held.{HoldsGroups}
 use Rattle.dbl_topic.specs.Logs.{IsLog}
 use Rattle.dbl_topic.specs.SinkLaws.{log_of, only_held}
 use Rattle.dbl_offset.specs.declared.offset.Offset.{Offset}
 use Rattle.dbl_offset.specs.Stores.{Holds, IsStore, StoreOn, disk_of}
 use Rattle.dbl_sound.specs.Sound.{logged_in}
-use Rattle.dbl_sound.specs.Standings.{confirmed_of, left_in, standing_in, tables_of}
+use Rattle.dbl_sound.specs.Standings.{confirmed_of, history_in, left_in, standing_in, tables_of}
 use Rattle.dbl_sound.specs.Wals.{IsWal, Wal}
 use Rattle.dbl_running.specs.Demo.{Demo, IsDemo, StandsFor}
 use Rattle.dbl_running.specs.SourceLaws.{wal_of}
@@ -40,9 +43,11 @@ use Rattle.dbl_kept.specs.Bounds.{AddsFewMarks}
 use Rattle.dbl_kept.specs.Causes.{IsKeptHalt}
 use Rattle.dbl_kept.specs.Contents.{Contents, HasOwnTables, ReadAs, found_in, history_at}
 use Rattle.dbl_kept.specs.Kept.{AreKept, IsKept}
+use Rattle.dbl_kept.specs.Reports.{IsWatermark}
 use Rattle.dbl_kept.proofs.CountLaws.{small_logs_are_counted}
 use Rattle.dbl_kept.proofs.KeptLaws.{disks_are_read_once}
 use Rattle.dbl_kept.proofs.ReportLaws.{settled_reports_are_right}
+use Rattle.dbl_kept.proofs.WholeLaws.{all_is_read}
 use Rattle.dbl_connector.specs.declared.asked.Asked.{Asked}
 use Rattle.dbl_connector.specs.declared.error.ConnectError.{ConnectError}
 use Rattle.dbl_connector.specs.declared.error.ConnectError.TheVariants as error
@@ -234,6 +239,18 @@ module _ {W T F : Type 0} (seen_w : W → Option (List ℕ)) (may_w : W → List
     are = counts.are;
   }
 
+  -- nothing but marks stands behind the reader
+  all_read_of : (ending : Ending) (is : result ≡ Ok ending) → ending ≡ Complete → (bytes : List ℕ) (wal : Wal) (leaves : may_w sn.journal.disk bytes) (read : IsWal bytes wal)
+      → AllByRecursion (λ commit. IsWatermark commit.body) (commits_after (last_lsn (settled_at ending is wal (demo_at ending is bytes wal leaves read)).reading.after
+      (settled_at ending is wal (demo_at ending is bytes wal leaves read)).reading.messages) (history_in wal).commits)
+  all_read_of ending is same bytes wal leaves read =
+      let demo = demo_at ending is bytes wal leaves read in
+      let settled = settled_at ending is wal demo in
+      let place = place_read wal sn.place settled.reading settled.reading_is in
+      let has = demo.ended (ran.ended (is ∙ ap (λ (e : Ending). Ok e) same)) in
+      all_is_read (tables_of wal) (logged_in wal.entries) place.0 (last_lsn settled.reading.after settled.reading.messages) (demo.running.reader.placed place.0 place.1) (has.whole place.0 place.1)
+      (sym (ap (λ (r : Reading). last_lsn r.after r.messages) place.2)) (has.read place.0 place.1)
+
   clean_of : (ending : Ending) → result ≡ Ok ending → (bytes : List ℕ) (wal : Wal) → may_w sn.journal.disk bytes → IsWal bytes wal
       → HasReadClean config now fo.offset fn.offset wal (record { ending = ending; report = report })
   clean_of ending is bytes wal leaves read =
@@ -249,6 +266,7 @@ module _ {W T F : Type 0} (seen_w : W → Option (List ℕ)) (may_w : W → List
         confirmed = subst (λ (n : ℕ). n ≤ (confirmed_of wal).0)
             (sym (ran.position ∙ position_is config fo.offset fn.offset settled.stored.offset settled.stored.is settled.stored.by)) settled.upto;
         position = ran.position ∙ position_is config fo.offset fn.offset settled.stored.offset settled.stored.is settled.stored.by ∙ ap (λ (l : Lsn). l.0) settled.last;
+        all_read = λ same. all_read_of ending is same bytes wal leaves read;
       }
 
   pub run_of : (asked : Asked) → asks_in asked old ≡ Some config → (ending : Ending) → result ≡ Ok ending
@@ -265,6 +283,7 @@ module _ {W T F : Type 0} (seen_w : W → Option (List ℕ)) (may_w : W → List
         store = left_store seen_w may_w seen_t may_t seen_f may_f is_w is_t is_f w t f so lo fo src lg st config now sn ln fn report result ran (λ failed. (let wrong : Ok ending ≡ Err halt.Offsets = sym is ∙ failed in cc));
         first = ran.firsts first first_stands;
         ungained = ungained_of;
+        done = λ same. ran.done (is ∙ ap (λ (e : Ending). Ok e) same);
         clean = clean_of ending is;
         tallied = tallied_as (Ok ending) is (λ failed. (let wrong : Ok ending ≡ Err halt.Sink = sym is ∙ failed in cc)) (standing_in stands.0 sn.place) (stands.0, stands.1, refl);
       }

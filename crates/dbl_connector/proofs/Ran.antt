@@ -1,12 +1,13 @@
 -- What a session over opened stores has answered: its contract, over the source, the topic log and the offset store of the program.
-use Rattle.std.proofs.Common.{◌≡◌, ◌⊎◌, ℕ, ℤ, ◌<◌, ◌≤◌, Option, None, List, Result, Ok, Err, subst}
-use Rattle.std.specs.Prelude.{IfErr, IfOk, IsTrue, OnOk}
+use Rattle.std.proofs.Common.{◌≡◌, ◌⊎◌, ℕ, ℤ, ◌<◌, ◌≤◌, Option, Some, None, List, Result, Ok, Err, sym, subst}
+use Rattle.std.specs.Prelude.{IfErr, IfOk, IfSome, IsTrue, OnOk}
 use Rattle.dbl_base.specs.declared.lsn.Lsn.{Lsn}
 use Rattle.dbl_record.specs.declared.record.Record.{Record}
 use Rattle.dbl_table.specs.declared.config.Config.{Config}
 use Rattle.dbl_journal.specs.Stored.{OnDisk}
 use Rattle.dbl_honest.specs.Standings.{Left, Standing, Stood}
 use Rattle.dbl_topic.specs.Held.{ComesOf as LogComesOf, HoldsGroups, MayLeaveGroups}
+use Rattle.dbl_offset.specs.declared.offset.Offset.{Offset}
 use Rattle.dbl_offset.specs.Stores.{ComesOf as StoreComesOf, Holds, StoreOn}
 use Rattle.dbl_sound.specs.Standings.{MayLeaveWal}
 use Rattle.dbl_running.specs.Demo.{ComesOf, Demo, StandsFor}
@@ -18,7 +19,7 @@ use Rattle.dbl_work.specs.declared.report.Ending.TheVariants.{Budget, Complete}
 use Rattle.dbl_work.specs.declared.report.Report.{Report}
 use Rattle.dbl_work.specs.Begins.{IsAbsentHalt}
 use Rattle.dbl_exits.specs.Closed.{HasClosedRead}
-use Rattle.dbl_exits.specs.Ends.{LeavesComplete}
+use Rattle.dbl_exits.specs.Ends.{AreAllDone, LeavesComplete}
 use Rattle.dbl_exits.specs.Found.{Found, HasStored, IsEntryOf, IsFirstStored, entry_at, position_of}
 use Rattle.dbl_exits.specs.Sessions.{AddsFew, LeavesGoing}
 use Rattle.dbl_causes.specs.Gained.{Gains, IsReported}
@@ -59,6 +60,7 @@ pub record Ran {W T F : Type 0} (seen_w : W → Option (List ℕ)) (may_w : W �
   pub stores : (fn.offset ≡ fo.offset) ⊎ HasStored config fo.offset fn.offset
   pub firsts : (s : Standing) → StandsFor seen_w may_w so s → IsFirstStored config s.history fo.offset fn.offset
   pub few : result ≡ Ok Complete → report.messages < config.messages
+  pub done : result ≡ Ok Complete → IfSome fn.offset (λ offset. AreAllDone offset.cursors)
   pub bounded : report.messages ≤ config.messages
   pub ended : result ≡ Ok Complete → IsTrue sn.ended
   pub exhausted : MustExhaust fo.offset result
@@ -95,6 +97,10 @@ pub record Ran {W T F : Type 0} (seen_w : W → Option (List ℕ)) (may_w : W �
   pub source_comes : ComesOf seen_w may_w so sn
   pub sink_comes : LogComesOf seen_t may_t lo ln
   pub store_comes : StoreComesOf seen_f may_f fo fn
+
+-- where it was complete, each table is done by the offset that it stored
+pub done_by : (stored : Option Offset) (offset : Offset) → stored ≡ Some offset → AreAllDone offset.cursors → IfSome stored (λ o. AreAllDone o.cursors)
+done_by stored offset is done = subst (λ (o : Option Offset). IfSome o (λ x. AreAllDone x.cursors)) (sym is) done
 
 -- at the same moment
 pub renow : {W T F : Type 0} (seen_w : W → Option (List ℕ)) (may_w : W → List ℕ → Type 0) (seen_t : T → Option (List ℕ)) (may_t : T → List ℕ → Type 0)

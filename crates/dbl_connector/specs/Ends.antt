@@ -1,5 +1,5 @@
 -- How `capture` and `resume` end, by the bytes that the disks told. Source: own.
-use Rattle.std.specs.Prelude.{Contains, ◌≡◌, ◌⊎◌, ℕ, ℤ, ◌<◌, ◌≤◌, ◌^◌, take, Option, Some, None, Result, Ok, Err, List, length}
+use Rattle.std.specs.Prelude.{Contains, IfSome, ◌≡◌, ◌⊎◌, ℕ, ℤ, ◌<◌, ◌≤◌, ◌^◌, take, Option, Some, None, Result, Ok, Err, List, length}
 use Rattle.std.specs.List.{AllByRecursion}
 use Rattle.dbl_base.specs.Streams.{HasCause}
 use Rattle.dbl_record.specs.declared.record.Record.{Record}
@@ -10,11 +10,12 @@ use Rattle.dbl_commit.specs.Blocks.{IsAccepted}
 use Rattle.dbl_commit.specs.Past.{last_lsn}
 use Rattle.dbl_commit.specs.Stated.{commits_of}
 use Rattle.dbl_honest.specs.Standings.{Reading}
+use Rattle.dbl_honest.specs.Stated.{commits_after}
 use Rattle.dbl_topic.specs.Logs.{IsLog}
 use Rattle.dbl_topic.specs.Logs as log_bytes
 use Rattle.dbl_offset.specs.declared.offset.Offset.{Offset}
 use Rattle.dbl_offset.specs.Stores.{HasBadOffset, IsNoStoreAt, IsStore}
-use Rattle.dbl_sound.specs.Standings.{confirmed_of}
+use Rattle.dbl_sound.specs.Standings.{confirmed_of, history_in}
 use Rattle.dbl_sound.specs.Wals.{IsWal, Wal}
 use Rattle.dbl_sound.specs.Wals as wal_bytes
 use Rattle.dbl_work.specs.declared.halt.Halt.{Halt}
@@ -22,6 +23,7 @@ use Rattle.dbl_work.specs.declared.report.Ending.TheVariants.{Budget, Complete}
 use Rattle.dbl_work.specs.declared.report.Report.{Report}
 use Rattle.dbl_work.specs.Begins.{CanBeCaptured, IsAbsentHalt, IsExhausted}
 use Rattle.dbl_exits.specs.Closed.{HasNoHigh}
+use Rattle.dbl_exits.specs.Ends.{AreAllDone}
 use Rattle.dbl_exits.specs.Found.{HasStored, IsFirstStored}
 use Rattle.dbl_causes.specs.Gained.{Gains}
 use Rattle.dbl_causes.specs.Reported.{AllCouldBeSent, course_at}
@@ -33,7 +35,7 @@ use Rattle.dbl_kept.specs.Bounds.{AddsFewMarks, AddsReportedMarks}
 use Rattle.dbl_kept.specs.Causes.{HasGained, HasRead, IsCauseOf, IsKeptHalt}
 use Rattle.dbl_kept.specs.Contents.{Contents, HasOwnTables, ReadAs, history_at}
 use Rattle.dbl_kept.specs.Laws.{AreCountedWhole}
-use Rattle.dbl_kept.specs.Reports.{IsReportOf}
+use Rattle.dbl_kept.specs.Reports.{IsReportOf, IsWatermark}
 use Rattle.dbl_connector.specs.declared.asked.Asked.{Asked}
 use Rattle.dbl_connector.specs.declared.connected.Summary.{Summary}
 use Rattle.dbl_connector.specs.declared.error.ConnectError.{ConnectError}
@@ -89,7 +91,7 @@ abbrev pub IsStoredLast : Config → Option Offset → Option Offset → Type 0
 IsStoredLast config found stored = (stored ≡ found) ⊎ HasStored config found stored
 
 -- What was read has no fault, the records of its commits could be sent, and so many messages and commits they are; the position is the last
--- of these, up to which all is confirmed.
+-- of these, up to which all is confirmed. With Complete all was read: behind the position the source has no commit but watermarks.
 pub record HasReadClean (config : Config) (now : ℤ) (found stored : Option Offset) (wal : Wal) (summary : Summary) : Type 0 where
   pub reading : Reading
   pub was : HasRead config found stored wal reading
@@ -99,6 +101,8 @@ pub record HasReadClean (config : Config) (now : ℤ) (found stored : Option Off
   pub position : summary.report.position ≡ (last_lsn reading.after reading.messages).0
   pub commits : summary.report.commits ≡ length (commits_of was.by.offset.infos reading.messages)
   pub confirmed : summary.report.position ≤ (confirmed_of wal).0
+  pub all_read : summary.ending ≡ Complete
+      → AllByRecursion (λ commit. IsWatermark commit.body) (commits_after (last_lsn reading.after reading.messages) (history_in wal).commits)
 
 -- what a crash leaves of the source's log is one of the same workload
 abbrev pub Stays : (List ℕ → Type 0) → Contents → Type 0
@@ -118,7 +122,7 @@ AreGained logs old report = (bytes : List ℕ) (groups : List (List Record)) →
 
 -- It ended as it should: it could begin, each of the tables could be captured, and what it read, of what the source's log is now, is clean.
 -- The offset that it stored last is what the disk holds; where none was found, it is of the catalogue; and where none was stored, the topic log
--- gained nothing.
+-- gained nothing. With Complete each table is done by that offset.
 pub record HasRun (asked : Asked) (now : ℤ) (wals logs stores : List ℕ → Type 0) (w t f : List ℕ) (summary : Summary) : Type 0 where
   pub begun : HasBegun asked w t f
   pub stays : Stays wals begun.held
@@ -129,6 +133,7 @@ pub record HasRun (asked : Asked) (now : ℤ) (wals logs stores : List ℕ → T
   pub store : AreStores stores stored
   pub first : IsFirstStored begun.config (history_at begun.held) begun.held.offset stored
   pub ungained : IsUngained logs begun.held stored
+  pub done : summary.ending ≡ Complete → IfSome stored (λ offset. AreAllDone offset.cursors)
   pub clean : (bytes : List ℕ) (wal : Wal) → wals bytes → IsWal bytes wal → HasReadClean begun.config now begun.held.offset stored wal summary
   -- the records of the commits that it read, and of windows that these close, and nothing else, are what the topic log gained
   pub tallied : AreTallied begun.config now begun.held stored wals logs summary.report (Ok summary.ending)

@@ -1,5 +1,5 @@
 -- The law, as a session's own clause asks it: of what it was called with, and what it found.
-use Rattle.std.proofs.Common.{◌≡◌, ℤ, Option, Some, None, List, ℕ, Result, Ok, Err, sym, subst}
+use Rattle.std.proofs.Common.{◌≡◌, ◌∙◌, ℤ, Option, Some, None, List, ◌++◌, ℕ, Result, Ok, Err, refl, sym, subst}
 use Rattle.std.specs.Prelude.{IfErr, IfSome}
 use Rattle.dbl_base.specs.declared.lsn.Lsn.{Lsn}
 use Rattle.dbl_record.specs.declared.record.Record.{Record}
@@ -7,9 +7,12 @@ use Rattle.dbl_record.specs.Cuts.{joined}
 use Rattle.dbl_table.specs.declared.config.Config.{Config}
 use Rattle.dbl_table.specs.declared.table.TableInfo.{TableInfo}
 use Rattle.dbl_history.specs.Fit.{AreInfosOf}
-use Rattle.dbl_honest.specs.Standings.{Standing}
+use Rattle.dbl_honest.specs.Standings.{Left, Standing, left_of}
 use Rattle.dbl_honest.specs.Told.{Told}
 use Rattle.dbl_offset.specs.declared.offset.Offset.{Offset}
+use Rattle.dbl_offset.specs.Stores.{Holds, StoreOn, disk_of}
+use Rattle.dbl_offset.proofs.StoreLaws.{one_store}
+use Rattle.dbl_stores.specs.Behind.{IsOffsetOf}
 use Rattle.dbl_stores.specs.Faithful.{IsFaithful}
 use Rattle.dbl_session.specs.Entries.{Entry, HadOwnTables, IsKeptBehind, WasFaithful}
 use Rattle.dbl_work.specs.declared.halt.Halt.{Halt}
@@ -17,8 +20,10 @@ use Rattle.dbl_work.specs.declared.halt.Halt.TheVariants as halt
 use Rattle.dbl_work.specs.declared.report.Ending.{Ending}
 use Rattle.dbl_work.specs.declared.report.Report.{Report}
 use Rattle.dbl_work.specs.Begins.{IsAbsentHalt}
-use Rattle.dbl_exits.specs.Found.{entry_at}
-use Rattle.dbl_exits.specs.Sessions.{Captures, IsCapturing}
+use Rattle.dbl_exits.specs.Found.{Found, IsEntryOf, entry_at}
+use Rattle.dbl_exits.specs.Sessions.{Captures, IsCapturing, LeavesGoing}
+use Rattle.dbl_exits.proofs.Keeping.{held_left}
+use Rattle.dbl_causes.specs.Gained.{HasCounted, IsReported}
 use Rattle.dbl_causes.specs.Halted.{IsHalt}
 use Rattle.dbl_causes.specs.Nevers.{IsFaithfulHalt, IsHonestHalt}
 use Rattle.dbl_history.specs.History.{History, IsRising}
@@ -26,7 +31,7 @@ use Rattle.dbl_stores.specs.Stores.{IsPositionOf}
 use Rattle.dbl_session.proofs.Ending.{stood_of}
 use Rattle.dbl_steps.specs.Awaited.{IsWithinLog}
 use Rattle.dbl_steps.proofs.Awaited.{stood_offsets_are_within}
-use Rattle.dbl_supported.specs.Laws.{FaithfulSessionsEnd, SaysWhy}
+use Rattle.dbl_supported.specs.Laws.{FaithfulSessionsEnd, SaysWhy, TellsHalts}
 use Rattle.dbl_supported.specs.Supported.{CanBegin, HasMetSupported, IsOffsetOfThese, MayStillHalt}
 use Rattle.dbl_supported.proofs.Ending.{outside}
 
@@ -102,7 +107,68 @@ within_so entry s found history offset_is rise faithful =
     let stood = subst (λ (h : History). IfSome entry.offset (λ o. IsPositionOf h o.lsn.0)) (sym history) (stood_of entry faithful) in
     subst (IsWithinLog s.history) offset_is (stood_offsets_are_within s.history entry.offset rise stood)
 
-module _ {S K : Type 0} (stands : S → Standing → Type 0) (holds : K → List (List Record) → Type 0) where
-  pub faithful_sessions_end : FaithfulSessionsEnd stands holds
-  faithful_sessions_end entry config now s found config_is now_is history confirmed offset_is rise stored report told src sink result tells faithful =
-      ends entry config now s found config_is now_is history confirmed offset_is stored report told (stands src) (holds sink) faithful result tells.cause tells.absent tells.own tells.content tells.gone (tells.missing (within_so entry s found history offset_is rise faithful)) tells.offset
+-- ---- what it stored last
+
+-- where no put failed, the sink has what is counted
+counted_of : {K : Type 0} (holds may_sink : K → List (List Record) → Type 0) (groups : List (List Record)) (sink : K) (report : Report) (h : Halt) → (MayStillHalt h → ⊥)
+    → IsReported {A = Ending} holds may_sink groups (Err h) sink report → HasCounted holds groups sink report
+counted_of holds may_sink groups sink report halt.Source none counted = counted
+counted_of holds may_sink groups sink report halt.Sink none counted = absurd (none tt)
+counted_of holds may_sink groups sink report halt.Offsets none counted = counted
+counted_of holds may_sink groups sink report halt.Memory none counted = counted
+counted_of holds may_sink groups sink report (halt.Message number error) none counted = counted
+counted_of holds may_sink groups sink report (halt.Txn number error) none counted = counted
+counted_of holds may_sink groups sink report (halt.Chunk table row) none counted = counted
+counted_of holds may_sink groups sink report (halt.Cell table column error) none counted = counted
+counted_of holds may_sink groups sink report (halt.Clash table column) none counted = counted
+counted_of holds may_sink groups sink report (halt.RecordTooLong len) none counted = counted
+counted_of holds may_sink groups sink report (halt.OffsetTooLong len) none counted = counted
+counted_of holds may_sink groups sink report (halt.Model error) none counted = counted
+counted_of holds may_sink groups sink report (halt.UnknownTable table) none counted = counted
+counted_of holds may_sink groups sink report (halt.Gone asked far) none counted = counted
+counted_of holds may_sink groups sink report (halt.WatermarkMissing value at) none counted = counted
+counted_of holds may_sink groups sink report (halt.Exhausted incarnation) none counted = counted
+
+-- no disk of the offset failed where nothing did
+not_offsets : (h : Halt) → (MayStillHalt h → ⊥) → (r : Result Ending Halt) → r ≡ Err h → r ≡ Err halt.Offsets → ⊥
+not_offsets h none r is failed = none (subst (λ (x : Result Ending Halt). IfErr x MayStillHalt) is (subst (λ (x : Result Ending Halt). IfErr x MayStillHalt) (sym failed) tt))
+
+module _ {S K D : Type 0} (stands : S → Standing → Type 0) (honest : S → Type 0) (may_source : S → Left → Type 0) (told : S → Option Told)
+    (holds may_sink : K → List (List Record) → Type 0) (seen : D → Option (List ℕ)) (may_leave : D → List ℕ → Type 0)
+    (rising : (source : S) (s : Standing) → stands source s → IsRising s.history) (may : (source : S) (s : Standing) → stands source s → may_source source (left_of s))
+    (may_groups : (sink : K) (groups : List (List Record)) → holds sink groups → may_sink sink groups)
+    (seen_may : (disk : D) (bytes : List ℕ) → seen disk ≡ Some bytes → may_leave disk bytes) where
+  -- what is left follows from what was found, by the offset that the store answers
+  stored_is : (entry : Entry) (new_src : S) (new_sink : K) (new_store : StoreOn D) → LeavesGoing may_source may_sink may_leave entry new_src new_sink new_store → WasFaithful entry
+      → Holds seen may_leave new_store new_store.offset → (groups : List (List Record)) → holds new_sink groups → (offset : Offset) (t : Standing) → new_store.offset ≡ Some offset → stands new_src t
+      → IsOffsetOf t.history t.confirmed (joined groups) offset
+  stored_is entry new_src new_sink new_store leaves faithful held groups has offset t stored there =
+      let image = held.lists.bytes in
+      let may_image = seen_may (disk_of new_store) image held.lists.told in
+      let left = leaves.follows faithful image may_image in
+      let own = held_left seen may_leave new_store new_store.offset held image may_image in
+      let same : left.0 ≡ Some offset = one_store image left.0 own.0 left.1 own.1 ∙ own.2 ∙ stored in
+      let follows = left.2 (left_of t) groups (may new_src t there) (may_groups new_sink groups has) in
+      let faithful_is : IsFaithful t.history t.confirmed (joined groups) (Some offset) = subst (IsFaithful t.history t.confirmed (joined groups)) same follows.faithful in
+      faithful_is.behind.offset_is
+
+  module _ (config : Config) (now : ℤ) (src new_src : S) (sink new_sink : K) (store new_store : StoreOn D) (report : Report)
+      (entry : Entry) (asked : IsEntryOf config now entry) (found : Found stands holds seen may_leave entry src sink store) (kept_honest : honest new_src) (faithful : WasFaithful entry) where
+    offset_told : (result : Result Ending Halt) → TellsHalts stands honest may_source told holds may_sink seen may_leave config now src new_src sink new_sink store new_store report result
+        → IfErr result (λ h. (MayStillHalt h → ⊥) → IsOffsetOfThese new_store.offset (stands new_src) (holds new_sink))
+    offset_told (Ok ending) tells = tt
+    offset_told (Err h) tells = λ none offset t stored there.
+        let counted = counted_of holds may_sink entry.groups new_sink report h none (tells.counted entry.groups found.sink_is) in
+        let before : Holds seen may_leave store store.offset = subst (Holds seen may_leave store) (sym found.store_is.offset_is) found.store_is in
+        let held = tells.held before (not_offsets h none (Err h) refl) in
+        let leaves = tells.faithful entry asked found kept_honest (own_so entry.history entry.confirmed (joined entry.groups) entry.offset faithful) in
+        (entry.groups ++ counted.more, counted.held, stored_is entry new_src new_sink new_store leaves faithful held (entry.groups ++ counted.more) counted.held offset t stored there)
+
+  pub faithful_sessions_end : FaithfulSessionsEnd stands honest may_source told holds may_sink seen may_leave
+  faithful_sessions_end config now src new_src sink new_sink store new_store report result tells entry asked found kept_honest faithful =
+      let s = found.standing in
+      let offset_is : entry.offset ≡ store.offset = sym found.store_is.offset_is in
+      ends entry config now s store.offset asked.config_is asked.now_is found.history found.confirmed offset_is new_store.offset report (told new_src) (stands new_src) (holds new_sink) faithful result
+      tells.halts (tells.absent s found.source_is) (tells.own s found.source_is kept_honest) (tells.content entry asked found kept_honest faithful) (tells.gone s found.source_is)
+      (tells.missing s found.source_is kept_honest (within_so entry s store.offset found.history offset_is (rising src s found.source_is) faithful))
+      (offset_told config now src new_src sink new_sink store new_store report entry asked found kept_honest faithful result tells)

@@ -2,6 +2,7 @@
 
 ghost use Rattle.dbl_supported.specs.Laws.{FaithfulSessionsEnd, SupportedSessionsEnd};
 
+use dbl_disk::Disk;
 use dbl_source::Source;
 use dbl_topic::Sink;
 
@@ -11,6 +12,7 @@ pub fn supported_sessions_end<S: Source, K: Sink>()
 {}
 
 /// So does one over an honest source and faithful stores, by the clauses of its contract.
-pub fn faithful_sessions_end<S: Source, K: Sink>()
-    ensures { FaithfulSessionsEnd S.stands K.holds }
+pub fn faithful_sessions_end<S: Source, K: Sink, D: Disk>()
+    ensures { FaithfulSessionsEnd S.stands S.honest S.may_leave S.told
+        K.holds K.may_leave D.seen D.may_leave }
 {}

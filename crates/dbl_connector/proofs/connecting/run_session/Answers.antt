@@ -14,7 +14,7 @@ use Rattle.dbl_connector.proofs.Configs.{asks_budget}
 use Rattle.dbl_connector.proofs.Exits.{asked_of, asks_same, halt_fails, halt_kind, log_bounded, refused_behind, refused_ends, refused_kind, refused_unfailed, refused_unhalted, residual, source_bounded, spent_of, store_bounded}
 use Rattle.dbl_connector.proofs.ErrorKinds.{counts_same}
 use Rattle.dbl_connector.proofs.Opened.{bounded_same}
-use Rattle.dbl_connector.proofs.Ran.{renow}
+use Rattle.dbl_connector.proofs.Ran.{done_by, renow}
 use Rattle.dbl_connector.proofs.Session.{answers_err, answers_ok}
 use Rattle.dbl_connector.proofs.Stays.{answers_stay}
 use Rattle.dbl_connector.proofs.connecting.run_session.Goals as goal
@@ -97,6 +97,7 @@ returns-in_err-ending-clause-answers g c =
       stores = c.session.ensures.stores;
       firsts = c.session.ensures.firsts;
       few = λ is. (c.session.ensures.done is).3;
+      done = λ is. done_by c.session.new.offsets.offset (c.session.ensures.done is).0 (c.session.ensures.done is).1 (c.session.ensures.done is).2;
       bounded = c.session.ensures.bounded;
       ended = c.session.ensures.ended;
       exhausted = c.session.ensures.exhausted;
@@ -194,6 +195,7 @@ returns-clause-answers g c =
       stores = c.session.ensures.stores;
       firsts = c.session.ensures.firsts;
       few = λ is. (c.session.ensures.done is).3;
+      done = λ is. done_by c.session.new.offsets.offset (c.session.ensures.done is).0 (c.session.ensures.done is).1 (c.session.ensures.done is).2;
       bounded = c.session.ensures.bounded;
       ended = c.session.ensures.ended;
       exhausted = c.session.ensures.exhausted;

@@ -1,7 +1,6 @@
 use thiserror::Error;
 
-/// A fault of the outside: of an input, an output or a disk. The object's count of faults rose in the call that
-/// answers it.
+/// A failure of an input, an output or a disk, which the object's fault count records.
 #[derive(Clone, Copy, Debug, PartialEq, Eq, Error)]
 #[error("failed")]
 pub struct Failed;

@@ -1,11 +1,12 @@
 ghost use Rattle.std.specs.Prelude.{◌≡◌, ◌≤◌, ◌↔◌, IsErr, OnOk, OnErr, Contains};
-ghost use Rattle.dbl_base.specs.Streams.{raised};
+ghost use Rattle.dbl_base.specs.Streams.{incremented};
 ghost use Rattle.dbl_base.specs.Memory.{new_plan};
 
 use crate::Failed;
 use std::marker::Model;
 
-/// Which calls of an object in memory are to fail, counted from 1, and its count of faults.
+/// The calls of an in-memory object that are to fail, numbered from 1, and the object's fault
+/// count.
 #[derive(Debug, Drop)]
 pub struct FaultPlan {
     planned: Vec<u64>,
@@ -22,7 +23,7 @@ impl Model for FaultPlan {
 }
 
 impl FaultPlan {
-    /// Takes no memory.
+    /// Makes a plan whose listed calls are to fail.
     pub fn make(planned: Vec<u64>) -> FaultPlan
         ensures { result ≡ new_plan planned.items }
     {
@@ -33,12 +34,12 @@ impl FaultPlan {
         }
     }
 
-    /// Counts a call, and its fault where it is one that is to fail.
+    /// Counts a call, and a fault if that call is planned to fail.
     pub fn call(&mut self) -> Result<(), Failed>
-        ensures planned { IsErr result ↔ Contains self.old.planned (raised self.old.calls) }
-        ensures ok { OnOk result (self.new ≡ record self.old { calls = raised self.old.calls }) }
+        ensures planned { IsErr result ↔ Contains self.old.planned (incremented self.old.calls) }
+        ensures ok { OnOk result (self.new ≡ record self.old { calls = incremented self.old.calls }) }
         ensures err { OnErr result (self.new
-            ≡ record self.old { calls = raised self.old.calls; faults = raised self.old.faults }) }
+            ≡ record self.old { calls = incremented self.old.calls; faults = incremented self.old.faults }) }
         ensures later { self.old.faults ≤ self.new.faults }
     {
         self.calls = self.calls.saturating_add(1);
@@ -49,9 +50,9 @@ impl FaultPlan {
         Ok(())
     }
 
-    /// Counts a fault that wasn't planned.
+    /// Counts an unplanned fault.
     pub fn fault(&mut self) -> Failed
-        ensures counted { self.new ≡ record self.old { faults = raised self.old.faults } }
+        ensures counted { self.new ≡ record self.old { faults = incremented self.old.faults } }
         ensures later { self.old.faults ≤ self.new.faults }
     {
         self.faults = self.faults.saturating_add(1);

@@ -1,29 +1,28 @@
 ghost use Rattle.std.specs.Prelude.{◌≡◌, ◌≢◌, ℕ, ◌+◌, ◌<◌, ◌≤◌, ◌++◌, List, [], length, take, drop, Option, Some, Ok};
 ghost use Rattle.std.specs.Prelude.{Err, IfOk, OnOk, OnErr, IsErr};
-ghost use Rattle.dbl_base.specs.Streams.{HasCause, MovesToStart, raised, input_limit};
+ghost use Rattle.dbl_base.specs.Streams.{FailsOnlyIfCounted, MovesToStart, incremented, input_limit};
 
 use crate::{Bytes, Failed};
 use std::alloc::{AllocError, AllocFailed, Global};
 use thiserror::Error;
 
-/// The most bytes that one run takes from its input.
+/// The most bytes that one run reads from its input.
 pub const INPUT_LIMIT: usize = 67_108_864;
 
 const BUFFER_LENGTH: usize = 65_536;
 
-/// A stream of bytes to be read.
+/// A byte stream that is read.
 pub trait Input {
-    /// The bytes left, where they are told.
+    /// The unread bytes, if known.
     ghost left: { Self → Option (List ℕ) };
 
-    /// How often the input has failed. A count that stands at 2^64 - 1 stays there.
+    /// The number of faults; it saturates at 2^64 - 1.
     ghost faults: { Self → ℕ };
 
-    /// Moves as many of the bytes left as it likes into the front of the buffer, and answers how many. 0 in a buffer
-    /// that isn't empty means that nothing is left. After `Failed` the buffer may hold any bytes.
+    /// Reads at most a buffer of unread bytes and returns their number; 0 for a nonempty buffer
+    /// means end of input. After `Failed` the buffer's contents are unspecified.
     ///
-    /// An input that tells its bytes counts one fault where it answers one, and none elsewhere. Others may count more and try
-    /// again.
+    /// Only an input with unknown contents may count more than one fault, and retry.
     fn read(&mut self, buffer: &mut [u8]) -> Result<usize, Failed>
         ensures bound { IfOk result (λ n. n ≤ length buffer.old) }
         ensures moves { (bytes : List ℕ) → left self.old ≡ Some bytes →
@@ -32,14 +31,14 @@ pub trait Input {
             result ≡ Ok 0 → bytes ≡ [] }
         ensures kept { (bytes : List ℕ) → left self.old ≡ Some bytes →
             OnErr result (left self.new ≡ Some bytes) }
-        ensures cause { HasCause (IsErr result) (faults self.old) (faults self.new) }
+        ensures cause { FailsOnlyIfCounted (IsErr result) (faults self.old) (faults self.new) }
         ensures steady { (bytes : List ℕ) → left self.old ≡ Some bytes →
             OnOk result (faults self.new ≡ faults self.old) }
         ensures once { (bytes : List ℕ) → left self.old ≡ Some bytes →
-            OnErr result (faults self.new ≡ raised (faults self.old)) };
+            OnErr result (faults self.new ≡ incremented (faults self.old)) };
 }
 
-/// Why an input wasn't read.
+/// Why an input couldn't be read.
 #[derive(Clone, Copy, Debug, PartialEq, Eq, Error)]
 pub enum InputError {
     #[error("input failed")]
@@ -72,7 +71,7 @@ impl From<AllocError> for InputError {
     }
 }
 
-// Moves the next piece behind the bytes read so far.
+// Reads the next piece and appends it to the bytes read so far.
 fn read_piece<I: Input>(
     input: &mut I,
     buffer: &mut [u8],
@@ -85,20 +84,21 @@ fn read_piece<I: Input>(
         IfOk result (λ n. bytes.new.items ≡ bytes.old.items ++ take n rest) }
     ensures end { (rest : List ℕ) → I.left input.old ≡ Some rest → result ≡ Ok 0 → rest ≡ [] }
     ensures longer { IfOk result (λ n. length bytes.new.items ≡ length bytes.old.items + n) }
-    ensures cause { HasCause (result ≡ Err InputError.Failed)
+    ensures cause { FailsOnlyIfCounted (result ≡ Err InputError.Failed)
         (I.faults input.old) (I.faults input.new) }
     ensures short { result ≢ Err InputError.TooLong }
     ensures steady { (rest : List ℕ) → I.left input.old ≡ Some rest →
         result ≢ Err InputError.Failed → I.faults input.new ≡ I.faults input.old }
     ensures once { (rest : List ℕ) → I.left input.old ≡ Some rest → result ≡ Err InputError.Failed →
-        I.faults input.new ≡ raised (I.faults input.old) }
+        I.faults input.new ≡ incremented (I.faults input.old) }
 {
     let count = input.read(buffer)?;
     bytes.extend_from_slice(&buffer[..count])?;
     Ok(count)
 }
 
-/// Reads all bytes left. After an error the bytes that were read are gone. The first read that fails is the last one.
+/// Reads all remaining bytes. It stops at the first failed read; after an error the bytes read so
+/// far are lost.
 pub fn read_all<I: Input>(alloc: Global, input: &mut I) -> Result<Bytes, InputError>
     ensures all { (bytes : List ℕ) → I.left input.old ≡ Some bytes →
         IfOk result (λ read. read ≡ bytes) }
@@ -107,12 +107,12 @@ pub fn read_all<I: Input>(alloc: Global, input: &mut I) -> Result<Bytes, InputEr
     ensures within { IfOk result (λ read. length read ≤ input_limit) }
     ensures too_long { (bytes : List ℕ) → I.left input.old ≡ Some bytes →
         result ≡ Err InputError.TooLong → input_limit < length bytes }
-    ensures cause { HasCause (result ≡ Err InputError.Failed)
+    ensures cause { FailsOnlyIfCounted (result ≡ Err InputError.Failed)
         (I.faults input.old) (I.faults input.new) }
     ensures steady { (bytes : List ℕ) → I.left input.old ≡ Some bytes →
         result ≢ Err InputError.Failed → I.faults input.new ≡ I.faults input.old }
     ensures once { (bytes : List ℕ) → I.left input.old ≡ Some bytes →
-        result ≡ Err InputError.Failed → I.faults input.new ≡ raised (I.faults input.old) }
+        result ≡ Err InputError.Failed → I.faults input.new ≡ incremented (I.faults input.old) }
 {
     let mut buffer = [0u8; BUFFER_LENGTH];
     let mut bytes = Vec::new(alloc);

@@ -1,4 +1,4 @@
-//! Texts and their lines, lists and byte streams: what every crate above stands on.
+//! Texts and their lines, lists and byte streams: the base of every other crate.
 #![tactic(auto)]
 
 mod failed;
@@ -15,7 +15,7 @@ mod text;
 pub use failed::Failed;
 pub use fault_plan::FaultPlan;
 pub use input::{INPUT_LIMIT, Input, InputError, read_all};
-pub use lines::{next_line, passes_over};
+pub use lines::{is_blank_or_comment, next_line};
 pub use lsn::Lsn;
 pub use memory::{MemInput, MemOutput};
 pub use output::Output;

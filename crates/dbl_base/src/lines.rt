@@ -5,7 +5,7 @@ ghost use Rattle.dbl_base.specs.Lines.{lines_of, is_passed_over};
 
 use memchr::memchr;
 
-/// The first line, and the bytes behind it.
+/// Splits off the first line, and returns it with the bytes after it.
 pub fn next_line(bytes: &[u8]) -> (&[u8], &[u8])
     requires { 0 < length bytes.now }
     ensures first { lines_of bytes.now ≡ result.0.now ∷ lines_of result.1.now }
@@ -17,8 +17,8 @@ pub fn next_line(bytes: &[u8]) -> (&[u8], &[u8])
     }
 }
 
-/// Whether a line is passed over where lines are read.
-pub fn passes_over(line: &[u8]) -> bool
+/// Whether the line is blank or a comment.
+pub fn is_blank_or_comment(line: &[u8]) -> bool
     ensures { result ≡ is_passed_over line.now }
 {
     match line {

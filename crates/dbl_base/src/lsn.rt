@@ -1,6 +1,7 @@
 use std::fmt;
 
-/// A log sequence number: a place in the source's log, as PostgreSQL's `pg_lsn`. It prints as a decimal number.
+/// A log sequence number: a position in the source's log, as PostgreSQL's `pg_lsn`. It prints as a
+/// decimal number.
 #[derive(Clone, Copy, Debug, PartialEq, Eq, PartialOrd, Ord, Hash)]
 pub struct Lsn(pub u64);
 

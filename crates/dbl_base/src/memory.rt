@@ -1,13 +1,13 @@
 ghost use Rattle.std.specs.Prelude.{◌≡◌, ◌<◌, ◌≤◌, ◌++◌, ◌↔◌, ℕ, List, [], Some, Ok, length, drop, take, min, IsErr};
 ghost use Rattle.std.specs.Prelude.{OnOk, OnErr, IfOk, Contains};
-ghost use Rattle.dbl_base.specs.Streams.{HasCause, MovesToStart, raised};
+ghost use Rattle.dbl_base.specs.Streams.{FailsOnlyIfCounted, MovesToStart, incremented};
 ghost use Rattle.dbl_base.specs.Memory.{new_plan};
 
 use crate::{Failed, FaultPlan, Input, Output};
 use std::alloc::Global;
 use std::marker::Model;
 
-/// An input of bytes in memory.
+/// An in-memory input.
 #[derive(Debug, Drop)]
 pub struct MemInput {
     bytes: Vec<u8>,
@@ -27,7 +27,7 @@ impl Model for MemInput {
 }
 
 impl MemInput {
-    /// An input with these bytes left, whose listed calls, counted from 1, are to fail. Takes no memory.
+    /// Makes an input with these bytes to read, whose listed calls, numbered from 1, are to fail.
     pub fn make(bytes: Vec<u8>, fails: Vec<u64>) -> MemInput
         ensures { result ≡ record { left = bytes.items; plan = new_plan fails.items } }
     {
@@ -54,18 +54,17 @@ impl Input for MemInput {
             result ≡ Ok 0 → bytes ≡ [] }
         ensures kept { (bytes : List ℕ) → Some self.old.left ≡ Some bytes →
             OnErr result (Some self.new.left ≡ Some bytes) }
-        ensures cause { HasCause (IsErr result) self.old.plan.faults self.new.plan.faults }
+        ensures cause { FailsOnlyIfCounted (IsErr result) self.old.plan.faults self.new.plan.faults }
         ensures steady { (bytes : List ℕ) → Some self.old.left ≡ Some bytes →
             OnOk result (self.new.plan.faults ≡ self.old.plan.faults) }
         ensures once { (bytes : List ℕ) → Some self.old.left ≡ Some bytes →
-            OnErr result (self.new.plan.faults ≡ raised self.old.plan.faults) }
+            OnErr result (self.new.plan.faults ≡ incremented self.old.plan.faults) }
 
-        // A call fails exactly where it is planned to, and then counts one fault and leaves the buffer as it was.
         ensures planned { IsErr result ↔
-            Contains self.old.plan.planned (raised self.old.plan.calls) }
-        ensures calls { self.new.plan.calls ≡ raised self.old.plan.calls }
+            Contains self.old.plan.planned (incremented self.old.plan.calls) }
+        ensures calls { self.new.plan.calls ≡ incremented self.old.plan.calls }
         ensures plan { self.new.plan.planned ≡ self.old.plan.planned }
-        ensures counted { OnErr result (self.new.plan.faults ≡ raised self.old.plan.faults) }
+        ensures counted { OnErr result (self.new.plan.faults ≡ incremented self.old.plan.faults) }
         ensures uncounted { OnOk result (self.new.plan.faults ≡ self.old.plan.faults) }
         ensures untouched { OnErr result (buffer.new ≡ buffer.old) }
     {
@@ -78,7 +77,7 @@ impl Input for MemInput {
     }
 }
 
-/// An output that keeps its bytes in memory. Where it finds no room it counts a fault of its own.
+/// An in-memory output. Running out of memory counts as a fault.
 #[derive(Debug, Drop)]
 pub struct MemOutput {
     bytes: Vec<u8>,
@@ -94,7 +93,8 @@ impl Model for MemOutput {
 }
 
 impl MemOutput {
-    /// An empty output, whose listed calls, counted from 1, are to fail. Takes no memory; later calls use the allocator.
+    /// Makes an empty output, whose listed calls, numbered from 1, are to fail. Takes no memory;
+    /// later calls use the allocator.
     pub fn make(alloc: Global, fails: Vec<u64>) -> MemOutput
         ensures { result ≡ record { written = []; plan = new_plan fails.items } }
     {
@@ -124,16 +124,14 @@ impl Output for MemOutput {
             OnOk result (Some self.new.written ≡ Some (bytes ++ piece.now)) }
         ensures prefix { (bytes : List ℕ) → Some self.old.written ≡ Some bytes →
             OnErr result ((n : ℕ) × (Some self.new.written ≡ Some (bytes ++ take n piece.now))) }
-        ensures cause { HasCause (IsErr result) self.old.plan.faults self.new.plan.faults }
+        ensures cause { FailsOnlyIfCounted (IsErr result) self.old.plan.faults self.new.plan.faults }
 
-        // A call that is planned to fail does. Where there is no room another one fails too. One that fails
-        // counts one fault.
-        ensures planned { Contains self.old.plan.planned (raised self.old.plan.calls) →
+        ensures planned { Contains self.old.plan.planned (incremented self.old.plan.calls) →
             IsErr result }
-        ensures calls { self.new.plan.calls ≡ raised self.old.plan.calls }
+        ensures calls { self.new.plan.calls ≡ incremented self.old.plan.calls }
         ensures plan { self.new.plan.planned ≡ self.old.plan.planned }
         ensures unchanged { OnErr result (self.new.written ≡ self.old.written) }
-        ensures counted { OnErr result (self.new.plan.faults ≡ raised self.old.plan.faults) }
+        ensures counted { OnErr result (self.new.plan.faults ≡ incremented self.old.plan.faults) }
         ensures uncounted { OnOk result (self.new.plan.faults ≡ self.old.plan.faults) }
     {
         self.plan.call()?;

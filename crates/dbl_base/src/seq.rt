@@ -3,7 +3,7 @@ ghost use Rattle.std.specs.Prelude.{◌≡◌, IfOk};
 use std::cmp::Ordering;
 use std::marker::Model;
 
-/// A `Vec` in the field of a public type, which contracts see as the list of its items.
+/// A `Vec` in a field of a public type, which contracts see as the list of its items.
 #[derive(Debug, Drop)]
 pub struct Seq<T> {
     vec: Vec<T>,
@@ -21,21 +21,21 @@ impl<T> Model for Seq<T> {
 }
 
 impl<T> Seq<T> {
-    /// Takes no memory.
+    /// Wraps the vector.
     pub fn make(items: Vec<T>) -> Seq<T>
         ensures { result ≡ items.items }
     {
         Seq { vec: items }
     }
 
-    /// Takes no memory.
+    /// Borrows the items.
     pub fn items(&self) -> &Vec<T>
         ensures { result.now.items ≡ self.now }
     {
         &self.vec
     }
 
-    /// Takes no memory.
+    /// Unwraps the vector.
     pub fn into_items(self) -> Vec<T>
         ensures { result.items ≡ self }
     {

@@ -4,8 +4,8 @@ use crate::{Failed, Input, Output};
 use std::io::{ErrorKind, Read, Write};
 use std::marker::Model;
 
-/// An input over a reader of std, which tells nothing of its bytes. Each error of the reader counts as a fault; a call
-/// that a signal interrupted is made again.
+/// An input over a std reader, with unknown contents. Each error of the reader counts as a fault; a
+/// call interrupted by a signal is retried.
 #[derive(Drop)]
 pub struct StdInput<R> {
     reader: R,
@@ -21,7 +21,7 @@ impl<R> Model for StdInput<R> {
 }
 
 impl<R: Read> StdInput<R> {
-    /// Its value in contracts is its count of faults.
+    /// Wraps the reader. The input's value in contracts is its fault count.
     pub fn make(reader: R) -> StdInput<R>
         ensures { result ≡ 0 }
     {
@@ -53,8 +53,8 @@ impl<R: Read> Input for StdInput<R> {
     }
 }
 
-/// An output over a writer of std, which tells nothing of its bytes. Each error of the writer, and each write that
-/// takes nothing, counts as a fault; a call that a signal interrupted is made again.
+/// An output over a std writer, with unknown contents. An error, or a write that accepts no byte,
+/// counts as a fault; a call interrupted by a signal is retried.
 #[derive(Drop)]
 pub struct StdOutput<W> {
     writer: W,
@@ -70,7 +70,7 @@ impl<W> Model for StdOutput<W> {
 }
 
 impl<W: Write> StdOutput<W> {
-    /// Its value in contracts is its count of faults.
+    /// Wraps the writer. The output's value in contracts is its fault count.
     pub fn make(writer: W) -> StdOutput<W>
         ensures { result ≡ 0 }
     {

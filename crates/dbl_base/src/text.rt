@@ -7,7 +7,8 @@ use std::cmp::Ordering;
 use std::fmt;
 use std::marker::Model;
 
-/// A UTF-8 text in the field of a public type, which contracts see as its bytes. It is ordered by its bytes.
+/// A UTF-8 text in a field of a public type, which contracts see as its bytes; ordered by its
+/// bytes.
 #[derive(Debug, Drop)]
 pub struct Text {
     string: String,
@@ -23,14 +24,14 @@ impl Model for Text {
 }
 
 impl Text {
-    /// Takes no memory.
+    /// Wraps the string.
     pub fn make(text: String) -> Text
         ensures { result ≡ string_bytes text }
     {
         Text { string: text }
     }
 
-    /// A text of the same bytes as the `&str`.
+    /// Copies the `&str` into a new text.
     pub fn of(alloc: Global, text: &str) -> Result<Text, AllocError>
         ensures { IfOk result (λ t. t ≡ text.now) }
     {
@@ -39,7 +40,7 @@ impl Text {
         })
     }
 
-    /// Takes no memory.
+    /// Borrows the text as a `&str`.
     pub fn as_str(&self) -> &str
         ensures value { result.now ≡ self.now }
         ensures utf8 { IsUtf8 self.now }
@@ -47,14 +48,14 @@ impl Text {
         self.string.as_str()
     }
 
-    /// Takes no memory.
+    /// Unwraps the string.
     pub fn into_string(self) -> String
         ensures { string_bytes result ≡ self }
     {
         self.string
     }
 
-    /// An equal text.
+    /// Copies the text.
     pub fn copy(&self, alloc: Global) -> Result<Text, AllocError>
         ensures { IfOk result (λ t. t ≡ self.now) }
     {

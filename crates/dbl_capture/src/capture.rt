@@ -1,53 +1,55 @@
-//! The session.
+//! The session of a connector.
 
 ghost use Rattle.std.specs.Prelude.{◌≡◌, ◌≢◌, ◌⊎◌, ◌<◌, ◌≤◌, List, Option, Some, None, Bool, [], IfErr, IfOk, IsTrue, OnErr, OnOk, true};
-ghost use Rattle.dbl_base.specs.Streams.{HasCause};
+ghost use Rattle.dbl_base.specs.Streams.{FailsOnlyIfCounted};
 ghost use Rattle.dbl_record.specs.declared.record.Record.{Record as SpecRecord};
-ghost use Rattle.dbl_table.specs.Configs.{IsGoodConfig};
-ghost use Rattle.dbl_honest.specs.Calls.{Moved};
-ghost use Rattle.dbl_honest.specs.Leaves.{Leaves, LeavesSome};
-ghost use Rattle.dbl_honest.specs.Standings.{Leads, Left, Standing, Stood};
-ghost use Rattle.dbl_honest.specs.Told.{Head, IsTakenBy, Tells, Told};
+ghost use Rattle.dbl_model_table.specs.Configs.{IsGoodConfig};
+ghost use Rattle.dbl_source.specs.SourceModel.Calls.{Moved};
+ghost use Rattle.dbl_source.specs.SourceModel.Leaves.{Leaves, LeavesSome};
+ghost use Rattle.dbl_source.specs.SourceModel.Standings.{MovesTo, CrashState, SourceState, HasState};
+ghost use Rattle.dbl_source.specs.SourceModel.Trace.{Head, IsTakenBy, LastAnswerIs, Trace};
 ghost use Rattle.dbl_offset.specs.declared.offset.Offset.{Offset as SpecOffset};
 ghost use Rattle.dbl_offset.specs.Offsets.{IsOffset};
-ghost use Rattle.dbl_offset.specs.Stores.{ComesOf, IsLive, disk_of};
-ghost use Rattle.dbl_session.specs.Entries.{Entry as SpecEntry, HadOwnTables, IsKeptBehind, WasFaithful};
-ghost use Rattle.dbl_work.specs.Begins.{IsAbsentHalt, IsExhausted, IsOffsetFor, MayRest};
-ghost use Rattle.dbl_work.specs.Works.{IsBegun};
-ghost use Rattle.dbl_exits.specs.Closed.{HasClosedRead};
-ghost use Rattle.dbl_exits.specs.Ends.{AreAllDone, IsAtPosition, LeavesComplete, StaysHeld};
-ghost use Rattle.dbl_exits.specs.Found.{BeganAt, BeginsAt, Found, HasStored, IsAsked, IsEntryOf, IsFirstAtHead};
-ghost use Rattle.dbl_exits.specs.Found.{IsFirstStored, IsFound, entry_at, position_of};
-ghost use Rattle.dbl_exits.specs.Sessions.{AddsFew, InSession, LeavesBy, LeavesGoing};
-ghost use Rattle.dbl_causes.specs.Gained.{Gains, IsReported};
-ghost use Rattle.dbl_causes.specs.Halted.{IsHalt};
-ghost use Rattle.dbl_causes.specs.Musts.{CapturesAll, MustExhaust, MustHalt, MustHaltStood, MustHaltTold};
-ghost use Rattle.dbl_causes.specs.Tallied.{IsTallied, IsTalliedBehind};
-ghost use Rattle.dbl_causes.specs.Reported.{HasReadMessages, HasSettled, HasStoodBehind, IsFollowed, StoodAtLast};
-ghost use Rattle.dbl_honest.specs.Growth.{marks_in};
-ghost use Rattle.dbl_causes.specs.Nevers.{IsFaithfulHalt, IsHonestHalt};
-ghost use Rattle.dbl_causes.specs.Sources.{IsUnderWay};
-ghost use Rattle.dbl_steps.specs.Caused.{AsksUnread, Halts, IsNotGone};
-ghost use Rattle.dbl_steps.specs.Awaited.{Awaits, IsWithin, IsWithinLog};
-ghost use Rattle.dbl_steps.specs.Stood.{IsGoneBelow, IsHaltStanding, IsShort, IsShortOr};
-ghost use Rattle.dbl_steps.specs.Captured.{CapturesOrHalts, MustHaltAbsent};
-ghost use Rattle.dbl_causes.specs.Underway.{IsBeginHalt};
-ghost use Rattle.dbl_causes.specs.Written.{AddsAtMost, EndsExactly, marks_more};
-ghost use Rattle.dbl_steps.specs.Sinks.{IsPutting};
+ghost use Rattle.dbl_offset.specs.Stores.{ExtendsOffsets, IsLive, disk_of};
+ghost use Rattle.dbl_capture_work.specs.CaptureModel.Entries.{SessionStart as SpecEntry, HadOwnTables, IsKeptAfter, WasFaithful};
+ghost use Rattle.dbl_capture_work.specs.Begins.{IsAbsentHalt, IsExhausted, IsOffsetFor, MayRest};
+ghost use Rattle.dbl_capture_work.specs.Works.{BeginsWithOffset};
+ghost use Rattle.dbl_capture_laws.specs.Closed.{HasClosedRead};
+ghost use Rattle.dbl_capture_laws.specs.Ends.{AreAllDone, IsAtPosition, LeavesComplete, CacheMatchesDisk};
+ghost use Rattle.dbl_capture_laws.specs.Found.{BeganAt, BeginsAt, Found, HasStored, IsOfConfig, IsEntryOf, IsFirstAtHead};
+ghost use Rattle.dbl_capture_laws.specs.Found.{IsFirstStored, IsFound, session_start_at, position_of};
+ghost use Rattle.dbl_capture_laws.specs.Sessions.{AddsFewOrNoMarks, InSession, LeavesBy, LeavesGoing};
+ghost use Rattle.dbl_capture_laws.specs.Gained.{Gains, ReportsGroups};
+ghost use Rattle.dbl_capture_laws.specs.Halted.{IsHalt};
+ghost use Rattle.dbl_capture_laws.specs.Musts.{CapturesAll, MustExhaust, MustHalt, MustHaltStood, MustHaltTold};
+ghost use Rattle.dbl_capture_laws.specs.Tallied.{IsTallied, IsTalliedAfter};
+ghost use Rattle.dbl_capture_laws.specs.Reported.{HasReadMessages, HasSettled, HasStoodAfter, IsFollowed, StoodAtLast};
+ghost use Rattle.dbl_source.specs.SourceModel.Growth.{marks_in};
+ghost use Rattle.dbl_capture_laws.specs.Nevers.{IsFaithfulHalt, IsHonestHalt};
+ghost use Rattle.dbl_capture_laws.specs.Sources.{IsUnderWay};
+ghost use Rattle.dbl_capture_laws.specs.Caused.{AsksUnread, Halts, IsNotGone};
+ghost use Rattle.dbl_capture_laws.specs.Awaited.{Awaits, HasPositionInLog, IsWithinLog};
+ghost use Rattle.dbl_capture_laws.specs.HasState.{IsGoneBelow, IsHaltStanding, IsNotOffsetTooLong, IsShortOr};
+ghost use Rattle.dbl_capture_laws.specs.Captured.{CapturesOrHalts, MustHaltAbsent};
+ghost use Rattle.dbl_capture_laws.specs.Underway.{IsBeginHalt};
+ghost use Rattle.dbl_capture_laws.specs.Written.{AddsAtMost, EndsExactly, marks_more};
+ghost use Rattle.dbl_capture_laws.specs.Sinks.{IsPutting};
 ghost use Rattle.dbl_capture.specs.Begun.{beginning_at};
-ghost use Rattle.dbl_work.specs.declared.report.Report.{Report as SpecReport};
-ghost use Rattle.dbl_steps.specs.Owned.{IsContentFree, IsFirstByCatalogue, IsLongBy};
+ghost use Rattle.dbl_capture_work.specs.declared.report.Report.{Report as SpecReport};
+ghost use Rattle.dbl_capture_laws.specs.Owned.{IsContentFree, IsFirstByCatalogue, IsLongBy};
 
-use crate::turns::run;
+use crate::turns::process_messages;
+use dbl_capture_work::{
+    Ending, Halt, Report, SessionState, first_offset, next_incarnation, put_offset, start_reading,
+};
 use dbl_disk::Disk;
+use dbl_model_table::Config;
 use dbl_offset::{Offset, OffsetStore};
 use dbl_source::Source;
-use dbl_table::Config;
 use dbl_topic::Sink;
-use dbl_work::{Ending, Halt, Report, Work, again, first_offset, put_offset, start};
 use std::alloc::Global;
 
-// The offset that is stored first: the stored one of the next incarnation, or a connector's first
+// Makes the offset to store first: the stored one with the next incarnation, or a connector's first
 // one.
 fn offset_of<S: Source, D: Disk>(
     alloc: Global,
@@ -60,8 +62,8 @@ fn offset_of<S: Source, D: Disk>(
     requires config { IsGoodConfig config.now }
     ensures begins { (entry : SpecEntry) → entry.config ≡ config.now →
         entry.offset ≡ store.now.offset →
-        HadOwnTables entry → (s : Standing) → S.stands src.old s → s.history ≡ entry.history →
-        IfOk result (λ offset. Stood S.stands src.new (BeginsAt entry offset s)) }
+        HadOwnTables entry → (s : SourceState) → S.stands src.old s → s.history ≡ entry.history →
+        IfOk result (λ offset. HasState S.stands src.new (BeginsAt entry offset s)) }
     ensures offset { IfOk result IsOffset }
     ensures of { IfOk result (IsOffsetFor config.now store.now.offset) }
     ensures left { Leaves S.stands S.may_leave src.old src.new MayRest }
@@ -69,39 +71,39 @@ fn offset_of<S: Source, D: Disk>(
     ensures live { OnOk result (IsTrue (S.is_live src.new)) }
     ensures honest { S.honest src.new → S.honest src.old }
     ensures comes { S.comes_of src.old src.new }
-    ensures cause { HasCause (result ≡ Err Halt.Source) (S.faults src.old) (S.faults src.new) }
+    ensures cause { FailsOnlyIfCounted (result ≡ Err Halt.Source) (S.faults src.old) (S.faults src.new) }
     ensures others { (result ≢ Err Halt.Sink) × (result ≢ Err Halt.Offsets) }
     ensures never { (value at : _) → result ≢ Err (Halt.WatermarkMissing value at) }
-    ensures stood { Leads S.stands src.old src.new result (λ offset. Moved) }
+    ensures stood { MovesTo S.stands src.old src.new result (λ offset. Moved) }
     ensures halt { IfErr result (IsBeginHalt config.now store.now.offset (S.told src.new)) }
-    ensures absent { (s : Standing) → S.stands src.old s →
+    ensures absent { (s : SourceState) → S.stands src.old s →
         IfErr result (IsAbsentHalt config.now.tables s.history) }
-    ensures captures { (s : Standing) → S.stands src.old s → store.now.offset ≡ None →
+    ensures captures { (s : SourceState) → S.stands src.old s → store.now.offset ≡ None →
         CapturesOrHalts config.now s.history result }
     ensures exhausted { (h : _) → IsExhausted store.now.offset h → result ≡ Err h }
-    ensures short { IfErr result IsShort }
-    ensures within { (s : Standing) → S.stands src.old s →
+    ensures short { IfErr result IsNotOffsetTooLong }
+    ensures within { (s : SourceState) → S.stands src.old s →
         IsWithinLog s.history store.now.offset → IfOk result (λ offset.
-        Stood S.stands src.new (λ t. IsWithin offset.lsn t.history)) }
-    ensures still { (s t : Standing) → S.stands src.old s → S.stands src.new t →
+        HasState S.stands src.new (λ t. HasPositionInLog offset.lsn t.history)) }
+    ensures still { (s t : SourceState) → S.stands src.old s → S.stands src.new t →
         t.reading ≡ s.reading }
     ensures taken { IsTakenBy [] (S.told src.old) (S.told src.new) }
     ensures headed { store.now.offset ≡ None →
-        OnOk result ((lsn : _) × Tells (S.told src.new) (Head lsn)) }
+        OnOk result ((lsn : _) × LastAnswerIs (S.told src.new) (Head lsn)) }
     ensures ask { IfErr result (AsksUnread config.now store.now.offset store.now.offset
         (S.told src.new)) }
     ensures free { IfErr result IsContentFree }
-    ensures first { (s : Standing) → S.stands src.old s → store.now.offset ≡ None →
+    ensures first { (s : SourceState) → S.stands src.old s → store.now.offset ≡ None →
         IfOk result (λ offset. IsFirstByCatalogue config.now s.history offset
         × IsFirstAtHead config.now s.history offset) }
 {
-    match again(alloc, store)? {
+    match next_incarnation(alloc, store)? {
         Some(offset) => Ok(offset),
         None => first_offset(alloc, config, src),
     }
 }
 
-// That offset, stored.
+// Stores the session's first offset, and returns it.
 fn begin_session<S: Source, K: Sink, D: Disk>(
     alloc: Global,
     config: &Config,
@@ -125,7 +127,7 @@ fn begin_session<S: Source, K: Sink, D: Disk>(
         OnErr result (LeavesBy tell S.may_leave K.may_leave D.may_leave entry
         src.new sink.now store.new) }
     ensures loads { IfOk result (λ offset. store.new.offset ≡ Some offset) }
-    ensures held { StaysHeld D.seen D.may_leave store.old store.new result }
+    ensures held { CacheMatchesDisk D.seen D.may_leave store.old store.new result }
     ensures offset { IfOk result IsOffset }
     ensures of { IfOk result (IsOffsetFor config.now store.old.offset) }
     ensures keeps { OnErr result (store.new.offset ≡ store.old.offset) }
@@ -133,35 +135,35 @@ fn begin_session<S: Source, K: Sink, D: Disk>(
     ensures store_live { OnOk result (IsLive store.new) }
     ensures honest { S.honest src.new → S.honest src.old }
     ensures source_comes { S.comes_of src.old src.new }
-    ensures store_comes { ComesOf D.seen D.may_leave store.old store.new }
-    ensures source { HasCause (result ≡ Err Halt.Source) (S.faults src.old) (S.faults src.new) }
+    ensures store_comes { ExtendsOffsets D.seen D.may_leave store.old store.new }
+    ensures source { FailsOnlyIfCounted (result ≡ Err Halt.Source) (S.faults src.old) (S.faults src.new) }
     ensures sink { result ≢ Err Halt.Sink }
     ensures never { (value at : _) → result ≢ Err (Halt.WatermarkMissing value at) }
     ensures rests { Leaves S.stands S.may_leave src.old src.new MayRest }
-    ensures stood { Leads S.stands src.old src.new result (λ offset. Moved) }
+    ensures stood { MovesTo S.stands src.old src.new result (λ offset. Moved) }
     ensures halt { IfErr result (IsBeginHalt config.now store.old.offset (S.told src.new)) }
-    ensures absent { (s : Standing) → S.stands src.old s →
+    ensures absent { (s : SourceState) → S.stands src.old s →
         IfErr result (IsAbsentHalt config.now.tables s.history) }
-    ensures captures { (s : Standing) → S.stands src.old s → store.old.offset ≡ None →
+    ensures captures { (s : SourceState) → S.stands src.old s → store.old.offset ≡ None →
         CapturesOrHalts config.now s.history result }
-    ensures captured { (s : Standing) → S.stands src.old s →
+    ensures captured { (s : SourceState) → S.stands src.old s →
         CapturesAll config.now store.old.offset store.new.offset s.history }
-    ensures first { (s : Standing) → S.stands src.old s → store.old.offset ≡ None →
+    ensures first { (s : SourceState) → S.stands src.old s → store.old.offset ≡ None →
         IfOk result (IsFirstAtHead config.now s.history) }
     ensures exhausted { (h : _) → IsExhausted store.old.offset h → result ≡ Err h }
-    ensures standing { (s : Standing) → S.stands src.old s →
+    ensures standing { (s : SourceState) → S.stands src.old s →
         IfErr result (IsShortOr (S.stands src.new)) }
-    ensures within { (s : Standing) → S.stands src.old s →
+    ensures within { (s : SourceState) → S.stands src.old s →
         IsWithinLog s.history store.old.offset → IfOk result (λ offset.
-        Stood S.stands src.new (λ t. IsWithin offset.lsn t.history)) }
-    ensures still { (s t : Standing) → S.stands src.old s → S.stands src.new t →
+        HasState S.stands src.new (λ t. HasPositionInLog offset.lsn t.history)) }
+    ensures still { (s t : SourceState) → S.stands src.old s → S.stands src.new t →
         t.reading ≡ s.reading }
     ensures taken { IsTakenBy [] (S.told src.old) (S.told src.new) }
     ensures ask { IfErr result (AsksUnread config.now store.old.offset store.new.offset
         (S.told src.new)) }
-    ensures offsets { HasCause (result ≡ Err Halt.Offsets)
+    ensures offsets { FailsOnlyIfCounted (result ≡ Err Halt.Offsets)
         (D.faults (disk_of store.old)) (D.faults (disk_of store.new)) }
-    ensures long { (s : Standing) → S.stands src.old s → store.old.offset ≡ None →
+    ensures long { (s : SourceState) → S.stands src.old s → store.old.offset ≡ None →
         IfErr result (IsLongBy config.now s.history) }
     ensures content { (entry : SpecEntry) (stored : Option SpecOffset) (report : SpecReport) →
         entry.config ≡ config.now →
@@ -175,7 +177,7 @@ fn begin_session<S: Source, K: Sink, D: Disk>(
     Ok(offset)
 }
 
-// The same, with reading begun behind its LSN.
+// Stores the session's first offset, and starts reading after its LSN.
 fn open_session<S: Source, K: Sink, D: Disk>(
     alloc: Global,
     config: &Config,
@@ -184,7 +186,7 @@ fn open_session<S: Source, K: Sink, D: Disk>(
     sink: &K,
     store: &mut OffsetStore<D>,
     report: &mut Report,
-) -> Result<Work, Halt>
+) -> Result<SessionState, Halt>
     requires source_live { IsTrue (S.is_live src.old) }
     requires store_live { IsLive store.old }
     requires config { IsGoodConfig config.now }
@@ -202,26 +204,26 @@ fn open_session<S: Source, K: Sink, D: Disk>(
         OnErr result (LeavesBy tell S.may_leave K.may_leave D.may_leave entry
         src.new sink.now store.new) }
     ensures begun { IfOk result (λ work. (offset : SpecOffset) × (store.new.offset ≡ Some offset)
-        × IsBegun offset now_ms config.now.chunk config.now.every work
+        × BeginsWithOffset offset now_ms config.now.chunk config.now.every work
         × IsOffsetFor config.now store.old.offset offset) }
     ensures at { OnOk result (IsAtPosition store.new.offset report.new) }
-    ensures held { StaysHeld D.seen D.may_leave store.old store.new result }
+    ensures held { CacheMatchesDisk D.seen D.may_leave store.old store.new result }
     ensures stored { OnErr result ((store.new.offset ≡ store.old.offset)
         ⊎ HasStored config.now store.old.offset store.new.offset) }
     ensures position { report.old.position ≡ 0 →
         OnErr result (report.new.position ≡ position_of store.old.offset store.new.offset) }
     ensures exhausted { (h : _) → IsExhausted store.old.offset h → result ≡ Err h }
-    ensures absent { (s : Standing) → S.stands src.old s →
+    ensures absent { (s : SourceState) → S.stands src.old s →
         IfErr result (IsAbsentHalt config.now.tables s.history) }
-    ensures captures { (s : Standing) → S.stands src.old s → store.old.offset ≡ None →
+    ensures captures { (s : SourceState) → S.stands src.old s → store.old.offset ≡ None →
         CapturesOrHalts config.now s.history result }
-    ensures captured { (s : Standing) → S.stands src.old s →
+    ensures captured { (s : SourceState) → S.stands src.old s →
         CapturesAll config.now store.old.offset store.new.offset s.history }
-    ensures firsts { (s : Standing) → S.stands src.old s →
+    ensures firsts { (s : SourceState) → S.stands src.old s →
         IsFirstStored config.now s.history store.old.offset store.new.offset }
-    ensures gone { (s : Standing) → S.stands src.old s →
-        IsKeptBehind s.confirmed store.old.offset → IfErr result IsNotGone }
-    ensures gone_stood { (s : Standing) → S.stands src.old s →
+    ensures gone { (s : SourceState) → S.stands src.old s →
+        IsKeptAfter s.confirmed store.old.offset → IfErr result IsNotGone }
+    ensures gone_stood { (s : SourceState) → S.stands src.old s →
         IfErr result (IsGoneBelow s.confirmed) }
     ensures report { (report.new.messages ≡ report.old.messages) ×
         (report.new.commits ≡ report.old.commits) }
@@ -230,29 +232,29 @@ fn open_session<S: Source, K: Sink, D: Disk>(
     ensures store_live { OnOk result (IsLive store.new) }
     ensures honest { S.honest src.new → S.honest src.old }
     ensures source_comes { S.comes_of src.old src.new }
-    ensures store_comes { ComesOf D.seen D.may_leave store.old store.new }
-    ensures source { HasCause (result ≡ Err Halt.Source) (S.faults src.old) (S.faults src.new) }
+    ensures store_comes { ExtendsOffsets D.seen D.may_leave store.old store.new }
+    ensures source { FailsOnlyIfCounted (result ≡ Err Halt.Source) (S.faults src.old) (S.faults src.new) }
     ensures sink { result ≢ Err Halt.Sink }
     ensures never { (value at : _) → result ≢ Err (Halt.WatermarkMissing value at) }
-    ensures offsets { HasCause (result ≡ Err Halt.Offsets)
+    ensures offsets { FailsOnlyIfCounted (result ≡ Err Halt.Offsets)
         (D.faults (disk_of store.old)) (D.faults (disk_of store.new)) }
 
-    // What its report tells, by what the source told and stands for.
-    ensures under_way { (at : Option Standing) → ((s : Standing) → at ≡ Some s →
+    // The report, by the source's trace and its state.
+    ensures under_way { (at : Option SourceState) → ((s : SourceState) → at ≡ Some s →
         S.stands src.old s) → (report.old.messages ≡ 0) × (report.old.commits ≡ 0)
         × (report.old.chunks ≡ 0) →
         IfOk result (λ work. (first : SpecOffset) × IsUnderWay S.stands at (S.told src.old)
         (beginning_at config.now now_ms store.old.offset first) store.new.offset work report.new
         src.new (S.told src.new)) }
-    ensures halted { (at : Option Standing) → ((s : Standing) → at ≡ Some s →
+    ensures halted { (at : Option SourceState) → ((s : SourceState) → at ≡ Some s →
         S.stands src.old s) → (report.old.messages ≡ 0) × (report.old.commits ≡ 0)
         × (report.old.chunks ≡ 0) →
         IfErr result (Halts S.stands at (S.told src.old) config.now now_ms store.old.offset
         store.new.offset report.new src.new (S.told src.new)) }
 
-    // What the sink has.
+    // The sink's contents.
     ensures putting { (groups : List (List SpecRecord)) → K.holds sink.now groups →
-        (at : Option Standing) → ((s : Standing) → at ≡ Some s → S.stands src.old s) →
+        (at : Option SourceState) → ((s : SourceState) → at ≡ Some s → S.stands src.old s) →
         (report.old.messages ≡ 0) × (report.old.commits ≡ 0) × (report.old.chunks ≡ 0) ×
         (report.old.records ≡ 0) × (report.old.snapshot_rows ≡ 0) →
         IfOk result (λ work. (first : SpecOffset) × IsPutting S.stands K.holds groups at
@@ -262,12 +264,12 @@ fn open_session<S: Source, K: Sink, D: Disk>(
         (report.new.chunks ≡ report.old.chunks) ×
         (report.new.snapshot_rows ≡ report.old.snapshot_rows) }
     ensures own { (entry : SpecEntry) → IfErr result (IsHonestHalt entry (S.stands src.new)) }
-    ensures awaits { (s : Standing) → S.stands src.old s →
+    ensures awaits { (s : SourceState) → S.stands src.old s →
         IsWithinLog s.history store.old.offset →
         IfOk result (λ work. Awaits S.stands work src.new) }
-    ensures unmarked { (s : Standing) (left : Left) → S.stands src.old s →
+    ensures unmarked { (s : SourceState) (left : CrashState) → S.stands src.old s →
         S.may_leave src.new left → marks_in left.history.commits ≡ marks_in s.history.commits }
-    ensures long { (s : Standing) → S.stands src.old s → store.old.offset ≡ None →
+    ensures long { (s : SourceState) → S.stands src.old s → store.old.offset ≡ None →
         IfErr result (IsLongBy config.now s.history) }
     ensures content { (entry : SpecEntry) → entry.config ≡ config.now →
         IsFound true S.stands K.holds D.seen D.may_leave entry src.old sink.now store.old →
@@ -277,18 +279,18 @@ fn open_session<S: Source, K: Sink, D: Disk>(
 {
     let offset = begin_session(alloc, config, src, sink, store)?;
     report.position = offset.lsn.0;
-    start(src, offset.lsn)?;
-    Work::make(alloc, offset, now_ms, config.chunk, config.every)
+    start_reading(src, offset.lsn)?;
+    SessionState::make(alloc, offset, now_ms, config.chunk, config.every)
 }
 
-/// Captures tables: reads them in windows, while it follows their log from the stored offset on,
-/// or from a first one. Each record goes to the sink, in groups, before the offset behind it is
-/// stored, and that is stored before it is confirmed. It ends where everything is read, or with
-/// its budget; and it may halt at any call. Behind a halt another session may go on, over a
-/// source, a sink and a store that were opened anew.
+/// Captures tables: reads them in windows, while it follows the source's log from the stored offset
+/// or a first one on. Each record is appended to the sink, in batches, before an offset after it is
+/// stored, and that is stored before its LSN is confirmed. The session ends normally when
+/// everything is read or its message budget is used up; any call may stop it with an error. Then
+/// another session may resume, over a source, a sink and a store that were opened again.
 ///
-/// `now_ms`, in milliseconds since 1970-01-01 UTC, is when its records are made. All fields of
-/// the report are set anew.
+/// `now_ms`, in milliseconds since 1970-01-01 UTC, is the time of the records. Every field of the
+/// report is set.
 pub fn session<S: Source, K: Sink, D: Disk>(
     alloc: Global,
     config: &Config,
@@ -302,9 +304,10 @@ pub fn session<S: Source, K: Sink, D: Disk>(
     requires sink_live { IsTrue (K.is_live sink.old) }
     requires store_live { IsLive offsets.old }
     requires config { IsGoodConfig config.now }
-    requires asked { IsAsked config.now offsets.old.offset }
+    requires asked { IsOfConfig config.now offsets.old.offset }
 
-    // Faithful at every exit, whatever the source, the sink and the disk may leave.
+    // Stores that were found faithful are left faithful at every exit, and complete after
+    // `Complete`.
     ensures faithful { (entry : SpecEntry) → IsEntryOf config.now now_ms entry →
         Found S.stands K.holds D.seen D.may_leave entry src.old sink.old offsets.old →
         S.honest src.new →
@@ -316,39 +319,41 @@ pub fn session<S: Source, K: Sink, D: Disk>(
         HadOwnTables entry → result ≡ Ok Ending.Complete →
         LeavesComplete S.may_leave K.may_leave D.may_leave entry src.new sink.new offsets.new }
 
-    // Whatever the source and the sink do: unless its disk failed, the store holds what it answers.
-    ensures holds { StaysHeld D.seen D.may_leave offsets.old offsets.new result }
+    // The store's offset still agrees with its disk, unless the disk failed, for any source and
+    // sink.
+    ensures holds { CacheMatchesDisk D.seen D.may_leave offsets.old offsets.new result }
 
-    // The marks that it adds, by what the source stands for and the stored offset alone.
-    ensures marks { (s : Standing) → S.stands src.old s → S.honest src.new →
-        HadOwnTables (entry_at config.now now_ms s offsets.old.offset) → (left : Left) →
+    // How many watermarks are added, by the source's state and the stored offset.
+    ensures marks { (s : SourceState) → S.stands src.old s → S.honest src.new →
+        HadOwnTables (session_start_at config.now now_ms s offsets.old.offset) → (left : CrashState) →
         S.may_leave src.new left →
-        AddsFew (entry_at config.now now_ms s offsets.old.offset) left }
+        AddsFewOrNoMarks (session_start_at config.now now_ms s offsets.old.offset) left }
 
-    // Where it ends as it should: how many marks they are exactly; and that the windows that it
-    // closed have brought the stored cursors on from where it found them.
-    ensures exactly { (s : Standing) → S.stands src.old s → S.honest src.new →
-        HadOwnTables (entry_at config.now now_ms s offsets.old.offset) →
-        IfOk result (λ ending. (left : Left) → S.may_leave src.new left →
-        EndsExactly (entry_at config.now now_ms s offsets.old.offset) offsets.new.offset
+    // After a normal end, exactly how many watermarks are added, and which closed windows account
+    // for the stored cursors.
+    ensures exactly { (s : SourceState) → S.stands src.old s → S.honest src.new →
+        HadOwnTables (session_start_at config.now now_ms s offsets.old.offset) →
+        IfOk result (λ ending. (left : CrashState) → S.may_leave src.new left →
+        EndsExactly (session_start_at config.now now_ms s offsets.old.offset) offsets.new.offset
         report.new.chunks (marks_more ending offsets.new.offset) left.history) }
 
-    // And wherever it ends, at most two for each window that is reported, and two more.
-    ensures most { (s : Standing) → S.stands src.old s → S.honest src.new →
-        HadOwnTables (entry_at config.now now_ms s offsets.old.offset) →
-        (left : Left) → S.may_leave src.new left →
+    // After any end, at most two watermarks for each reported window, and two more, are added.
+    ensures most { (s : SourceState) → S.stands src.old s → S.honest src.new →
+        HadOwnTables (session_start_at config.now now_ms s offsets.old.offset) →
+        (left : CrashState) → S.may_leave src.new left →
         AddsAtMost offsets.new.offset report.new.chunks s.history left.history }
 
-    // Over an honest source and faithful stores each window whose high mark it counts was closed.
+    // Over a conforming source and faithful stores, each window whose high watermark is counted was
+    // closed.
     ensures unclosed { (entry : SpecEntry) → IsEntryOf config.now now_ms entry →
         Found S.stands K.holds D.seen D.may_leave entry src.old sink.old offsets.old →
-        S.honest src.new → WasFaithful entry → (t : Standing) → S.stands src.new t →
+        S.honest src.new → WasFaithful entry → (t : SourceState) → S.stands src.new t →
         OnOk result (HasClosedRead offsets.new.offset report.new t) }
 
-    // What it stores, and where it ends, of every source, sink and disk.
+    // What is stored, and when the session ends normally, for any source, sink and disk.
     ensures stores { (offsets.new.offset ≡ offsets.old.offset)
         ⊎ HasStored config.now offsets.old.offset offsets.new.offset }
-    ensures firsts { (s : Standing) → S.stands src.old s →
+    ensures firsts { (s : SourceState) → S.stands src.old s →
         IsFirstStored config.now s.history offsets.old.offset offsets.new.offset }
     ensures done { result ≡ Ok Ending.Complete → (offset : SpecOffset) ×
         (offsets.new.offset ≡ Some offset)
@@ -356,111 +361,111 @@ pub fn session<S: Source, K: Sink, D: Disk>(
     ensures ended { result ≡ Ok Ending.Complete → IsTrue (S.has_ended src.new) }
     ensures spent { result ≡ Ok Ending.Budget → report.new.messages ≡ config.now.messages }
 
-    // What its report tells: what the source told, and what it stands for.
+    // The report, by the source's trace and its state.
     ensures read { HasReadMessages result report.new.messages (S.told src.old) (S.told src.new) }
     ensures last { OnOk result (StoodAtLast config.now now_ms offsets.old.offset
         offsets.new.offset report.new (S.told src.new)) }
-    ensures settled { (s : Standing) → S.stands src.old s →
-        OnOk result (Stood S.stands src.new (HasSettled config.now now_ms offsets.old.offset
+    ensures settled { (s : SourceState) → S.stands src.old s →
+        OnOk result (HasState S.stands src.new (HasSettled config.now now_ms offsets.old.offset
         offsets.new.offset report.new)) }
     ensures followed { IfErr result (IsFollowed config.now now_ms offsets.old.offset
         offsets.new.offset report.new (S.told src.new)) }
-    ensures stood { (s t : Standing) → S.stands src.old s → S.stands src.new t →
-        IfErr result (HasStoodBehind config.now now_ms offsets.old.offset offsets.new.offset
+    ensures stood { (s t : SourceState) → S.stands src.old s → S.stands src.new t →
+        IfErr result (HasStoodAfter config.now now_ms offsets.old.offset offsets.new.offset
         report.new s t) }
     ensures commits { report.new.commits ≤ report.new.messages }
     ensures bounded { report.new.messages ≤ config.now.messages }
     ensures position { report.new.position ≡ position_of offsets.old.offset offsets.new.offset }
 
-    // Why it halts: what its source told; and of one that stands, by the messages behind which it
-    // stands, and by its catalogue.
+    // The cause of each error, by the source's trace, and by its state and catalogue.
     ensures halt { IfErr result (IsHalt config.now now_ms offsets.old.offset offsets.new.offset
         report.new (S.told src.new)) }
-    ensures halt_stood { (s : Standing) → S.stands src.old s →
+    ensures halt_stood { (s : SourceState) → S.stands src.old s →
         IfErr result (IsHaltStanding config.now now_ms offsets.old.offset offsets.new.offset
         report.new (S.stands src.new)) }
-    ensures absent { (s : Standing) → S.stands src.old s →
+    ensures absent { (s : SourceState) → S.stands src.old s →
         IfErr result (IsAbsentHalt config.now.tables s.history) }
-    ensures captures { (s : Standing) → S.stands src.old s →
+    ensures captures { (s : SourceState) → S.stands src.old s →
         CapturesAll config.now offsets.old.offset offsets.new.offset s.history }
-    ensures gone { (s : Standing) → S.stands src.old s →
-        IsKeptBehind s.confirmed offsets.old.offset →
+    ensures gone { (s : SourceState) → S.stands src.old s →
+        IsKeptAfter s.confirmed offsets.old.offset →
         (asked first : _) → result ≢ Err (Halt.Gone asked first) }
-    ensures gone_stood { (s : Standing) → S.stands src.old s →
+    ensures gone_stood { (s : SourceState) → S.stands src.old s →
         IfErr result (IsGoneBelow s.confirmed) }
-    ensures missing { (s : Standing) → S.stands src.old s → S.honest src.new →
+    ensures missing { (s : SourceState) → S.stands src.old s → S.honest src.new →
         IsWithinLog s.history offsets.old.offset →
         (value at : _) → result ≢ Err (Halt.WatermarkMissing value at) }
 
-    // What an honest source with the stored tables never makes it halt for.
-    ensures own { (s : Standing) → S.stands src.old s → S.honest src.new →
-        HadOwnTables (entry_at config.now now_ms s offsets.old.offset) →
-        IfErr result (IsHonestHalt (entry_at config.now now_ms s offsets.old.offset)
+    // The errors that never come from a conforming source with the stored tables.
+    ensures own { (s : SourceState) → S.stands src.old s → S.honest src.new →
+        HadOwnTables (session_start_at config.now now_ms s offsets.old.offset) →
+        IfErr result (IsHonestHalt (session_start_at config.now now_ms s offsets.old.offset)
         (S.stands src.new)) }
 
-    // What makes it halt over an honest source and faithful stores is of the source's history; and
-    // before the first store an offset is too long by the catalogue alone.
+    // Over a conforming source and faithful stores the cause of an error is in the source's
+    // history; before the first store an offset is too long only by the catalogue.
     ensures content { (entry : SpecEntry) → IsEntryOf config.now now_ms entry →
         Found S.stands K.holds D.seen D.may_leave entry src.old sink.old offsets.old →
         S.honest src.new → WasFaithful entry →
         IfErr result (IsFaithfulHalt entry offsets.new.offset report.new (S.stands src.new)
         (K.holds sink.new)) }
-    ensures long { (s : Standing) → S.stands src.old s → offsets.old.offset ≡ None →
+    ensures long { (s : SourceState) → S.stands src.old s → offsets.old.offset ≡ None →
         offsets.new.offset ≡ None → IfErr result (IsLongBy config.now s.history) }
 
-    // What the sink gained, and that its report counts it, of every source.
+    // What the sink gained, which the report counts, for any source.
     ensures grouped { (groups left : List (List SpecRecord)) → K.holds sink.old groups →
         K.may_leave sink.new left →
         Gains config.now now_ms offsets.old.offset offsets.new.offset groups left }
     ensures ungained { (groups left : List (List SpecRecord)) → K.holds sink.old groups →
         K.may_leave sink.new left → offsets.new.offset ≡ offsets.old.offset → left ≡ groups }
     ensures counted { (groups : List (List SpecRecord)) → K.holds sink.old groups →
-        IsReported K.holds K.may_leave groups result sink.new report.new }
+        ReportsGroups K.holds K.may_leave groups result sink.new report.new }
 
-    // And which commits it counts, unless a put failed: those of which the sink has all records, by
-    // what the source told, and by the messages behind which it stands.
+    // The commits that are counted, unless an append failed: those of which the sink has all
+    // records, by the source's trace and by its state.
     ensures tallied { (groups : List (List SpecRecord)) → K.holds sink.old groups →
         result ≢ Err Halt.Sink → IsTallied K.holds groups config.now now_ms offsets.old.offset
         offsets.new.offset report.new (S.told src.new) sink.new result }
     ensures tallied_stood { (groups : List (List SpecRecord)) → K.holds sink.old groups →
-        result ≢ Err Halt.Sink → (s t : Standing) → S.stands src.old s → S.stands src.new t →
-        IsTalliedBehind K.holds groups config.now now_ms offsets.old.offset offsets.new.offset
+        result ≢ Err Halt.Sink → (s t : SourceState) → S.stands src.old s → S.stands src.new t →
+        IsTalliedAfter K.holds groups config.now now_ms offsets.old.offset offsets.new.offset
         report.new t sink.new result }
 
-    // Where it has to halt for what it found, for a table that can't be captured, and for the
-    // newest message, by what the source told, and stands for.
+    // The errors that are required by what the session found, a table that can't be captured, or
+    // the newest message, by the source's trace and by its state.
     ensures exhausted { MustExhaust offsets.old.offset result }
-    ensures must_absent { (s : Standing) → S.stands src.old s →
+    ensures must_absent { (s : SourceState) → S.stands src.old s →
         MustHaltAbsent config.now s.history offsets.old.offset result }
-    ensures must { (t : Told) → S.told src.new ≡ Some t →
+    ensures must { (t : Trace) → S.told src.new ≡ Some t →
         MustHaltTold config.now now_ms offsets.old.offset offsets.new.offset report.new t result }
-    ensures must_stood { (s t : Standing) → S.stands src.old s → S.stands src.new t →
+    ensures must_stood { (s t : SourceState) → S.stands src.old s → S.stands src.new t →
         MustHaltStood config.now now_ms offsets.old.offset offsets.new.offset report.new t
         result }
 
-    // And for what its source answered last: bytes that are no message, rows or a description at
-    // fault, that there is no such table, or that the log is gone.
-    ensures answered { (t : Told) → S.told src.new ≡ Some t →
+    // The errors that the source's last answer requires: for bytes that encode no message, invalid
+    // rows or an invalid description, an unknown table, or a log that is gone.
+    ensures answered { (t : Trace) → S.told src.new ≡ Some t →
         MustHalt config.now offsets.old.offset offsets.new.offset report.new t result }
 
-    // Where it halts by a watermark that is missing, or by a count.
+    // A watermark is missing only at the end of the log, and a device fails only if its fault count
+    // rose.
     ensures missed { (value at : _) → result ≡ Err (Halt.WatermarkMissing value at) →
         IsTrue (S.has_ended src.new) }
-    ensures source { HasCause (result ≡ Err Halt.Source) (S.faults src.old) (S.faults src.new) }
-    ensures sink { HasCause (result ≡ Err Halt.Sink) (K.faults sink.old) (K.faults sink.new) }
-    ensures offsets { HasCause (result ≡ Err Halt.Offsets)
+    ensures source { FailsOnlyIfCounted (result ≡ Err Halt.Source) (S.faults src.old) (S.faults src.new) }
+    ensures sink { FailsOnlyIfCounted (result ≡ Err Halt.Sink) (K.faults sink.old) (K.faults sink.new) }
+    ensures offsets { FailsOnlyIfCounted (result ≡ Err Halt.Offsets)
         (D.faults (disk_of offsets.old)) (D.faults (disk_of offsets.new)) }
 
-    // Behind an ending another session may follow, over the same three.
+    // After a normal end another session may follow, over the same source, sink and store.
     ensures source_live { OnOk result (IsTrue (S.is_live src.new)) }
     ensures sink_live { OnOk result (IsTrue (K.is_live sink.new)) }
     ensures store_live { OnOk result (IsLive offsets.new) }
 
-    // What else no call undoes.
+    // What every call of source, sink and store preserves.
     ensures honest { S.honest src.new → S.honest src.old }
     ensures source_comes { S.comes_of src.old src.new }
     ensures sink_comes { K.comes_of sink.old sink.new }
-    ensures store_comes { ComesOf D.seen D.may_leave offsets.old offsets.new }
+    ensures store_comes { ExtendsOffsets D.seen D.may_leave offsets.old offsets.new }
 {
     *report = Report {
         messages: 0,
@@ -471,5 +476,5 @@ pub fn session<S: Source, K: Sink, D: Disk>(
         position: 0,
     };
     let mut work = open_session(alloc, config, now_ms, src, sink, offsets, report)?;
-    run(config.messages, &mut work, src, sink, offsets, report)
+    process_messages(config.messages, &mut work, src, sink, offsets, report)
 }

@@ -1,5 +1,5 @@
-//! The session of a connector: it reads its tables while it follows their log, and may end at any
-//! call.
+//! The session of a connector: it copies tables while it follows the source's log, and may stop at
+//! any call.
 #![tactic(auto)]
 
 mod capture;
@@ -9,4 +9,4 @@ mod turns;
 mod windows;
 
 pub use capture::session;
-pub use dbl_work::{Ending, Halt, Report};
+pub use dbl_capture_work::{Ending, Halt, Report};

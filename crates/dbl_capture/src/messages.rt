@@ -2,34 +2,34 @@
 
 ghost use Rattle.std.specs.Prelude.{◌≡◌, ◌≢◌, ◌⊎◌, ◌^◌, ◌<◌, ◌≤◌, List, Option, None, Ok, Some, Bool, false, true};
 ghost use Rattle.std.specs.Prelude.{IfErr, IfOk, IsTrue, OnErr, OnOk};
-ghost use Rattle.dbl_base.specs.Streams.{HasCause};
+ghost use Rattle.dbl_base.specs.Streams.{FailsOnlyIfCounted};
 ghost use Rattle.dbl_record.specs.declared.record.Record.{Record as SpecRecord};
-ghost use Rattle.dbl_history.specs.Ranges.{IsMomentInRange};
-ghost use Rattle.dbl_honest.specs.Standings.{Left, Standing};
-ghost use Rattle.dbl_honest.specs.Told.{Read, Tells, Told};
-ghost use Rattle.dbl_follow.specs.declared.window.Window.TheVariants as windows;
-ghost use Rattle.dbl_session.specs.Entries.{Entry as SpecEntry, WasFaithful};
-ghost use Rattle.dbl_work.specs.Works.{IsReady};
-ghost use Rattle.dbl_exits.specs.Sessions.{InSession, LeavesBy};
-ghost use Rattle.dbl_exits.specs.Turns.{HasReadAllAt, IsCountedNext, IsDue, IsNextOf};
-ghost use Rattle.dbl_causes.specs.Carried.{Beginning};
-ghost use Rattle.dbl_causes.specs.Written.{AddsNoMore, AreClosed};
-ghost use Rattle.dbl_causes.specs.Nevers.{IsFaithfulHalt, IsHonestHalt};
-ghost use Rattle.dbl_causes.specs.Sources.{GoesOn, IsUnderWay};
-ghost use Rattle.dbl_steps.specs.Sinks.{HasHaltedPut, IsPutting};
-ghost use Rattle.dbl_steps.specs.Awaited.{Awaits};
-ghost use Rattle.dbl_steps.specs.Caused.{Halts, IsNotGone, IsQuiet};
-ghost use Rattle.dbl_steps.specs.Putting.{PutsOn};
-ghost use Rattle.dbl_causes.specs.Gained.{read_limit};
+ghost use Rattle.dbl_model_history.specs.Ranges.{IsMomentInRange};
+ghost use Rattle.dbl_source.specs.SourceModel.Standings.{CrashState, SourceState};
+ghost use Rattle.dbl_source.specs.SourceModel.Trace.{Read, LastAnswerIs, Trace};
+ghost use Rattle.dbl_capture_work.specs.Follow.declared.window.Window.TheVariants as windows;
+ghost use Rattle.dbl_capture_work.specs.CaptureModel.Entries.{SessionStart as SpecEntry, WasFaithful};
+ghost use Rattle.dbl_capture_work.specs.Works.{HasReadyWork};
+ghost use Rattle.dbl_capture_laws.specs.Sessions.{InSession, LeavesBy};
+ghost use Rattle.dbl_capture_laws.specs.Turns.{HasReadAllAt, IsCountedNext, IsDue, IsNextOf};
+ghost use Rattle.dbl_capture_laws.specs.Carried.{Beginning};
+ghost use Rattle.dbl_capture_laws.specs.Written.{AddsNoMore, AreClosed};
+ghost use Rattle.dbl_capture_laws.specs.Nevers.{IsFaithfulHalt, IsHonestHalt};
+ghost use Rattle.dbl_capture_laws.specs.Sources.{GoesOn, IsUnderWay};
+ghost use Rattle.dbl_capture_laws.specs.Sinks.{HasHaltedPut, IsPutting};
+ghost use Rattle.dbl_capture_laws.specs.Awaited.{Awaits};
+ghost use Rattle.dbl_capture_laws.specs.Caused.{Halts, IsNotGone, IsQuiet};
+ghost use Rattle.dbl_capture_laws.specs.Putting.{PutsOn};
+ghost use Rattle.dbl_capture_laws.specs.Gained.{read_limit};
 
+use dbl_capture_work::{Halt, Report, SessionState, deliver_commit, take_message};
 use dbl_disk::Disk;
 use dbl_offset::OffsetStore;
 use dbl_source::Source;
 use dbl_topic::Sink;
-use dbl_work::{Halt, Report, Work, follow, take_message};
 
-// Whether the offset is to be stored.
-fn is_due(work: &Work, closed: bool) -> bool
+// Whether the offset is to be stored now.
+fn is_due(work: &SessionState, closed: bool) -> bool
     requires { work.now.since ≤ work.now.every }
     ensures due { ((result ≡ false) × (work.now.since < work.now.every))
         ⊎ ((result ≡ true) × (work.now.since ≤ work.now.every)) }
@@ -38,10 +38,10 @@ fn is_due(work: &Work, closed: bool) -> bool
     closed || work.since >= work.every
 }
 
-/// Reads the next message, and follows the commit that it ends. None where nothing is left; else
-/// whether the offset is due to be stored.
-pub(crate) fn next<S: Source, K: Sink, D: Disk>(
-    work: &mut Work,
+/// Reads the next message, and follows the commit that it ends. Returns None if nothing is left,
+/// and else whether the offset is due to be stored.
+pub(crate) fn read_and_deliver<S: Source, K: Sink, D: Disk>(
+    work: &mut SessionState,
     src: &mut S,
     sink: &mut K,
     store: &OffsetStore<D>,
@@ -50,14 +50,14 @@ pub(crate) fn next<S: Source, K: Sink, D: Disk>(
     requires source_live { IsTrue (S.is_live src.old) }
     requires reading { IsTrue (S.is_reading src.old) }
     requires sink_live { IsTrue (K.is_live sink.old) }
-    requires ready { IsReady work.old }
+    requires ready { HasReadyWork work.old }
     requires since { work.old.since < work.old.every }
     requires number { work.old.number < 2 ^ 64 }
     requires time { IsMomentInRange work.old.now_ms }
     requires messages { report.old.messages < read_limit }
     requires commits { report.old.commits ≤ report.old.messages }
 
-    // What goes on, and what may be left.
+    // The session's invariant, and what may be left.
     ensures next { (tell : Bool) (entry : SpecEntry) →
         InSession tell S.stands K.holds D.seen D.may_leave entry
         work.old src.old sink.old store.now →
@@ -77,72 +77,72 @@ pub(crate) fn next<S: Source, K: Sink, D: Disk>(
         HasReadAllAt tell S.stands K.holds D.seen D.may_leave entry
         work.new src.new sink.new store.now }
 
-    // What it has in hand.
-    ensures ready { OnOk result (IsReady work.new) }
+    // The session's state.
+    ensures ready { OnOk result (HasReadyWork work.new) }
     ensures is_next { OnOk result (IsNextOf work.old work.new) }
     ensures due { IfOk result (IsDue work.old work.new) }
     ensures counts { IsCountedNext result report.old report.new }
     ensures ended { result ≡ Ok None → IsTrue (S.has_ended src.new) }
-    ensures nothing { result ≡ Ok None → Tells (S.told src.new) (Read None) }
+    ensures nothing { result ≡ Ok None → LastAnswerIs (S.told src.new) (Read None) }
     ensures reading { S.is_reading src.new ≡ S.is_reading src.old }
     ensures source_live { OnOk result (IsTrue (S.is_live src.new)) }
     ensures sink_live { OnOk result (IsTrue (K.is_live sink.new)) }
     ensures honest { S.honest src.new → S.honest src.old }
     ensures source_comes { S.comes_of src.old src.new }
     ensures sink_comes { K.comes_of sink.old sink.new }
-    ensures source { HasCause (result ≡ Err Halt.Source) (S.faults src.old) (S.faults src.new) }
-    ensures sink { HasCause (result ≡ Err Halt.Sink) (K.faults sink.old) (K.faults sink.new) }
+    ensures source { FailsOnlyIfCounted (result ≡ Err Halt.Source) (S.faults src.old) (S.faults src.new) }
+    ensures sink { FailsOnlyIfCounted (result ≡ Err Halt.Sink) (K.faults sink.old) (K.faults sink.new) }
     ensures offsets { result ≢ Err Halt.Offsets }
     ensures never { (value at : _) → result ≢ Err (Halt.WatermarkMissing value at) }
     ensures reads { IfErr result IsNotGone }
 
-    // What its report tells, by what the source told and stands for.
-    ensures under_way { (at : Option Standing) (found : Option Told) (b : Beginning) →
+    // The report, by the source's trace and its state.
+    ensures under_way { (at : Option SourceState) (found : Option Trace) (b : Beginning) →
         IsUnderWay S.stands at found b store.now.offset work.old report.old src.old
         (S.told src.old) →
         IfOk result (GoesOn S.stands at found b store.now.offset work.new report.new src.new
         (S.told src.new)) }
-    ensures halted { (at : Option Standing) (found : Option Told) (b : Beginning) →
+    ensures halted { (at : Option SourceState) (found : Option Trace) (b : Beginning) →
         IsUnderWay S.stands at found b store.now.offset work.old report.old src.old
         (S.told src.old) →
         IfErr result (Halts S.stands at found b.config b.now b.held store.now.offset report.new
         src.new (S.told src.new)) }
     ensures quiet { OnOk result (IsQuiet (S.told src.new)) }
 
-    // What the sink has, and what is left of it.
-    ensures putting { (groups : List (List SpecRecord)) (at : Option Standing) (found : Option Told)
+    // The sink's contents, and what is left of them.
+    ensures putting { (groups : List (List SpecRecord)) (at : Option SourceState) (found : Option Trace)
         (b : Beginning) →
         IsPutting S.stands K.holds groups at found b store.now.offset work.old report.old src.old
         (S.told src.old) sink.old →
         IfOk result (PutsOn S.stands K.holds groups at found b store.now.offset work.new report.new
         src.new (S.told src.new) sink.new) }
-    ensures put { (groups : List (List SpecRecord)) (at : Option Standing) (found : Option Told)
+    ensures put { (groups : List (List SpecRecord)) (at : Option SourceState) (found : Option Trace)
         (b : Beginning) →
         IsPutting S.stands K.holds groups at found b store.now.offset work.old report.old src.old
         (S.told src.old) sink.old →
         IfErr result (HasHaltedPut S.stands K.holds K.may_leave groups at b.config b.now b.held
         store.now.offset report.new src.new (S.told src.new) sink.new) }
-    ensures own { (tell : Bool) (entry : SpecEntry) (at : Option Standing) (found : Option Told)
+    ensures own { (tell : Bool) (entry : SpecEntry) (at : Option SourceState) (found : Option Trace)
         (b : Beginning) → InSession tell S.stands K.holds D.seen D.may_leave entry
         work.old src.old sink.old store.now →
         IsUnderWay S.stands at found b store.now.offset work.old report.old src.old
-        (S.told src.old) → (s : Standing) → at ≡ Some s → S.honest src.new →
+        (S.told src.old) → (s : SourceState) → at ≡ Some s → S.honest src.new →
         IfErr result (IsHonestHalt entry (S.stands src.new)) }
-    ensures awaits { (at : Option Standing) (found : Option Told) (b : Beginning) →
+    ensures awaits { (at : Option SourceState) (found : Option Trace) (b : Beginning) →
         IsUnderWay S.stands at found b store.now.offset work.old report.old src.old
-        (S.told src.old) → (s : Standing) → at ≡ Some s → S.honest src.new →
+        (S.told src.old) → (s : SourceState) → at ≡ Some s → S.honest src.new →
         Awaits S.stands work.old src.old → OnOk result (Awaits S.stands work.new src.new) }
-    ensures waits { (at : Option Standing) (found : Option Told) (b : Beginning) →
+    ensures waits { (at : Option SourceState) (found : Option Trace) (b : Beginning) →
         IsUnderWay S.stands at found b store.now.offset work.old report.old src.old
-        (S.told src.old) → (s : Standing) → at ≡ Some s → S.honest src.new →
+        (S.told src.old) → (s : SourceState) → at ≡ Some s → S.honest src.new →
         Awaits S.stands work.old src.old → result ≡ Ok None →
         work.new.follower.window ≡ windows.Absent }
     ensures most { (tell : Bool) (entry : SpecEntry) →
         InSession tell S.stands K.holds D.seen D.may_leave entry
         work.old src.old sink.old store.now → AreClosed work.old report.old.chunks →
-        OnErr result ((left : Left) → S.may_leave src.new left →
+        OnErr result ((left : CrashState) → S.may_leave src.new left →
         AddsNoMore report.new.chunks entry.history left.history) }
-    ensures content { (entry : SpecEntry) (at : Option Standing) (found : Option Told)
+    ensures content { (entry : SpecEntry) (at : Option SourceState) (found : Option Trace)
         (b : Beginning) → InSession true S.stands K.holds D.seen D.may_leave entry
         work.old src.old sink.old store.now →
         IsUnderWay S.stands at found b store.now.offset work.old report.old src.old
@@ -155,7 +155,7 @@ pub(crate) fn next<S: Source, K: Sink, D: Disk>(
             report.messages += 1;
             match take_message(work, report.messages, &bytes)? {
                 Some(commit) => {
-                    let closed = follow(work, &commit, sink, report)?;
+                    let closed = deliver_commit(work, &commit, sink, report)?;
                     Ok(Some(is_due(work, closed)))
                 }
                 None => Ok(Some(false)),

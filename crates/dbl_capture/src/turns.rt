@@ -1,46 +1,46 @@
-//! The turns of a session, each of which reads one message.
+//! The loop of a session, which reads one message after the other.
 
 ghost use Rattle.std.specs.Prelude.{◌≡◌, ◌≢◌, ◌+◌, ◌^◌, ◌≤◌, ◌<◌, false, true, List, Option, Some, None, Ok, Bool};
 ghost use Rattle.std.specs.Prelude.{IfErr, IfOk, IsTrue, MatchBool, OnErr, OnOk, ℕ};
-ghost use Rattle.dbl_base.specs.Streams.{HasCause};
+ghost use Rattle.dbl_base.specs.Streams.{FailsOnlyIfCounted};
 ghost use Rattle.dbl_record.specs.declared.record.Record.{Record as SpecRecord};
-ghost use Rattle.dbl_history.specs.Ranges.{IsMomentInRange};
-ghost use Rattle.dbl_honest.specs.Standings.{Left, Standing};
-ghost use Rattle.dbl_honest.specs.Told.{Told};
+ghost use Rattle.dbl_model_history.specs.Ranges.{IsMomentInRange};
+ghost use Rattle.dbl_source.specs.SourceModel.Standings.{CrashState, SourceState};
+ghost use Rattle.dbl_source.specs.SourceModel.Trace.{Trace};
 ghost use Rattle.dbl_offset.specs.declared.offset.Offset.{Offset as SpecOffset};
-ghost use Rattle.dbl_offset.specs.Stores.{ComesOf, IsLive, disk_of};
-ghost use Rattle.dbl_follow.specs.declared.window.Window.TheVariants as windows;
-ghost use Rattle.dbl_session.specs.Entries.{Entry as SpecEntry, WasFaithful};
-ghost use Rattle.dbl_work.specs.declared.report.Report.{Report as SpecReport};
-ghost use Rattle.dbl_work.specs.Works.{IsReady, next_of};
-ghost use Rattle.dbl_exits.specs.Ends.{AreAllDone, HasNoneNext, HasOwnStored, IsArmedNext, IsAtPosition, IsTableOf, StaysHeld};
-ghost use Rattle.dbl_exits.specs.Sessions.{InSession, LeavesBy};
-ghost use Rattle.dbl_exits.specs.Turns.{IsSettledWhole};
-ghost use Rattle.dbl_causes.specs.Carried.{Beginning};
-ghost use Rattle.dbl_causes.specs.Written.{AddsNoMore, AreClosed};
-ghost use Rattle.dbl_causes.specs.Nevers.{IsFaithfulHalt, IsHonestHalt};
-ghost use Rattle.dbl_causes.specs.Sources.{HasSettledAll, IsUnderWay};
-ghost use Rattle.dbl_steps.specs.Sinks.{HasHaltedPut, IsPutting};
-ghost use Rattle.dbl_steps.specs.Awaited.{Awaits};
-ghost use Rattle.dbl_steps.specs.Caused.{Halts, IsNotGone, IsQuiet};
-ghost use Rattle.dbl_steps.specs.Owned.{IsContentFree};
-ghost use Rattle.dbl_causes.specs.Gained.{read_limit};
-ghost use Rattle.dbl_table.specs.Configs.{budget_limit};
+ghost use Rattle.dbl_offset.specs.Stores.{ExtendsOffsets, IsLive, disk_of};
+ghost use Rattle.dbl_capture_work.specs.Follow.declared.window.Window.TheVariants as windows;
+ghost use Rattle.dbl_capture_work.specs.CaptureModel.Entries.{SessionStart as SpecEntry, WasFaithful};
+ghost use Rattle.dbl_capture_work.specs.declared.report.Report.{Report as SpecReport};
+ghost use Rattle.dbl_capture_work.specs.Works.{HasReadyWork, next_offset_of};
+ghost use Rattle.dbl_capture_laws.specs.Ends.{AreAllDone, HasNoneNext, HasOwnStored, IsArmedNext, IsAtPosition, IsTableToRead, CacheMatchesDisk};
+ghost use Rattle.dbl_capture_laws.specs.Sessions.{InSession, LeavesBy};
+ghost use Rattle.dbl_capture_laws.specs.Turns.{IsSettledWhole};
+ghost use Rattle.dbl_capture_laws.specs.Carried.{Beginning};
+ghost use Rattle.dbl_capture_laws.specs.Written.{AddsNoMore, AreClosed};
+ghost use Rattle.dbl_capture_laws.specs.Nevers.{IsFaithfulHalt, IsHonestHalt};
+ghost use Rattle.dbl_capture_laws.specs.Sources.{HasSettledAll, IsUnderWay};
+ghost use Rattle.dbl_capture_laws.specs.Sinks.{HasHaltedPut, IsPutting};
+ghost use Rattle.dbl_capture_laws.specs.Awaited.{Awaits};
+ghost use Rattle.dbl_capture_laws.specs.Caused.{Halts, IsNotGone, IsQuiet};
+ghost use Rattle.dbl_capture_laws.specs.Owned.{IsContentFree};
+ghost use Rattle.dbl_capture_laws.specs.Gained.{read_limit};
+ghost use Rattle.dbl_model_table.specs.Configs.{budget_limit};
 
-use crate::messages::next;
-use crate::settle::{end, settle};
+use crate::messages::read_and_deliver;
+use crate::settle::{finish_complete, store_and_confirm};
 use crate::windows::arm;
+use dbl_capture_work::{Ending, Halt, Report, SessionState};
 use dbl_disk::Disk;
 use dbl_offset::OffsetStore;
 use dbl_source::Source;
 use dbl_topic::Sink;
-use dbl_work::{Ending, Halt, Report, Work};
 
-// The table whose next window is to be read: none while a window waits, and none where every
-// table is done.
-fn table_of(work: &Work) -> Option<u32>
-    requires { IsReady work.now }
-    ensures { IsTableOf work.now result }
+// Returns the table whose next window is to be read: none while a window waits, and none if every
+// table is finished.
+fn table_of(work: &SessionState) -> Option<u32>
+    requires { HasReadyWork work.now }
+    ensures { IsTableToRead work.now result }
 {
     match work.follower.waits_for() {
         Some(_) => None,
@@ -48,15 +48,15 @@ fn table_of(work: &Work) -> Option<u32>
     }
 }
 
-// Reads the next window, where none waits and a table isn't done.
-fn arm_next<S: Source, K: Sink, D: Disk>(
-    work: &mut Work,
+// Reads the next window, if none waits and a table is unfinished.
+fn open_next_window<S: Source, K: Sink, D: Disk>(
+    work: &mut SessionState,
     src: &mut S,
     sink: &K,
     store: &OffsetStore<D>,
 ) -> Result<(), Halt>
     requires live { IsTrue (S.is_live src.old) }
-    requires ready { IsReady work.old }
+    requires ready { HasReadyWork work.old }
     requires number { work.old.number + 1 < 2 ^ 64 }
     ensures armed { (tell : Bool) (entry : SpecEntry) →
         InSession tell S.stands K.holds D.seen D.may_leave entry
@@ -75,28 +75,28 @@ fn arm_next<S: Source, K: Sink, D: Disk>(
     ensures live { OnOk result (IsTrue (S.is_live src.new)) }
     ensures honest { S.honest src.new → S.honest src.old }
     ensures comes { S.comes_of src.old src.new }
-    ensures cause { HasCause (result ≡ Err Halt.Source) (S.faults src.old) (S.faults src.new) }
+    ensures cause { FailsOnlyIfCounted (result ≡ Err Halt.Source) (S.faults src.old) (S.faults src.new) }
     ensures others { (result ≢ Err Halt.Sink) × (result ≢ Err Halt.Offsets) }
     ensures never { (value at : _) → result ≢ Err (Halt.WatermarkMissing value at) }
     ensures reads { IfErr result IsNotGone }
-    ensures under_way { (at : Option Standing) (found : Option Told) (b : Beginning)
+    ensures under_way { (at : Option SourceState) (found : Option Trace) (b : Beginning)
         (report : SpecReport) →
         IsUnderWay S.stands at found b store.now.offset work.old report src.old (S.told src.old) →
         OnOk result (IsUnderWay S.stands at found b store.now.offset work.new report src.new
         (S.told src.new)) }
-    ensures halted { (at : Option Standing) (found : Option Told) (b : Beginning)
+    ensures halted { (at : Option SourceState) (found : Option Trace) (b : Beginning)
         (report : SpecReport) →
         IsUnderWay S.stands at found b store.now.offset work.old report src.old (S.told src.old) →
         IfErr result (Halts S.stands at found b.config b.now b.held store.now.offset report
         src.new (S.told src.new)) }
     ensures quiet { IsQuiet (S.told src.old) → OnOk result (IsQuiet (S.told src.new)) }
-    ensures putting { (groups : List (List SpecRecord)) (at : Option Standing) (found : Option Told)
+    ensures putting { (groups : List (List SpecRecord)) (at : Option SourceState) (found : Option Trace)
         (b : Beginning) (report : SpecReport) →
         IsPutting S.stands K.holds groups at found b store.now.offset work.old report src.old
         (S.told src.old) sink.now →
         OnOk result (IsPutting S.stands K.holds groups at found b store.now.offset work.new report
         src.new (S.told src.new) sink.now) }
-    ensures put { (groups : List (List SpecRecord)) (at : Option Standing) (found : Option Told)
+    ensures put { (groups : List (List SpecRecord)) (at : Option SourceState) (found : Option Trace)
         (b : Beginning) (report : SpecReport) →
         IsPutting S.stands K.holds groups at found b store.now.offset work.old report src.old
         (S.told src.old) sink.now →
@@ -112,7 +112,7 @@ fn arm_next<S: Source, K: Sink, D: Disk>(
     ensures most { (tell : Bool) (entry : SpecEntry) (chunks : ℕ) →
         InSession tell S.stands K.holds D.seen D.may_leave entry
         work.old src.old sink.now store.now → AreClosed work.old chunks →
-        OnErr result ((left : Left) → S.may_leave src.new left →
+        OnErr result ((left : CrashState) → S.may_leave src.new left →
         AddsNoMore chunks entry.history left.history) }
     ensures free { IfErr result IsContentFree }
 {
@@ -122,9 +122,9 @@ fn arm_next<S: Source, K: Sink, D: Disk>(
     }
 }
 
-// One message more. True where everything was read.
-fn turn<S: Source, K: Sink, D: Disk>(
-    work: &mut Work,
+// Reads and processes one message more. Returns true if everything was read.
+fn process_message<S: Source, K: Sink, D: Disk>(
+    work: &mut SessionState,
     src: &mut S,
     sink: &mut K,
     store: &mut OffsetStore<D>,
@@ -134,14 +134,14 @@ fn turn<S: Source, K: Sink, D: Disk>(
     requires reading { IsTrue (S.is_reading src.old) }
     requires sink_live { IsTrue (K.is_live sink.old) }
     requires store_live { IsLive store.old }
-    requires ready { IsReady work.old }
+    requires ready { HasReadyWork work.old }
     requires since { work.old.since < work.old.every }
     requires time { IsMomentInRange work.old.now_ms }
     requires number { work.old.number + 1 < 2 ^ 64 }
     requires messages { report.old.messages < read_limit }
     requires commits { report.old.commits ≤ report.old.messages }
 
-    // What goes on, and what may be left.
+    // The session's invariant, and what may be left.
     ensures turned { (tell : Bool) (entry : SpecEntry) →
         InSession tell S.stands K.holds D.seen D.may_leave entry
         work.old src.old sink.old store.old →
@@ -161,21 +161,21 @@ fn turn<S: Source, K: Sink, D: Disk>(
         IsSettledWhole tell S.stands K.holds D.seen D.may_leave entry
         work.new src.new sink.new store.new }
 
-    // What it has in hand.
+    // The session's state.
     ensures done { result ≡ Ok true → AreAllDone work.new.follower.cursors }
     ensures none { result ≡ Ok true → HasNoneNext work.new
         × (work.new.follower.window ≡ windows.Absent) }
     ensures ended { result ≡ Ok true → IsTrue (S.has_ended src.new) }
     ensures missed { (value at : _) → result ≡ Err (Halt.WatermarkMissing value at) →
         IsTrue (S.has_ended src.new) }
-    ensures unmissed { (at : Option Standing) (found : Option Told) (b : Beginning) →
+    ensures unmissed { (at : Option SourceState) (found : Option Trace) (b : Beginning) →
         IsUnderWay S.stands at found b store.old.offset work.old report.old src.old
-        (S.told src.old) → (s : Standing) → at ≡ Some s → S.honest src.new →
+        (S.told src.old) → (s : SourceState) → at ≡ Some s → S.honest src.new →
         Awaits S.stands work.old src.old →
         (value position : _) → result ≢ Err (Halt.WatermarkMissing value position) }
     ensures reads { IfErr result IsNotGone }
-    ensures loads { result ≡ Ok true → store.new.offset ≡ Some (next_of work.new) }
-    ensures ready { OnOk result (IsReady work.new) }
+    ensures loads { result ≡ Ok true → store.new.offset ≡ Some (next_offset_of work.new) }
+    ensures ready { OnOk result (HasReadyWork work.new) }
     ensures since { OnOk result (work.new.since < work.new.every) }
     ensures number { OnOk result (work.new.number ≤ work.old.number + 1) }
     ensures time { OnOk result (work.new.now_ms ≡ work.old.now_ms) }
@@ -186,7 +186,7 @@ fn turn<S: Source, K: Sink, D: Disk>(
         HasOwnStored first store.old.offset → HasOwnStored first store.new.offset }
     ensures position { IsAtPosition store.old.offset report.old →
         IsAtPosition store.new.offset report.new }
-    ensures held { StaysHeld D.seen D.may_leave store.old store.new result }
+    ensures held { CacheMatchesDisk D.seen D.may_leave store.old store.new result }
     ensures counts { IfOk result (λ ended. MatchBool ended
         (report.new.messages ≡ report.old.messages)
         (report.new.messages ≡ report.old.messages + 1)) }
@@ -199,61 +199,61 @@ fn turn<S: Source, K: Sink, D: Disk>(
     ensures honest { S.honest src.new → S.honest src.old }
     ensures source_comes { S.comes_of src.old src.new }
     ensures sink_comes { K.comes_of sink.old sink.new }
-    ensures store_comes { ComesOf D.seen D.may_leave store.old store.new }
-    ensures source { HasCause (result ≡ Err Halt.Source) (S.faults src.old) (S.faults src.new) }
-    ensures sink { HasCause (result ≡ Err Halt.Sink) (K.faults sink.old) (K.faults sink.new) }
-    ensures offsets { HasCause (result ≡ Err Halt.Offsets)
+    ensures store_comes { ExtendsOffsets D.seen D.may_leave store.old store.new }
+    ensures source { FailsOnlyIfCounted (result ≡ Err Halt.Source) (S.faults src.old) (S.faults src.new) }
+    ensures sink { FailsOnlyIfCounted (result ≡ Err Halt.Sink) (K.faults sink.old) (K.faults sink.new) }
+    ensures offsets { FailsOnlyIfCounted (result ≡ Err Halt.Offsets)
         (D.faults (disk_of store.old)) (D.faults (disk_of store.new)) }
 
-    // What its report tells, by what the source told and stands for.
-    ensures under_way { (at : Option Standing) (found : Option Told) (b : Beginning) →
+    // The report, by the source's trace and its state.
+    ensures under_way { (at : Option SourceState) (found : Option Trace) (b : Beginning) →
         IsUnderWay S.stands at found b store.old.offset work.old report.old src.old
         (S.told src.old) →
         OnOk result (IsUnderWay S.stands at found b store.new.offset work.new report.new src.new
         (S.told src.new)) }
-    ensures all { (at : Option Standing) (found : Option Told) (b : Beginning) →
+    ensures all { (at : Option SourceState) (found : Option Trace) (b : Beginning) →
         IsUnderWay S.stands at found b store.old.offset work.old report.old src.old
         (S.told src.old) → result ≡ Ok true →
         HasSettledAll S.stands at found b store.new.offset work.new report.new src.new
         (S.told src.new) }
-    ensures halted { (at : Option Standing) (found : Option Told) (b : Beginning) →
+    ensures halted { (at : Option SourceState) (found : Option Trace) (b : Beginning) →
         IsUnderWay S.stands at found b store.old.offset work.old report.old src.old
         (S.told src.old) →
         IfErr result (Halts S.stands at found b.config b.now b.held store.new.offset report.new
         src.new (S.told src.new)) }
     ensures quiet { OnOk result (IsQuiet (S.told src.new)) }
 
-    // What the sink has, and what is left of it.
-    ensures putting { (groups : List (List SpecRecord)) (at : Option Standing) (found : Option Told)
+    // The sink's contents, and what is left of them.
+    ensures putting { (groups : List (List SpecRecord)) (at : Option SourceState) (found : Option Trace)
         (b : Beginning) →
         IsPutting S.stands K.holds groups at found b store.old.offset work.old report.old src.old
         (S.told src.old) sink.old →
         OnOk result (IsPutting S.stands K.holds groups at found b store.new.offset work.new
         report.new src.new (S.told src.new) sink.new) }
-    ensures put { (groups : List (List SpecRecord)) (at : Option Standing) (found : Option Told)
+    ensures put { (groups : List (List SpecRecord)) (at : Option SourceState) (found : Option Trace)
         (b : Beginning) →
         IsPutting S.stands K.holds groups at found b store.old.offset work.old report.old src.old
         (S.told src.old) sink.old →
         IfErr result (HasHaltedPut S.stands K.holds K.may_leave groups at b.config b.now b.held
         store.new.offset report.new src.new (S.told src.new) sink.new) }
-    ensures own { (tell : Bool) (entry : SpecEntry) (at : Option Standing) (found : Option Told)
+    ensures own { (tell : Bool) (entry : SpecEntry) (at : Option SourceState) (found : Option Trace)
         (b : Beginning) → InSession tell S.stands K.holds D.seen D.may_leave entry
         work.old src.old sink.old store.old →
         IsUnderWay S.stands at found b store.old.offset work.old report.old src.old
-        (S.told src.old) → (s : Standing) → at ≡ Some s → S.honest src.new →
+        (S.told src.old) → (s : SourceState) → at ≡ Some s → S.honest src.new →
         IfErr result (IsHonestHalt entry (S.stands src.new)) }
-    ensures awaits { (at : Option Standing) (found : Option Told) (b : Beginning) →
+    ensures awaits { (at : Option SourceState) (found : Option Trace) (b : Beginning) →
         IsUnderWay S.stands at found b store.old.offset work.old report.old src.old
-        (S.told src.old) → (s : Standing) → at ≡ Some s → S.honest src.new →
+        (S.told src.old) → (s : SourceState) → at ≡ Some s → S.honest src.new →
         Awaits S.stands work.old src.old → IfOk result (λ ended.
         ended ≡ false → Awaits S.stands work.new src.new) }
-    ensures most { (tell : Bool) (entry : SpecEntry) (at : Option Standing) (found : Option Told)
+    ensures most { (tell : Bool) (entry : SpecEntry) (at : Option SourceState) (found : Option Trace)
         (b : Beginning) → InSession tell S.stands K.holds D.seen D.may_leave entry
         work.old src.old sink.old store.old →
         IsUnderWay S.stands at found b store.old.offset work.old report.old src.old
-        (S.told src.old) → S.honest src.new → OnErr result ((left : Left) →
+        (S.told src.old) → S.honest src.new → OnErr result ((left : CrashState) →
         S.may_leave src.new left → AddsNoMore report.new.chunks entry.history left.history) }
-    ensures content { (entry : SpecEntry) (at : Option Standing) (found : Option Told)
+    ensures content { (entry : SpecEntry) (at : Option SourceState) (found : Option Trace)
         (b : Beginning) → InSession true S.stands K.holds D.seen D.may_leave entry
         work.old src.old sink.old store.old →
         IsUnderWay S.stands at found b store.old.offset work.old report.old src.old
@@ -261,24 +261,24 @@ fn turn<S: Source, K: Sink, D: Disk>(
         IfErr result (IsFaithfulHalt entry store.new.offset report.new (S.stands src.new)
         (K.holds sink.new)) }
 {
-    arm_next(work, src, sink, store)?;
-    match next(work, src, sink, store, report)? {
+    open_next_window(work, src, sink, store)?;
+    match read_and_deliver(work, src, sink, store, report)? {
         Some(true) => {
-            settle(work, src, sink, store, report)?;
+            store_and_confirm(work, src, sink, store, report)?;
             Ok(false)
         }
         Some(false) => Ok(false),
         None => {
-            end(work, src, sink, store, report)?;
+            finish_complete(work, src, sink, store, report)?;
             Ok(true)
         }
     }
 }
 
-/// Turns until everything is read, or as many messages were as the budget allows.
-pub(crate) fn run<S: Source, K: Sink, D: Disk>(
+/// Processes messages until everything is read, or as many messages were read as the budget allows.
+pub(crate) fn process_messages<S: Source, K: Sink, D: Disk>(
     budget: u64,
-    work: &mut Work,
+    work: &mut SessionState,
     src: &mut S,
     sink: &mut K,
     store: &mut OffsetStore<D>,
@@ -288,7 +288,7 @@ pub(crate) fn run<S: Source, K: Sink, D: Disk>(
     requires reading { IsTrue (S.is_reading src.old) }
     requires sink_live { IsTrue (K.is_live sink.old) }
     requires store_live { IsLive store.old }
-    requires ready { IsReady work.old }
+    requires ready { HasReadyWork work.old }
     requires since { work.old.since < work.old.every }
     requires time { IsMomentInRange work.old.now_ms }
     requires number { work.old.number ≡ 0 }
@@ -296,7 +296,7 @@ pub(crate) fn run<S: Source, K: Sink, D: Disk>(
     requires budget { budget ≤ budget_limit }
     requires some { 1 ≤ budget }
 
-    // What it leaves.
+    // What the session leaves.
     ensures ran { (tell : Bool) (entry : SpecEntry) →
         InSession tell S.stands K.holds D.seen D.may_leave entry
         work.old src.old sink.old store.old →
@@ -316,15 +316,15 @@ pub(crate) fn run<S: Source, K: Sink, D: Disk>(
         IsSettledWhole tell S.stands K.holds D.seen D.may_leave entry
         work.new src.new sink.new store.new }
 
-    // Where it ends, and what it counts.
+    // When the session ends normally, and what is counted.
     ensures done { result ≡ Ok Ending.Complete → AreAllDone work.new.follower.cursors
-        × (store.new.offset ≡ Some (next_of work.new)) × (report.new.messages < budget) }
+        × (store.new.offset ≡ Some (next_offset_of work.new)) × (report.new.messages < budget) }
     ensures ended { result ≡ Ok Ending.Complete → IsTrue (S.has_ended src.new) }
     ensures missed { (value at : _) → result ≡ Err (Halt.WatermarkMissing value at) →
         IsTrue (S.has_ended src.new) }
-    ensures unmissed { (at : Option Standing) (found : Option Told) (b : Beginning) →
+    ensures unmissed { (at : Option SourceState) (found : Option Trace) (b : Beginning) →
         IsUnderWay S.stands at found b store.old.offset work.old report.old src.old
-        (S.told src.old) → (s : Standing) → at ≡ Some s → S.honest src.new →
+        (S.told src.old) → (s : SourceState) → at ≡ Some s → S.honest src.new →
         Awaits S.stands work.old src.old →
         (value position : _) → result ≢ Err (Halt.WatermarkMissing value position) }
     ensures reads { IfErr result IsNotGone }
@@ -335,7 +335,7 @@ pub(crate) fn run<S: Source, K: Sink, D: Disk>(
         HasOwnStored work.old.offset store.new.offset }
     ensures position { IsAtPosition store.old.offset report.old →
         IsAtPosition store.new.offset report.new }
-    ensures held { StaysHeld D.seen D.may_leave store.old store.new result }
+    ensures held { CacheMatchesDisk D.seen D.may_leave store.old store.new result }
     ensures bounded { report.new.messages ≤ budget }
     ensures commits { report.new.commits ≤ report.new.messages }
     ensures source_live { OnOk result (IsTrue (S.is_live src.new)) }
@@ -344,51 +344,51 @@ pub(crate) fn run<S: Source, K: Sink, D: Disk>(
     ensures honest { S.honest src.new → S.honest src.old }
     ensures source_comes { S.comes_of src.old src.new }
     ensures sink_comes { K.comes_of sink.old sink.new }
-    ensures store_comes { ComesOf D.seen D.may_leave store.old store.new }
-    ensures source { HasCause (result ≡ Err Halt.Source) (S.faults src.old) (S.faults src.new) }
-    ensures sink { HasCause (result ≡ Err Halt.Sink) (K.faults sink.old) (K.faults sink.new) }
-    ensures offsets { HasCause (result ≡ Err Halt.Offsets)
+    ensures store_comes { ExtendsOffsets D.seen D.may_leave store.old store.new }
+    ensures source { FailsOnlyIfCounted (result ≡ Err Halt.Source) (S.faults src.old) (S.faults src.new) }
+    ensures sink { FailsOnlyIfCounted (result ≡ Err Halt.Sink) (K.faults sink.old) (K.faults sink.new) }
+    ensures offsets { FailsOnlyIfCounted (result ≡ Err Halt.Offsets)
         (D.faults (disk_of store.old)) (D.faults (disk_of store.new)) }
 
-    // What its report tells, by what the source told and stands for.
-    ensures all { (at : Option Standing) (found : Option Told) (b : Beginning) →
+    // The report, by the source's trace and its state.
+    ensures all { (at : Option SourceState) (found : Option Trace) (b : Beginning) →
         IsUnderWay S.stands at found b store.old.offset work.old report.old src.old
         (S.told src.old) →
         OnOk result (HasSettledAll S.stands at found b store.new.offset work.new report.new src.new
         (S.told src.new)) }
-    ensures halted { (at : Option Standing) (found : Option Told) (b : Beginning) →
+    ensures halted { (at : Option SourceState) (found : Option Trace) (b : Beginning) →
         IsUnderWay S.stands at found b store.old.offset work.old report.old src.old
         (S.told src.old) →
         IfErr result (Halts S.stands at found b.config b.now b.held store.new.offset report.new
         src.new (S.told src.new)) }
     ensures quiet { OnOk result (IsQuiet (S.told src.new)) }
 
-    // What the sink has, and what is left of it.
-    ensures putting { (groups : List (List SpecRecord)) (at : Option Standing) (found : Option Told)
+    // The sink's contents, and what is left of them.
+    ensures putting { (groups : List (List SpecRecord)) (at : Option SourceState) (found : Option Trace)
         (b : Beginning) →
         IsPutting S.stands K.holds groups at found b store.old.offset work.old report.old src.old
         (S.told src.old) sink.old →
         OnOk result (IsPutting S.stands K.holds groups at found b store.new.offset work.new
         report.new src.new (S.told src.new) sink.new) }
-    ensures put { (groups : List (List SpecRecord)) (at : Option Standing) (found : Option Told)
+    ensures put { (groups : List (List SpecRecord)) (at : Option SourceState) (found : Option Trace)
         (b : Beginning) →
         IsPutting S.stands K.holds groups at found b store.old.offset work.old report.old src.old
         (S.told src.old) sink.old →
         IfErr result (HasHaltedPut S.stands K.holds K.may_leave groups at b.config b.now b.held
         store.new.offset report.new src.new (S.told src.new) sink.new) }
-    ensures own { (tell : Bool) (entry : SpecEntry) (at : Option Standing) (found : Option Told)
+    ensures own { (tell : Bool) (entry : SpecEntry) (at : Option SourceState) (found : Option Trace)
         (b : Beginning) → InSession tell S.stands K.holds D.seen D.may_leave entry
         work.old src.old sink.old store.old →
         IsUnderWay S.stands at found b store.old.offset work.old report.old src.old
-        (S.told src.old) → (s : Standing) → at ≡ Some s → S.honest src.new →
+        (S.told src.old) → (s : SourceState) → at ≡ Some s → S.honest src.new →
         IfErr result (IsHonestHalt entry (S.stands src.new)) }
-    ensures most { (tell : Bool) (entry : SpecEntry) (at : Option Standing) (found : Option Told)
+    ensures most { (tell : Bool) (entry : SpecEntry) (at : Option SourceState) (found : Option Trace)
         (b : Beginning) → InSession tell S.stands K.holds D.seen D.may_leave entry
         work.old src.old sink.old store.old →
         IsUnderWay S.stands at found b store.old.offset work.old report.old src.old
-        (S.told src.old) → S.honest src.new → OnErr result ((left : Left) →
+        (S.told src.old) → S.honest src.new → OnErr result ((left : CrashState) →
         S.may_leave src.new left → AddsNoMore report.new.chunks entry.history left.history) }
-    ensures content { (entry : SpecEntry) (at : Option Standing) (found : Option Told)
+    ensures content { (entry : SpecEntry) (at : Option SourceState) (found : Option Trace)
         (b : Beginning) → InSession true S.stands K.holds D.seen D.may_leave entry
         work.old src.old sink.old store.old →
         IsUnderWay S.stands at found b store.old.offset work.old report.old src.old
@@ -397,11 +397,11 @@ pub(crate) fn run<S: Source, K: Sink, D: Disk>(
         (K.holds sink.new)) }
 {
     'turns: for _count in 0..budget {
-        if turn(work, src, sink, store, report)? {
+        if process_message(work, src, sink, store, report)? {
             return Ok(Ending::Complete);
         }
     }
-    arm_next(work, src, sink, store)?;
-    settle(work, src, sink, store, report)?;
+    open_next_window(work, src, sink, store)?;
+    store_and_confirm(work, src, sink, store, report)?;
     Ok(Ending::Budget)
 }

@@ -1,40 +1,40 @@
-//! Windows of a session: rows that are read between two marks.
+//! Windows of a session: rows that are read between two watermarks.
 
 ghost use Rattle.std.specs.Prelude.{◌≡◌, ◌≢◌, ◌+◌, ◌^◌, ◌<◌, List, Option, Bool, IfErr, IsTrue, OnErr, OnOk, ℕ};
-ghost use Rattle.dbl_base.specs.Streams.{HasCause};
+ghost use Rattle.dbl_base.specs.Streams.{FailsOnlyIfCounted};
 ghost use Rattle.dbl_record.specs.declared.record.Record.{Record as SpecRecord};
-ghost use Rattle.dbl_honest.specs.Standings.{Left, Standing};
-ghost use Rattle.dbl_honest.specs.Told.{Told};
-ghost use Rattle.dbl_follow.specs.declared.window.Window.TheVariants as windows;
-ghost use Rattle.dbl_session.specs.Entries.{Entry as SpecEntry};
-ghost use Rattle.dbl_work.specs.declared.report.Report.{Report as SpecReport};
-ghost use Rattle.dbl_work.specs.Works.{IsArmedWork, IsOpenTable, IsReady};
-ghost use Rattle.dbl_exits.specs.Sessions.{InSession, LeavesBy};
-ghost use Rattle.dbl_causes.specs.Carried.{Beginning};
-ghost use Rattle.dbl_causes.specs.Written.{AddsNoMore, AreClosed};
-ghost use Rattle.dbl_causes.specs.Nevers.{IsHonestHalt};
-ghost use Rattle.dbl_causes.specs.Sources.{IsUnderWay};
-ghost use Rattle.dbl_steps.specs.Sinks.{HasHaltedPut, IsPutting};
-ghost use Rattle.dbl_steps.specs.Awaited.{Awaits};
-ghost use Rattle.dbl_steps.specs.Caused.{Halts, IsNotGone, IsQuiet};
-ghost use Rattle.dbl_steps.specs.Owned.{IsContentFree};
+ghost use Rattle.dbl_source.specs.SourceModel.Standings.{CrashState, SourceState};
+ghost use Rattle.dbl_source.specs.SourceModel.Trace.{Trace};
+ghost use Rattle.dbl_capture_work.specs.Follow.declared.window.Window.TheVariants as windows;
+ghost use Rattle.dbl_capture_work.specs.CaptureModel.Entries.{SessionStart as SpecEntry};
+ghost use Rattle.dbl_capture_work.specs.declared.report.Report.{Report as SpecReport};
+ghost use Rattle.dbl_capture_work.specs.Works.{IsArmedWork, IsOpenTable, HasReadyWork};
+ghost use Rattle.dbl_capture_laws.specs.Sessions.{InSession, LeavesBy};
+ghost use Rattle.dbl_capture_laws.specs.Carried.{Beginning};
+ghost use Rattle.dbl_capture_laws.specs.Written.{AddsNoMore, AreClosed};
+ghost use Rattle.dbl_capture_laws.specs.Nevers.{IsHonestHalt};
+ghost use Rattle.dbl_capture_laws.specs.Sources.{IsUnderWay};
+ghost use Rattle.dbl_capture_laws.specs.Sinks.{HasHaltedPut, IsPutting};
+ghost use Rattle.dbl_capture_laws.specs.Awaited.{Awaits};
+ghost use Rattle.dbl_capture_laws.specs.Caused.{Halts, IsNotGone, IsQuiet};
+ghost use Rattle.dbl_capture_laws.specs.Owned.{IsContentFree};
 
+use dbl_capture_work::{Halt, SessionState, read_window};
 use dbl_disk::Disk;
 use dbl_offset::OffsetStore;
 use dbl_source::Source;
 use dbl_topic::Sink;
-use dbl_work::{Halt, Work, read_window};
 
-/// Reads the next window of a table, and waits for its marks.
+/// Reads the next window of a table; the session then waits for its watermarks in the log.
 pub(crate) fn arm<S: Source, K: Sink, D: Disk>(
-    work: &mut Work,
+    work: &mut SessionState,
     table: u32,
     src: &mut S,
     sink: &K,
     store: &OffsetStore<D>,
 ) -> Result<(), Halt>
     requires live { IsTrue (S.is_live src.old) }
-    requires ready { IsReady work.old }
+    requires ready { HasReadyWork work.old }
     requires absent { work.old.follower.window ≡ windows.Absent }
     requires table { IsOpenTable work.old table }
     requires number { work.old.number + 1 < 2 ^ 64 }
@@ -55,28 +55,28 @@ pub(crate) fn arm<S: Source, K: Sink, D: Disk>(
     ensures live { OnOk result (IsTrue (S.is_live src.new)) }
     ensures honest { S.honest src.new → S.honest src.old }
     ensures comes { S.comes_of src.old src.new }
-    ensures cause { HasCause (result ≡ Err Halt.Source) (S.faults src.old) (S.faults src.new) }
+    ensures cause { FailsOnlyIfCounted (result ≡ Err Halt.Source) (S.faults src.old) (S.faults src.new) }
     ensures others { (result ≢ Err Halt.Sink) × (result ≢ Err Halt.Offsets) }
     ensures never { (value at : _) → result ≢ Err (Halt.WatermarkMissing value at) }
     ensures reads { IfErr result IsNotGone }
-    ensures under_way { (at : Option Standing) (found : Option Told) (b : Beginning)
+    ensures under_way { (at : Option SourceState) (found : Option Trace) (b : Beginning)
         (report : SpecReport) →
         IsUnderWay S.stands at found b store.now.offset work.old report src.old (S.told src.old) →
         OnOk result (IsUnderWay S.stands at found b store.now.offset work.new report src.new
         (S.told src.new)) }
-    ensures halted { (at : Option Standing) (found : Option Told) (b : Beginning)
+    ensures halted { (at : Option SourceState) (found : Option Trace) (b : Beginning)
         (report : SpecReport) →
         IsUnderWay S.stands at found b store.now.offset work.old report src.old (S.told src.old) →
         IfErr result (Halts S.stands at found b.config b.now b.held store.now.offset report
         src.new (S.told src.new)) }
     ensures quiet { OnOk result (IsQuiet (S.told src.new)) }
-    ensures putting { (groups : List (List SpecRecord)) (at : Option Standing) (found : Option Told)
+    ensures putting { (groups : List (List SpecRecord)) (at : Option SourceState) (found : Option Trace)
         (b : Beginning) (report : SpecReport) →
         IsPutting S.stands K.holds groups at found b store.now.offset work.old report src.old
         (S.told src.old) sink.now →
         OnOk result (IsPutting S.stands K.holds groups at found b store.now.offset work.new report
         src.new (S.told src.new) sink.now) }
-    ensures put { (groups : List (List SpecRecord)) (at : Option Standing) (found : Option Told)
+    ensures put { (groups : List (List SpecRecord)) (at : Option SourceState) (found : Option Trace)
         (b : Beginning) (report : SpecReport) →
         IsPutting S.stands K.holds groups at found b store.now.offset work.old report src.old
         (S.told src.old) sink.now →
@@ -92,7 +92,7 @@ pub(crate) fn arm<S: Source, K: Sink, D: Disk>(
     ensures most { (tell : Bool) (entry : SpecEntry) (chunks : ℕ) →
         InSession tell S.stands K.holds D.seen D.may_leave entry
         work.old src.old sink.now store.now → AreClosed work.old chunks →
-        OnErr result ((left : Left) → S.may_leave src.new left →
+        OnErr result ((left : CrashState) → S.may_leave src.new left →
         AddsNoMore chunks entry.history left.history) }
     ensures free { IfErr result IsContentFree }
 {

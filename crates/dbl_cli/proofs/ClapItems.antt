@@ -6,7 +6,7 @@ use Rattle.std.proofs.lemmas.Bool.{and_parts, and_from, or_parts, or_from, false
 use Rattle.std.proofs.lemmas.Slice.Eq.{bytes_eq-Decides}
 use Rattle.clap.specs.Kinds.{Kinds, or_else}
 use Rattle.clap.specs.Walk.{Row, Text, has_row}
-use Rattle.dbl_table.specs.Tables.{are_distinct}
+use Rattle.dbl_model_table.specs.Tables.{are_distinct}
 use Rattle.dbl_cli.specs.Items.{Setting, Flag, Joined, Apart, Named, name_in, has_value, is_option, is_known, is_dashed}
 use Rattle.dbl_cli.proofs.ClapRules.{place}
 use Rattle.dbl_cli.proofs.ClapSteps.{or_else-nil}
@@ -103,11 +103,11 @@ find_kept id (x ∷ xs) ys r found = go (bytes_eq x.id id) (λ h. find_kept id x
 -- ---- all the rows
 
 module _ (names : List Named) (names_are : AreNames names) (front back : List Setting) (texts : List Text)
-    (known_before : list_all (is_known names) front ≡ true) (known_behind : list_all (is_known names) back ≡ true) where
+    (known_before : list_all (is_known names) front ≡ true) (known_since : list_all (is_known names) back ≡ true) where
   behind_is : fresh back (map row_for front ++ place_rows texts) ≡ fresh back (map row_for front)
   behind_is =
       fresh_is back (map row_for front ++ place_rows texts)
-      ∙ ap (λ b. b && are_distinct bytes_eq (names_in back)) (apart_places names names_are back known_behind (map row_for front) texts)
+      ∙ ap (λ b. b && are_distinct bytes_eq (names_in back)) (apart_places names names_are back known_since (map row_for front) texts)
       ∙ sym (fresh_is back (map row_for front))
 
   all_fresh : (fresh front [] && fresh back (map row_for front)) ≡ are_distinct bytes_eq (names_in (front ++ back))

@@ -165,7 +165,7 @@ some_texts [] = None
 some_texts (text ∷ texts) = Some (text ∷ texts)
 
 module _ (names : List Named) (names_are : AreNames names) (b : Bool) (front back : List Setting) (texts : List Text)
-    (known_before : list_all (is_known names) front ≡ true) (known_behind : list_all (is_known names) back ≡ true) where
+    (known_before : list_all (is_known names) front ≡ true) (known_since : list_all (is_known names) back ≡ true) where
   abbrev rows : List Row
   rows = (map row_for front ++ place_rows texts) ++ map row_for back
 
@@ -173,7 +173,7 @@ module _ (names : List Named) (names_are : AreNames names) (b : Bool) (front bac
   known_all = go front known_before
     where
       go : (gs : List Setting) → list_all (is_known names) gs ≡ true → list_all (is_known names) (gs ++ back) ≡ true
-      go [] h = known_behind
+      go [] h = known_since
       go (g ∷ gs) h =
           let parts = and_parts (is_known names g) (list_all (is_known names) gs) h in
           and_from _ _ parts.0 (go gs parts.1)
@@ -218,5 +218,5 @@ module _ (names : List Named) (names_are : AreNames names) (b : Bool) (front bac
     where
       last : (ts : List Text) → option_map (λ (r : Row). r.values) (find (with_id place) (place_rows ts ++ map row_for back)) ≡ some_texts ts
       last [] =
-          ap (option_map (λ (r : Row). r.values)) (ap (find (with_id place)) (sym (append-nil (map row_for back))) ∙ find_past place (map row_for back) [] (rows_lack_place names names_are back known_behind))
+          ap (option_map (λ (r : Row). r.values)) (ap (find (with_id place)) (sym (append-nil (map row_for back))) ∙ find_past place (map row_for back) [] (rows_lack_place names names_are back known_since))
       last (t ∷ ts) = refl

@@ -9,7 +9,7 @@ use Rattle.clap.specs.Walk.{Row, Text, at_row, has_row, more_values, used}
 use Rattle.clap.specs.declared.builder.value_parser.Reading.TheVariants.{AsWritten}
 use Rattle.clap.specs.declared.parser.matches.ValueSource.TheVariants.{CommandLine}
 use Rattle.clap.specs.declared.error.kind.ErrorKind.TheVariants as kind
-use Rattle.dbl_table.specs.Tables.{are_distinct}
+use Rattle.dbl_model_table.specs.Tables.{are_distinct}
 use Rattle.dbl_cli.specs.Items.{Setting, Flag, Joined, Apart, name_in}
 use Rattle.dbl_cli.proofs.ClapRules.{place}
 use Rattle.dbl_cli.proofs.ClapRuns.{rule_for, values_for, used_by, fault_by, placed}

@@ -175,13 +175,13 @@ abbrev pub fault_of_items : List Setting → List Text → List Setting → Kind
 fault_of_items front texts back = or_else (fault_by front []) (or_else (fault_by back (placed texts (used_by front []))) [])
 
 module _ (names : List Named) (names_are : AreNames names) (front back : List Setting) (texts : List Text)
-    (known_before : list_all (is_known names) front ≡ true) (known_behind : list_all (is_known names) back ≡ true)
+    (known_before : list_all (is_known names) front ≡ true) (known_since : list_all (is_known names) back ≡ true)
     (plain : list_all (λ text. not (is_dashed text)) texts ≡ true) where
   back_run : (rest_rules : List Rule) (many : Bool) (rows : List Row) (pending : Option (Text × List Text)) (f : Kinds) (now : List Row) → settled_rows (rules_by names ++ rest_rules) pending rows ≡ now
       → owed (rules_by names ++ rest_rules) rows pending ≡ f → Runs (rules_by names ++ rest_rules) (at many rows pending) (words_of back) (or_else f (or_else (fault_by back now) [])) (used_by back now)
   back_run rest_rules many rows pending f now is owes =
       subst (λ (ws : List Text). Runs (rules_by names ++ rest_rules) (at many rows pending) ws (or_else f (or_else (fault_by back now) [])) (used_by back now)) (append-nil (words_of back))
-      (settings_run names names_are rest_rules back known_behind [] [] (used_by back now) now
+      (settings_run names names_are rest_rules back known_since [] [] (used_by back now) now
       (λ m rs p k same owed_too. run_end (rules_by names ++ rest_rules) m rs p (used_by back now) k same owed_too) many rows pending f is owes)
 
   pub items_run : (has_places : Bool) → (has_places ≡ false → texts ≡ [])

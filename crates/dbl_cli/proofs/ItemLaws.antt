@@ -10,7 +10,7 @@ use Rattle.clap.proofs.CutLemmas.{before_first-Lacks, before_first-at, list_any-
 use Rattle.dbl_cli.specs.declared.items.Next.{Next}
 use Rattle.dbl_cli.specs.declared.items.Next.TheVariants.{Item, Value, Stop, Bad}
 use Rattle.dbl_cli.specs.Items.{Setting, Flag, Joined, Apart, Named, dashed, words_in, words_of, is_dashed, has_value, is_flag, is_option, is_known}
-use Rattle.dbl_cli.specs.Checks.{is_equals, behind_hyphens, kind_by, kind_in, kind_of, by_next, behind, plain_len, is_end, ends_well, are_items}
+use Rattle.dbl_cli.specs.Checks.{is_equals, after_hyphens, kind_by, kind_in, kind_of, by_next, words_after, plain_len, is_end, ends_well, are_items}
 use Rattle.dbl_cli.proofs.ClapWords.{Lacks-from_none}
 use Rattle.dbl_cli.proofs.ClapRuns.{AreNames, option_is, flag_is}
 
@@ -56,18 +56,18 @@ option_known names name has = ap (λ o. option_map_or (λ b. b) o false) has
 flag_known : (names : List Named) (name : List ℕ) → has_value names name ≡ Some false → is_flag names name ≡ true
 flag_known names name has = ap (λ o. option_map_or not o false) has
 
-behind_item : (names : List Named) (word : List ℕ) (rest : List (List ℕ)) → is_dashed word ≡ true → kind_of names word ≡ Item → behind names false (word ∷ rest) ≡ behind names false rest
-unfolding behind
+behind_item : (names : List Named) (word : List ℕ) (rest : List (List ℕ)) → is_dashed word ≡ true → kind_of names word ≡ Item → words_after names false (word ∷ rest) ≡ words_after names false rest
+unfolding words_after
 behind_item names word rest dash is = rw (dash, is) refl
 
 behind_half : (names : List Named) (word value : List ℕ) (rest : List (List ℕ)) → is_dashed word ≡ true → kind_of names word ≡ Value → is_dashed value ≡ false
-    → behind names false (word ∷ value ∷ rest) ≡ behind names false rest
-unfolding behind
+    → words_after names false (word ∷ value ∷ rest) ≡ words_after names false rest
+unfolding words_after
 behind_half names word value rest dash is plain = rw (dash, is, plain) refl
 
 -- flags and options are passed over
 pub behind_settings : (names : List Named) → AreNames names → (settings : List Setting) → list_all (is_known names) settings ≡ true → (rest : List (List ℕ))
-    → behind names false (words_of settings ++ rest) ≡ behind names false rest
+    → words_after names false (words_of settings ++ rest) ≡ words_after names false rest
 behind_settings names names_are [] known rest = refl
 behind_settings names names_are (Flag name ∷ gs) known rest =
     let parts = and_parts (is_known names (Flag name)) (list_all (is_known names) gs) known in
@@ -105,7 +105,7 @@ pub record HalfItem (names : List Named) (word : List ℕ) : Type 0 where
   pub written : word ≡ dashed name
   pub known : is_option names name ≡ true
 
-hyphens : (word rest : List ℕ) → behind_hyphens word ≡ Some rest → word ≡ dashed rest
+hyphens : (word rest : List ℕ) → after_hyphens word ≡ Some rest → word ≡ dashed rest
 hyphens [] rest is = cc
 hyphens (a ∷ []) rest is = cc
 hyphens (a ∷ b ∷ cs) rest is = go (a == 45) (b == 45) refl refl is
@@ -120,7 +120,7 @@ hyphens (a ∷ b ∷ cs) rest is = go (a == 45) (b == 45) refl refl is
     go false y e f h = cc
 
 one_item : (names : List Named) (word : List ℕ) → kind_of names word ≡ Item → OneItem names word
-one_item names word is = go (behind_hyphens word) refl is
+one_item names word is = go (after_hyphens word) refl is
   where
     by : (rest : List ℕ) → word ≡ dashed rest → (j : Bool) (o : Option Bool) → list_any is_equals rest ≡ j → has_value names (before_first is_equals rest) ≡ o → kind_by j o ≡ Item → OneItem names word
     by rest w true (Some true) e f h = record {
@@ -138,12 +138,12 @@ one_item names word is = go (behind_hyphens word) refl is
     }
     by rest w false None e f h = cc
 
-    go : (o : Option (List ℕ)) → behind_hyphens word ≡ o → kind_in names o ≡ Item → OneItem names word
+    go : (o : Option (List ℕ)) → after_hyphens word ≡ o → kind_in names o ≡ Item → OneItem names word
     go None e h = cc
     go (Some rest) e h = by rest (hyphens word rest e) (list_any is_equals rest) (has_value names (before_first is_equals rest)) refl refl h
 
 half_item : (names : List Named) (word : List ℕ) → kind_of names word ≡ Value → HalfItem names word
-half_item names word is = go (behind_hyphens word) refl is
+half_item names word is = go (after_hyphens word) refl is
   where
     by : (rest : List ℕ) → word ≡ dashed rest → (j : Bool) (o : Option Bool) → list_any is_equals rest ≡ j → has_value names (before_first is_equals rest) ≡ o → kind_by j o ≡ Value → HalfItem names word
     by rest w true (Some true) e f h = cc
@@ -157,12 +157,12 @@ half_item names word is = go (behind_hyphens word) refl is
     by rest w false (Some false) e f h = cc
     by rest w false None e f h = cc
 
-    go : (o : Option (List ℕ)) → behind_hyphens word ≡ o → kind_in names o ≡ Value → HalfItem names word
+    go : (o : Option (List ℕ)) → after_hyphens word ≡ o → kind_in names o ≡ Value → HalfItem names word
     go None e h = cc
     go (Some rest) e h = by rest (hyphens word rest e) (list_any is_equals rest) (has_value names (before_first is_equals rest)) refl refl h
 
 no_stop : (names : List Named) (word : List ℕ) → kind_of names word ≡ Stop → ⊥
-no_stop names word is = go (behind_hyphens word) is
+no_stop names word is = go (after_hyphens word) is
   where
     by : (j : Bool) (o : Option Bool) → kind_by j o ≡ Stop → ⊥
     by true (Some true) h = cc
@@ -178,8 +178,8 @@ no_stop names word is = go (behind_hyphens word) is
 
 -- the prefix that is passed over is flags and options
 pub front_sound : (names : List Named) (words rest : List (List ℕ))
-    → (behind names false words ≡ Some rest → Front names words rest) × (behind names true words ≡ Some rest → Valued names words rest)
-unfolding behind
+    → (words_after names false words ≡ Some rest → Front names words rest) × (words_after names true words ≡ Some rest → Valued names words rest)
+unfolding words_after
 front_sound names [] rest = (
   (λ h. let same : [] ≡ rest = cc in record { settings = []; written = same; known = refl }),
   (λ h. let bad : None ≡ Some rest = h in cc),
@@ -189,8 +189,8 @@ front_sound names (word ∷ words) rest = (
   (λ h. second (front_sound names words rest) (is_dashed word) refl h),
 )
   where
-    first : ((behind names false words ≡ Some rest → Front names words rest) × (behind names true words ≡ Some rest → Valued names words rest)) → (d : Bool) → is_dashed word ≡ d → (k : Next) → kind_of names word ≡ k
-        → by_next (cond d k Stop) (behind names false words) (behind names true words) (Some (word ∷ words)) ≡ Some rest → Front names (word ∷ words) rest
+    first : ((words_after names false words ≡ Some rest → Front names words rest) × (words_after names true words ≡ Some rest → Valued names words rest)) → (d : Bool) → is_dashed word ≡ d → (k : Next) → kind_of names word ≡ k
+        → by_next (cond d k Stop) (words_after names false words) (words_after names true words) (Some (word ∷ words)) ≡ Some rest → Front names (word ∷ words) rest
     first next true e Item f h =
         let item = one_item names word f in
         let others = next.0 h in
@@ -211,7 +211,7 @@ front_sound names (word ∷ words) rest = (
     first next true e Bad f h = let bad : None ≡ Some rest = h in cc
     first next false e k f h = let same : word ∷ words ≡ rest = cc in record { settings = []; written = same; known = refl }
 
-    second : ((behind names false words ≡ Some rest → Front names words rest) × (behind names true words ≡ Some rest → Valued names words rest)) → (d : Bool) → is_dashed word ≡ d → by_next (cond d Bad Item) (behind names false words) (behind names true words) (Some (word ∷ words)) ≡ Some rest → Valued names (word ∷ words) rest
+    second : ((words_after names false words ≡ Some rest → Front names words rest) × (words_after names true words ≡ Some rest → Valued names words rest)) → (d : Bool) → is_dashed word ≡ d → by_next (cond d Bad Item) (words_after names false words) (words_after names true words) (Some (word ∷ words)) ≡ Some rest → Valued names (word ∷ words) rest
     second next true e h = let bad : None ≡ Some rest = h in cc
     second next false e h =
         let others = next.0 h in
@@ -252,34 +252,34 @@ taken_len (word ∷ words) = go (is_dashed word) (taken_len words)
 
 -- ---- the whole look
 
-behind_nothing : (names : List Named) → behind names false [] ≡ Some []
-unfolding behind
+behind_nothing : (names : List Named) → words_after names false [] ≡ Some []
+unfolding words_after
 behind_nothing names = refl
 
-behind_stops : (names : List Named) (text : List ℕ) (rest : List (List ℕ)) → is_dashed text ≡ false → behind names false (text ∷ rest) ≡ Some (text ∷ rest)
-unfolding behind
+behind_stops : (names : List Named) (text : List ℕ) (rest : List (List ℕ)) → is_dashed text ≡ false → words_after names false (text ∷ rest) ≡ Some (text ∷ rest)
+unfolding words_after
 behind_stops names text rest plain = rw plain refl
 
-behind_back : (names : List Named) → AreNames names → (back : List Setting) → list_all (is_known names) back ≡ true → behind names false (words_of back) ≡ Some []
-behind_back names names_are back known = ap (behind names false) (sym (append-nil (words_of back))) ∙ behind_settings names names_are back known [] ∙ behind_nothing names
+behind_back : (names : List Named) → AreNames names → (back : List Setting) → list_all (is_known names) back ≡ true → words_after names false (words_of back) ≡ Some []
+behind_back names names_are back known = ap (words_after names false) (sym (append-nil (words_of back))) ∙ behind_settings names names_are back known [] ∙ behind_nothing names
 
 -- the look passes a list of items
 pub look_passes : (names : List Named) → AreNames names → (least most : ℕ) (front back : List Setting) (texts : List (List ℕ)) → list_all (is_known names) front ≡ true → list_all (is_known names) back ≡ true
     → list_all (λ text. not (is_dashed text)) texts ≡ true → leb least (length texts) ≡ true → leb (length texts) most ≡ true
     → are_items names least most (words_of front ++ (texts ++ words_of back)) ≡ true
-look_passes names names_are least most front back texts known_before known_behind plain enough few =
+look_passes names names_are least most front back texts known_before known_since plain enough few =
     ap (ends_well names least most) (behind_settings names names_are front known_before (texts ++ words_of back)) ∙ go texts plain enough few
   where
     go : (ts : List (List ℕ)) → list_all (λ text. not (is_dashed text)) ts ≡ true → leb least (length ts) ≡ true → leb (length ts) most ≡ true
-        → ends_well names least most (behind names false (ts ++ words_of back)) ≡ true
+        → ends_well names least most (words_after names false (ts ++ words_of back)) ≡ true
     go [] p e f =
-        ap (ends_well names least most) (behind_back names names_are back known_behind) ∙ (λ i. is_end (behind_nothing names i) && leb least 0 && leb 0 most) ∙ rw (e, f) refl
+        ap (ends_well names least most) (behind_back names names_are back known_since) ∙ (λ i. is_end (behind_nothing names i) && leb least 0 && leb 0 most) ∙ rw (e, f) refl
     go (t ∷ ts) p e f =
         let parts = and_parts (not (is_dashed t)) (list_all (λ text. not (is_dashed text)) ts) p in
         let all : List (List ℕ) = t ∷ (ts ++ words_of back) in
         let len : plain_len all ≡ length (t ∷ ts) = plain_len-front (t ∷ ts) p back in
         let left : drop (plain_len all) all ≡ words_of back = ap (λ n. drop n all) len ∙ drop_at (t ∷ ts) (words_of back) (length (t ∷ ts)) refl in
-        let ends : is_end (behind names false (drop (plain_len all) all)) ≡ true = ap (λ l. is_end (behind names false l)) left ∙ ap is_end (behind_back names names_are back known_behind) in
+        let ends : is_end (words_after names false (drop (plain_len all) all)) ≡ true = ap (λ l. is_end (words_after names false l)) left ∙ ap is_end (behind_back names names_are back known_since) in
         let low : leb least (plain_len all) ≡ true = ap (leb least) len ∙ e in
         let high : leb (plain_len all) most ≡ true = ap (λ n. leb n most) len ∙ f in
         ap (ends_well names least most) (behind_stops names t (ts ++ words_of back) (not-true (is_dashed t) parts.0)) ∙ rw (ends, low, high) refl
@@ -291,14 +291,14 @@ pub record Items (names : List Named) (least most : ℕ) (words : List (List ℕ
   pub back : List Setting
   pub written : words ≡ words_of front ++ (texts ++ words_of back)
   pub known_before : list_all (is_known names) front ≡ true
-  pub known_behind : list_all (is_known names) back ≡ true
+  pub known_since : list_all (is_known names) back ≡ true
   pub plain : list_all (λ text. not (is_dashed text)) texts ≡ true
   pub enough : leb least (length texts) ≡ true
   pub few : leb (length texts) most ≡ true
 
 -- and nothing else
 pub look_sound : (names : List Named) (least most : ℕ) (words : List (List ℕ)) → are_items names least most words ≡ true → Items names least most words
-look_sound names least most words passed = go (behind names false words) refl passed
+look_sound names least most words passed = go (words_after names false words) refl passed
   where
     nothing_left : (o : Option (List (List ℕ))) → is_end o ≡ true → o ≡ Some []
     nothing_left None h = absurd (false≢true h)
@@ -308,7 +308,7 @@ look_sound names least most words passed = go (behind names false words) refl pa
         not_empty : (x : List ℕ) (xs : List (List ℕ)) → (length (x ∷ xs) == 0) ≡ false
         not_empty x xs = grind (arith, nat_tests)
 
-    go : (o : Option (List (List ℕ))) → behind names false words ≡ o → ends_well names least most o ≡ true → Items names least most words
+    go : (o : Option (List (List ℕ))) → words_after names false words ≡ o → ends_well names least most o ≡ true → Items names least most words
     go None e h = absurd (false≢true h)
     go (Some rest) e h =
         let outer = and_parts _ _ h in
@@ -323,7 +323,7 @@ look_sound names least most words passed = go (behind names false words) refl pa
           back = last.settings;
           written = first.written ∙ ap (λ l. words_of first.settings ++ l) (sym (take-append-drop n rest) ∙ ap (λ l. take n rest ++ l) (last.written ∙ append-nil (words_of last.settings)));
           known_before = first.known;
-          known_behind = last.known;
+          known_since = last.known;
           plain = taken_plain rest;
           enough = ap (leb least) len ∙ inner.1;
           few = ap (λ k. leb k most) len ∙ outer.1;

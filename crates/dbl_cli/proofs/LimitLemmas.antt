@@ -7,8 +7,8 @@ use Rattle.std.proofs.lemmas.Bool.{and_parts, and_from, leb-true}
 use Rattle.std.proofs.lemmas.Bool.Decides.{nat_tests}
 use Rattle.std.proofs.lemmas.List.{length-map}
 use Rattle.std.proofs.lemmas.List.Splits.{length-slice_split}
-use Rattle.dbl_table.specs.Identities.{default_placeholder}
-use Rattle.dbl_table.specs.Tables.{is_name}
+use Rattle.dbl_model_table.specs.Identities.{default_placeholder}
+use Rattle.dbl_model_table.specs.Tables.{is_name}
 use Rattle.dbl_cli.specs.declared.verbs.Verb.{Verb}
 use Rattle.dbl_cli.specs.declared.verbs.Verb.TheVariants as verb
 use Rattle.dbl_cli.specs.declared.commands.Command.{Command}

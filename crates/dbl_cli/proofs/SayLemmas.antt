@@ -77,27 +77,27 @@ module _ (v : Verb) (words : List Text) (front : List Setting) (texts : List Tex
   pub said_passes : are_items (names_of v) (least_of v) (most_of v) words ≡ true
   said_passes =
       ap (are_items (names_of v) (least_of v) (most_of v)) items.written
-      ∙ look_passes (names_of v) (are_names v) (least_of v) (most_of v) front back texts items.known_before items.known_behind items.plain items.enough items.few
+      ∙ look_passes (names_of v) (are_names v) (least_of v) (most_of v) front back texts items.known_before items.known_since items.plain items.enough items.few
 
   pub said_taken : fault_of (app (names_of v) (has_places v)) words ≡ []
   said_taken =
       ap (fault_of (app (names_of v) (has_places v))) items.written
-      ∙ taken (names_of v) (are_names v) (has_places v) front back texts items.known_before items.known_behind items.plain (no_places v texts items.few) items.once
+      ∙ taken (names_of v) (are_names v) (has_places v) front back texts items.known_before items.known_since items.plain (no_places v texts items.few) items.once
 
   pub said_option : (name : Text) → has_value (names_of v) name ≡ Some true → first_of name (matches_of (app (names_of v) (has_places v)) words) ≡ value_of name (front ++ back)
   said_option name has =
       ap (λ ws. first_of name (matches_of (app (names_of v) (has_places v)) ws)) items.written
-      ∙ option_given (names_of v) (are_names v) (has_places v) front back texts items.known_before items.known_behind items.plain (no_places v texts items.few) items.once name has
+      ∙ option_given (names_of v) (are_names v) (has_places v) front back texts items.known_before items.known_since items.plain (no_places v texts items.few) items.once name has
 
   pub said_flag : (name : Text) → has_value (names_of v) name ≡ Some false → one_of name (matches_of (app (names_of v) (has_places v)) words) ≡ Some (bool_text (is_given name (front ++ back)))
   said_flag name has =
       ap (λ ws. one_of name (matches_of (app (names_of v) (has_places v)) ws)) items.written
-      ∙ flag_given (names_of v) (are_names v) (has_places v) front back texts items.known_before items.known_behind items.plain (no_places v texts items.few) items.once name has
+      ∙ flag_given (names_of v) (are_names v) (has_places v) front back texts items.known_before items.known_since items.plain (no_places v texts items.few) items.once name has
 
   pub said_places : all_of place (matches_of (app (names_of v) (has_places v)) words) ≡ some_texts texts
   said_places =
       ap (λ ws. all_of place (matches_of (app (names_of v) (has_places v)) ws)) items.written
-      ∙ places_given (names_of v) (are_names v) (has_places v) front back texts items.known_before items.known_behind items.plain (no_places v texts items.few) items.once
+      ∙ places_given (names_of v) (are_names v) (has_places v) front back texts items.known_before items.known_since items.plain (no_places v texts items.few) items.once
 
   pub said_found : (found : ArgMatches) → rows_of (found_of found) ≡ matches_of (app (names_of v) (has_places v)) words → Finds v found (front ++ back) texts
   said_found found rows = record {
@@ -127,8 +127,8 @@ taken_items v words passed clear =
       record {
         written = i.written;
         known_before = i.known_before;
-        known_behind = i.known_behind;
-        once = taken_once (names_of v) (are_names v) (has_places v) i.front i.back i.texts i.known_before i.known_behind i.plain (no_places v i.texts i.few)
+        known_since = i.known_since;
+        once = taken_once (names_of v) (are_names v) (has_places v) i.front i.back i.texts i.known_before i.known_since i.plain (no_places v i.texts i.few)
             (sym (ap (fault_of (app (names_of v) (has_places v))) i.written) ∙ clear);
         plain = i.plain;
         enough = i.enough;

@@ -1,9 +1,9 @@
--- Which words spell which command. Source: own.
+-- The commands that arguments parse as.
 use Rattle.std.specs.Prelude.{◌≡◌, ℕ, ◌&&◌, ◌||◌, not, Bool, true, false, Option, is_some, List, [], ◌∷◌, ◌++◌, map, unwrap_or, codes}
 use Rattle.std.specs.List.{list_all}
 use Rattle.std.specs.Str.Parse.{digits_value}
-use Rattle.dbl_table.specs.Tables.{is_name}
-use Rattle.dbl_table.specs.Identities.{default_placeholder}
+use Rattle.dbl_model_table.specs.Tables.{is_name}
+use Rattle.dbl_model_table.specs.Identities.{default_placeholder}
 use Rattle.dbl_cli.specs.declared.verbs.Verb.{Verb}
 use Rattle.dbl_cli.specs.declared.verbs.Verb.TheVariants as verb
 use Rattle.dbl_cli.specs.declared.commands.Command.{Command}
@@ -13,6 +13,7 @@ use Rattle.dbl_cli.specs.Values.{is_number, number_or, passes, is_placeholder, t
 
 -- ---- the commands' names and forms
 
+-- the name of a command
 abbrev pub name_of : Verb → List ℕ
 name_of verb.Init = codes "init"
 name_of verb.Topics = codes "topics"
@@ -23,18 +24,23 @@ name_of verb.Apply = codes "apply"
 name_of verb.Replay = codes "replay"
 name_of verb.Gen = codes "gen"
 
+-- an option of this name
 abbrev pub option : List ℕ → Named
 option name = record { name = name; has_value = true }
 
+-- a flag of this name
 abbrev pub flag : List ℕ → Named
 flag name = record { name = name; has_value = false }
 
+-- the options that name a connector
 abbrev pub naming : List Named
 naming = option (codes "prefix") ∷ option (codes "db") ∷ option (codes "placeholder") ∷ []
 
+-- the options that pace a capture
 abbrev pub pacing : List Named
 pacing = option (codes "chunk") ∷ option (codes "every") ∷ option (codes "messages") ∷ []
 
+-- the flags and options of a command
 abbrev pub names_of : Verb → List Named
 names_of verb.Init = []
 names_of verb.Topics = []
@@ -45,46 +51,49 @@ names_of verb.Apply = flag (codes "lines") ∷ option (codes "placeholder") ∷ 
 names_of verb.Replay = naming
 names_of verb.Gen = option (codes "rows") ∷ option (codes "groups") ∷ flag (codes "run") ∷ []
 
--- at least so many words in capitals
+-- the minimum number of positional arguments of a command
 abbrev pub least_of : Verb → ℕ
 least_of verb.Gen = 1
 least_of v = 0
 
--- at most so many: TABLE and KEY up to 64 times, NUMBER once
+-- the maximum number of positional arguments: up to 64 of TABLE and KEY, one NUMBER
 abbrev pub most_of : Verb → ℕ
 most_of verb.Capture = 64
 most_of verb.Replay = 64
 most_of verb.Gen = 1
 most_of v = 0
 
+-- the form of a command's arguments
 abbrev pub form_of : Verb → Form
 form_of v = record { names = names_of v; least = least_of v; most = most_of v }
 
--- ---- what the values have to be
+-- ---- the checks of the values
 
--- `--prefix`, `--db` and `--placeholder`
+-- the values of `--prefix`, `--db` and `--placeholder` are valid
 abbrev pub names_pass : Option (List ℕ) → Option (List ℕ) → Option (List ℕ) → Bool
 names_pass prefix db placeholder = passes is_name prefix && (passes is_name db && passes is_placeholder placeholder)
 
--- `--chunk`, `--every` and `--messages`
+-- the values of `--chunk`, `--every` and `--messages` are valid
 abbrev pub pace_passes : Option (List ℕ) → Option (List ℕ) → Option (List ℕ) → Bool
 pace_passes chunk every messages = passes (is_number 1 100000) chunk && (passes (is_number 1 10000) every && passes (is_number 1 999999999) messages)
 
--- `--lines` and `--placeholder`, which needs `--lines`
+-- `--lines` and `--placeholder` are valid: the latter requires `--lines`
 abbrev pub apply_passes : Bool → Option (List ℕ) → Bool
 apply_passes lines placeholder = (lines || not (is_some placeholder)) && passes is_placeholder placeholder
 
--- NUMBER, `--rows` and `--groups`
+-- NUMBER, `--rows` and `--groups` are valid
 abbrev pub gen_passes : List (List ℕ) → Option (List ℕ) → Option (List ℕ) → Bool
 gen_passes texts rows groups = list_all (is_number 0 999999999) texts && (passes (is_number 0 400000) rows && passes (is_number 0 90000) groups)
 
--- the texts of the options and the words in capitals
+-- the options and positional arguments of `capture` are valid
 abbrev pub capture_passes : Option (List ℕ) → Option (List ℕ) → Option (List ℕ) → Option (List ℕ) → Option (List ℕ) → Option (List ℕ) → List (List ℕ) → Bool
 capture_passes prefix db placeholder chunk every messages texts = names_pass prefix db placeholder && (pace_passes chunk every messages && are_tables texts)
 
+-- the options and positional arguments of `replay` are valid
 abbrev pub replay_passes : Option (List ℕ) → Option (List ℕ) → Option (List ℕ) → List (List ℕ) → Bool
 replay_passes prefix db placeholder texts = names_pass prefix db placeholder && are_keys texts
 
+-- the values of a command are valid
 abbrev pub values_pass : Verb → List Setting → List (List ℕ) → Bool
 values_pass verb.Init settings texts = true
 values_pass verb.Topics settings texts = true
@@ -97,19 +106,22 @@ values_pass verb.Apply settings texts = apply_passes (is_given (codes "lines") s
 values_pass verb.Replay settings texts = replay_passes (value_of (codes "prefix") settings) (value_of (codes "db") settings) (value_of (codes "placeholder") settings) texts
 values_pass verb.Gen settings texts = gen_passes texts (value_of (codes "rows") settings) (value_of (codes "groups") settings)
 
--- ---- the command that they ask for
+-- ---- the command that they request
 
+-- the value of an option, or `demo`
 abbrev pub name_or_demo : Option (List ℕ) → List ℕ
 name_or_demo value = unwrap_or value (codes "demo")
 
+-- the value of an option, or Debezium's default placeholder
 abbrev pub placeholder_or_own : Option (List ℕ) → List ℕ
 placeholder_or_own value = unwrap_or value default_placeholder
 
--- the number that the one word spells
+-- the number of the one positional argument
 abbrev pub number_in : List (List ℕ) → ℕ
 number_in [] = 0
 number_in (text ∷ texts) = digits_value 10 text
 
+-- the command of `capture` with these values
 abbrev pub capture_of : Option (List ℕ) → Option (List ℕ) → Option (List ℕ) → Option (List ℕ) → Option (List ℕ) → Option (List ℕ) → List (List ℕ) → Command
 capture_of prefix db placeholder chunk every messages texts =
     command.Capture (record {
@@ -122,18 +134,23 @@ capture_of prefix db placeholder chunk every messages texts =
       tables = map table_in texts;
     })
 
+-- the command of `resume` with these values
 abbrev pub resume_of : Option (List ℕ) → Option (List ℕ) → Option (List ℕ) → Command
 resume_of chunk every messages = command.Resume (number_or 1000 chunk) (number_or 100 every) (number_or 999999999 messages)
 
+-- the command of `apply` with these values
 abbrev pub apply_of : Bool → Option (List ℕ) → Command
 apply_of lines placeholder = command.Apply lines (placeholder_or_own placeholder)
 
+-- the command of `replay` with these values
 abbrev pub replay_of : Option (List ℕ) → Option (List ℕ) → Option (List ℕ) → List (List ℕ) → Command
 replay_of prefix db placeholder texts = command.Replay (name_or_demo prefix) (name_or_demo db) (placeholder_or_own placeholder) (map key_in texts)
 
+-- the command of `gen` with these values
 abbrev pub gen_of : List (List ℕ) → Option (List ℕ) → Option (List ℕ) → Bool → Command
 gen_of texts rows groups run = command.Gen (number_in texts) (number_or 2500 rows) (number_or 500 groups) run
 
+-- the command with these settings and positional arguments
 abbrev pub command_of : Verb → List Setting → List (List ℕ) → Command
 command_of verb.Init settings texts = command.Init
 command_of verb.Topics settings texts = command.Topics
@@ -146,7 +163,7 @@ command_of verb.Apply settings texts = apply_of (is_given (codes "lines") settin
 command_of verb.Replay settings texts = replay_of (value_of (codes "prefix") settings) (value_of (codes "db") settings) (value_of (codes "placeholder") settings) texts
 command_of verb.Gen settings texts = gen_of texts (value_of (codes "rows") settings) (value_of (codes "groups") settings) (is_given (codes "run") settings)
 
--- The words spell the command: its name, and then a list of items of its form, whose values pass.
+-- The arguments parse as the command: its name, then a list of items of its form with valid values.
 pub record Spells (words : List (List ℕ)) (command : Command) : Type 0 where
   pub verb : Verb
   pub rest : List (List ℕ)

@@ -1,9 +1,9 @@
--- The limits of what a command holds. Source: own.
+-- The limits of a command's values.
 use Rattle.std.specs.Prelude.{◌≡◌, ℕ, ◌≤◌, ◌&&◌, nat_lt, Bool, true, List, length}
 use Rattle.std.specs.List.{list_all}
-use Rattle.dbl_table.specs.declared.table.TableKey.{TableKey}
-use Rattle.dbl_table.specs.declared.table.TableName.{TableName}
-use Rattle.dbl_table.specs.Tables.{is_name, same_name, are_distinct}
+use Rattle.dbl_model_table.specs.declared.table.TableKey.{TableKey}
+use Rattle.dbl_model_table.specs.declared.table.TableName.{TableName}
+use Rattle.dbl_model_table.specs.Tables.{is_name, same_name, are_distinct}
 use Rattle.dbl_cli.specs.declared.commands.Command.{Command}
 use Rattle.dbl_cli.specs.declared.commands.Command.TheVariants.{Init, Topics, Offsets, Capture, Resume, Apply, Replay, Gen}
 use Rattle.dbl_cli.specs.Values.{is_placeholder, is_named, is_column, tables_in}
@@ -12,32 +12,34 @@ use Rattle.dbl_cli.specs.Values.{is_placeholder, is_named, is_column, tables_in}
 abbrev pub IsBetween : ℕ → ℕ → ℕ → Type 0
 IsBetween least most number = (least ≤ number) × (number ≤ most)
 
--- names of 1 to 63 letters, digits, `_` and `-`, and a placeholder of 1 to 255 bytes
+-- valid names of 1 to 63 letters, digits, `_` and `-`, and a placeholder of 1 to 255 bytes
 pub record AreGoodNames (prefix db placeholder : List ℕ) : Type 0 where
   pub prefix_is : is_name prefix ≡ true
   pub db_is : is_name db ≡ true
   pub placeholder_is : is_placeholder placeholder ≡ true
 
+-- a valid number of rows per chunk, of commits between offset stores, and of messages to read
 pub record IsGoodPace (chunk every messages : ℕ) : Type 0 where
   pub chunk_is : IsBetween 1 100000 chunk
   pub every_is : IsBetween 1 10000 every
   pub messages_are : IsBetween 1 999999999 messages
 
--- at most 64 tables with such names, none twice
+-- at most 64 tables with valid names, all different
 pub record AreGoodTables (tables : List TableName) : Type 0 where
   pub few : length tables ≤ 64
   pub named : list_all is_named tables ≡ true
   pub distinct : are_distinct same_name tables ≡ true
 
--- a table's key has a column, and each has a name
+-- a table's key has at least one column, and each column has a name
 abbrev pub has_columns : TableKey → Bool
 has_columns key = nat_lt 0 (length key.columns) && list_all is_column key.columns
 
+-- keys of valid tables, each with columns
 pub record AreGoodKeys (keys : List TableKey) : Type 0 where
   pub tables : AreGoodTables (tables_in keys)
   pub columns : list_all has_columns keys ≡ true
 
--- what a command holds is within the limits
+-- the values of a command are within their limits
 abbrev pub IsWithin : Command → Type 0
 IsWithin Init = Unit {0}
 IsWithin Topics = Unit {0}

@@ -1,67 +1,73 @@
--- The values of options, and the words in capitals. Source: own.
+-- The values of options, and the positional arguments.
 use Rattle.std.specs.Prelude.{ℕ, ◌==◌, ◌&&◌, nat_lt, nat_le, Bool, true, Option, List, length, map}
 use Rattle.std.specs.Char.{is_ascii_digit}
 use Rattle.std.specs.List.{list_all, before_first, after_first, slice_split}
 use Rattle.std.specs.Option.{option_map_or}
 use Rattle.std.specs.Str.Parse.{digits_value}
-use Rattle.dbl_table.specs.declared.table.TableName.{TableName}
-use Rattle.dbl_table.specs.Tables.{is_name, same_name, are_distinct}
-use Rattle.dbl_table.specs.declared.table.TableKey.{TableKey}
+use Rattle.dbl_model_table.specs.declared.table.TableName.{TableName}
+use Rattle.dbl_model_table.specs.Tables.{is_name, same_name, are_distinct}
+use Rattle.dbl_model_table.specs.declared.table.TableKey.{TableKey}
 
--- 1 to 9 decimal digits, whose number is within bounds
+-- 1 to 9 decimal digits whose number is within bounds
 abbrev pub is_number : ℕ → ℕ → List ℕ → Bool
 is_number least most text = nat_lt 0 (length text) && nat_le (length text) 9 && list_all is_ascii_digit text && nat_le least (digits_value 10 text) && nat_le (digits_value 10 text) most
 
--- the number of an option, or its default where the option isn't given
+-- the number of an option, or the default if it is absent
 abbrev pub number_or : ℕ → Option (List ℕ) → ℕ
 number_or default value = option_map_or (digits_value 10) value default
 
--- an option that is given passes
+-- the option is absent or its value passes the test
 abbrev pub passes : (List ℕ → Bool) → Option (List ℕ) → Bool
 passes test value = option_map_or test value true
 
--- 1 to 255 bytes
+-- a valid placeholder: 1 to 255 bytes
 abbrev pub is_placeholder : List ℕ → Bool
 is_placeholder text = nat_lt 0 (length text) && nat_le (length text) 255
 
+-- the byte is `.`
 abbrev pub is_dot : ℕ → Bool
 is_dot c = c == 46
 
+-- the byte is `:`
 abbrev pub is_colon : ℕ → Bool
 is_colon c = c == 58
 
+-- the byte is `,`
 abbrev pub is_comma : ℕ → Bool
 is_comma c = c == 44
 
--- `<schema>.<name>`, each of 1 to 63 letters, digits, `_` and `-`
+-- the table of `<schema>.<name>`, each of 1 to 63 letters, digits, `_` and `-`
 abbrev pub table_in : List ℕ → TableName
 table_in word = record { schema = before_first is_dot word; name = after_first is_dot word }
 
+-- the table's schema and name are valid
 abbrev pub is_named : TableName → Bool
 is_named table = is_name table.schema && is_name table.name
 
--- where the dot is missing, the name behind it is empty, and no name is
+-- the argument is a valid table; without a dot the name is empty, which is invalid
 abbrev pub is_table : List ℕ → Bool
 is_table word = is_named (table_in word)
 
--- no table twice
+-- the arguments are valid tables, all different
 abbrev pub are_tables : List (List ℕ) → Bool
 are_tables words = list_all is_table words && are_distinct same_name (map table_in words)
 
--- `<table>:<columns>`, the columns' names with commas between them, each of at least one character
+-- the key of `<table>:<columns>`, the columns' names separated by commas, each of at least one character
 abbrev pub key_in : List ℕ → TableKey
 key_in word = record { table = table_in (before_first is_colon word); columns = slice_split is_comma (after_first is_colon word) }
 
+-- the column's name isn't empty
 abbrev pub is_column : List ℕ → Bool
 is_column text = nat_lt 0 (length text)
 
--- where the colon is missing, the one column behind it is empty, and no column is
+-- the argument is a valid key; without a colon its one column is empty, which is invalid
 abbrev pub is_key : List ℕ → Bool
 is_key word = is_table (before_first is_colon word) && list_all is_column (key_in word).columns
 
+-- the tables of the keys
 abbrev pub tables_in : List TableKey → List TableName
 tables_in keys = map (λ (key : TableKey). key.table) keys
 
--- no table twice
+-- the arguments are valid keys of different tables
 abbrev pub are_keys : List (List ℕ) → Bool
 are_keys words = list_all is_key words && are_distinct same_name (tables_in (map key_in words))

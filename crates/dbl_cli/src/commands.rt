@@ -1,7 +1,7 @@
 use dbl_base::{Seq, Text};
-use dbl_table::{TableKey, TableName};
+use dbl_model_table::{TableKey, TableName};
 
-/// How a capture goes.
+/// The options of a capture.
 #[derive(Debug, Drop)]
 pub struct CaptureOptions {
     pub prefix: Text,
@@ -13,7 +13,7 @@ pub struct CaptureOptions {
     pub tables: Seq<TableName>,
 }
 
-/// What the words of a command line ask for. An option that isn't given has its default.
+/// A parsed command line; absent options have their defaults.
 #[derive(Debug, Drop)]
 pub enum Command {
     Init,

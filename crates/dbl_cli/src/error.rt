@@ -1,7 +1,7 @@
 use std::alloc::{AllocError, AllocFailed};
 use thiserror::Error;
 
-/// Why words spell no command.
+/// Why arguments parse as no command.
 #[derive(Clone, Copy, Debug, PartialEq, Eq, Error)]
 pub enum CliError {
     #[error("usage")]

@@ -1,21 +1,22 @@
-//! The product's own look at the words: which of them begin with `-`, and where the words in capitals stand.
+//! The product's own check of the arguments: which of them begin with `-`, and where the positional
+//! arguments are.
 
 ghost use Rattle.std.specs.Prelude.{◌≡◌, ◌≤◌, false, Some, length, drop, option_map, position, IfSome};
 ghost use Rattle.std.specs.List.{list_any, before_first};
 ghost use Rattle.dbl_cli.specs.Items.{is_dashed};
 ghost use Rattle.dbl_cli.specs.Names.{all_named, texts};
-ghost use Rattle.dbl_cli.specs.Checks.{is_equals, behind_hyphens, kind_of, next_of, behind, plain_len, is_end, ends_well, are_items};
+ghost use Rattle.dbl_cli.specs.Checks.{is_equals, after_hyphens, kind_of, next_of, words_after, plain_len, is_end, ends_well, are_items};
 
 use crate::names::{Name, has_value};
 
-/// What a word is where an item may begin, or the value of an option.
+/// The role of an argument that begins an item or follows an option.
 #[derive(Clone, Copy)]
 pub enum Next {
-    /// A flag, an option with its value, or the value of an option.
+    /// A flag, an option joined with its value, or the value of an option.
     Item,
-    /// An option whose value is the next word.
+    /// An option whose value is the next argument.
     Value,
-    /// A word in capitals.
+    /// A positional argument.
     Stop,
     Bad,
 }
@@ -29,9 +30,9 @@ fn is_dashed(word: &str) -> bool
     }
 }
 
-/// What follows two hyphens.
-fn behind_hyphens(word: &[u8]) -> Option<&[u8]>
-    ensures { option_map (λ rest. rest.now) result ≡ behind_hyphens word.now }
+/// The rest of an argument after two hyphens.
+fn after_hyphens(word: &[u8]) -> Option<&[u8]>
+    ensures { option_map (λ rest. rest.now) result ≡ after_hyphens word.now }
 {
     match word {
         [a, b, rest @ ..] if *a == b'-' && *b == b'-' => Some(rest),
@@ -45,7 +46,7 @@ fn equals_at(rest: &[u8]) -> Option<usize>
     rest.iter().position(|b| *b == b'=')
 }
 
-/// What stands before the first `=`, and whether there is one.
+/// The name before the first `=`, and whether there is one.
 fn name_in(rest: &[u8]) -> (&[u8], bool)
     ensures name { result.0.now ≡ before_first is_equals rest.now }
     ensures joined { result.1 ≡ list_any is_equals rest.now }
@@ -59,7 +60,7 @@ fn name_in(rest: &[u8]) -> (&[u8], bool)
 fn kind_of(names: &[Name], word: &str) -> Next
     ensures { result ≡ kind_of (all_named names.now) word.now }
 {
-    let Some(rest) = behind_hyphens(word.as_bytes()) else {
+    let Some(rest) = after_hyphens(word.as_bytes()) else {
         return Next::Bad;
     };
     let (name, is_joined) = name_in(rest);
@@ -72,7 +73,7 @@ fn kind_of(names: &[Name], word: &str) -> Next
     }
 }
 
-/// What a word is behind others, of which the last may be an option that waits for its value.
+/// The role of an argument after others, of which the last may be an option that awaits its value.
 fn next_of(names: &[Name], waits: bool, word: &str) -> Next
     ensures { result ≡ next_of (all_named names.now) waits word.now }
 {
@@ -89,10 +90,10 @@ fn next_of(names: &[Name], waits: bool, word: &str) -> Next
     }
 }
 
-/// Where the flags and options that stand first end, if they are known.
-fn behind(names: &[Name], words: &[&str]) -> Option<usize>
+/// The index after the leading flags and options, if they are known.
+fn words_after(names: &[Name], words: &[&str]) -> Option<usize>
     ensures words { option_map (λ end. texts (drop end words.now)) result ≡
-        behind (all_named names.now) false (texts words.now) }
+        words_after (all_named names.now) false (texts words.now) }
     ensures within { IfSome result (λ end. end ≤ length words.now) }
 {
     let mut waits = false;
@@ -107,7 +108,7 @@ fn behind(names: &[Name], words: &[&str]) -> Option<usize>
     if waits { None } else { Some(words.len()) }
 }
 
-/// How many words stand first that don't begin with `-`.
+/// The number of leading arguments that don't begin with `-`.
 fn plain_len(words: &[&str]) -> usize
     ensures len { result ≡ plain_len (texts words.now) }
     ensures within { result ≤ length words.now }
@@ -122,17 +123,18 @@ fn plain_len(words: &[&str]) -> usize
     len
 }
 
-/// Whether the words are flags and options to their end.
+/// Whether the arguments consist of flags and options.
 fn is_end(names: &[Name], words: &[&str]) -> bool
-    ensures { result ≡ is_end (behind (all_named names.now) false (texts words.now)) }
+    ensures { result ≡ is_end (words_after (all_named names.now) false (texts words.now)) }
 {
-    match behind(names, words) {
+    match words_after(names, words) {
         Some(end) => end == words.len(),
         None => false,
     }
 }
 
-/// Whether the words, of which the first is no flag or option, end as items do.
+/// Whether the arguments, which begin with no flag or option, are positional ones followed by flags
+/// and options.
 fn ends_well(names: &[Name], least: usize, most: usize, words: &[&str]) -> bool
     ensures { result ≡ ends_well (all_named names.now) least most (Some (texts words.now)) }
 {
@@ -143,11 +145,11 @@ fn ends_well(names: &[Name], least: usize, most: usize, words: &[&str]) -> bool
     least <= places && places <= most
 }
 
-/// Whether the words are a list of items, but for a name that is given twice.
+/// Whether the arguments are a valid list of items, apart from names given twice.
 pub fn are_items(names: &[Name], least: usize, most: usize, words: &[&str]) -> bool
     ensures { result ≡ are_items (all_named names.now) least most (texts words.now) }
 {
-    match behind(names, words) {
+    match words_after(names, words) {
         Some(start) => ends_well(names, least, most, &words[start..]),
         None => false,
     }

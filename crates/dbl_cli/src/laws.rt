@@ -1,16 +1,16 @@
-//! What holds of the grammar.
+//! Theorems about the grammar; the functions have empty bodies.
 
 ghost use Rattle.std.specs.Prelude.{◌≡◌, ◌⊎◌, ℕ, List};
 ghost use Rattle.dbl_cli.specs.declared.commands.Command.{Command};
 ghost use Rattle.dbl_cli.specs.Commands.{Spells};
 
-/// Words spell at most one command.
+/// Arguments parse as at most one command.
 pub fn words_spell_one_command()
     ensures { (words : List (List ℕ)) (one other : Command) → Spells words one →
         Spells words other → one ≡ other }
 {}
 
-/// Words spell a command, or they spell none: which of the two can be told of all of them.
+/// Whether arguments parse as a command is decidable.
 pub fn words_spell_or_not()
     ensures { (words : List (List ℕ)) → ((command : Command) × Spells words command) ⊎
         ((command : Command) → Spells words command → ⊥) }

@@ -1,4 +1,4 @@
-//! The words of the command line.
+//! Command-line arguments.
 #![tactic(auto)]
 
 mod commands;

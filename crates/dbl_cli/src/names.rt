@@ -5,7 +5,7 @@ ghost use Rattle.dbl_cli.specs.Commands.{names_of, least_of, most_of};
 
 use crate::verbs::Verb;
 
-/// The name of a flag, or of an option, which has a value.
+/// The name of a flag, or of an option, which takes a value.
 #[derive(Clone, Copy)]
 pub struct Name {
     pub text: &'static str,
@@ -111,7 +111,7 @@ pub fn names_of(verb: Verb) -> &'static [Name]
     }
 }
 
-/// At least so many words in capitals stand behind the command.
+/// The minimum number of positional arguments of a command.
 pub fn least_of(verb: Verb) -> usize
     ensures { result ≡ least_of verb }
 {
@@ -121,7 +121,7 @@ pub fn least_of(verb: Verb) -> usize
     }
 }
 
-/// At most so many.
+/// The maximum number of positional arguments of a command.
 pub fn most_of(verb: Verb) -> usize
     ensures { result ≡ most_of verb }
 {
@@ -138,7 +138,7 @@ fn is_name(name: &Name, text: &[u8]) -> bool
     name.text.as_bytes() == text
 }
 
-/// Whether the flag or option of a name has a value, if there is one.
+/// Whether the flag or option of this name takes a value, if there is one.
 pub fn has_value(names: &[Name], text: &[u8]) -> Option<bool>
     ensures { result ≡ has_value (all_named names.now) text.now }
 {

@@ -1,4 +1,4 @@
-//! What clap is told of a command.
+//! The clap parser of a command.
 
 ghost use Rattle.std.specs.Prelude.{◌≡◌, false, IfOk, map};
 ghost use Rattle.clap.specs.Words.{app_of, rule_of};
@@ -9,7 +9,7 @@ use crate::names::Name;
 use clap::{Arg, ArgAction};
 use std::alloc::{AllocError, Global};
 
-/// The name by which the words in capitals go.
+/// The name of the positional arguments in clap.
 pub const PLACE: &str = "WORD";
 
 fn argument<'a>(alloc: Global, name: Name) -> Arg<'a>
@@ -50,7 +50,7 @@ fn with_names<'a>(alloc: Global, names: &[Name]) -> Result<clap::Command<'a>, Al
     Ok(parser)
 }
 
-/// A command of these flags and options, and of words in capitals.
+/// The clap parser for these flags and options, and for positional arguments.
 pub fn parser_of<'a>(
     alloc: Global,
     names: &[Name],

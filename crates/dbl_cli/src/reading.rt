@@ -1,4 +1,4 @@
-//! From what clap found to commands.
+//! From clap's matches to commands.
 
 ghost use Rattle.std.specs.Prelude.{◌≡◌, ◌==◌, ◌&&◌, ℕ, List, codes, length, map, option_copied};
 ghost use Rattle.std.specs.List.{list_all};
@@ -18,7 +18,7 @@ use crate::verbs::Verb;
 use crate::{CaptureOptions, CliError, Command};
 use clap::ArgMatches;
 use dbl_base::{Seq, Text};
-use dbl_table::{TableKey, TableName};
+use dbl_model_table::{TableKey, TableName};
 use std::alloc::Global;
 
 #[derive(Drop)]
@@ -168,7 +168,7 @@ fn replay(alloc: Global, found: &ArgMatches<'_>) -> Result<Command, CliError>
     })
 }
 
-/// The number that the one word in capitals spells, if there is one.
+/// The number of the one positional argument, if there is one.
 fn number_in(found: &ArgMatches<'_>) -> Result<u32, CliError>
     ensures { Reads ((length (places_in found.now) == 1) && list_all (is_number 0 999999999)
         (places_in found.now)) (number_in (places_in found.now)) result }
@@ -196,7 +196,7 @@ fn generate(found: &ArgMatches<'_>, run: bool) -> Result<Command, CliError>
     })
 }
 
-/// What was found, read as a command.
+/// Reads clap's matches as a command.
 pub fn read(alloc: Global, verb: Verb, found: &ArgMatches<'_>) -> Result<Command, CliError>
     ensures { (settings : List Setting) (words : List (List ℕ)) →
         Finds verb found.now settings words →

@@ -1,4 +1,4 @@
-//! From words to commands.
+//! From arguments to commands.
 
 ghost use Rattle.std.specs.Prelude.{◌≡◌, IfOk};
 ghost use Rattle.dbl_cli.specs.Names.{texts};
@@ -44,8 +44,8 @@ fn texts_of(alloc: Global, words: &[Text]) -> Result<Vec<&str>, AllocError>
     Ok(items)
 }
 
-/// The command that the words behind the program's name spell. Without an option its default holds. `Usage` where they spell
-/// none. What it holds is within its limits.
+/// Parses the arguments after the program's name; `Usage` if they are no command. Absent options
+/// have their defaults, and all values are within their limits.
 pub fn command(alloc: Global, words: &Vec<Text>) -> Result<Command, CliError>
     ensures spelled { IfOk result (λ command. Spells words.now.items command) }
     ensures usage { result ≡ Err CliError.Usage →

@@ -1,11 +1,11 @@
-//! The values of options, and the words in capitals.
+//! The values of options, and the positional arguments.
 
 ghost use Rattle.std.specs.Prelude.{◌≡◌, ◌<◌, ◌≤◌, ◌&&◌, true, Some, length, map, codes, unwrap_or, option_copied, IfOk};
 ghost use Rattle.std.specs.List.{list_all, list_any, slice_split};
 ghost use Rattle.std.specs.Char.{is_ascii_digit};
 ghost use Rattle.std.specs.Str.Parse.{digits_value};
-ghost use Rattle.dbl_table.specs.Tables.{is_name_byte, is_name, are_distinct, same_name};
-ghost use Rattle.dbl_table.specs.Identities.{default_placeholder};
+ghost use Rattle.dbl_model_table.specs.Tables.{is_name_byte, is_name, are_distinct, same_name};
+ghost use Rattle.dbl_model_table.specs.Identities.{default_placeholder};
 ghost use Rattle.dbl_cli.specs.Names.{texts};
 ghost use Rattle.dbl_cli.specs.Values.{is_number, number_or, passes, is_placeholder, is_comma, table_in, is_table};
 ghost use Rattle.dbl_cli.specs.Values.{are_tables, key_in, is_column, is_key, tables_in, are_keys};
@@ -13,7 +13,7 @@ ghost use Rattle.dbl_cli.specs.Reads.{Reads, ReadsBy};
 
 use crate::CliError;
 use dbl_base::{Seq, Text};
-use dbl_table::{TableKey, TableName};
+use dbl_model_table::{TableKey, TableName};
 use std::alloc::{AllocError, Global};
 
 fn are_digits(text: &str) -> bool
@@ -34,7 +34,7 @@ fn digits_value(text: &str) -> Option<u32>
     }
 }
 
-/// The number that 1 to 9 decimal digits spell, within bounds.
+/// Parses a number of 1 to 9 decimal digits, within bounds.
 pub fn number(text: &str, least: u32, most: u32) -> Result<u32, CliError>
     ensures { Reads (is_number least most text.now) (digits_value 10 text.now) result }
 {
@@ -70,7 +70,7 @@ fn are_name_letters(text: &str) -> bool
     text.bytes().all(is_name_letter)
 }
 
-/// 1 to 63 letters, digits, `_` and `-`.
+/// Whether the text is 1 to 63 letters, digits, `_` and `-`.
 fn is_name(text: &str) -> bool
     ensures { result ≡ is_name text.now }
 {
@@ -86,7 +86,7 @@ fn name(alloc: Global, text: &str) -> Result<Text, CliError>
     Ok(Text::of(alloc, text)?)
 }
 
-/// The name that an option gives, or `demo`.
+/// The name of an option, or `demo`.
 pub fn name_or_demo(alloc: Global, text: Option<&str>) -> Result<Text, CliError>
     ensures { Reads (passes is_name (option_copied text.entry))
         (unwrap_or (option_copied text.entry) (codes "demo")) result }
@@ -106,7 +106,7 @@ fn placeholder(alloc: Global, text: &str) -> Result<Text, CliError>
     Ok(Text::of(alloc, text)?)
 }
 
-/// The placeholder that an option gives, or Debezium's own.
+/// The placeholder of an option, or Debezium's default.
 pub fn placeholder_or_own(alloc: Global, text: Option<&str>) -> Result<Text, CliError>
     ensures { Reads (passes is_placeholder (option_copied text.entry))
         (unwrap_or (option_copied text.entry) default_placeholder) result }
@@ -117,7 +117,7 @@ pub fn placeholder_or_own(alloc: Global, text: Option<&str>) -> Result<Text, Cli
     }
 }
 
-/// `<schema>.<name>`
+/// Parses a table, `<schema>.<name>`.
 fn table(alloc: Global, word: &str) -> Result<TableName, CliError>
     ensures { Reads (is_table word.now) (table_in word.now) result }
 {
@@ -157,7 +157,7 @@ fn are_distinct_tables(tables: &[TableName]) -> bool
     true
 }
 
-/// The tables that the words name, none twice.
+/// Parses the tables of the arguments, which must differ.
 pub fn tables(alloc: Global, words: &[&str]) -> Result<Seq<TableName>, CliError>
     ensures { Reads (are_tables (texts words.now)) (map table_in (texts words.now)) result }
 {
@@ -189,7 +189,7 @@ fn all_columns(alloc: Global, words: &[&str]) -> Result<Vec<Text>, CliError>
     Ok(columns)
 }
 
-/// `<table>:<columns>`
+/// Parses a table's key, `<table>:<columns>`.
 fn key(alloc: Global, word: &str) -> Result<TableKey, CliError>
     ensures { Reads (is_key word.now) (key_in word.now) result }
 {
@@ -238,7 +238,7 @@ fn are_distinct_keys(keys: &[TableKey]) -> bool
     true
 }
 
-/// The keys that the words name, no table twice.
+/// Parses the keys of the arguments, whose tables must differ.
 pub fn keys(alloc: Global, words: &[&str]) -> Result<Seq<TableKey>, CliError>
     ensures { Reads (are_keys (texts words.now)) (map key_in (texts words.now)) result }
 {

@@ -1,7 +1,7 @@
 ghost use Rattle.std.specs.Prelude.{◌≡◌, MatchOption};
 ghost use Rattle.dbl_cli.specs.Commands.{name_of};
 
-/// The commands, by their first word.
+/// A command, named by the first argument.
 #[derive(Clone, Copy)]
 pub enum Verb {
     Init,
@@ -14,7 +14,7 @@ pub enum Verb {
     Gen,
 }
 
-/// The command of this name.
+/// The command with this name.
 pub fn verb_of(word: &str) -> Option<Verb>
     ensures { MatchOption result ((verb : _) → name_of verb ≡ word.now → ⊥)
         (λ verb. name_of verb ≡ word.now) }

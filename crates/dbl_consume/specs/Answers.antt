@@ -1,8 +1,8 @@
--- For private clauses: a wanted answer, and the one that is given.
+-- For private clauses: a required result, and the actual one.
 use Rattle.std.specs.Prelude.{◌≡◌, ◌≢◌, Result, Ok, Err, MatchResult}
 use Rattle.dbl_record.specs.declared.acts.ConsumeError.{ConsumeError}
 use Rattle.dbl_record.specs.declared.acts.ConsumeError.TheVariants.{Memory}
 
--- the wanted answer is given, unless memory runs out
+-- the result is the required one, unless memory runs out
 abbrev pub Answers : {A : Type 0} → Result A ConsumeError → Result A ConsumeError → Type 0
 Answers want result = MatchResult result (λ a. want ≡ Ok a) (λ e. e ≢ Memory → want ≡ Err e)

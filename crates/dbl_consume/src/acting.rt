@@ -1,4 +1,4 @@
-//! What a record does, and why it is refused.
+//! The effect of a record, and why one is refused.
 ghost use Rattle.std.specs.Prelude.{◌≡◌, ◌≢◌, List, ℕ, Some, None, IfOk, IfErr, OnOk, MatchResult, option_map};
 ghost use Rattle.std.specs.Prelude.{option_and_then, unwrap_or, false, ◌==◌};
 ghost use Rattle.serde_json.specs.Data.{object};
@@ -47,7 +47,8 @@ fn payload(value: &Value) -> Option<&Value>
     }
 }
 
-/// The payload of an object of exactly `schema` and `payload`, where that is an object, and else the value itself.
+/// The payload of an object that consists of `schema` and `payload`, if that is an object, else the
+/// value itself.
 fn bare_value(value: &Value) -> &Value
     ensures { view result.now ≡ spec.bare_value (view value.now) }
 {
@@ -116,7 +117,7 @@ fn check_cells(alloc: Global, cells: &Map<String, Value>) -> Result<(), ConsumeE
     Ok(())
 }
 
-/// The text of a cell, unless it wasn't sent.
+/// The text of a cell, or none if it wasn't sent.
 fn sent_text(alloc: Global, placeholder: &Text, cell: &Value) -> Result<Option<Text>, AllocError>
     requires { has_float (view cell.now) ≡ false }
     ensures { IfOk result (λ text. text ≡ spec.sent_text placeholder.now (view cell.now)) }
@@ -211,7 +212,7 @@ fn act_by(
     }
 }
 
-/// What a record does, by its key and its value without their schemas.
+/// The effect of a record, given its key and value without schema envelopes.
 fn act_of(
     alloc: Global,
     placeholder: &Text,
@@ -235,7 +236,7 @@ fn is_progress(topic: &Text) -> bool
     topic.as_str().as_bytes().ends_with(b".dblog-progress")
 }
 
-/// What a record does, by its topic and by what its key and its value are read as.
+/// The effect of a record, given its topic and its parsed key and value.
 #[tactic(auto, unfolding(dbl_record::specs::Acts::act_of))]
 pub(crate) fn act_of_values(
     alloc: Global,
@@ -257,7 +258,7 @@ pub(crate) fn act_of_values(
     act_of(alloc, placeholder, bare_value(key), bare_value(value))
 }
 
-/// A text as JSON.
+/// Parses a text as JSON.
 #[tactic(auto, unfolding(dbl_record::specs::Acts::json_in))]
 fn value_of(alloc: Global, text: &Text) -> Result<Value, ConsumeError>
     ensures ok { IfOk result (λ v. json_in text.now ≡ Some (view v)) }
@@ -273,7 +274,7 @@ fn value_of(alloc: Global, text: &Text) -> Result<Value, ConsumeError>
     }
 }
 
-// By a key that was read, and by the text of the value.
+// The effect of a record, given its parsed key and the text of its value.
 fn act_by_key(
     alloc: Global,
     placeholder: &Text,
@@ -289,7 +290,7 @@ fn act_by_key(
     }
 }
 
-/// What a record does, by its texts.
+/// The effect of a record, given its texts.
 #[tactic(auto, unfolding(dbl_record::specs::Acts::act_of))]
 pub(crate) fn act(
     alloc: Global,

@@ -5,7 +5,7 @@ ghost use Rattle.dbl_record.specs.Acts as spec;
 ghost use Rattle.dbl_record.specs.Acts.{Reading, reading_of};
 ghost use Rattle.dbl_record.specs.Consumers.{consumer_of};
 ghost use Rattle.dbl_consume.specs.Holdings.{Took, placeholder_of, tables_of};
-ghost use Rattle.dbl_base.specs.Streams.{HasCause};
+ghost use Rattle.dbl_base.specs.Streams.{FailsOnlyIfCounted};
 ghost use Rattle.dbl_lines.specs.declared.error.PrintError.TheVariants.{OutputFailed};
 ghost use Rattle.dbl_consume.specs.Printing.{PrintsRows};
 ghost use Rattle.dbl_consume.specs.Rows.{row_at};
@@ -20,7 +20,7 @@ use serde_json::Value;
 use std::alloc::Global;
 use std::collections::BTreeMap;
 
-/// What a consumer of change events holds, by topic, by the text of the key, and by column.
+/// The state of a consumer of change events, by topic, key text and column.
 #[derive(Drop)]
 pub struct Consumer {
     alloc: Global,
@@ -29,8 +29,8 @@ pub struct Consumer {
 }
 
 impl Consumer {
-    /// A consumer that holds nothing, with the placeholder of values that weren't sent. Takes no memory; later calls use
-    /// the allocator.
+    /// Makes a consumer with empty state, given the placeholder of values that weren't sent. Takes
+    /// no memory; later calls use the allocator.
     pub fn make(alloc: Global, placeholder: Text) -> Result<Consumer, ConsumeError>
         ensures took { IfOk result (Took []) }
         ensures placeholder { IfOk result (λ c. placeholder_of c ≡ placeholder) }
@@ -43,15 +43,13 @@ impl Consumer {
         })
     }
 
-    /// Takes a record: a topic, and the JSON texts of a key and a value. Once memory ran out the consumer is to be
-    /// given up.
+    /// Applies a record: a topic, and the JSON texts of a key and a value. After memory ran out the
+    /// consumer must not be used.
     pub fn apply(&mut self, topic: &Text, key: &Text, value: &Text) -> Result<(), ConsumeError>
-        // An Ok appends the record to those that were taken.
         ensures took { (taken : List Reading) → Took taken self.old →
             OnOk result (Took (taken ++ reading_of
             (record { topic = topic.now; key = key.now; value = value.now }) ∷ []) self.new) }
 
-        // A record is refused exactly where its act is a fault, which is answered, and then nothing changes.
         ensures accepted { OnOk result (IsOk (spec.act (placeholder_of self.old)
             (record { topic = topic.now; key = key.now; value = value.now }))) }
         ensures refused { IfErr result (λ e. e ≢ Memory → spec.act (placeholder_of self.old)
@@ -65,7 +63,7 @@ impl Consumer {
         }
     }
 
-    /// Takes a record whose key and value were read.
+    /// Applies a record whose key and value are parsed.
     pub fn apply_values(
         &mut self,
         topic: &Text,
@@ -102,7 +100,7 @@ impl Consumer {
         }
     }
 
-    /// The rows that are held. Takes no memory.
+    /// The rows of the consumer's state.
     pub fn tables(&self) -> &Tables
         ensures same { result.now ≡ tables_of self.now }
         ensures rows { (taken : List Reading) → Took taken self.now → (topic key : List ℕ) →
@@ -111,13 +109,13 @@ impl Consumer {
         &self.tables
     }
 
-    /// Writes a line for each row that is held: the topic, the key's text and the row as a JSON object, topics and keys
-    /// in byte order. A cell whose value isn't known is `{}`.
+    /// Prints a line for each row: the topic, the key text and the row as a JSON object, topics and
+    /// keys in byte order. A cell of unknown value is `{}`.
     pub fn print<O: Output>(&self, output: &mut O) -> Result<(), PrintError>
         ensures prints { (taken : List Reading) → Took taken self.now →
             PrintsRows (consumer_of (placeholder_of self.now) taken) result
             (O.written output.old) (O.written output.new) }
-        ensures cause { HasCause (result ≡ Err OutputFailed)
+        ensures cause { FailsOnlyIfCounted (result ≡ Err OutputFailed)
             (O.faults output.old) (O.faults output.new) }
     {
         look_at_order(&self.tables);

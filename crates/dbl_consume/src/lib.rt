@@ -1,4 +1,4 @@
-//! The consumer of change events: the tables that it holds, by topic, key and column.
+//! The consumer of change events: the state of its tables, by topic, key and column.
 #![tactic(auto)]
 
 mod acting;

@@ -1,8 +1,8 @@
-//! The text of the rows that are held.
+//! The text of a consumer's rows.
 ghost use Rattle.std.specs.Prelude.{◌≡◌, ◌++◌, ◌∷◌, [], List, ℕ, OnOk, IfOk, IfErr, Err, map, codes, false, if◌then◌else◌};
 ghost use Rattle.std.specs.BTreeMap.{IsOrdered};
 ghost use Rattle.json.specs.Print.{quoted};
-ghost use Rattle.dbl_base.specs.Streams.{HasCause};
+ghost use Rattle.dbl_base.specs.Streams.{FailsOnlyIfCounted};
 ghost use Rattle.dbl_base.specs.Texts.{text_cmp};
 ghost use Rattle.dbl_lines.specs.declared.error.PrintError.TheVariants.{OutputFailed, Memory};
 ghost use Rattle.dbl_lines.specs.Writing.{Prints};
@@ -52,7 +52,7 @@ fn append_cell(
     Ok(named)
 }
 
-// The cells of a row, and the brace behind them.
+// Appends the cells of a row, and the closing brace.
 fn append_cells(out: Vec<u8>, row: &Row) -> Result<Vec<u8>, AllocError>
     ensures { IfOk result (λ done. done.items ≡ out.items ++ cells_tail false row.now.entries) }
 {
@@ -66,7 +66,6 @@ fn append_cells(out: Vec<u8>, row: &Row) -> Result<Vec<u8>, AllocError>
     Ok(done)
 }
 
-// The row as a JSON object.
 fn append_row(mut out: Vec<u8>, row: &Row) -> Result<Vec<u8>, AllocError>
     ensures { IfOk result
         (λ done. done.items ≡ out.items ++ object_text (map cell_part row.now.entries)) }
@@ -75,7 +74,7 @@ fn append_row(mut out: Vec<u8>, row: &Row) -> Result<Vec<u8>, AllocError>
     append_cells(out, row)
 }
 
-// The row's line, without its newline.
+// Appends the row's line, without its newline.
 fn append_line(mut out: Vec<u8>, topic: &Text, key: &Text, row: &Row) -> Result<Vec<u8>, AllocError>
     ensures { IfOk result
         (λ done. done.items ≡ out.items ++ row_line ((topic.now, key.now), row.now.entries)) }
@@ -87,7 +86,7 @@ fn append_line(mut out: Vec<u8>, topic: &Text, key: &Text, row: &Row) -> Result<
     append_row(out, row)
 }
 
-/// A row that is held, with its place.
+/// A row with its topic and key.
 #[derive(Drop)]
 struct Placed<'a> {
     topic: &'a Text,
@@ -119,7 +118,7 @@ impl<'a> Line for Placed<'a> {
     }
 }
 
-// Puts the lines of a topic's rows.
+// Prints the lines of a topic's rows.
 fn put_table<O: Output>(
     output: &mut O,
     lines: &mut LineWriter,
@@ -128,7 +127,7 @@ fn put_table<O: Output>(
 ) -> Result<(), PrintError>
     ensures puts { PutsLines (map row_line (rows_in topic.now table.now.entries)) result
         lines.old lines.new (O.written output.old) (O.written output.new) }
-    ensures cause { HasCause (result ≡ Err OutputFailed)
+    ensures cause { FailsOnlyIfCounted (result ≡ Err OutputFailed)
         (O.faults output.old) (O.faults output.new) }
 {
     for (key, row) in table.iter() {
@@ -140,7 +139,7 @@ fn put_table<O: Output>(
     Ok(())
 }
 
-// Puts the lines of all rows.
+// Prints the lines of all rows.
 fn put_tables<O: Output>(
     output: &mut O,
     lines: &mut LineWriter,
@@ -148,7 +147,7 @@ fn put_tables<O: Output>(
 ) -> Result<(), PrintError>
     ensures puts { PutsLines (map row_line (all_rows tables.now.entries)) result
         lines.old lines.new (O.written output.old) (O.written output.new) }
-    ensures cause { HasCause (result ≡ Err OutputFailed)
+    ensures cause { FailsOnlyIfCounted (result ≡ Err OutputFailed)
         (O.faults output.old) (O.faults output.new) }
 {
     for (topic, table) in tables.iter() {
@@ -160,7 +159,8 @@ fn put_tables<O: Output>(
     Ok(())
 }
 
-/// That the topics and each topic's keys ascend, which std tells of a map whose length is asked for.
+/// Shows that the topics and each topic's keys ascend, which std guarantees of a map whose length
+/// is requested.
 pub(crate) fn look_at_order(tables: &Tables)
     ensures topics { IsOrdered text_cmp tables.now }
     ensures keys { AreInOrder tables.now.entries }
@@ -171,7 +171,7 @@ pub(crate) fn look_at_order(tables: &Tables)
     let _ = tables.len();
 }
 
-/// Writes the lines of all rows, topics and keys in byte order.
+/// Prints the lines of all rows, topics and keys in byte order.
 pub(crate) fn print<O: Output>(
     alloc: Global,
     tables: &Tables,
@@ -179,7 +179,7 @@ pub(crate) fn print<O: Output>(
 ) -> Result<(), PrintError>
     ensures prints { Prints (map row_line (all_rows tables.now.entries)) result
         (O.written output.old) (O.written output.new) }
-    ensures cause { HasCause (result ≡ Err OutputFailed)
+    ensures cause { FailsOnlyIfCounted (result ≡ Err OutputFailed)
         (O.faults output.old) (O.faults output.new) }
 {
     let mut lines = LineWriter::make(alloc)?;

@@ -1,4 +1,4 @@
-//! The rows that a consumer holds, and what acts do to them.
+//! The rows of a consumer's state, and the effects of records on them.
 ghost use Rattle.std.specs.Prelude.{◌≡◌, List, ℕ, Some, None, IfOk, IfErr, OnOk, MatchResult, if◌then◌else◌};
 ghost use Rattle.std.specs.Str.{bytes_eq};
 ghost use Rattle.dbl_record.specs.declared.acts.ConsumeError.TheVariants.{Memory};
@@ -14,7 +14,7 @@ use std::collections::BTreeMap;
 /// A row's cells by column.
 pub type Row = BTreeMap<Text, HeldCell>;
 
-/// A topic's rows by the text of their key.
+/// A topic's rows by key text.
 pub type Table = BTreeMap<Text, Row>;
 
 /// Tables by topic.
@@ -29,7 +29,7 @@ fn copy_of(alloc: Global, cell: &HeldCell) -> Result<HeldCell, AllocError>
     }
 }
 
-// What a row holds of a cell that wasn't sent.
+// The cell of a row after a change that didn't send it.
 fn kept_cell(alloc: Global, row: Option<&Row>, column: &Text) -> Result<HeldCell, AllocError>
     ensures { IfOk result (λ cell. cell ≡ held_now (cells_in row.entry) column.now None) }
 {
@@ -42,7 +42,7 @@ fn kept_cell(alloc: Global, row: Option<&Row>, column: &Text) -> Result<HeldCell
     }
 }
 
-// The row of these cells in the place of another.
+// The row after these cells are set.
 fn row_of(alloc: Global, row: Option<&Row>, cells: Seq<GivenCell>) -> Result<Row, ConsumeError>
     ensures { MatchResult result (λ made. made.entries ≡ row_of (cells_in row.entry) cells)
         (λ e. e ≡ Memory) }
@@ -141,7 +141,7 @@ fn wipe(tables: &mut Tables, topic: &Text)
     tables.remove(topic);
 }
 
-/// Does to the rows of a topic what the act says.
+/// Performs an effect on the rows of a topic.
 pub(crate) fn perform(
     alloc: Global,
     tables: &mut Tables,

@@ -5,15 +5,15 @@ use Rattle.dbl_journal.specs.declared.error.JournalError.{JournalError}
 use Rattle.dbl_journal.specs.declared.error.JournalError.TheVariants as journal
 use Rattle.dbl_journal.specs.Form.{IsJournal}
 use Rattle.dbl_journal.specs.Stored.{LeavesEntries, Lists, OnDisk}
-use Rattle.dbl_reading.specs.declared.error.SourceError.TheVariants as source
-use Rattle.dbl_wal.specs.declared.entry.Entry.{Entry}
-use Rattle.dbl_wal.specs.declared.entry.Entry.TheVariants.{Commits}
-use Rattle.dbl_wal.specs.Entries.{FitsEntry, Spells, entry_form}
-use Rattle.dbl_sound.proofs.SizeLemmas.{few_in}
-use Rattle.dbl_workload.specs.Steps.{FitAnEntry}
+use Rattle.dbl_source_log.specs.declared.error.SourceError.TheVariants as source
+use Rattle.dbl_demo_wal.specs.declared.entry.Entry.{Entry}
+use Rattle.dbl_demo_wal.specs.declared.entry.Entry.TheVariants.{Commits}
+use Rattle.dbl_demo_wal.specs.Entries.{FitsWalEntry, EncodesEntry, entry_form}
+use Rattle.dbl_demo_wal.proofs.SizeLemmas.{few_in}
+use Rattle.dbl_demo_workload.specs.Steps.{FitAnEntry}
 use Rattle.std.proofs.Common.{true, false}
 use Rattle.std.specs.Prelude.{IsTrue}
-use Rattle.dbl_journal.specs.Growth.{ComesOf}
+use Rattle.dbl_journal.specs.Growth.{ExtendsJournal}
 use Rattle.dbl_demo.specs.Errors.{source_error}
 
 -- ---- the faults of a journal, as a source tells them
@@ -30,15 +30,15 @@ not_failed e is failed = let wrong : source.Failed ≡ source.Memory = sym (ap s
 -- ---- what it lists
 
 -- changes that fit an entry fit the one of their commit
-pub fits_done : (steps : ℕ) (messages : List Message) → steps < 2 ^ 64 → FitAnEntry messages → FitsEntry (Commits steps messages)
+pub fits_done : (steps : ℕ) (messages : List Message) → steps < 2 ^ 64 → FitAnEntry messages → FitsWalEntry (Commits steps messages)
 fits_done steps messages le fits = record { steps_fit = le; few = few_in messages fits.short; each = fits.each }
 
 -- the commit as it was built is that of these steps and these changes
-pub spells_at : (form : List ℕ) (built steps : ℕ) (given messages : List Message) → built ≡ steps → given ≡ messages → Spells form (Commits built given) → Spells form (Commits steps messages)
+pub spells_at : (form : List ℕ) (built steps : ℕ) (given messages : List Message) → built ≡ steps → given ≡ messages → EncodesEntry form (Commits built given) → EncodesEntry form (Commits steps messages)
 spells_at form built steps given messages same are spells =
-    subst (λ (n : ℕ). Spells form (Commits n messages)) same (subst (λ (ms : List Message). Spells form (Commits built ms)) are spells)
+    subst (λ (n : ℕ). EncodesEntry form (Commits n messages)) same (subst (λ (ms : List Message). EncodesEntry form (Commits built ms)) are spells)
 
-module _ {D : Type 0} (seen : D → Option (List ℕ)) (may_leave : D → List ℕ → Type 0) (new : OnDisk D) (forms : List (List ℕ)) (form : List ℕ) (entry : Entry) (spells : Spells form entry) where
+module _ {D : Type 0} (seen : D → Option (List ℕ)) (may_leave : D → List ℕ → Type 0) (new : OnDisk D) (forms : List (List ℕ)) (form : List ℕ) (entry : Entry) (spells : EncodesEntry form entry) where
   pub entry_listed : Lists seen may_leave new (forms ++ form ∷ []) → Lists seen may_leave new (forms ++ entry_form entry ∷ [])
   entry_listed lists = subst (λ (w : List ℕ). Lists seen may_leave new (forms ++ w ∷ [])) spells.spelled lists
 
@@ -57,7 +57,7 @@ module _ {D : Type 0} (seen : D → Option (List ℕ)) (may_leave : D → List �
   lists_kept same forms lists = subst (λ (j : OnDisk D). Lists seen may_leave j forms) (sym same) lists
 
   -- it was only read
-  pub comes_by_read : new ≡ record old { disk = new.disk } → seen new.disk ≡ seen old.disk → ((forms : List (List ℕ)) → Lists seen may_leave old forms → Lists seen may_leave new forms) → ComesOf seen may_leave old new
+  pub comes_by_read : new ≡ record old { disk = new.disk } → seen new.disk ≡ seen old.disk → ((forms : List (List ℕ)) → Lists seen may_leave old forms → Lists seen may_leave new forms) → ExtendsJournal seen may_leave old new
   comes_by_read same told lists gate most come = record {
     lists = λ live. (let was = come.lists (subst IsTrue (ap (λ (j : OnDisk D). j.live) same) live) in (was.0, lists was.0 was.1));
     told = (come.told.0, told ∙ come.told.1);

@@ -4,18 +4,18 @@ use Rattle.std.proofs.Common.{◌≡◌, ◌∙◌, ℕ, ◌+◌, ◌<◌, ◌�
 use Rattle.dbl_pgmsg.specs.declared.messages.Message.{Message}
 use Rattle.dbl_journal.specs.declared.error.JournalError.{JournalError}
 use Rattle.dbl_journal.specs.declared.error.JournalError.TheVariants as broken
-use Rattle.dbl_base.specs.Streams.{Rose}
+use Rattle.dbl_base.specs.Streams.{FaultCounted}
 use Rattle.dbl_journal.specs.Stored.{IsSteady, Lists, OnDisk, size}
-use Rattle.dbl_wal.specs.declared.entry.Entry.TheVariants.{Commits}
-use Rattle.dbl_wal.specs.Entries.{Spells, workload_form}
-use Rattle.dbl_sound.proofs.SizeLemmas.{commit_size}
-use Rattle.dbl_serial.specs.Sending.{entry_limit, entry_size}
-use Rattle.dbl_workload.specs.declared.error.DemoError.{DemoError}
-use Rattle.dbl_workload.specs.Errors.{journal_error}
-use Rattle.dbl_workload.specs.Logs.{IsFailed}
-use Rattle.dbl_workload.specs.Steps.{FitAnEntry}
-use Rattle.dbl_running.specs.Made.{first_forms}
-use Rattle.dbl_running.proofs.MakeLemmas.{first_less, grew_once, grew_twice, none_small}
+use Rattle.dbl_demo_wal.specs.declared.entry.Entry.TheVariants.{Commits}
+use Rattle.dbl_demo_wal.specs.Entries.{EncodesEntry, workload_form}
+use Rattle.dbl_demo_wal.proofs.SizeLemmas.{commit_size}
+use Rattle.dbl_tables_rows.specs.Sending.{entry_limit, entry_size}
+use Rattle.dbl_demo_workload.specs.declared.error.DemoError.{DemoError}
+use Rattle.dbl_demo_workload.specs.Errors.{journal_error}
+use Rattle.dbl_demo_workload.specs.Logs.{IsFailed}
+use Rattle.dbl_demo_workload.specs.Steps.{FitAnEntry}
+use Rattle.dbl_demo_laws.specs.Made.{first_forms}
+use Rattle.dbl_demo_laws.proofs.MakeLemmas.{first_less, grew_once, grew_twice, none_small}
 use Rattle.dbl_demo.specs.Begun.{IsBeginFault, first_room}
 use Rattle.dbl_journal.specs.Calls.{Makes}
 
@@ -38,7 +38,7 @@ workload_size script = omega arith
 pub workload_short : (script form : List ℕ) → length script < 2 ^ 28 → form ≡ workload_form script → 2 ^ 28 < length form → ⊥
 workload_short script form short is long = omega (arith, short, long, workload_size script, ap (λ (l : List ℕ). length l) is)
 
-pub rows_short : (messages : List Message) (form : List ℕ) → FitAnEntry messages → Spells form (Commits 0 messages) → 2 ^ 28 < length form → ⊥
+pub rows_short : (messages : List Message) (form : List ℕ) → FitAnEntry messages → EncodesEntry form (Commits 0 messages) → 2 ^ 28 < length form → ⊥
 rows_short messages form fits spells long =
     let few : entry_size messages ≤ entry_limit = fits.short in
     omega (arith, few, long, commit_size 0 messages, ap (λ (l : List ℕ). length l) spells.spelled)
@@ -59,7 +59,7 @@ grown_once script form rows old new is le =
     grew_once old new (size ([] ++ form ∷ [])) (size (first_forms script rows)) le (subst (λ (w : List ℕ). size (w ∷ []) ≤ size (first_forms script rows)) (sym is) (first_less script rows))
 
 -- and behind its rows
-pub grown_twice : (script first second : List ℕ) (rows : Option (List Message)) (messages : List Message) (old mid new : ℕ) → rows ≡ Some messages → first ≡ workload_form script → Spells second (Commits 0 messages)
+pub grown_twice : (script first second : List ℕ) (rows : Option (List Message)) (messages : List Message) (old mid new : ℕ) → rows ≡ Some messages → first ≡ workload_form script → EncodesEntry second (Commits 0 messages)
     → mid ≤ max old (size ([] ++ first ∷ [])) → new ≤ max mid (size ((first ∷ []) ++ second ∷ [])) → new ≤ max old (size (first_forms script rows))
 grown_twice script first second rows messages old mid new some is spells once again =
     let whole : size ((first ∷ []) ++ second ∷ []) ≡ size (first_forms script rows) =
@@ -70,7 +70,7 @@ grown_twice script first second rows messages old mid new some is spells once ag
 -- ---- what is left of the disk
 
 -- the journal couldn't be made
-pub unmade_disk : {D : Type 0} (seen : D → Option (List ℕ)) (faults : D → ℕ) (old new : D) (e : DemoError) → ((bytes : List ℕ) → seen old ≡ Some [] → seen new ≡ Some bytes → length bytes ≤ size []) → faults old ≤ faults new → Rose (faults old) (faults new) → IsFailed e
+pub unmade_disk : {D : Type 0} (seen : D → Option (List ℕ)) (faults : D → ℕ) (old new : D) (e : DemoError) → ((bytes : List ℕ) → seen old ≡ Some [] → seen new ≡ Some bytes → length bytes ≤ size []) → faults old ≤ faults new → FaultCounted (faults old) (faults new) → IsFailed e
     → Makes seen faults first_room (IsFailed e) old new
 unmade_disk seen faults old new e short later rose failed = record {
   small = λ bytes told is. omega (arith, none_small, short bytes told is);
@@ -99,7 +99,7 @@ module _ {D : Type 0} (seen : D → Option (List ℕ)) (may_leave : D → List �
       two lists.bytes lists.told ∙ one bytes told
 
   pub begun_disk : (failed : Type 0) → ((bytes : List ℕ) → seen disk ≡ Some bytes → bytes ≡ []) → IsMade → ((bytes : List ℕ) → seen disk ≡ Some [] → seen first.disk ≡ Some bytes → length bytes ≤ size []) → Grows → size all ≤ 2 ^ 30
-      → faults disk ≤ faults first.disk → faults first.disk ≤ faults last.disk → (failed → Rose (faults first.disk) (faults last.disk)) → IsSteady seen faults disk first.disk → ((failed → ⊥) → IsSteady seen faults first.disk last.disk) → Makes seen faults first_room failed disk last.disk
+      → faults disk ≤ faults first.disk → faults first.disk ≤ faults last.disk → (failed → FaultCounted (faults first.disk) (faults last.disk)) → IsSteady seen faults disk first.disk → ((failed → ⊥) → IsSteady seen faults first.disk last.disk) → Makes seen faults first_room failed disk last.disk
   begun_disk failed empty made once grows small later on cause one two = record {
     small = begun_small made once grows small;
     later = omega (arith, later, on);

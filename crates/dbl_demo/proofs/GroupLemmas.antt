@@ -1,15 +1,15 @@
 -- A group that is run step by step, of a source that is known by its parts.
 use Rattle.std.proofs.Common.{◌≡◌, ◌∙◌, ℕ, zero, suc, ◌+◌, ◌<◌, ◌≤◌, Bool, true, false, Option, Some, List, [], ◌∷◌, length, sym, subst, refl, arith}
 use Rattle.std.specs.Prelude.{IsTrue, slice_get}
-use Rattle.dbl_journal.specs.Growth.{ComesOf}
+use Rattle.dbl_journal.specs.Growth.{ExtendsJournal}
 use Rattle.dbl_journal.proofs.Growth.{comes_on}
 use Rattle.dbl_script.specs.declared.script.Step.{Step}
-use Rattle.dbl_sound.specs.Wals.{Wal}
-use Rattle.dbl_workload.specs.Steps.{is_tick}
-use Rattle.dbl_running.specs.Calls.{next_end}
-use Rattle.dbl_running.specs.Demo.{Demo, IsRunning}
-use Rattle.dbl_running.specs.Running.{IsReleasing, IsRunOf, LeavesRun, Ran}
-use Rattle.dbl_running.proofs.LoopLemmas.{end_here, left_whole, release_ends, release_goes, release_left, release_stops}
+use Rattle.dbl_demo_wal.specs.Wals.{Wal}
+use Rattle.dbl_demo_workload.specs.Steps.{is_tick}
+use Rattle.dbl_demo_laws.specs.Calls.{next_end}
+use Rattle.dbl_demo_laws.specs.Demo.{Demo, IsRunning}
+use Rattle.dbl_demo_laws.specs.Running.{IsReleasing, IsRunOf, LeavesRun, Ran}
+use Rattle.dbl_demo_laws.proofs.LoopLemmas.{end_here, left_whole, release_ends, release_goes, release_left, release_stops}
 
 some_at : {A : Type 0} (xs : List A) (n : ℕ) → n < length xs → (x : A) × (slice_get xs n ≡ Some x)
 some_at [] n lt = absurd (omega (arith, lt))
@@ -21,7 +21,7 @@ module _ {D : Type 0} (seen : D → Option (List ℕ)) (may_leave : D → List �
   here = subst (IsReleasing seen may_leave faults old) (sym is) so
 
   -- however the step ended
-  pub group_comes : (new : Demo D) → ComesOf seen may_leave now.journal new.journal → ComesOf seen may_leave old.journal new.journal
+  pub group_comes : (new : Demo D) → ExtendsJournal seen may_leave now.journal new.journal → ExtendsJournal seen may_leave old.journal new.journal
   group_comes new comes = comes_on seen may_leave old.journal now.journal new.journal here.comes comes
 
   pub group_left : (new : Demo D) → now.done < length now.steps → ((wal : Wal) → IsRunning seen may_leave wal now → LeavesRun may_leave wal (now.done + 1) [] now new) → (wal : Wal) → IsRunning seen may_leave wal old → LeavesRun may_leave wal (next_end old) [] old new
@@ -39,7 +39,7 @@ module _ {D : Type 0} (seen : D → Option (List ℕ)) (may_leave : D → List �
     group_end_is tick one = one ∙ sym (here.ends ∙ end_here now.steps now.done step.0 step.1 (sym (tells step.0 step.1) ∙ tick))
 
     -- or it didn't
-    pub group_goes : ends ≡ false → new.done ≡ now.done + 1 → IsTrue new.journal.live → IsRunOf now new → ComesOf seen may_leave now.journal new.journal → faults now.journal.disk ≤ faults new.journal.disk → IsReleasing seen may_leave faults old new
+    pub group_goes : ends ≡ false → new.done ≡ now.done + 1 → IsTrue new.journal.live → IsRunOf now new → ExtendsJournal seen may_leave now.journal new.journal → faults now.journal.disk ≤ faults new.journal.disk → IsReleasing seen may_leave faults old new
     group_goes other one live same comes counted = release_goes seen may_leave faults old now new here left ran step.0 step.1 (sym (tells step.0 step.1) ∙ other) one live same comes counted
 
 -- no step is left

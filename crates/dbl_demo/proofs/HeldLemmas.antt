@@ -3,19 +3,19 @@ use Rattle.std.proofs.Common.{Bor, ◌≡◌, ◌∙◌, ℕ, zero, suc, ◌<◌
 use Rattle.std.specs.Prelude.{slice_get, IsSome, option_copied}
 use Rattle.std.specs.Slice.{IsItemAt}
 use Rattle.std.proofs.lemmas.Option.{slice_get_read, slice_get_within}
-use Rattle.dbl_feed.specs.declared.logged.Logged.{Logged}
-use Rattle.dbl_feed.specs.declared.place.Place.{Place}
-use Rattle.dbl_feed.specs.Sent.{index_of, IsPlaceIn}
+use Rattle.dbl_source_log.specs.declared.logged.Logged.{Logged}
+use Rattle.dbl_source_log.specs.declared.place.Place.{Place}
+use Rattle.dbl_source_log.specs.Sent.{index_of, IsPlaceIn}
 use Rattle.dbl_journal.specs.Stored.{Lists, OnDisk}
-use Rattle.dbl_wal.specs.declared.entry.Entry.{Entry}
-use Rattle.dbl_wal.specs.declared.entry.Entry.TheVariants.{Commits, Marks, Confirms}
-use Rattle.dbl_wal.specs.Entries.{Spells}
-use Rattle.dbl_sound.specs.Sound.{logged_by, logged_in}
-use Rattle.dbl_sound.specs.Wals.{Wal, forms_of}
-use Rattle.dbl_workload.specs.Checking.{commit_places}
-use Rattle.dbl_running.specs.Demo.{Demo, IsRunning}
-use Rattle.dbl_running.specs.Reading.{ReadNone}
-use Rattle.dbl_running.proofs.HoldLemmas.{count_places, held_some}
+use Rattle.dbl_demo_wal.specs.declared.entry.Entry.{Entry}
+use Rattle.dbl_demo_wal.specs.declared.entry.Entry.TheVariants.{Commits, Marks, Confirms}
+use Rattle.dbl_demo_wal.specs.Entries.{EncodesEntry}
+use Rattle.dbl_demo_wal.specs.Sound.{logged_by, logged_in}
+use Rattle.dbl_demo_wal.specs.Wals.{Wal, forms_of}
+use Rattle.dbl_demo_workload.specs.Checking.{commit_places}
+use Rattle.dbl_demo_laws.specs.Demo.{Demo, IsRunning}
+use Rattle.dbl_demo_laws.specs.Reading.{ReadNone}
+use Rattle.dbl_demo_laws.proofs.HoldLemmas.{count_places, held_some}
 
 some_at : {A : Type 0} (xs : List A) (n : ℕ) → n < length xs → (x : A) × (slice_get xs n ≡ Some x)
 some_at [] n lt = absurd (omega (arith, lt))
@@ -75,7 +75,7 @@ module _ {D : Type 0} (seen : D → Option (List ℕ)) (may_leave : D → List �
     there : (logged : Logged) × (slice_get log (index_of place) ≡ Some logged)
     there = some_at log (index_of place) (omega (arith, slice_get_within (commit_places 1 wal.entries) (index_of place) number places, count_places 1 wal.entries))
 
-    module _ (bytes : List ℕ) (found : slice_get (forms_of wal) number ≡ Some bytes) (read : Option Logged) (tells : (entry : Entry) → Spells bytes entry → read ≡ logged_by entry) where
+    module _ (bytes : List ℕ) (found : slice_get (forms_of wal) number ≡ Some bytes) (read : Option Logged) (tells : (entry : Entry) → EncodesEntry bytes entry → read ≡ logged_by entry) where
       -- the entry with its number spells the commit at the place
       pub read_is : read ≡ slice_get log (index_of place)
       read_is =

@@ -1,10 +1,10 @@
 -- A source that is made: why a workload is refused, which faults there are besides, and what is left of the disk.
 use Rattle.std.proofs.Common.{◌≡◌, ◌∙◌, ◌⊎◌, ℕ, ◌≤◌, ◌^◌, Option, Some, List, [], length, sym, ap, subst, arith, inl, inr}
 use Rattle.dbl_journal.specs.declared.error.JournalError.TheVariants as broken
-use Rattle.dbl_workload.specs.declared.error.DemoError.{DemoError}
-use Rattle.dbl_workload.specs.declared.error.DemoError.TheVariants as fault
-use Rattle.dbl_workload.specs.Refusals.{IsRefused}
-use Rattle.dbl_workload.specs.Refusals.IsRefused.{lines, table, row}
+use Rattle.dbl_demo_workload.specs.declared.error.DemoError.{DemoError}
+use Rattle.dbl_demo_workload.specs.declared.error.DemoError.TheVariants as fault
+use Rattle.dbl_demo_workload.specs.Refusals.{IsRefused}
+use Rattle.dbl_demo_workload.specs.Refusals.IsRefused.{lines, table, row}
 use Rattle.dbl_demo.specs.Begun.{IsBeginFault}
 use Rattle.dbl_demo.specs.Errors.{IsMakeFault}
 

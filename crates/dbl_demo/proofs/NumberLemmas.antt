@@ -3,7 +3,7 @@ use Rattle.std.proofs.Common.{◌≡◌, ◌∙◌, ℕ, Option, None, Some, Lis
 use Rattle.std.specs.Prelude.{is_some}
 use Rattle.dbl_pgmsg.specs.declared.messages.Message.{Message}
 use Rattle.dbl_demo.specs.Begun.{numbers_of}
-use Rattle.dbl_running.proofs.MakeLemmas.{first_places}
+use Rattle.dbl_demo_laws.proofs.MakeLemmas.{first_places}
 
 numbers_are : (rows : Option (List Message)) → numbers_of (is_some rows) ≡ first_places rows
 numbers_are None = refl

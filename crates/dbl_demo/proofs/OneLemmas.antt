@@ -6,16 +6,16 @@ use Rattle.dbl_journal.specs.Stored.{count_of}
 use Rattle.dbl_script.specs.declared.script.Step.{Step}
 use Rattle.dbl_tables.specs.declared.tables.Tables.{Tables}
 use Rattle.dbl_tables.specs.Stands.{Stands}
-use Rattle.dbl_wal.specs.declared.entry.Entry.TheVariants.{Commits}
-use Rattle.dbl_wal.specs.Entries.{FitsEntry}
-use Rattle.dbl_sound.specs.Wals.{Wal}
-use Rattle.dbl_sound.specs.Workloads.{Workload, acts_at, steps_of}
-use Rattle.dbl_workload.specs.Steps.{IsNextRun, is_tick}
-use Rattle.dbl_workload.proofs.WorkloadLemmas.{get_there}
-use Rattle.dbl_running.specs.Demo.{Demo, IsRunning}
-use Rattle.dbl_running.specs.Reading.{IsLogged, LeavesLogged}
-use Rattle.dbl_running.specs.Running.{IsRunOf, LeavesRun, Ran}
-use Rattle.dbl_running.proofs.RunLemmas.{left_alone, left_logged, ran_logged, ran_silent}
+use Rattle.dbl_demo_wal.specs.declared.entry.Entry.TheVariants.{Commits}
+use Rattle.dbl_demo_wal.specs.Entries.{FitsWalEntry}
+use Rattle.dbl_demo_wal.specs.Wals.{Wal}
+use Rattle.dbl_demo_wal.specs.Workloads.{Workload, acts_at, steps_of}
+use Rattle.dbl_demo_workload.specs.Steps.{IsNextRun, is_tick}
+use Rattle.dbl_demo_workload.proofs.WorkloadLemmas.{get_there}
+use Rattle.dbl_demo_laws.specs.Demo.{Demo, IsRunning}
+use Rattle.dbl_demo_laws.specs.Reading.{IsLogged, LeavesLogged}
+use Rattle.dbl_demo_laws.specs.Running.{IsRunOf, LeavesRun, Ran}
+use Rattle.dbl_demo_laws.proofs.RunLemmas.{left_alone, left_logged, ran_logged, ran_silent}
 
 module _ {D : Type 0} (seen : D → Option (List ℕ)) (may_leave : D → List ℕ → Type 0) {parts whole : Demo D} (is : parts ≡ whole) where
   -- what running the next step of the parts commits
@@ -54,7 +54,7 @@ module _ {D : Type 0} (seen : D → Option (List ℕ)) (may_leave : D → List �
         let nothing : IsNextRun wal.workload parts.done None store = subst (λ (o : Option (List Message)). IsNextRun wal.workload parts.done o store) none next in
         subst (λ (s : Demo D). Ran seen may_leave wal (s.done + 1) [] s (parts_on store)) is (ran_silent seen may_leave wal parts runs left_parts store nothing)
 
-    module _ (messages : List Message) (some : committed ≡ Some messages) (fits : FitsEntry (Commits (parts.done + 1) messages)) (small : count_of parts.journal < 2 ^ 40) (new : Demo D) where
+    module _ (messages : List Message) (some : committed ≡ Some messages) (fits : FitsWalEntry (Commits (parts.done + 1) messages)) (small : count_of parts.journal < 2 ^ 40) (new : Demo D) where
       commits : IsNextRun wal.workload parts.done (Some messages) store
       commits = subst (λ (o : Option (List Message)). IsNextRun wal.workload parts.done o store) some next
 

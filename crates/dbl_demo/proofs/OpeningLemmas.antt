@@ -2,10 +2,10 @@
 use Rattle.std.proofs.Common.{◌≡◌, ◌∙◌, ◌⊎◌, ℕ, refl, sym, subst, inl, inr}
 use Rattle.dbl_journal.specs.declared.error.JournalError.{JournalError}
 use Rattle.dbl_journal.specs.declared.error.JournalError.TheVariants as broken
-use Rattle.dbl_workload.specs.declared.error.DemoError.{DemoError}
-use Rattle.dbl_workload.specs.declared.error.DemoError.TheVariants as fault
-use Rattle.dbl_workload.specs.Errors.{journal_error}
-use Rattle.dbl_workload.specs.Logs.{IsFailed}
+use Rattle.dbl_demo_workload.specs.declared.error.DemoError.{DemoError}
+use Rattle.dbl_demo_workload.specs.declared.error.DemoError.TheVariants as fault
+use Rattle.dbl_demo_workload.specs.Errors.{journal_error}
+use Rattle.dbl_demo_workload.specs.Logs.{IsFailed}
 use Rattle.dbl_demo.specs.Errors.{IsOpenFault}
 
 -- ---- the journal couldn't be opened

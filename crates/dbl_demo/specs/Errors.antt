@@ -1,19 +1,19 @@
--- The errors of the source's parts, as it tells them.
+-- The errors of the source's parts, as the source's own.
 use Rattle.dbl_journal.specs.declared.error.JournalError.{JournalError}
 use Rattle.dbl_journal.specs.declared.error.JournalError.TheVariants as journal
-use Rattle.dbl_reading.specs.declared.error.SourceError.{SourceError}
-use Rattle.dbl_reading.specs.declared.error.SourceError.TheVariants as source
-use Rattle.dbl_workload.specs.declared.error.DemoError.{DemoError}
-use Rattle.dbl_workload.specs.declared.error.DemoError.TheVariants as demo
+use Rattle.dbl_source_log.specs.declared.error.SourceError.{SourceError}
+use Rattle.dbl_source_log.specs.declared.error.SourceError.TheVariants as source
+use Rattle.dbl_demo_workload.specs.declared.error.DemoError.{DemoError}
+use Rattle.dbl_demo_workload.specs.declared.error.DemoError.TheVariants as demo
 
--- of an entry that isn't too long, in a journal that is open, there is no other fault
+-- The error of appending an entry that isn't too long to an open journal.
 abbrev pub source_error : JournalError → SourceError
 source_error journal.Failed = source.Failed
 source_error (journal.NotAJournal at) = source.Memory
 source_error (journal.EntryTooLong len) = source.Memory
 source_error journal.Memory = source.Memory
 
--- what opening answers where the disk neither failed nor wanted memory
+-- The errors of opening a source: a failed disk, no journal, a bad entry, or out of memory.
 abbrev pub IsOpenFault : DemoError → Type 0
 IsOpenFault (demo.Journal journal.Failed) = Unit {0}
 IsOpenFault (demo.Journal (journal.NotAJournal at)) = Unit {0}
@@ -21,7 +21,7 @@ IsOpenFault (demo.BadEntry index) = Unit {0}
 IsOpenFault demo.Memory = Unit {0}
 IsOpenFault e = ⊥
 
--- what making answers
+-- The errors of making a source: a failed disk, a bad workload, or out of memory.
 abbrev pub IsMakeFault : DemoError → Type 0
 IsMakeFault (demo.Journal journal.Failed) = Unit {0}
 IsMakeFault (demo.Script e) = Unit {0}

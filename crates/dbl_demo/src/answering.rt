@@ -1,23 +1,23 @@
-//! What a call of the source does: it runs a group of steps, and answers behind it. The source is live again only once the call
+//! The part of a call after its group of steps. The source is live again only once the call
 //! answers.
 
 ghost use Rattle.std.specs.Prelude.{◌≡◌, ◌<◌, [], length, None, false, option_map, option_and_then};
 ghost use Rattle.std.specs.Prelude.{slice_get, IsTrue, IfSome, IfOk, IfErr};
 ghost use Rattle.std.specs.List.{position_from};
 ghost use Rattle.std.specs.BTreeSet.{IsEmpty};
-ghost use Rattle.dbl_table.specs.Tables.{same_name};
-ghost use Rattle.dbl_history.specs.History.{entry_of};
-ghost use Rattle.dbl_feed.specs.Histories.{history_of};
-ghost use Rattle.dbl_running.specs.Answers.{Adds, AddsRead, AnswersEntry, AnswersHead, AnswersStart};
-ghost use Rattle.dbl_running.specs.Calls.{next_end};
+ghost use Rattle.dbl_model_table.specs.Tables.{same_name};
+ghost use Rattle.dbl_source_model.specs.ModelHistory.History.{entry_of};
+ghost use Rattle.dbl_source_log.specs.Histories.{history_of};
+ghost use Rattle.dbl_demo_laws.specs.Answers.{RunsStepsAndWrites, AddsRead, AnswersEntry, AnswersHead, AnswersStart};
+ghost use Rattle.dbl_demo_laws.specs.Calls.{next_end};
 
 use crate::DemoSource;
 use dbl_base::{Bytes, Lsn};
 use dbl_disk::Disk;
-use dbl_feed::{LogTable, Place, lsn_of};
-use dbl_honest::Started;
+use dbl_model_table::{RawTable, TableName};
 use dbl_source::SourceError;
-use dbl_table::{RawTable, TableName};
+use dbl_source_log::{LogTable, Place, lsn_of};
+use dbl_source_model::Started;
 
 fn place_named(tables: &[LogTable], name: &TableName) -> Option<usize>
     ensures place { result
@@ -28,7 +28,7 @@ fn place_named(tables: &[LogTable], name: &TableName) -> Option<usize>
 }
 
 impl<D: Disk> DemoSource<D> {
-    // The place of the table of this name. The table of the watermarks has none.
+    // The index of the table of this name. The table of the watermarks has none.
     fn place_of(&self, name: &TableName) -> Option<usize>
         ensures entry { option_map (λ table. table.raw)
             (option_and_then (slice_get self.now.tables) result) ≡
@@ -41,7 +41,6 @@ impl<D: Disk> DemoSource<D> {
         place_named(self.tables.as_slice(), name)
     }
 
-    // A copy of the catalogue's entry of this name.
     fn entry_at(&self, name: &TableName) -> Result<Option<RawTable>, SourceError>
         ensures entry { IfOk result (λ entry. entry ≡
             entry_of (history_of self.now.tables []) name.now) }
@@ -54,37 +53,38 @@ impl<D: Disk> DemoSource<D> {
         Ok(Some(entry))
     }
 
-    /// The table of this name.
+    /// Describes the table of this name.
     pub(crate) fn answer_describe(
         &mut self,
         name: &TableName,
     ) -> Result<Option<RawTable>, SourceError>
         requires { IsTrue self.old.live }
-        ensures { Adds D.seen D.may_leave D.faults (next_end self.old) []
+        ensures { RunsStepsAndWrites D.seen D.may_leave D.faults (next_end self.old) []
             (AnswersEntry name.now self.old) self.old self.new result }
     {
         self.live = false;
-        self.release()?;
+        self.run_to_tick()?;
         let entry = self.entry_at(name)?;
         self.live = true;
         Ok(entry)
     }
 
-    /// The last commit behind the group.
+    /// The position of the last commit after the group.
     pub(crate) fn answer_head(&mut self) -> Result<Lsn, SourceError>
         requires { IsTrue self.old.live }
-        ensures { Adds D.seen D.may_leave D.faults (next_end self.old) []
+        ensures { RunsStepsAndWrites D.seen D.may_leave D.faults (next_end self.old) []
             (AnswersHead self.old) self.old self.new result }
     {
         self.live = false;
-        self.release()?;
-        // A journal has fewer than 2^40 entries, and so has its log of commits.
+        self.run_to_tick()?;
+        // A journal has fewer than 2^40 entries, and its log has no more commits.
         let _entries = self.journal.count();
         self.live = true;
         Ok(lsn_of(self.commits.len() as u64))
     }
 
-    // Nothing was described to the reader that begins, nor read by it.
+    // Clears the tables that were described to an earlier reader, and the commit that it was
+    // reading.
     fn forget_reader(&mut self)
         ensures undescribed { IsEmpty self.new.described }
         ensures same { self.new ≡ record self.old {
@@ -98,14 +98,14 @@ impl<D: Disk> DemoSource<D> {
         self.ended = false;
     }
 
-    /// The log is gone exactly below the confirmed position.
+    /// Starts a reader. The log is gone if and only if the LSN is below the confirmed position.
     pub(crate) fn answer_start(&mut self, after: Lsn) -> Result<Started, SourceError>
         requires { IsTrue self.old.live }
-        ensures { Adds D.seen D.may_leave D.faults (next_end self.old) []
+        ensures { RunsStepsAndWrites D.seen D.may_leave D.faults (next_end self.old) []
             (AnswersStart after self.old) self.old self.new result }
     {
         self.live = false;
-        self.release()?;
+        self.run_to_tick()?;
         self.forget_reader();
         self.live = true;
         if after.0 < self.confirmed.0 {
@@ -124,13 +124,13 @@ impl<D: Disk> DemoSource<D> {
         Ok(Started::Ready)
     }
 
-    /// The next message behind the groups that are run until there is one.
+    /// The next message, after running groups until there is one or no step is left.
     pub(crate) fn answer_read(&mut self) -> Result<Option<Bytes>, SourceError>
         requires { IsTrue self.old.live }
         ensures { AddsRead D.seen D.may_leave D.faults self.old self.new result }
     {
         self.live = false;
-        self.release_unread()?;
+        self.run_to_unread_commit()?;
         let read = self.next_bytes()?;
         self.ended = read.is_none();
         self.live = true;

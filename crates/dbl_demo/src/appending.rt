@@ -2,8 +2,8 @@
 
 ghost use Rattle.std.specs.Prelude.{◌≡◌, ◌⊎◌, ◌+◌, ◌<◌, ◌≤◌, ◌++◌, ◌∷◌, [], ℕ, List, length, drop, slice_get, Some};
 ghost use Rattle.std.specs.Prelude.{Err, IsTrue, IfOk, OnErr, OnOk};
-ghost use Rattle.dbl_base.specs.Streams.{HasCause};
-ghost use Rattle.dbl_journal.specs.Growth.{ComesOf};
+ghost use Rattle.dbl_base.specs.Streams.{FailsOnlyIfCounted};
+ghost use Rattle.dbl_journal.specs.Growth.{ExtendsJournal};
 ghost use Rattle.dbl_journal.specs.Stored.{LeavesEntries, Lists, count_of};
 ghost use Rattle.dbl_demo.specs.Errors.{source_error};
 
@@ -13,7 +13,7 @@ use dbl_journal::{Journal, JournalError};
 use dbl_source::SourceError;
 use std::alloc::Global;
 
-// Of an entry that isn't too long, in a journal that is open, there is no other fault.
+// The error of appending an entry that isn't too long to an open journal.
 fn source_error(error: JournalError) -> SourceError
     ensures { result ≡ source_error error }
 {
@@ -23,7 +23,7 @@ fn source_error(error: JournalError) -> SourceError
     }
 }
 
-/// Appends the entry that stands in a buffer behind room for its length.
+/// Appends the entry in a buffer that has room for its length in front.
 pub(crate) fn append<D: Disk>(journal: &mut Journal<D>, entry: Vec<u8>) -> Result<(), SourceError>
     requires live { IsTrue journal.old.live }
     requires room { 4 ≤ length entry.items }
@@ -32,15 +32,15 @@ pub(crate) fn append<D: Disk>(journal: &mut Journal<D>, entry: Vec<u8>) -> Resul
     ensures left { (forms : List (List ℕ)) → Lists D.seen D.may_leave journal.old forms
         → LeavesEntries D.may_leave journal.new.disk
         (λ left. (left ≡ forms) ⊎ (left ≡ forms ++ drop 4 entry.items ∷ [])) }
-    // Where memory runs out nothing was appended.
+    // If memory runs out nothing is appended.
     ensures kept { (forms : List (List ℕ)) → Lists D.seen D.may_leave journal.old forms
         → result ≡ Err SourceError.Memory → Lists D.seen D.may_leave journal.new forms }
-    // A journal that failed can't be used any more; where memory ran out it is what it was.
+    // A journal that failed can't be used any more; if memory ran out it is unchanged.
     ensures stays { OnErr result (IsTrue journal.new.live → journal.new ≡ journal.old) }
     ensures live { OnOk result (IsTrue journal.new.live) }
     ensures count { OnOk result (count_of journal.new ≡ count_of journal.old + 1) }
-    ensures comes { ComesOf D.seen D.may_leave journal.old journal.new }
-    ensures cause { HasCause (result ≡ Err SourceError.Failed)
+    ensures comes { ExtendsJournal D.seen D.may_leave journal.old journal.new }
+    ensures cause { FailsOnlyIfCounted (result ≡ Err SourceError.Failed)
         (D.faults journal.old.disk) (D.faults journal.new.disk) }
 {
     match journal.append_built(entry) {
@@ -49,7 +49,7 @@ pub(crate) fn append<D: Disk>(journal: &mut Journal<D>, entry: Vec<u8>) -> Resul
     }
 }
 
-/// What the entry with this number holds.
+/// The contents of the entry with this number.
 pub(crate) fn entry<D: Disk>(
     journal: &mut Journal<D>,
     alloc: Global,
@@ -62,10 +62,10 @@ pub(crate) fn entry<D: Disk>(
     ensures lists { (forms : List (List ℕ)) → Lists D.seen D.may_leave journal.old forms
         → Lists D.seen D.may_leave journal.new forms }
     ensures same { journal.new ≡ record journal.old { disk = journal.new.disk } }
-    ensures comes { ComesOf D.seen D.may_leave journal.old journal.new }
+    ensures comes { ExtendsJournal D.seen D.may_leave journal.old journal.new }
     ensures crash { (crashed : List ℕ) → D.may_leave journal.new.disk crashed
         → D.may_leave journal.old.disk crashed }
-    ensures cause { HasCause (result ≡ Err SourceError.Failed)
+    ensures cause { FailsOnlyIfCounted (result ≡ Err SourceError.Failed)
         (D.faults journal.old.disk) (D.faults journal.new.disk) }
 {
     match journal.entry(alloc, number) {

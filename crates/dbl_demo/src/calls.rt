@@ -1,47 +1,47 @@
-//! The calls of the source, by what any source promises of them.
+//! The calls of the source, with the contract of every source.
 
 ghost use Rattle.std.specs.Prelude.{◌≡◌, ◌≤◌, ◌∷◌, [], length, None, false, is_none, is_some, option_copied, Err};
 ghost use Rattle.std.specs.Prelude.{IsTrue, IfSome, IfOk, OnOk, OnErr, MatchOption};
-ghost use Rattle.dbl_base.specs.Streams.{HasCause};
+ghost use Rattle.dbl_base.specs.Streams.{FailsOnlyIfCounted};
 ghost use Rattle.dbl_pgmsg.specs.declared.messages.Message.{Message};
 ghost use Rattle.dbl_pgmsg.specs.Grammar.{Spells};
-ghost use Rattle.dbl_reading.specs.declared.error.SourceError.TheVariants.{Failed, Memory};
-ghost use Rattle.dbl_honest.specs.Standings.{Standing, Stood, Leads};
-ghost use Rattle.dbl_honest.specs.Answered.{IsDescribed, IsHeaded, IsSelected};
-ghost use Rattle.dbl_honest.specs.Calls.{Moved, IsMarked, Starts, Took, HasReadAll, IsConfirmed};
-ghost use Rattle.dbl_honest.specs.Leaves.{Leaves, LeavesSome, MayFollow, MayFollowMark, MayFollowConfirm};
-ghost use Rattle.dbl_honest.specs.Told.{Described, Head, Began, Read, Selected, Done, IsTakenBy, IsTakenAnew, Tells, is_ready};
-ghost use Rattle.dbl_feed.specs.Numbers.{lsn_of};
-ghost use Rattle.dbl_sound.specs.Left.{added_by, with_entries};
-ghost use Rattle.dbl_sound.specs.Workloads.{acts_at};
-ghost use Rattle.dbl_sound.specs.Wals.{Wal};
-ghost use Rattle.dbl_sound.specs.Standings.{MayLeaveWal};
-ghost use Rattle.dbl_selects.specs.Shown.{AreRowsShown};
-ghost use Rattle.dbl_running.specs.Calls.{HasReadWhole, confirm_of, LeavesFirst, LeavesRead, mark_of, next_end};
-ghost use Rattle.dbl_running.specs.Calls.{ReadsOnTo, Releases, second_end, started_at};
-ghost use Rattle.dbl_running.specs.Demo.{ComesOf, IsDemo, StandsFor};
+ghost use Rattle.dbl_source_log.specs.declared.error.SourceError.TheVariants.{Failed, Memory};
+ghost use Rattle.dbl_source_model.specs.Standings.{SourceState, HasState, MovesTo};
+ghost use Rattle.dbl_source_model.specs.Answered.{IsDescribed, IsHeaded, IsSelectAnswer};
+ghost use Rattle.dbl_source_model.specs.Calls.{Moved, IsMarked, Starts, HasReadOneMore, HasReadAll, IsConfirmed};
+ghost use Rattle.dbl_source_model.specs.Leaves.{Leaves, LeavesSome, MayFollow, MayFollowMark, MayFollowConfirm};
+ghost use Rattle.dbl_source_model.specs.Trace.{Described, Head, Began, Read, Selected, Done, IsTakenBy, IsTakenAnew, LastAnswerIs, is_ready};
+ghost use Rattle.dbl_source_log.specs.Numbers.{lsn_of};
+ghost use Rattle.dbl_demo_wal.specs.CrashState.{added_by, with_entries};
+ghost use Rattle.dbl_demo_wal.specs.Workloads.{acts_at};
+ghost use Rattle.dbl_demo_wal.specs.Wals.{Wal};
+ghost use Rattle.dbl_demo_wal.specs.Standings.{MayLeaveWal};
+ghost use Rattle.dbl_demo_wal.specs.Shown.{AreRowsShown};
+ghost use Rattle.dbl_demo_laws.specs.Calls.{HasReadWhole, confirm_of, LeavesFirst, LeavesRead, mark_entries, next_end};
+ghost use Rattle.dbl_demo_laws.specs.Calls.{ReadsOnTo, ReleasesSteps, second_end, start_answer};
+ghost use Rattle.dbl_demo_laws.specs.Demo.{ExtendsDemo, IsDemo, HasDemoState};
 
 use crate::DemoSource;
 use dbl_base::{Bytes, Lsn, Text};
 use dbl_disk::Disk;
-use dbl_honest::Started;
+use dbl_model_table::{Key, RawRow, RawTable, TableName};
 use dbl_source::{Source, SourceError};
-use dbl_table::{Key, RawRow, RawTable, TableName};
+use dbl_source_model::Started;
 
 impl<D: Disk> Source for DemoSource<D> {
     ghost use Rattle.std.specs.Prelude.{None, is_some};
-    ghost use Rattle.dbl_sound.specs.Standings.{MayLeaveWal};
-    ghost use Rattle.dbl_running.specs.Demo.{ComesOf, StandsFor};
-    ghost use Rattle.dbl_running.specs.SourceLaws.{lives_so, one_standing, only_left, may_leave_so, reads_so, rising_so, fit_so, right_so};
+    ghost use Rattle.dbl_demo_wal.specs.Standings.{MayLeaveWal};
+    ghost use Rattle.dbl_demo_laws.specs.Demo.{ExtendsDemo, HasDemoState};
+    ghost use Rattle.dbl_demo_laws.specs.SourceLaws.{lives_so, one_standing, only_left, may_leave_so, reads_so, rising_so, fit_so, right_so};
 
-    ghost stands = { λ source s. StandsFor D.seen D.may_leave source s };
+    ghost stands = { λ source s. HasDemoState D.seen D.may_leave source s };
 
-    // Every workload is.
+    // Every workload is a conforming source.
     ghost honest = { λ source. Unit {0} };
 
     ghost may_leave = { λ source l. MayLeaveWal D.may_leave source.journal.disk l };
 
-    ghost comes_of = { λ old new. ComesOf D.seen D.may_leave old new };
+    ghost comes_of = { λ old new. ExtendsDemo D.seen D.may_leave old new };
 
     ghost told = { λ source. None };
 
@@ -74,33 +74,33 @@ impl<D: Disk> Source for DemoSource<D> {
     ghost comes_on = { λ first second third before after script gate most kept.
         after script gate most (before script gate most kept) };
 
-    // Of each call: what it promises as a call of any source; and what it adds to the wal: the commits of the group of steps that it
-    // runs first, and its own entry. Where it answers, all of that stands in the wal; whatever it answers, a crash leaves the first
-    // ones of it.
+    // Each call has the contract of every source. It adds to the log the commits of the group that
+    // it runs first, and its own entry: all if it succeeds, and in any case a crash leaves a first
+    // part of them.
 
     fn describe(&mut self, name: &TableName) -> Result<Option<RawTable>, SourceError>
         requires { IsTrue self.old.live }
-        ensures described { Leads (StandsFor D.seen D.may_leave) self.old self.new result
+        ensures described { MovesTo (HasDemoState D.seen D.may_leave) self.old self.new result
             (IsDescribed name.now) }
         ensures named { IfOk result (λ entry. IfSome entry (λ raw. raw.name ≡ name.now)) }
-        ensures left { Leaves (StandsFor D.seen D.may_leave)
+        ensures left { Leaves (HasDemoState D.seen D.may_leave)
             (λ source l. MayLeaveWal D.may_leave source.journal.disk l)
             self.old self.new MayFollow }
-        ensures some { LeavesSome (StandsFor D.seen D.may_leave)
+        ensures some { LeavesSome (HasDemoState D.seen D.may_leave)
             (λ source l. MayLeaveWal D.may_leave source.journal.disk l)
             self.old self.new }
-        ensures told { IfOk result (λ entry. Tells None (Described entry)) }
+        ensures told { IfOk result (λ entry. LastAnswerIs None (Described entry)) }
         ensures taken { IsTakenBy [] None None }
         ensures reading { is_some self.new.place ≡ is_some self.old.place }
         ensures ended { self.new.ended ≡ self.old.ended }
         ensures live { OnOk result (IsTrue self.new.live) }
         ensures dead { OnErr result (self.new.live ≡ false) }
         ensures honest { Unit {0} → Unit {0} }
-        ensures comes { ComesOf D.seen D.may_leave self.old self.new }
-        ensures cause { HasCause (result ≡ Err Failed)
+        ensures comes { ExtendsDemo D.seen D.may_leave self.old self.new }
+        ensures cause { FailsOnlyIfCounted (result ≡ Err Failed)
             (D.faults self.old.journal.disk) (D.faults self.new.journal.disk) }
         ensures group { OnOk result (self.new.done ≡ next_end self.old) }
-        ensures released { OnOk result (Releases D.seen D.may_leave
+        ensures released { OnOk result (ReleasesSteps D.seen D.may_leave
             (next_end self.old) [] self.old self.new) }
         ensures first { LeavesFirst D.seen D.may_leave
             (next_end self.old) [] self.old self.new }
@@ -110,26 +110,26 @@ impl<D: Disk> Source for DemoSource<D> {
 
     fn head(&mut self) -> Result<Lsn, SourceError>
         requires { IsTrue self.old.live }
-        ensures headed { Leads (StandsFor D.seen D.may_leave) self.old self.new result IsHeaded }
-        ensures left { Leaves (StandsFor D.seen D.may_leave)
+        ensures headed { MovesTo (HasDemoState D.seen D.may_leave) self.old self.new result IsHeaded }
+        ensures left { Leaves (HasDemoState D.seen D.may_leave)
             (λ source l. MayLeaveWal D.may_leave source.journal.disk l)
             self.old self.new MayFollow }
-        ensures some { LeavesSome (StandsFor D.seen D.may_leave)
+        ensures some { LeavesSome (HasDemoState D.seen D.may_leave)
             (λ source l. MayLeaveWal D.may_leave source.journal.disk l)
             self.old self.new }
-        ensures told { IfOk result (λ lsn. Tells None (Head lsn)) }
+        ensures told { IfOk result (λ lsn. LastAnswerIs None (Head lsn)) }
         ensures taken { IsTakenBy [] None None }
         ensures reading { is_some self.new.place ≡ is_some self.old.place }
         ensures ended { self.new.ended ≡ self.old.ended }
         ensures live { OnOk result (IsTrue self.new.live) }
         ensures dead { OnErr result (self.new.live ≡ false) }
         ensures honest { Unit {0} → Unit {0} }
-        ensures comes { ComesOf D.seen D.may_leave self.old self.new }
-        ensures cause { HasCause (result ≡ Err Failed)
+        ensures comes { ExtendsDemo D.seen D.may_leave self.old self.new }
+        ensures cause { FailsOnlyIfCounted (result ≡ Err Failed)
             (D.faults self.old.journal.disk) (D.faults self.new.journal.disk) }
         ensures last { IfOk result (λ lsn. lsn ≡ lsn_of (length self.new.commits)) }
         ensures group { OnOk result (self.new.done ≡ next_end self.old) }
-        ensures released { OnOk result (Releases D.seen D.may_leave
+        ensures released { OnOk result (ReleasesSteps D.seen D.may_leave
             (next_end self.old) [] self.old self.new) }
         ensures first { LeavesFirst D.seen D.may_leave
             (next_end self.old) [] self.old self.new }
@@ -137,20 +137,19 @@ impl<D: Disk> Source for DemoSource<D> {
         self.answer_head()
     }
 
-    // The log is gone exactly below the confirmed position.
     fn start(&mut self, after: Lsn) -> Result<Started, SourceError>
         requires { IsTrue self.old.live }
-        ensures started { Leads (StandsFor D.seen D.may_leave) self.old self.new result
+        ensures started { MovesTo (HasDemoState D.seen D.may_leave) self.old self.new result
             (Starts after) }
         ensures gone { IfOk result (λ started.
-            started ≡ started_at after self.old.confirmed) }
-        ensures left { Leaves (StandsFor D.seen D.may_leave)
+            started ≡ start_answer after self.old.confirmed) }
+        ensures left { Leaves (HasDemoState D.seen D.may_leave)
             (λ source l. MayLeaveWal D.may_leave source.journal.disk l)
             self.old self.new MayFollow }
-        ensures some { LeavesSome (StandsFor D.seen D.may_leave)
+        ensures some { LeavesSome (HasDemoState D.seen D.may_leave)
             (λ source l. MayLeaveWal D.may_leave source.journal.disk l)
             self.old self.new }
-        ensures told { IfOk result (λ started. Tells None (Began started)) }
+        ensures told { IfOk result (λ started. LastAnswerIs None (Began started)) }
         ensures taken { OnOk result (IsTakenAnew None None) }
         ensures untaken { OnErr result (IsTakenBy [] None None) }
         ensures reading { IfOk result (λ started. is_some self.new.place ≡ is_ready started) }
@@ -160,11 +159,11 @@ impl<D: Disk> Source for DemoSource<D> {
         ensures live { OnOk result (IsTrue self.new.live) }
         ensures dead { OnErr result (self.new.live ≡ false) }
         ensures honest { Unit {0} → Unit {0} }
-        ensures comes { ComesOf D.seen D.may_leave self.old self.new }
-        ensures cause { HasCause (result ≡ Err Failed)
+        ensures comes { ExtendsDemo D.seen D.may_leave self.old self.new }
+        ensures cause { FailsOnlyIfCounted (result ≡ Err Failed)
             (D.faults self.old.journal.disk) (D.faults self.new.journal.disk) }
         ensures group { OnOk result (self.new.done ≡ next_end self.old) }
-        ensures released { OnOk result (Releases D.seen D.may_leave
+        ensures released { OnOk result (ReleasesSteps D.seen D.may_leave
             (next_end self.old) [] self.old self.new) }
         ensures first { LeavesFirst D.seen D.may_leave
             (next_end self.old) [] self.old self.new }
@@ -175,19 +174,19 @@ impl<D: Disk> Source for DemoSource<D> {
     fn read(&mut self) -> Result<Option<Bytes>, SourceError>
         requires live { IsTrue self.old.live }
         requires reading { IsTrue (is_some self.old.place) }
-        ensures took { (s : Standing) → StandsFor D.seen D.may_leave self.old s
+        ensures took { (s : SourceState) → HasDemoState D.seen D.may_leave self.old s
             → IfOk result (λ read. MatchOption read
-            (Stood (StandsFor D.seen D.may_leave) self.new
+            (HasState (HasDemoState D.seen D.may_leave) self.new
             (λ t. Moved s t × (Unit {0} → HasReadAll s t)))
             (λ bytes. (m : Message) × Spells bytes m
-            × Stood (StandsFor D.seen D.may_leave) self.new (Took m s))) }
-        ensures left { Leaves (StandsFor D.seen D.may_leave)
+            × HasState (HasDemoState D.seen D.may_leave) self.new (HasReadOneMore m s))) }
+        ensures left { Leaves (HasDemoState D.seen D.may_leave)
             (λ source l. MayLeaveWal D.may_leave source.journal.disk l)
             self.old self.new MayFollow }
-        ensures some { LeavesSome (StandsFor D.seen D.may_leave)
+        ensures some { LeavesSome (HasDemoState D.seen D.may_leave)
             (λ source l. MayLeaveWal D.may_leave source.journal.disk l)
             self.old self.new }
-        ensures told { IfOk result (λ read. Tells None (Read read)) }
+        ensures told { IfOk result (λ read. LastAnswerIs None (Read read)) }
         ensures taken { IfOk result (λ read. MatchOption read (IsTakenBy [] None None)
             (λ bytes. IsTakenBy (bytes ∷ []) None None)) }
         ensures untaken { OnErr result (IsTakenBy [] None None) }
@@ -197,8 +196,8 @@ impl<D: Disk> Source for DemoSource<D> {
         ensures live { OnOk result (IsTrue self.new.live) }
         ensures dead { OnErr result (self.new.live ≡ false) }
         ensures honest { Unit {0} → Unit {0} }
-        ensures comes { ComesOf D.seen D.may_leave self.old self.new }
-        ensures cause { HasCause (result ≡ Err Failed)
+        ensures comes { ExtendsDemo D.seen D.may_leave self.old self.new }
+        ensures cause { FailsOnlyIfCounted (result ≡ Err Failed)
             (D.faults self.old.journal.disk) (D.faults self.new.journal.disk) }
         ensures released { OnOk result (ReadsOnTo D.seen D.may_leave
             self.old self.new) }
@@ -222,30 +221,30 @@ impl<D: Disk> Source for DemoSource<D> {
     ) -> Result<Vec<RawRow>, SourceError>
         requires live { IsTrue self.old.live }
         requires positive { 1 ≤ limit }
-        ensures selected { Leads (StandsFor D.seen D.may_leave) self.old self.new result (λ rows.
-            IsSelected (Unit {0}) table.now (option_copied above.entry) limit rows.items) }
+        ensures selected { MovesTo (HasDemoState D.seen D.may_leave) self.old self.new result (λ rows.
+            IsSelectAnswer (Unit {0}) table.now (option_copied above.entry) limit rows.items) }
         ensures shown { (wal : Wal) → IsDemo D.seen D.may_leave wal self.old
             → IfOk result (λ rows. AreRowsShown wal.workload.tables
             (acts_at wal.workload (next_end self.old)) table.now
             (option_copied above.entry) limit rows.items) }
-        ensures left { Leaves (StandsFor D.seen D.may_leave)
+        ensures left { Leaves (HasDemoState D.seen D.may_leave)
             (λ source l. MayLeaveWal D.may_leave source.journal.disk l)
             self.old self.new MayFollow }
-        ensures some { LeavesSome (StandsFor D.seen D.may_leave)
+        ensures some { LeavesSome (HasDemoState D.seen D.may_leave)
             (λ source l. MayLeaveWal D.may_leave source.journal.disk l)
             self.old self.new }
-        ensures told { IfOk result (λ rows. Tells None (Selected rows.items)) }
+        ensures told { IfOk result (λ rows. LastAnswerIs None (Selected rows.items)) }
         ensures taken { IsTakenBy [] None None }
         ensures reading { is_some self.new.place ≡ is_some self.old.place }
         ensures ended { self.new.ended ≡ self.old.ended }
         ensures live { OnOk result (IsTrue self.new.live) }
         ensures dead { OnErr result (self.new.live ≡ false) }
         ensures honest { Unit {0} → Unit {0} }
-        ensures comes { ComesOf D.seen D.may_leave self.old self.new }
-        ensures cause { HasCause (result ≡ Err Failed)
+        ensures comes { ExtendsDemo D.seen D.may_leave self.old self.new }
+        ensures cause { FailsOnlyIfCounted (result ≡ Err Failed)
             (D.faults self.old.journal.disk) (D.faults self.new.journal.disk) }
         ensures group { OnOk result (self.new.done ≡ second_end self.old) }
-        ensures released { OnOk result (Releases D.seen D.may_leave
+        ensures released { OnOk result (ReleasesSteps D.seen D.may_leave
             (second_end self.old) [] self.old self.new) }
         ensures first { LeavesFirst D.seen D.may_leave
             (second_end self.old) [] self.old self.new }
@@ -256,62 +255,61 @@ impl<D: Disk> Source for DemoSource<D> {
     fn mark(&mut self, value: &Text) -> Result<(), SourceError>
         requires live { IsTrue self.old.live }
         requires short { length value.now ≤ 64 }
-        ensures marked { Leads (StandsFor D.seen D.may_leave) self.old self.new result
+        ensures marked { MovesTo (HasDemoState D.seen D.may_leave) self.old self.new result
             (λ done. IsMarked value.now) }
-        ensures left { Leaves (StandsFor D.seen D.may_leave)
+        ensures left { Leaves (HasDemoState D.seen D.may_leave)
             (λ source l. MayLeaveWal D.may_leave source.journal.disk l)
             self.old self.new (MayFollowMark value.now) }
-        ensures some { LeavesSome (StandsFor D.seen D.may_leave)
+        ensures some { LeavesSome (HasDemoState D.seen D.may_leave)
             (λ source l. MayLeaveWal D.may_leave source.journal.disk l)
             self.old self.new }
-        ensures unmarked { result ≡ Err Memory → Leaves (StandsFor D.seen D.may_leave)
+        ensures unmarked { result ≡ Err Memory → Leaves (HasDemoState D.seen D.may_leave)
             (λ source l. MayLeaveWal D.may_leave source.journal.disk l)
             self.old self.new MayFollow }
-        ensures told { OnOk result (Tells None Done) }
+        ensures told { OnOk result (LastAnswerIs None Done) }
         ensures taken { IsTakenBy [] None None }
         ensures reading { is_some self.new.place ≡ is_some self.old.place }
         ensures ended { self.new.ended ≡ self.old.ended }
         ensures live { OnOk result (IsTrue self.new.live) }
         ensures dead { OnErr result (self.new.live ≡ false) }
         ensures honest { Unit {0} → Unit {0} }
-        ensures comes { ComesOf D.seen D.may_leave self.old self.new }
-        ensures cause { HasCause (result ≡ Err Failed)
+        ensures comes { ExtendsDemo D.seen D.may_leave self.old self.new }
+        ensures cause { FailsOnlyIfCounted (result ≡ Err Failed)
             (D.faults self.old.journal.disk) (D.faults self.new.journal.disk) }
         ensures group { OnOk result (self.new.done ≡ next_end self.old) }
-        ensures released { OnOk result (Releases D.seen D.may_leave
-            (next_end self.old) (mark_of value.now (next_end self.old)) self.old self.new) }
+        ensures released { OnOk result (ReleasesSteps D.seen D.may_leave
+            (next_end self.old) (mark_entries value.now (next_end self.old)) self.old self.new) }
         ensures first { LeavesFirst D.seen D.may_leave
-            (next_end self.old) (mark_of value.now (next_end self.old)) self.old self.new }
+            (next_end self.old) (mark_entries value.now (next_end self.old)) self.old self.new }
     {
         self.answer_mark(value)
     }
 
-    // A position that doesn't rise is appended nowhere.
     fn confirm(&mut self, upto: Lsn) -> Result<(), SourceError>
         requires { IsTrue self.old.live }
-        ensures confirmed { Leads (StandsFor D.seen D.may_leave) self.old self.new result
+        ensures confirmed { MovesTo (HasDemoState D.seen D.may_leave) self.old self.new result
             (λ done. IsConfirmed upto) }
-        ensures left { Leaves (StandsFor D.seen D.may_leave)
+        ensures left { Leaves (HasDemoState D.seen D.may_leave)
             (λ source l. MayLeaveWal D.may_leave source.journal.disk l)
             self.old self.new (MayFollowConfirm upto) }
-        ensures some { LeavesSome (StandsFor D.seen D.may_leave)
+        ensures some { LeavesSome (HasDemoState D.seen D.may_leave)
             (λ source l. MayLeaveWal D.may_leave source.journal.disk l)
             self.old self.new }
-        ensures unconfirmed { result ≡ Err Memory → Leaves (StandsFor D.seen D.may_leave)
+        ensures unconfirmed { result ≡ Err Memory → Leaves (HasDemoState D.seen D.may_leave)
             (λ source l. MayLeaveWal D.may_leave source.journal.disk l)
             self.old self.new MayFollow }
-        ensures told { OnOk result (Tells None Done) }
+        ensures told { OnOk result (LastAnswerIs None Done) }
         ensures taken { IsTakenBy [] None None }
         ensures reading { is_some self.new.place ≡ is_some self.old.place }
         ensures ended { self.new.ended ≡ self.old.ended }
         ensures live { OnOk result (IsTrue self.new.live) }
         ensures dead { OnErr result (self.new.live ≡ false) }
         ensures honest { Unit {0} → Unit {0} }
-        ensures comes { ComesOf D.seen D.may_leave self.old self.new }
-        ensures cause { HasCause (result ≡ Err Failed)
+        ensures comes { ExtendsDemo D.seen D.may_leave self.old self.new }
+        ensures cause { FailsOnlyIfCounted (result ≡ Err Failed)
             (D.faults self.old.journal.disk) (D.faults self.new.journal.disk) }
         ensures group { OnOk result (self.new.done ≡ next_end self.old) }
-        ensures released { OnOk result (Releases D.seen D.may_leave
+        ensures released { OnOk result (ReleasesSteps D.seen D.may_leave
             (next_end self.old) (confirm_of self.old.confirmed upto) self.old self.new) }
         ensures first { LeavesFirst D.seen D.may_leave
             (next_end self.old) (confirm_of self.old.confirmed upto) self.old self.new }

@@ -1,23 +1,22 @@
-//! A confirmed position, which is written where it rises.
+//! A confirmed position, which is written if it rises.
 
 ghost use Rattle.std.specs.Prelude.{◌≡◌, ◌⊎◌, ◌<◌, ◌≤◌, ◌++◌, ◌∷◌, [], ℕ, List, length};
 ghost use Rattle.std.specs.Prelude.{drop, false, Err, IsTrue, OnOk};
-ghost use Rattle.dbl_base.specs.Streams.{HasCause};
-ghost use Rattle.dbl_journal.specs.Growth.{ComesOf};
+ghost use Rattle.dbl_base.specs.Streams.{FailsOnlyIfCounted};
+ghost use Rattle.dbl_journal.specs.Growth.{ExtendsJournal};
 ghost use Rattle.dbl_journal.specs.Stored.{LeavesEntries, Lists, count_of};
-ghost use Rattle.dbl_running.specs.Answers.{Adds, AnswersNothing};
-ghost use Rattle.dbl_running.specs.Calls.{LeavesFirst, confirm_of, next_end};
+ghost use Rattle.dbl_demo_laws.specs.Answers.{RunsStepsAndWrites, AnswersNothing};
+ghost use Rattle.dbl_demo_laws.specs.Calls.{LeavesFirst, confirm_of, next_end};
 ghost use Rattle.dbl_disk.specs.Disks.{disk_limit};
 
 use crate::DemoSource;
 use crate::appending::append;
 use dbl_base::Lsn;
+use dbl_demo_wal::confirm_entry;
 use dbl_disk::Disk;
 use dbl_source::SourceError;
-use dbl_wal::confirm_entry;
 
 impl<D: Disk> DemoSource<D> {
-    // Appends the entry of a position that is confirmed.
     fn log_confirm(&mut self, entry: Vec<u8>, upto: Lsn) -> Result<(), SourceError>
         requires live { IsTrue self.old.journal.live }
         requires dead { self.old.live ≡ false }
@@ -37,8 +36,8 @@ impl<D: Disk> DemoSource<D> {
           confirmed = self.new.confirmed;
         } }
         ensures live { OnOk result (IsTrue self.new.journal.live) }
-        ensures comes { ComesOf D.seen D.may_leave self.old.journal self.new.journal }
-        ensures cause { HasCause (result ≡ Err SourceError.Failed)
+        ensures comes { ExtendsJournal D.seen D.may_leave self.old.journal self.new.journal }
+        ensures cause { FailsOnlyIfCounted (result ≡ Err SourceError.Failed)
             (D.faults self.old.journal.disk) (D.faults self.new.journal.disk) }
     {
         let _entries = self.journal.count();
@@ -47,17 +46,17 @@ impl<D: Disk> DemoSource<D> {
         Ok(())
     }
 
-    /// A position that doesn't rise is appended nowhere.
+    /// Confirms a position. One that doesn't rise isn't appended.
     pub(crate) fn answer_confirm(&mut self, upto: Lsn) -> Result<(), SourceError>
         requires { IsTrue self.old.live }
-        ensures added { Adds D.seen D.may_leave D.faults
+        ensures added { RunsStepsAndWrites D.seen D.may_leave D.faults
             (next_end self.old) (confirm_of self.old.confirmed upto)
             (AnswersNothing self.old) self.old self.new result }
         ensures starved { result ≡ Err SourceError.Memory
             → LeavesFirst D.seen D.may_leave (next_end self.old) [] self.old self.new }
     {
         self.live = false;
-        self.release()?;
+        self.run_to_tick()?;
         if upto.0 <= self.confirmed.0 {
             self.live = true;
             return Ok(());

@@ -1,4 +1,5 @@
-//! A source of changes that needs no server: it runs a workload, and keeps its log on a disk that may stop at any call.
+//! A source of changes that needs no server: it runs a workload, and keeps its log on a disk that
+//! may stop at any call.
 #![tactic(auto)]
 
 mod answering;
@@ -13,5 +14,5 @@ mod releasing;
 mod selecting;
 mod source;
 
-pub use dbl_workload::DemoError;
+pub use dbl_demo_workload::DemoError;
 pub use source::DemoSource;

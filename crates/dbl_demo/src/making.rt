@@ -1,30 +1,30 @@
-//! A log that begins.
+//! The begin of a log.
 
 ghost use Rattle.std.specs.Prelude.{◌≡◌, ◌≢◌, ℕ, ◌<◌, ◌≤◌, List, [], Some, None, Err, IfSome, IfOk, IfErr, OnOk};
 ghost use Rattle.std.specs.Prelude.{IsTrue, MatchResult, is_some, length, max};
-ghost use Rattle.dbl_base.specs.Streams.{HasCause};
+ghost use Rattle.dbl_base.specs.Streams.{FailsOnlyIfCounted};
 ghost use Rattle.dbl_journal.specs.Stored.{IsSteady, Lists, count_of, size};
-ghost use Rattle.dbl_sound.specs.Wals.{Wal};
-ghost use Rattle.dbl_sound.specs.Workloads.{IsWorkload, Workload};
-ghost use Rattle.dbl_running.specs.Demo.{IsDemo};
-ghost use Rattle.dbl_running.specs.Made.{first_forms, IsFirst};
-ghost use Rattle.dbl_workload.specs.Logs.{IsFailed};
-ghost use Rattle.dbl_workload.specs.Ready.{IsReady};
-ghost use Rattle.dbl_workload.specs.Steps.{FitAnEntry};
+ghost use Rattle.dbl_demo_wal.specs.Wals.{Wal};
+ghost use Rattle.dbl_demo_wal.specs.Workloads.{IsWorkload, Workload};
+ghost use Rattle.dbl_demo_laws.specs.Demo.{IsDemo};
+ghost use Rattle.dbl_demo_laws.specs.Made.{first_forms, IsFirstWal};
+ghost use Rattle.dbl_demo_workload.specs.Logs.{IsFailed};
+ghost use Rattle.dbl_demo_workload.specs.Ready.{IsReady};
+ghost use Rattle.dbl_demo_workload.specs.Steps.{FitAnEntry};
 ghost use Rattle.dbl_demo.specs.Begun.{IsBeginFault, numbers_of, first_room};
 ghost use Rattle.dbl_journal.specs.Form.{entry_limit};
 ghost use Rattle.dbl_journal.specs.Calls.{Makes};
 
 use crate::{DemoError, DemoSource};
 use dbl_base::Lsn;
+use dbl_demo_wal::{commit_entry, workload_entry};
+use dbl_demo_workload::Prepared;
 use dbl_disk::{Disk, Refused};
 use dbl_journal::{Journal, JournalError};
-use dbl_wal::{commit_entry, workload_entry};
-use dbl_workload::Prepared;
 use std::alloc::Global;
 use std::collections::BTreeSet;
 
-/// The numbers of the first commits' entries: 1 is that of the rows, where there are any.
+/// The numbers of the first commits' entries: 1 for the initial rows, if there are any.
 pub(crate) fn first_numbers(alloc: Global, has_rows: bool) -> Result<Vec<u64>, DemoError>
     ensures numbers { IfOk result (λ numbers. numbers.items ≡ numbers_of has_rows) }
     ensures memory { IfErr result (λ e. e ≡ DemoError.Memory) }
@@ -36,7 +36,7 @@ pub(crate) fn first_numbers(alloc: Global, has_rows: bool) -> Result<Vec<u64>, D
     Ok(numbers)
 }
 
-// Appends the first entries of a wal: the workload, and the commit of its rows.
+// Appends the first entries of a log: the workload, and the commit of its initial rows.
 fn begin_log<D: Disk>(
     alloc: Global,
     journal: &mut Journal<D>,
@@ -54,7 +54,7 @@ fn begin_log<D: Disk>(
     ensures count { OnOk result (count_of journal.new
         ≡ length (first_forms bytes.now prepared.now.rows)) }
     ensures kinds { IfErr result IsBeginFault }
-    ensures cause { HasCause (result ≡ Err (DemoError.Journal JournalError.Failed))
+    ensures cause { FailsOnlyIfCounted (result ≡ Err (DemoError.Journal JournalError.Failed))
         (D.faults journal.old.disk) (D.faults journal.new.disk) }
     ensures grows { (old new : List ℕ) → Lists D.seen D.may_leave journal.old []
         → D.seen journal.old.disk ≡ Some old → D.seen journal.new.disk ≡ Some new
@@ -73,7 +73,7 @@ fn begin_log<D: Disk>(
     }
 }
 
-/// A journal on an empty disk, with the first entries of a wal.
+/// A journal on an empty disk, with the first entries of a log.
 pub(crate) fn make_log<D: Disk>(
     alloc: Global,
     disk: D,
@@ -112,7 +112,7 @@ pub(crate) fn make_log<D: Disk>(
     }
 }
 
-/// The source over a journal with the first entries of a wal; `commits` are the numbers of those that are commits.
+/// The source over a journal with the first entries of a log, whose commits have these numbers.
 pub(crate) fn first_source<D: Disk>(
     alloc: Global,
     journal: Journal<D>,
@@ -127,7 +127,7 @@ pub(crate) fn first_source<D: Disk>(
     ensures made { (script : List ℕ) (w : Workload) → IsWorkload script w → IsReady w prepared
         → Lists D.seen D.may_leave journal (first_forms script prepared.rows)
         → (wal : Wal) × IsDemo D.seen D.may_leave wal result
-        × IsFirst script wal × (result.done ≡ 0) }
+        × IsFirstWal script wal × (result.done ≡ 0) }
     ensures unread { result.place ≡ None }
     ensures live { IsTrue result.live }
     ensures names { result.names ≡ prepared.names.items }

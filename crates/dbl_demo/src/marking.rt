@@ -1,23 +1,23 @@
-//! A mark: a commit of its own behind a group of steps.
+//! A watermark: a commit of its own after a group of steps.
 
 ghost use Rattle.std.specs.Prelude.{◌≡◌, ◌⊎◌, ◌<◌, ◌≤◌, ◌++◌, ◌∷◌, [], ℕ, List, length};
 ghost use Rattle.std.specs.Prelude.{drop, false, Err, IsTrue, OnOk};
-ghost use Rattle.dbl_base.specs.Streams.{HasCause};
-ghost use Rattle.dbl_journal.specs.Growth.{ComesOf};
+ghost use Rattle.dbl_base.specs.Streams.{FailsOnlyIfCounted};
+ghost use Rattle.dbl_journal.specs.Growth.{ExtendsJournal};
 ghost use Rattle.dbl_journal.specs.Stored.{LeavesEntries, Lists, count_of};
-ghost use Rattle.dbl_running.specs.Answers.{Adds, AnswersNothing};
-ghost use Rattle.dbl_running.specs.Calls.{LeavesFirst, mark_of, next_end};
+ghost use Rattle.dbl_demo_laws.specs.Answers.{RunsStepsAndWrites, AnswersNothing};
+ghost use Rattle.dbl_demo_laws.specs.Calls.{LeavesFirst, mark_entries, next_end};
 ghost use Rattle.dbl_disk.specs.Disks.{disk_limit};
 
 use crate::DemoSource;
 use crate::appending::append;
 use dbl_base::Text;
+use dbl_demo_wal::mark_entry;
 use dbl_disk::Disk;
 use dbl_source::SourceError;
-use dbl_wal::mark_entry;
 
 impl<D: Disk> DemoSource<D> {
-    // Appends the entry of a mark. Where it isn't appended no commit has its number.
+    // Appends the entry of a watermark. If it isn't appended no commit has its number.
     fn log_mark(&mut self, entry: Vec<u8>) -> Result<(), SourceError>
         requires live { IsTrue self.old.journal.live }
         requires dead { self.old.live ≡ false }
@@ -38,8 +38,8 @@ impl<D: Disk> DemoSource<D> {
           commits = self.new.commits;
         } }
         ensures live { OnOk result (IsTrue self.new.journal.live) }
-        ensures comes { ComesOf D.seen D.may_leave self.old.journal self.new.journal }
-        ensures cause { HasCause (result ≡ Err SourceError.Failed)
+        ensures comes { ExtendsJournal D.seen D.may_leave self.old.journal self.new.journal }
+        ensures cause { FailsOnlyIfCounted (result ≡ Err SourceError.Failed)
             (D.faults self.old.journal.disk) (D.faults self.new.journal.disk) }
     {
         let number = self.journal.count();
@@ -51,18 +51,18 @@ impl<D: Disk> DemoSource<D> {
         Ok(())
     }
 
-    /// A commit of its own behind the group.
+    /// Writes a watermark in a commit of its own after the group.
     pub(crate) fn answer_mark(&mut self, value: &Text) -> Result<(), SourceError>
         requires live { IsTrue self.old.live }
         requires short { length value.now ≤ 64 }
-        ensures added { Adds D.seen D.may_leave D.faults
-            (next_end self.old) (mark_of value.now (next_end self.old))
+        ensures added { RunsStepsAndWrites D.seen D.may_leave D.faults
+            (next_end self.old) (mark_entries value.now (next_end self.old))
             (AnswersNothing self.old) self.old self.new result }
         ensures starved { result ≡ Err SourceError.Memory
             → LeavesFirst D.seen D.may_leave (next_end self.old) [] self.old self.new }
     {
         self.live = false;
-        self.release()?;
+        self.run_to_tick()?;
         let entry = mark_entry(self.alloc, self.done as u64, value)?;
         self.log_mark(entry)?;
         self.live = true;

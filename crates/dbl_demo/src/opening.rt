@@ -1,18 +1,18 @@
-//! A log that is opened.
+//! The opening of a log.
 
 ghost use Rattle.std.specs.Prelude.{◌≡◌, ◌⊎◌, ℕ, ◌<◌, List, None, Err, IfOk, IfErr, IsTrue, MatchResult};
 ghost use Rattle.dbl_journal.specs.Stored.{Lists};
-ghost use Rattle.dbl_sound.specs.Sound.{steps_in};
-ghost use Rattle.dbl_sound.specs.Wals.{IsFirstBad, Wal, forms_of};
-ghost use Rattle.dbl_running.specs.Demo.{IsDemo};
-ghost use Rattle.dbl_workload.specs.Logs.{IsFailed};
-ghost use Rattle.dbl_workload.specs.Ready.{AreTableNames};
+ghost use Rattle.dbl_demo_wal.specs.Sound.{steps_in};
+ghost use Rattle.dbl_demo_wal.specs.Wals.{IsFirstBad, Wal, forms_of};
+ghost use Rattle.dbl_demo_laws.specs.Demo.{IsDemo};
+ghost use Rattle.dbl_demo_workload.specs.Logs.{IsFailed};
+ghost use Rattle.dbl_demo_workload.specs.Ready.{AreTableNames};
 ghost use Rattle.dbl_journal.specs.Calls.{Keeps};
 
 use crate::{DemoError, DemoSource};
+use dbl_demo_workload::{Checked, Prepared, check_log};
 use dbl_disk::{Disk, Refused};
 use dbl_journal::Journal;
-use dbl_workload::{Checked, Prepared, check_log};
 use std::alloc::Global;
 use std::collections::BTreeSet;
 

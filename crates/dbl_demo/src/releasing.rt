@@ -1,46 +1,45 @@
 //! Groups of steps that a call runs, and the commits that they add to the log.
 
 ghost use Rattle.std.specs.Prelude.{◌≡◌, ◌<◌, ◌≤◌, ◌+◌, Err, [], false, length, IfOk, OnOk, IsTrue, slice_get, Some, ◌⊎◌, true};
-ghost use Rattle.dbl_base.specs.Streams.{HasCause};
-ghost use Rattle.dbl_journal.specs.Growth.{ComesOf};
+ghost use Rattle.dbl_base.specs.Streams.{FailsOnlyIfCounted};
+ghost use Rattle.dbl_journal.specs.Growth.{ExtendsJournal};
 ghost use Rattle.dbl_journal.specs.Stored.{count_of};
-ghost use Rattle.dbl_feed.specs.declared.place.Place.{Place};
-ghost use Rattle.dbl_wal.specs.declared.entry.Entry.TheVariants.{Commits};
-ghost use Rattle.dbl_wal.specs.Entries.{FitsEntry};
+ghost use Rattle.dbl_source_log.specs.declared.place.Place.{Place};
+ghost use Rattle.dbl_demo_wal.specs.declared.entry.Entry.TheVariants.{Commits};
+ghost use Rattle.dbl_demo_wal.specs.Entries.{FitsWalEntry};
 ghost use Rattle.dbl_script.specs.declared.script.Step.{Step};
-ghost use Rattle.dbl_sound.specs.Wals.{Wal};
-ghost use Rattle.dbl_running.specs.Calls.{next_end};
-ghost use Rattle.dbl_running.specs.Demo.{IsRunning};
-ghost use Rattle.dbl_running.specs.Reading.{has_unread, IsLogged, LeavesLogged, LeavesReadRun, RanOn};
-ghost use Rattle.dbl_running.specs.Running.{IsRunOf, LeavesRun, Ran};
-ghost use Rattle.dbl_workload.specs.Steps.{FitAnEntry, is_tick};
+ghost use Rattle.dbl_demo_wal.specs.Wals.{Wal};
+ghost use Rattle.dbl_demo_laws.specs.Calls.{next_end};
+ghost use Rattle.dbl_demo_laws.specs.Demo.{IsRunning};
+ghost use Rattle.dbl_demo_laws.specs.Reading.{has_unread, IsLogged, LeavesLogged, LeavesReadRun, RanOn};
+ghost use Rattle.dbl_demo_laws.specs.Running.{IsRunOf, LeavesRun, Ran};
+ghost use Rattle.dbl_demo_workload.specs.Steps.{FitAnEntry, is_tick};
 ghost use Rattle.dbl_disk.specs.Disks.{disk_limit};
 
 use crate::DemoSource;
 use crate::appending::append;
 use dbl_base::Seq;
+use dbl_demo_wal::commit_entry;
+use dbl_demo_workload::{is_tick, run_next};
 use dbl_disk::Disk;
-use dbl_feed::commits_upto;
 use dbl_pgmsg::Message;
 use dbl_source::SourceError;
-use dbl_wal::commit_entry;
-use dbl_workload::{is_tick, run_next};
+use dbl_source_log::commits_upto;
 
 impl<D: Disk> DemoSource<D> {
-    // Appends the commit of the last step that was done.
     fn log_commit(&mut self, messages: Seq<Message>) -> Result<(), SourceError>
         requires live { IsTrue self.old.journal.live }
         requires dead { self.old.live ≡ false }
         requires fits { FitAnEntry messages }
         ensures logged { OnOk result (IsLogged D.seen D.may_leave messages self.old self.new) }
         ensures left { LeavesLogged D.seen D.may_leave messages self.old self.new }
-        ensures entry { FitsEntry (Commits self.old.done messages) }
+        ensures entry { FitsWalEntry (Commits self.old.done messages) }
         ensures small { count_of self.old.journal < disk_limit }
         ensures live { OnOk result (IsTrue self.new.journal.live) }
         ensures same { IsRunOf self.old self.new }
         ensures stays { (self.new.done ≡ self.old.done) × (self.new.store ≡ self.old.store) }
-        ensures comes { ComesOf D.seen D.may_leave self.old.journal self.new.journal }
-        ensures cause { HasCause (result ≡ Err SourceError.Failed)
+        ensures comes { ExtendsJournal D.seen D.may_leave self.old.journal self.new.journal }
+        ensures cause { FailsOnlyIfCounted (result ≡ Err SourceError.Failed)
             (D.faults self.old.journal.disk) (D.faults self.new.journal.disk) }
     {
         let number = self.journal.count();
@@ -50,7 +49,7 @@ impl<D: Disk> DemoSource<D> {
         Ok(())
     }
 
-    // Runs the step behind those that were done. Answers whether it ends a group.
+    // Runs the next step. Returns whether it ends a group.
     fn run_one(&mut self) -> Result<bool, SourceError>
         requires live { IsTrue self.old.journal.live }
         requires dead { self.old.live ≡ false }
@@ -64,8 +63,8 @@ impl<D: Disk> DemoSource<D> {
         ensures one { OnOk result (self.new.done ≡ self.old.done + 1) }
         ensures live { OnOk result (IsTrue self.new.journal.live) }
         ensures same { IsRunOf self.old self.new }
-        ensures comes { ComesOf D.seen D.may_leave self.old.journal self.new.journal }
-        ensures cause { HasCause (result ≡ Err SourceError.Failed)
+        ensures comes { ExtendsJournal D.seen D.may_leave self.old.journal self.new.journal }
+        ensures cause { FailsOnlyIfCounted (result ≡ Err SourceError.Failed)
             (D.faults self.old.journal.disk) (D.faults self.new.journal.disk) }
     {
         let ends = is_tick(&self.steps[self.done]);
@@ -77,8 +76,8 @@ impl<D: Disk> DemoSource<D> {
         Ok(ends)
     }
 
-    /// Runs the steps up to the next `tick` and with it, or up to the end.
-    pub(crate) fn release(&mut self) -> Result<(), SourceError>
+    /// Runs the steps up to and with the next `tick`, or up to the end.
+    pub(crate) fn run_to_tick(&mut self) -> Result<(), SourceError>
         requires live { IsTrue self.old.journal.live }
         requires dead { self.old.live ≡ false }
         ensures ran { (wal : Wal) → IsRunning D.seen D.may_leave wal self.old
@@ -88,8 +87,8 @@ impl<D: Disk> DemoSource<D> {
         ensures end { OnOk result (self.new.done ≡ next_end self.old) }
         ensures live { OnOk result (IsTrue self.new.journal.live) }
         ensures same { IsRunOf self.old self.new }
-        ensures comes { ComesOf D.seen D.may_leave self.old.journal self.new.journal }
-        ensures cause { HasCause (result ≡ Err SourceError.Failed)
+        ensures comes { ExtendsJournal D.seen D.may_leave self.old.journal self.new.journal }
+        ensures cause { FailsOnlyIfCounted (result ≡ Err SourceError.Failed)
             (D.faults self.old.journal.disk) (D.faults self.new.journal.disk) }
     {
         'steps: while self.done < self.steps.len() {
@@ -100,7 +99,6 @@ impl<D: Disk> DemoSource<D> {
         Ok(())
     }
 
-    // Whether a commit stands there that the reader hasn't read whole.
     fn has_unread(&self) -> bool
         ensures { result ≡ has_unread self.now.place (length self.now.commits) }
     {
@@ -110,8 +108,9 @@ impl<D: Disk> DemoSource<D> {
         }
     }
 
-    /// Runs groups of steps until there is a commit to be read, or no step is left; one at the least.
-    pub(crate) fn release_unread(&mut self) -> Result<(), SourceError>
+    /// Runs at least one group of steps, and more until there is a commit to be read or no step is
+    /// left.
+    pub(crate) fn run_to_unread_commit(&mut self) -> Result<(), SourceError>
         requires live { IsTrue self.old.journal.live }
         requires dead { self.old.live ≡ false }
         ensures ran { (wal : Wal) (place : Place) → IsRunning D.seen D.may_leave wal self.old
@@ -125,16 +124,16 @@ impl<D: Disk> DemoSource<D> {
             ⊎ (length self.new.steps ≤ self.new.done)) }
         ensures live { OnOk result (IsTrue self.new.journal.live) }
         ensures same { IsRunOf self.old self.new }
-        ensures comes { ComesOf D.seen D.may_leave self.old.journal self.new.journal }
-        ensures cause { HasCause (result ≡ Err SourceError.Failed)
+        ensures comes { ExtendsJournal D.seen D.may_leave self.old.journal self.new.journal }
+        ensures cause { FailsOnlyIfCounted (result ≡ Err SourceError.Failed)
             (D.faults self.old.journal.disk) (D.faults self.new.journal.disk) }
     {
-        self.release()?;
+        self.run_to_tick()?;
         'groups: while self.done < self.steps.len() {
             if self.has_unread() {
                 return Ok(());
             }
-            self.release()?;
+            self.run_to_tick()?;
         }
         Ok(())
     }

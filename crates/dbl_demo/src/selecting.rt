@@ -1,24 +1,23 @@
 //! A select: the rows between two groups of steps.
 
 ghost use Rattle.std.specs.Prelude.{◌≡◌, [], List, option_copied, IsTrue, IfOk, IfErr};
-ghost use Rattle.dbl_serial.specs.declared.demo_table.DemoTable.{DemoTable};
-ghost use Rattle.dbl_serial.specs.Acts.{Accepted};
+ghost use Rattle.dbl_tables_rows.specs.declared.demo_table.DemoTable.{DemoTable};
+ghost use Rattle.dbl_tables_rows.specs.Acts.{Accepted};
 ghost use Rattle.dbl_tables.specs.Stands.{Stands};
-ghost use Rattle.dbl_sound.specs.Wals.{Wal};
-ghost use Rattle.dbl_sound.specs.Workloads.{acts_at};
-ghost use Rattle.dbl_selects.specs.Shown.{AreRowsShown};
-ghost use Rattle.dbl_running.specs.Answers.{Adds, IsReaderKept};
-ghost use Rattle.dbl_running.specs.Calls.{next_end, second_end};
-ghost use Rattle.dbl_running.specs.Demo.{IsDemo};
+ghost use Rattle.dbl_demo_wal.specs.Wals.{Wal};
+ghost use Rattle.dbl_demo_wal.specs.Workloads.{acts_at};
+ghost use Rattle.dbl_demo_wal.specs.Shown.{AreRowsShown};
+ghost use Rattle.dbl_demo_laws.specs.Answers.{RunsStepsAndWrites, IsReaderKept};
+ghost use Rattle.dbl_demo_laws.specs.Calls.{next_end, second_end};
+ghost use Rattle.dbl_demo_laws.specs.Demo.{IsDemo};
 
 use crate::DemoSource;
 use dbl_disk::Disk;
-use dbl_serial::StepError;
+use dbl_model_table::{Key, RawRow, TableName};
 use dbl_source::SourceError;
-use dbl_table::{Key, RawRow, TableName};
+use dbl_tables_rows::StepError;
 
 impl<D: Disk> DemoSource<D> {
-    // The committed rows of a table; none where there is no such table.
     fn rows_above(
         &self,
         table: &TableName,
@@ -38,7 +37,7 @@ impl<D: Disk> DemoSource<D> {
         }
     }
 
-    /// The rows are those between two groups.
+    /// Selects the rows between two groups.
     pub(crate) fn answer_select(
         &mut self,
         table: &TableName,
@@ -46,7 +45,7 @@ impl<D: Disk> DemoSource<D> {
         limit: u32,
     ) -> Result<Vec<RawRow>, SourceError>
         requires { IsTrue self.old.live }
-        ensures added { Adds D.seen D.may_leave D.faults (second_end self.old) []
+        ensures added { RunsStepsAndWrites D.seen D.may_leave D.faults (second_end self.old) []
             (λ new rows. IsReaderKept self.old new) self.old self.new result }
         ensures shown { (wal : Wal) → IsDemo D.seen D.may_leave wal self.old
             → IfOk result (λ rows. AreRowsShown wal.workload.tables
@@ -54,9 +53,9 @@ impl<D: Disk> DemoSource<D> {
             (option_copied above.entry) limit rows.items) }
     {
         self.live = false;
-        self.release()?;
+        self.run_to_tick()?;
         let rows = self.rows_above(table, above, limit)?;
-        self.release()?;
+        self.run_to_tick()?;
         self.live = true;
         Ok(rows)
     }

@@ -1,37 +1,39 @@
 ghost use Rattle.std.specs.Prelude.{◌≡◌, ◌≢◌, ◌⊎◌, ℕ, ◌<◌, ◌≤◌, List, [], Some, None, IfOk, IfErr, IsTrue, MatchResult, length, map};
-ghost use Rattle.dbl_base.specs.Streams.{Rose};
+ghost use Rattle.dbl_base.specs.Streams.{FaultCounted};
 ghost use Rattle.dbl_disk.specs.Disks.{IsOnly};
 ghost use Rattle.dbl_journal.specs.Form.{IsFaultAt, entry_limit};
 ghost use Rattle.dbl_journal.specs.Stored.{IsSteady};
-ghost use Rattle.dbl_sound.specs.Sound.{steps_in};
-ghost use Rattle.dbl_sound.specs.Wals.{HasBadEntry, IsWal, Wal};
-ghost use Rattle.dbl_sound.specs.Workloads.{IsWorkload, Workload, steps_of};
-ghost use Rattle.dbl_running.specs.Demo.{IsDemo};
+ghost use Rattle.dbl_demo_wal.specs.Sound.{steps_in};
+ghost use Rattle.dbl_demo_wal.specs.Wals.{HasBadWalEntry, IsWal, Wal};
+ghost use Rattle.dbl_demo_wal.specs.Workloads.{IsWorkload, Workload, steps_of};
+ghost use Rattle.dbl_demo_laws.specs.Demo.{IsDemo};
 ghost use Rattle.dbl_demo.specs.Errors.{IsMakeFault, IsOpenFault};
-ghost use Rattle.dbl_running.specs.Made.{IsFirst};
-ghost use Rattle.dbl_workload.specs.Ready.{AreTableNames};
-ghost use Rattle.dbl_workload.specs.Refusals.{IsRefused};
+ghost use Rattle.dbl_demo_laws.specs.Made.{IsFirstWal};
+ghost use Rattle.dbl_demo_workload.specs.Ready.{AreTableNames};
+ghost use Rattle.dbl_demo_workload.specs.Refusals.{IsRefused};
 ghost use Rattle.dbl_demo.specs.Begun.{first_room};
 
 use crate::DemoError;
 use crate::making::{first_numbers, first_source, make_log};
 use crate::opening::open_journal;
 use dbl_base::Lsn;
+use dbl_demo_workload::prepare;
 use dbl_disk::{Disk, Refused};
-use dbl_feed::{LogTable, Logged, Place};
 use dbl_journal::{Journal, JournalError};
+use dbl_model_table::TableName;
 use dbl_script::Step;
-use dbl_table::TableName;
+use dbl_source_log::{LogTable, Logged, Place};
 use dbl_tables::Tables;
-use dbl_workload::prepare;
 use std::alloc::Global;
 use std::collections::BTreeSet;
 use std::marker::Model;
 
-/// A source that runs a workload. Its log is on a disk, and isn't held in memory: a crash loses nothing but what a call was adding.
+/// A source that runs a workload, with its log on a disk: a crash loses only what a call was
+/// adding.
 ///
-/// Each call first runs the steps up to the next `tick`; a `select` then takes its rows and runs those up to the one after it; a
-/// `read` goes on until there is a commit to be read, or no step is left.
+/// Each call first runs the steps up to the next `tick`; a `select` then takes its rows and runs
+/// those up to the one after it; a `read` runs more until there is a commit to be read, or no step
+/// is left.
 #[derive(Drop)]
 pub struct DemoSource<D: Disk> {
     pub(crate) alloc: Global,
@@ -47,9 +49,9 @@ pub struct DemoSource<D: Disk> {
     pub(crate) place: Option<Place>,
     // The tables that Relations have described since the last start.
     pub(crate) described: BTreeSet<u32>,
-    // The commit that is being read, once its entry was.
+    // The commit that is being read, once its entry was read.
     pub(crate) held: Option<Logged>,
-    // Whether the last read since the last start answered that nothing is left.
+    // Whether the last read since the last start returned that nothing is left.
     pub(crate) ended: bool,
     pub(crate) live: bool,
 }
@@ -57,7 +59,7 @@ pub struct DemoSource<D: Disk> {
 impl<D: Disk> Model for DemoSource<D> {
     ghost use Rattle.std.specs.Coded.{codes};
     ghost use Rattle.dbl_tables.specs.contracts.tables.Tables as t;
-    ghost use Rattle.dbl_running.specs.Demo.{Demo, HasParts};
+    ghost use Rattle.dbl_demo_laws.specs.Demo.{Demo, HasParts};
 
     ghost Value = { Demo D };
 
@@ -84,8 +86,8 @@ impl<D: Disk> Model for DemoSource<D> {
 }
 
 impl<D: Disk> DemoSource<D> {
-    /// A source that begins with a workload, on an empty disk. The workload's lines, its tables and its rows are looked at before the
-    /// first call of the disk, so that no byte is written of one that is refused; memory may run out later too.
+    /// A source that begins with a workload, on an empty disk. The workload is checked before the
+    /// first call of the disk; memory may run out later too.
     pub fn make(
         alloc: Global,
         disk: D,
@@ -93,9 +95,10 @@ impl<D: Disk> DemoSource<D> {
     ) -> Result<DemoSource<D>, Refused<D, DemoError>>
         requires empty { (bytes : List ℕ) → D.seen disk ≡ Some bytes → bytes ≡ [] }
         requires short { length workload.now < entry_limit }
-        // The wal is of the workload, without marks and confirmed positions, and no step is done.
+        // The log is of the workload, without watermarks and confirmed positions, and no step is
+        // done.
         ensures made { D.seen disk ≡ Some [] → IfOk result (λ source. (wal : Wal)
-            × IsDemo D.seen D.may_leave wal source × IsFirst workload.now wal × (source.done ≡ 0)) }
+            × IsDemo D.seen D.may_leave wal source × IsFirstWal workload.now wal × (source.done ≡ 0)) }
         ensures workload { IfOk result (λ source. (w : Workload) × IsWorkload workload.now w
             × (source.names ≡ map (λ table. table.info.name) w.tables)
             × (source.steps ≡ steps_of w)) }
@@ -104,13 +107,13 @@ impl<D: Disk> DemoSource<D> {
         ensures refused { IfErr result (λ refused. (refused.error ≡ DemoError.Memory)
             ⊎ ((refused.error ≡ DemoError.Journal JournalError.Failed)
             ⊎ IsRefused workload.now refused.error)) }
-        // A workload that is refused costs no call of the disk.
+        // A refused workload causes no call of the disk.
         ensures untouched { IfErr result (λ refused.
             IsRefused workload.now refused.error → refused.disk ≡ disk) }
         ensures kinds { IfErr result (λ refused. IsMakeFault refused.error) }
         ensures failed { IfErr result (λ refused.
             refused.error ≡ DemoError.Journal JournalError.Failed
-            → Rose (D.faults disk) (D.faults refused.disk)) }
+            → FaultCounted (D.faults disk) (D.faults refused.disk)) }
         ensures small { (bytes : List ℕ) → D.seen disk ≡ Some [] → MatchResult result
             (λ source. D.seen source.journal.disk ≡ Some bytes → length bytes ≤ first_room)
             (λ refused. D.seen refused.disk ≡ Some bytes → length bytes ≤ first_room) }
@@ -134,27 +137,27 @@ impl<D: Disk> DemoSource<D> {
         Ok(first_source(alloc, journal, prepared, commits))
     }
 
-    /// The source on a disk, as a crash may have left it. It begins with a sync, and reads each entry once; the workload's steps are
-    /// run again in memory as far as the log counts them, and each commit of the log is compared with what they give. Whatever it
-    /// answers but that the disk failed, a crash leaves what was read and nothing else.
+    /// The source on a disk, as a crash may have left it. Opening syncs the disk and reads each
+    /// entry once; the workload's steps are run again in memory as far as the log counts them, and
+    /// compared with it.
     pub fn open(alloc: Global, disk: D) -> Result<DemoSource<D>, Refused<D, DemoError>>
         ensures opened { (bytes : List ℕ) → D.seen disk ≡ Some bytes
             → IfOk result (λ source. (wal : Wal) × IsWal bytes wal
             × IsDemo D.seen D.may_leave wal source × (source.done ≡ steps_in wal.entries)) }
-        // Of every disk, also one that tells nothing.
+        // For every disk, also one with unknown contents.
         ensures named { IfOk result (λ source. AreTableNames source.names) }
         ensures unread { IfOk result (λ source. source.place ≡ None) }
         ensures live { IfOk result (λ source. IsTrue source.live) }
         ensures bad { (bytes : List ℕ) (index : ℕ) → D.seen disk ≡ Some bytes
             → IfErr result (λ refused.
-            refused.error ≡ DemoError.BadEntry index → HasBadEntry bytes index) }
+            refused.error ≡ DemoError.BadEntry index → HasBadWalEntry bytes index) }
         ensures not_a_journal { (bytes : List ℕ) (at : ℕ) → D.seen disk ≡ Some bytes
             → IfErr result (λ refused.
             refused.error ≡ DemoError.Journal (JournalError.NotAJournal at) → IsFaultAt bytes at) }
         ensures kinds { IfErr result (λ refused. IsOpenFault refused.error) }
         ensures failed { IfErr result (λ refused.
             refused.error ≡ DemoError.Journal JournalError.Failed
-            → Rose (D.faults disk) (D.faults refused.disk)) }
+            → FaultCounted (D.faults disk) (D.faults refused.disk)) }
         ensures seen { MatchResult result
             (λ source. D.seen source.journal.disk ≡ D.seen disk)
             (λ refused. D.seen refused.disk ≡ D.seen disk) }
@@ -189,7 +192,7 @@ impl<D: Disk> DemoSource<D> {
         &self.names
     }
 
-    /// The disk, as it stands. Takes no memory and makes no call of the disk.
+    /// The disk in its present state. Takes no memory and makes no call of the disk.
     pub fn into_disk(self) -> D
         ensures { result ≡ self.journal.disk }
     {

@@ -79,7 +79,7 @@ copying_goes_on stable next current extent rest differ long inside aside = recor
         | inl below ↦ aside place (inl below) ∙ differ.same place within (All-cons P extent rest (inl below) outside)
         | inr above ↦ elim (cases_lt place (extent.at + extent.length)) [
           | inl in_it ↦ inside place above in_it
-          | inr behind ↦ aside place (inr behind) ∙ differ.same place within (All-cons P extent rest (inr behind) outside)
+          | inr subsequent ↦ aside place (inr subsequent) ∙ differ.same place within (All-cons P extent rest (inr subsequent) outside)
         ]
       ];
 }
@@ -107,7 +107,7 @@ filling_goes_on byte first crashed next done extent filling long inside aside = 
         | inl below ↦ aside place (inl below) ∙ filling.filled place within (λ outside. inner (All-push P done extent outside (inl below)))
         | inr above ↦ elim (cases_lt place (extent.at + extent.length)) [
           | inl in_it ↦ inside place above in_it
-          | inr behind ↦ aside place (inr behind) ∙ filling.filled place within (λ outside. inner (All-push P done extent outside (inr behind)))
+          | inr subsequent ↦ aside place (inr subsequent) ∙ filling.filled place within (λ outside. inner (All-push P done extent outside (inr subsequent)))
         ]
       ];
 }

@@ -48,9 +48,9 @@ module _ (old : List ℕ) (at : ℕ) (bytes : List ℕ) where
       ∙ get_or-take at pad place 0 below
       ∙ get_or_append_left old (replicate (at - length old) 0) 0 place within
 
-  behind : (place : ℕ) → at + length bytes ≤ place → get_or (written old at bytes) place 0 ≡ get_or old place 0
+  subsequent : (place : ℕ) → at + length bytes ≤ place → get_or (written old at bytes) place 0 ≡ get_or old place 0
   unfolding front pad back
-  behind place above =
+  subsequent place above =
       get_or-append_right front back (at + length bytes) place 0 front_long above
       ∙ get_or-drop (at + length bytes) old (place - (at + length bytes)) 0
       ∙ ap (λ (n : ℕ). get_or old n 0) (omega arith)
@@ -59,7 +59,7 @@ module _ (old : List ℕ) (at : ℕ) (bytes : List ℕ) where
   torn_written = record {
     kept = λ place within outside. elim (aside (record { at = at; length = length bytes }) place outside) [
       | inl below ↦ before place within below
-      | inr above ↦ behind place above
+      | inr above ↦ subsequent place above
     ];
     no_shorter = omega (arith, length-written);
     no_longer = omega (arith, length-written);
@@ -80,7 +80,7 @@ earlier_at stable extent crashed place = elim (cases_lt place extent.at) [
   | inl below ↦ get_or crashed place 0
   | inr above ↦ elim (cases_lt place (extent.at + extent.length)) [
     | inl within ↦ get_or stable place 0
-    | inr behind ↦ get_or crashed place 0
+    | inr subsequent ↦ get_or crashed place 0
   ]
 ]
 
@@ -116,16 +116,16 @@ module _ (stable : List ℕ) (extents : List Extent) (extent : Extent) where
       | inl below ↦ get_or crashed place 0
       | inr above ↦ elim (cases_lt place (extent.at + extent.length)) [
         | inl within ↦ get_or stable place 0
-        | inr behind ↦ get_or crashed place 0
+        | inr subsequent ↦ get_or crashed place 0
       ]
     ] ≡ get_or stable place 0) [
       | inl below ↦ leaves.kept place within (outside_both place outside (inl below))
       | inr above ↦ elim (cases_lt place (extent.at + extent.length)) as (λ (c : (place < extent.at + extent.length) ⊎ (extent.at + extent.length ≤ place)). elim c [
         | inl within ↦ get_or stable place 0
-        | inr behind ↦ get_or crashed place 0
+        | inr subsequent ↦ get_or crashed place 0
       ] ≡ get_or stable place 0) [
         | inl in_it ↦ refl
-        | inr behind ↦ leaves.kept place within (outside_both place outside (inr behind))
+        | inr subsequent ↦ leaves.kept place within (outside_both place outside (inr subsequent))
       ]
     ]
 
@@ -135,16 +135,16 @@ module _ (stable : List ℕ) (extents : List Extent) (extent : Extent) where
       | inl below ↦ get_or crashed place 0
       | inr above ↦ elim (cases_lt place (extent.at + extent.length)) [
         | inl within ↦ get_or stable place 0
-        | inr behind ↦ get_or crashed place 0
+        | inr subsequent ↦ get_or crashed place 0
       ]
     ] ≡ get_or crashed place 0) [
       | inl below ↦ refl
       | inr above ↦ elim (cases_lt place (extent.at + extent.length)) as (λ (c : (place < extent.at + extent.length) ⊎ (extent.at + extent.length ≤ place)). elim c [
         | inl within ↦ get_or stable place 0
-        | inr behind ↦ get_or crashed place 0
+        | inr subsequent ↦ get_or crashed place 0
       ] ≡ get_or crashed place 0) [
-        | inl in_it ↦ absurd (elim is [ inl below ↦ (omega arith) | inr behind ↦ (omega arith) ])
-        | inr behind ↦ refl
+        | inl in_it ↦ absurd (elim is [ inl below ↦ (omega arith) | inr subsequent ↦ (omega arith) ])
+        | inr subsequent ↦ refl
       ]
     ]
 

@@ -1,55 +1,54 @@
--- Disks, as bytes: what a write does, and what a crash may leave between two syncs. Nothing is assumed of the order in
--- which a device keeps what it was told to write, nor of its parts.
+-- Disks as bytes: the effect of a write, and the contents that a crash may leave between two syncs. Nothing is assumed about the order in
+-- which a device persists writes, or about sectors.
 use Rattle.std.specs.Prelude.{◌^◌, ◌≡◌, ◌⊎◌, ℕ, ◌+◌, ◌-◌, ◌<◌, ◌≤◌, max, List, [], ◌∷◌, ◌++◌, length, take, drop, replicate, slice_index, Option, Some}
 use Rattle.std.specs.List.{All}
-use Rattle.dbl_base.specs.Streams.{raised}
+use Rattle.dbl_base.specs.Streams.{incremented}
 use Rattle.dbl_disk.specs.declared.extent.Extent.{Extent}
 
--- a disk holds fewer bytes than this
+-- the limit on a disk's length in bytes
 abbrev pub disk_limit : ℕ
 disk_limit = 2 ^ 40
 
--- a write that would reach that limit is tried only where so many bytes stand already
+-- a write whose end would reach the limit is attempted only if the disk is already this long
 abbrev pub half_limit : ℕ
 half_limit = 2 ^ 39
 
--- the extent does not have the place
+-- the offset lies outside the extent
 abbrev pub IsAside : Extent → ℕ → Type 0
 IsAside extent place = (place < extent.at) ⊎ (extent.at + extent.length ≤ place)
 
--- none of the extents has the place
+-- the offset lies outside every extent
 abbrev pub IsOutside : List Extent → ℕ → Type 0
 IsOutside extents place = All (λ extent. IsAside extent place) extents
 
--- the greatest of this end and the ends of the extents
+-- the maximum of an end and the ends of the extents
 abbrev pub farthest : ℕ → List Extent → ℕ
 farthest end [] = end
 farthest end (extent ∷ extents) = farthest (max end (extent.at + extent.length)) extents
 
--- What a crash may leave of these stable bytes, where the extents were written, or tried to be, since they were synced: the
--- extents and what lies past the old end may hold any bytes, bytes elsewhere stay, and the end lies anywhere from the old
--- end to the greatest end that was written or tried.
+-- The contents that a crash may leave, given the stable contents and the extents of the writes done or attempted since the sync: any bytes
+-- in the extents and past the old end, up to the greatest end of a write, and otherwise the stable ones.
 pub record MayLeave (stable : List ℕ) (extents : List Extent) (crashed : List ℕ) : Type 0 where
   pub kept : (place : ℕ) → place < length stable → IsOutside extents place → slice_index crashed place ≡ slice_index stable place
   pub no_shorter : length stable ≤ length crashed
   pub no_longer : length crashed ≤ farthest (length stable) extents
 
--- what one write of so many bytes at the place may leave of bytes, whether it was done or cut short
+-- the contents that one write of this many bytes at the offset may leave, complete or torn
 abbrev pub Torn : ℕ → ℕ → List ℕ → List ℕ → Type 0
 Torn at count = λ old new. MayLeave old (record { at = at; length = count } ∷ []) new
 
--- the bytes with these written at the place; a gap before them is zeros
+-- the contents after these bytes are written at the offset, a gap before them being zeros
 abbrev pub written : List ℕ → ℕ → List ℕ → List ℕ
 written old at bytes = take at (old ++ replicate (at - length old) 0) ++ bytes ++ drop (at + length bytes) old
 
--- what a crash may leave now is what it might have left before, after the step
+-- what a crash may leave now results by the step from what a crash might leave before
 abbrev pub Follows : (List ℕ → List ℕ → Type 0) → (List ℕ → Type 0) → (List ℕ → Type 0) → Type 0
 Follows step old new = (crashed : List ℕ) → new crashed → (before : List ℕ) × old before × step before crashed
 
--- a count of calls, where it is told, is one higher
+-- the number of calls, if known, rose by one
 abbrev pub IsCalled : Option ℕ → Option ℕ → Type 0
-IsCalled old new = (count : ℕ) → old ≡ Some count → new ≡ Some (raised count)
+IsCalled old new = (count : ℕ) → old ≡ Some count → new ≡ Some (incremented count)
 
--- a crash leaves these bytes and nothing else
+-- a crash leaves exactly these bytes
 abbrev pub IsOnly : List ℕ → (List ℕ → Type 0) → Type 0
 IsOnly bytes may_leave = (crashed : List ℕ) → may_leave crashed → crashed ≡ bytes

@@ -1,4 +1,4 @@
-/// Consecutive places of a disk: `length` bytes from `at` on.
+/// A range of a disk: `length` bytes from offset `at` on.
 #[derive(Clone, Copy, Debug, PartialEq, Eq)]
 pub struct Extent {
     pub at: u64,

@@ -1,5 +1,5 @@
 ghost use Rattle.std.specs.Prelude.{◌≡◌, ◌+◌, ◌^◌, ◌<◌, ◌≤◌, length, IfOk, OnOk, IsErr};
-ghost use Rattle.dbl_base.specs.Streams.{HasCause, raised};
+ghost use Rattle.dbl_base.specs.Streams.{FailsOnlyIfCounted, incremented};
 
 use crate::{DISK_LIMIT, Disk};
 use dbl_base::Failed;
@@ -9,10 +9,9 @@ use std::io::{ErrorKind, Read, Seek, SeekFrom, Write};
 use std::marker::Model;
 use std::rt::Files;
 
-/// A disk over a file, which is opened, and created where it is absent, at the first call. It tells nothing of its bytes.
-///
-/// Each error of the file, and each write that takes nothing, counts as a fault. A read or a write that a signal
-/// interrupted is made again.
+/// A disk over a file, which is opened, or created if absent, at the first call; contracts don't
+/// know its contents. An error, or a write that accepts no byte, counts as a fault; a call
+/// interrupted by a signal is retried.
 #[derive(Drop)]
 pub struct FileDisk<'a, R: Files> {
     files: &'a R,
@@ -29,18 +28,16 @@ impl<'a, R: Files> Model for FileDisk<'a, R> {
     ghost view = { λ d. d.faults };
 }
 
-// Counts a fault.
 fn count(faults: &mut u64) -> Failed
-    ensures counted { faults.new ≡ raised faults.old }
+    ensures counted { faults.new ≡ incremented faults.old }
     ensures later { faults.old ≤ faults.new }
 {
     *faults = faults.saturating_add(1);
     Failed
 }
 
-// Counts an error of the system as a fault.
 fn count_fault<T: Drop>(outcome: io::Result<T>, faults: &mut u64) -> Result<T, Failed>
-    ensures cause { HasCause (IsErr result) faults.old faults.new }
+    ensures cause { FailsOnlyIfCounted (IsErr result) faults.old faults.new }
 {
     match outcome {
         Ok(value) => Ok(value),
@@ -56,10 +53,10 @@ fn open<R: Files>(files: &R, path: &str) -> io::Result<R::File> {
     options.open(files, path)
 }
 
-// Reads until the buffer is full or the file ends, and answers how many bytes.
+// Reads until the buffer is full or the file ends, and returns the number of bytes read.
 fn read_all<F: Read>(file: &mut F, faults: &mut u64, buffer: &mut [u8]) -> Result<usize, Failed>
     ensures bound { IfOk result (λ n. n ≤ length buffer.old) }
-    ensures cause { HasCause (IsErr result) faults.old faults.new }
+    ensures cause { FailsOnlyIfCounted (IsErr result) faults.old faults.new }
 {
     let mut done = 0;
     'pieces: for _ in 0..u64::MAX {
@@ -80,9 +77,8 @@ fn read_all<F: Read>(file: &mut F, faults: &mut u64, buffer: &mut [u8]) -> Resul
     Err(count(faults))
 }
 
-// Writes all of the bytes.
 fn write_all<F: Write>(file: &mut F, faults: &mut u64, bytes: &[u8]) -> Result<(), Failed>
-    ensures cause { HasCause (IsErr result) faults.old faults.new }
+    ensures cause { FailsOnlyIfCounted (IsErr result) faults.old faults.new }
 {
     let mut done = 0;
     'pieces: for _ in 0..u64::MAX {
@@ -104,7 +100,7 @@ fn write_all<F: Write>(file: &mut F, faults: &mut u64, bytes: &[u8]) -> Result<(
 }
 
 impl<'a, R: Files> FileDisk<'a, R> {
-    /// Its value in contracts is its count of faults.
+    /// Makes a disk over the file at this path. The disk's value in contracts is its fault count.
     pub fn make(files: &'a R, path: &'a str) -> FileDisk<'a, R>
         ensures { result ≡ 0 }
     {
@@ -116,9 +112,9 @@ impl<'a, R: Files> FileDisk<'a, R> {
         }
     }
 
-    // The file, which the caller puts back.
+    // Takes the open file out; the caller returns it.
     fn take_file(&mut self) -> Result<R::File, Failed>
-        ensures cause { HasCause (IsErr result) self.old self.new }
+        ensures cause { FailsOnlyIfCounted (IsErr result) self.old self.new }
     {
         match self.file.take() {
             Some(file) => Ok(file),

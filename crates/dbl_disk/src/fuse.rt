@@ -1,5 +1,5 @@
 ghost use Rattle.std.specs.Prelude.{◌≡◌, ◌↔◌, ℕ, ◌+◌, ◌-◌, ◌<◌, ◌≤◌, List, length, take, drop, min, Some, None, IfOk, OnOk, OnErr, IsErr};
-ghost use Rattle.dbl_base.specs.Streams.{HasCause, raised};
+ghost use Rattle.dbl_base.specs.Streams.{FailsOnlyIfCounted, incremented};
 ghost use Rattle.dbl_disk.specs.Disks.{Follows, IsCalled, IsOnly, Torn, written, half_limit, disk_limit};
 ghost use Rattle.dbl_disk.specs.Fuse.{Burns, fuse_calls, fuse_faults};
 
@@ -7,7 +7,7 @@ use crate::Disk;
 use dbl_base::Failed;
 use std::marker::Model;
 
-/// A disk that passes some calls on to another one, and then fails every call.
+/// A disk that forwards a given number of calls to another disk, and then fails every call.
 #[derive(Debug, Drop)]
 pub struct FuseDisk<D> {
     inner: D,
@@ -24,7 +24,7 @@ impl<D> Model for FuseDisk<D> {
 }
 
 impl<D> FuseDisk<D> {
-    /// A disk that passes so many calls on to the other one. Takes no memory.
+    /// Makes a disk that forwards the first `pass` calls to the inner disk.
     pub fn make(inner: D, pass: u64) -> FuseDisk<D>
         ensures { result ≡ record { inner = inner; left = pass; refused = 0 } }
     {
@@ -35,7 +35,7 @@ impl<D> FuseDisk<D> {
         }
     }
 
-    /// The disk behind the fuse, as it stands. Takes no memory.
+    /// Unwraps the inner disk in its current state.
     pub fn into_inner(self) -> D
         ensures { result ≡ self.inner }
     {
@@ -48,13 +48,13 @@ impl<D> FuseDisk<D> {
     }
 }
 
-// Takes a call, where one is left.
+// Uses up one of the remaining calls, if any is left.
 fn take_call(left: &mut u64, refused: &mut u64) -> Result<(), Failed>
     ensures passed { OnOk result (0 < left.old) }
     ensures blown { OnErr result (left.old ≡ 0) }
     ensures left { left.new ≡ left.old - 1 }
     ensures counted { OnOk result (refused.new ≡ refused.old) }
-    ensures refused { OnErr result (refused.new ≡ raised refused.old) }
+    ensures refused { OnErr result (refused.new ≡ incremented refused.old) }
 {
     if *left == 0 {
         *refused = refused.saturating_add(1);
@@ -84,7 +84,7 @@ impl<D: Disk> Disk for FuseDisk<D> {
         ensures seen { D.seen self.new.inner ≡ D.seen self.old.inner }
         ensures crash { (crashed : List ℕ) → D.may_leave self.new.inner crashed ↔
             D.may_leave self.old.inner crashed }
-        ensures cause { HasCause (IsErr result)
+        ensures cause { FailsOnlyIfCounted (IsErr result)
             (fuse_faults D.faults self.old) (fuse_faults D.faults self.new) }
         ensures steady { (bytes : List ℕ) → D.seen self.old.inner ≡ Some bytes →
             OnOk result (fuse_faults D.faults self.new ≡ fuse_faults D.faults self.old) }
@@ -104,7 +104,7 @@ impl<D: Disk> Disk for FuseDisk<D> {
         ensures seen { D.seen self.new.inner ≡ D.seen self.old.inner }
         ensures crash { (crashed : List ℕ) → D.may_leave self.new.inner crashed ↔
             D.may_leave self.old.inner crashed }
-        ensures cause { HasCause (IsErr result)
+        ensures cause { FailsOnlyIfCounted (IsErr result)
             (fuse_faults D.faults self.old) (fuse_faults D.faults self.new) }
         ensures steady { (bytes : List ℕ) → D.seen self.old.inner ≡ Some bytes →
             OnOk result (fuse_faults D.faults self.new ≡ fuse_faults D.faults self.old) }
@@ -131,7 +131,7 @@ impl<D: Disk> Disk for FuseDisk<D> {
         ensures silent { D.seen self.old.inner ≡ None → D.seen self.new.inner ≡ None }
         ensures untried { disk_limit ≤ at + length bytes.now → (crashed : List ℕ) →
             D.may_leave self.new.inner crashed ↔ D.may_leave self.old.inner crashed }
-        ensures cause { HasCause (IsErr result)
+        ensures cause { FailsOnlyIfCounted (IsErr result)
             (fuse_faults D.faults self.old) (fuse_faults D.faults self.new) }
         ensures steady { (bytes : List ℕ) → D.seen self.old.inner ≡ Some bytes →
             OnOk result (fuse_faults D.faults self.new ≡ fuse_faults D.faults self.old) }
@@ -148,7 +148,7 @@ impl<D: Disk> Disk for FuseDisk<D> {
         ensures seen { D.seen self.new.inner ≡ D.seen self.old.inner }
         ensures crash { (crashed : List ℕ) → D.may_leave self.new.inner crashed →
             D.may_leave self.old.inner crashed }
-        ensures cause { HasCause (IsErr result)
+        ensures cause { FailsOnlyIfCounted (IsErr result)
             (fuse_faults D.faults self.old) (fuse_faults D.faults self.new) }
         ensures steady { (bytes : List ℕ) → D.seen self.old.inner ≡ Some bytes →
             OnOk result (fuse_faults D.faults self.new ≡ fuse_faults D.faults self.old) }

@@ -2,7 +2,7 @@ ghost use Rattle.std.specs.Prelude.{◌≡◌, ◌↔◌, ◌⊎◌, ℕ, ◌+�
 ghost use Rattle.std.specs.Prelude.{replicate, min, slice_index, Some, None, Ok, Err, IsErr, IfOk, OnOk, OnErr};
 ghost use Rattle.std.specs.Prelude.{Contains};
 ghost use Rattle.std.specs.List.{All};
-ghost use Rattle.dbl_base.specs.Streams.{HasCause, raised};
+ghost use Rattle.dbl_base.specs.Streams.{FailsOnlyIfCounted, incremented};
 ghost use Rattle.dbl_base.specs.Memory.{new_plan};
 ghost use Rattle.dbl_disk.specs.Disks.{Follows, IsAside, IsCalled, IsOnly, MayLeave, Torn, written, half_limit, disk_limit};
 ghost use Rattle.dbl_disk.specs.Memory.{AreFilled, DiffersInside, MayRemain, IsFilled, IsKept, synced};
@@ -12,18 +12,19 @@ use dbl_base::{Failed, FaultPlan};
 use std::alloc::{AllocError, Global};
 use std::marker::Model;
 
-/// What a crash leaves of a disk in memory.
+/// What a crash leaves of an in-memory disk.
 #[derive(Clone, Copy, Debug, PartialEq, Eq)]
 pub enum Choice {
-    /// The bytes at the last sync.
+    /// The contents at the last sync.
     Old,
-    /// The bytes that a read gives.
+    /// The contents that a read returns.
     New,
-    /// The bytes that a read gives, with this byte wherever a crash may leave any byte.
+    /// The contents that a read returns, with this byte at every offset where a crash may leave any
+    /// byte.
     Fill(u8),
 }
 
-/// A disk in memory. Where it finds no room it counts a fault of its own.
+/// An in-memory disk. Running out of memory counts as a fault.
 #[derive(Debug, Drop)]
 pub struct MemDisk {
     alloc: Global,
@@ -44,7 +45,7 @@ impl Model for MemDisk {
     ghost invariant = { λ d. IsKept d.stable.items d.current.items d.dirty.items };
 }
 
-// Zeros up to the end, where the bytes don't reach it.
+// Appends zeros up to the end, if the contents are shorter.
 fn extend_to(current: &mut Vec<u8>, end: usize) -> Result<(), AllocError>
     ensures ok { OnOk result
         (current.new.items ≡ current.old.items ++ replicate (end - length current.old.items) 0) }
@@ -56,7 +57,6 @@ fn extend_to(current: &mut Vec<u8>, end: usize) -> Result<(), AllocError>
     Ok(())
 }
 
-// Writes the bytes over those at the place.
 fn overwrite(current: &mut Vec<u8>, at: usize, bytes: &[u8])
     requires { at + length bytes.now ≤ length current.old.items }
     ensures { current.new.items ≡ take at current.old.items ++ bytes.now ++ drop
@@ -65,7 +65,7 @@ fn overwrite(current: &mut Vec<u8>, at: usize, bytes: &[u8])
     current[at..at + bytes.len()].copy_from_slice(bytes);
 }
 
-// Writes the bytes at the place, and notes the extent.
+// Writes the bytes at the offset, and records the extent.
 fn put(
     current: &mut Vec<u8>,
     dirty: &mut Vec<Extent>,
@@ -93,7 +93,6 @@ fn put(
     Ok(())
 }
 
-// Sets the bytes of the extent.
 fn fill(crashed: &mut [u8], extent: Extent, byte: u8)
     requires { extent.at + extent.length ≤ length crashed.old }
     ensures inside { (place : ℕ) → extent.at ≤ place → place < extent.at + extent.length →
@@ -105,7 +104,6 @@ fn fill(crashed: &mut [u8], extent: Extent, byte: u8)
     crashed[at..at + extent.length as usize].fill(byte);
 }
 
-// Copies the bytes of the extent.
 fn copy(stable: &mut [u8], current: &[u8], extent: Extent)
     requires same { length stable.old ≡ length current.now }
     requires within { extent.at + extent.length ≤ length current.now }
@@ -119,7 +117,8 @@ fn copy(stable: &mut [u8], current: &[u8], extent: Extent)
     stable[at..end].copy_from_slice(&current[at..end]);
 }
 
-// Makes the stable bytes the current ones, where they differ in the dirty extents alone.
+// Makes the stable contents equal the current ones, given that they differ only in the dirty
+// extents.
 fn copy_extents(stable: &mut [u8], current: &[u8], dirty: &[Extent])
     requires differ { DiffersInside dirty.now stable.old current.now }
     requires within { All (λ extent. extent.at + extent.length ≤ length current.now) dirty.now }
@@ -130,7 +129,8 @@ fn copy_extents(stable: &mut [u8], current: &[u8], dirty: &[Extent])
     }
 }
 
-// Makes the stable bytes the current ones, where they differ in the dirty extents and past their end alone.
+// Makes the stable contents equal the current ones, given that they differ only in the dirty
+// extents and past the stable end.
 fn settle(stable: &mut Vec<u8>, current: &[u8], dirty: &[Extent]) -> Result<(), AllocError>
     requires { IsKept stable.old.items current.now dirty.now }
     ensures ok { OnOk result (stable.new.items ≡ current.now) }
@@ -142,7 +142,6 @@ fn settle(stable: &mut Vec<u8>, current: &[u8], dirty: &[Extent]) -> Result<(), 
     Ok(())
 }
 
-// Sets the bytes of the extents.
 fn fill_extents(crashed: &mut [u8], dirty: &[Extent], byte: u8)
     requires { All (λ extent. extent.at + extent.length ≤ length crashed.old) dirty.now }
     ensures { AreFilled byte dirty.now crashed.old crashed.new }
@@ -152,7 +151,7 @@ fn fill_extents(crashed: &mut [u8], dirty: &[Extent], byte: u8)
     }
 }
 
-// The current bytes with this one wherever a crash may leave any byte.
+// The current contents, with this byte at every offset where a crash may leave any byte.
 fn filled_bytes(
     alloc: Global,
     stable: &[u8],
@@ -170,7 +169,7 @@ fn filled_bytes(
     Ok(crashed)
 }
 
-// The bytes that the choice leaves.
+// The contents that the choice leaves.
 fn chosen_bytes(
     alloc: Global,
     stable: &Vec<u8>,
@@ -195,7 +194,8 @@ fn chosen_bytes(
 }
 
 impl MemDisk {
-    /// An empty disk, whose listed calls, counted from 1, are to fail. Takes no memory; later calls use the allocator.
+    /// Makes an empty disk, whose listed calls, numbered from 1, are to fail. Takes no memory;
+    /// later calls use the allocator.
     pub fn make(alloc: Global, fails: Vec<u64>) -> MemDisk
         ensures { result ≡ record (synced []) { plan = new_plan fails.items } }
     {
@@ -208,14 +208,14 @@ impl MemDisk {
         }
     }
 
-    /// The bytes that a read gives.
+    /// The contents that a read returns.
     pub fn bytes(&self) -> &Vec<u8>
         ensures { result.now.items ≡ self.now.current }
     {
         &self.current
     }
 
-    /// The disk as it is found after a crash: with no dirty extent, no fault and no call that is to fail.
+    /// The disk after a crash: with no dirty extent, no fault and no call planned to fail.
     pub fn crash(&self, choice: Choice) -> Result<MemDisk, AllocError>
         ensures allowed { IfOk result (λ disk. MayRemain self.now disk.current) }
         ensures synced { IfOk result (λ disk. disk ≡ synced disk.current) }
@@ -256,16 +256,15 @@ impl Disk for MemDisk {
         ensures seen { Some self.new.current ≡ Some self.old.current }
         ensures crash { (crashed : List ℕ) →
             MayRemain self.new crashed ↔ MayRemain self.old crashed }
-        ensures cause { HasCause (IsErr result) self.old.plan.faults self.new.plan.faults }
+        ensures cause { FailsOnlyIfCounted (IsErr result) self.old.plan.faults self.new.plan.faults }
         ensures steady { (bytes : List ℕ) → Some self.old.current ≡ Some bytes →
             OnOk result (self.new.plan.faults ≡ self.old.plan.faults) }
         ensures called { IsCalled (Some self.old.plan.calls) (Some self.new.plan.calls) }
 
-        // A call fails exactly where it is planned to, and changes the plan alone.
         ensures planned { IsErr result ↔
-            Contains self.old.plan.planned (raised self.old.plan.calls) }
-        ensures calls { self.new.plan.calls ≡ raised self.old.plan.calls }
-        ensures counted { OnErr result (self.new.plan.faults ≡ raised self.old.plan.faults) }
+            Contains self.old.plan.planned (incremented self.old.plan.calls) }
+        ensures calls { self.new.plan.calls ≡ incremented self.old.plan.calls }
+        ensures counted { OnErr result (self.new.plan.faults ≡ incremented self.old.plan.faults) }
         ensures uncounted { OnOk result (self.new.plan.faults ≡ self.old.plan.faults) }
         ensures same { self.new ≡ record self.old {
           plan = record self.old.plan {
@@ -287,16 +286,15 @@ impl Disk for MemDisk {
         ensures seen { Some self.new.current ≡ Some self.old.current }
         ensures crash { (crashed : List ℕ) →
             MayRemain self.new crashed ↔ MayRemain self.old crashed }
-        ensures cause { HasCause (IsErr result) self.old.plan.faults self.new.plan.faults }
+        ensures cause { FailsOnlyIfCounted (IsErr result) self.old.plan.faults self.new.plan.faults }
         ensures steady { (bytes : List ℕ) → Some self.old.current ≡ Some bytes →
             OnOk result (self.new.plan.faults ≡ self.old.plan.faults) }
         ensures called { IsCalled (Some self.old.plan.calls) (Some self.new.plan.calls) }
 
-        // A call fails exactly where it is planned to, and changes the plan alone.
         ensures planned { IsErr result ↔
-            Contains self.old.plan.planned (raised self.old.plan.calls) }
-        ensures calls { self.new.plan.calls ≡ raised self.old.plan.calls }
-        ensures counted { OnErr result (self.new.plan.faults ≡ raised self.old.plan.faults) }
+            Contains self.old.plan.planned (incremented self.old.plan.calls) }
+        ensures calls { self.new.plan.calls ≡ incremented self.old.plan.calls }
+        ensures counted { OnErr result (self.new.plan.faults ≡ incremented self.old.plan.faults) }
         ensures uncounted { OnOk result (self.new.plan.faults ≡ self.old.plan.faults) }
         ensures same { self.new ≡ record self.old {
           plan = record self.old.plan {
@@ -330,16 +328,15 @@ impl Disk for MemDisk {
         ensures silent { Some self.old.current ≡ None → Some self.new.current ≡ None }
         ensures untried { disk_limit ≤ at + length bytes.now → (crashed : List ℕ) →
             MayRemain self.new crashed ↔ MayRemain self.old crashed }
-        ensures cause { HasCause (IsErr result) self.old.plan.faults self.new.plan.faults }
+        ensures cause { FailsOnlyIfCounted (IsErr result) self.old.plan.faults self.new.plan.faults }
         ensures steady { (bytes : List ℕ) → Some self.old.current ≡ Some bytes →
             OnOk result (self.new.plan.faults ≡ self.old.plan.faults) }
         ensures called { IsCalled (Some self.old.plan.calls) (Some self.new.plan.calls) }
 
-        // A call that is planned to fail does, and one that fails changes the plan alone.
-        ensures planned { Contains self.old.plan.planned (raised self.old.plan.calls) →
+        ensures planned { Contains self.old.plan.planned (incremented self.old.plan.calls) →
             IsErr result }
-        ensures calls { self.new.plan.calls ≡ raised self.old.plan.calls }
-        ensures counted { OnErr result (self.new.plan.faults ≡ raised self.old.plan.faults) }
+        ensures calls { self.new.plan.calls ≡ incremented self.old.plan.calls }
+        ensures counted { OnErr result (self.new.plan.faults ≡ incremented self.old.plan.faults) }
         ensures uncounted { OnOk result (self.new.plan.faults ≡ self.old.plan.faults) }
         ensures plan { self.new.plan.planned ≡ self.old.plan.planned }
         ensures dirty { OnOk result (self.new.dirty ≡ self.old.dirty ++
@@ -363,16 +360,15 @@ impl Disk for MemDisk {
         ensures seen { Some self.new.current ≡ Some self.old.current }
         ensures crash { (crashed : List ℕ) →
             MayRemain self.new crashed → MayRemain self.old crashed }
-        ensures cause { HasCause (IsErr result) self.old.plan.faults self.new.plan.faults }
+        ensures cause { FailsOnlyIfCounted (IsErr result) self.old.plan.faults self.new.plan.faults }
         ensures steady { (bytes : List ℕ) → Some self.old.current ≡ Some bytes →
             OnOk result (self.new.plan.faults ≡ self.old.plan.faults) }
         ensures called { IsCalled (Some self.old.plan.calls) (Some self.new.plan.calls) }
 
-        // A call that is planned to fail does, and one that fails changes the plan alone.
-        ensures planned { Contains self.old.plan.planned (raised self.old.plan.calls) →
+        ensures planned { Contains self.old.plan.planned (incremented self.old.plan.calls) →
             IsErr result }
-        ensures calls { self.new.plan.calls ≡ raised self.old.plan.calls }
-        ensures counted { OnErr result (self.new.plan.faults ≡ raised self.old.plan.faults) }
+        ensures calls { self.new.plan.calls ≡ incremented self.old.plan.calls }
+        ensures counted { OnErr result (self.new.plan.faults ≡ incremented self.old.plan.faults) }
         ensures uncounted { OnOk result (self.new.plan.faults ≡ self.old.plan.faults) }
         ensures plan { self.new.plan.planned ≡ self.old.plan.planned }
         ensures synced { OnOk result

@@ -1,4 +1,4 @@
-/// A refusal that gives the disk back.
+/// A refusal that returns the disk.
 #[derive(Debug, Drop)]
 pub struct Refused<D, E> {
     pub disk: D,

@@ -3,23 +3,23 @@ use Rattle.std.proofs.Common.{◌≡◌, ◌∙◌, ◌⊎◌, inl, inr, ℕ, su
 use Rattle.std.specs.Prelude.{IsSome, option_map, unwrap_or, if◌then◌else◌}
 use Rattle.std.specs.Option.{option_or}
 use Rattle.dbl_value.specs.declared.value.Val.{Val}
-use Rattle.dbl_table.specs.declared.table.TableInfo.{TableInfo}
-use Rattle.dbl_table.specs.declared.row.Key.{Key}
-use Rattle.dbl_table.specs.declared.row.Row.{Row}
-use Rattle.dbl_table.specs.declared.change.Cell.{Cell}
-use Rattle.dbl_table.specs.declared.change.Cell.TheVariants.{Given, Unchanged}
-use Rattle.dbl_table.specs.declared.change.Change.{Change}
-use Rattle.dbl_table.specs.declared.change.Change.TheVariants.{Insert, Update, Delete, Clear}
-use Rattle.dbl_table.specs.Tables.{column_names}
-use Rattle.dbl_table.specs.Keys.{new_key_of, same_key, given_or_null}
-use Rattle.dbl_table.specs.Rows.{all_given, table_of}
-use Rattle.dbl_event.specs.Events.{Updated, notice, move_notices, notices, change_notices}
-use Rattle.dbl_event.specs.Clashes.{Clash, is_clash, clash_among, old_cells, clash_at, notice_clash, first_found, rows_clash}
-use Rattle.dbl_table.proofs.KeyLemmas.{same_key-itself}
+use Rattle.dbl_model_table.specs.declared.table.TableInfo.{TableInfo}
+use Rattle.dbl_model_table.specs.declared.row.Key.{Key}
+use Rattle.dbl_model_table.specs.declared.row.Row.{Row}
+use Rattle.dbl_model_table.specs.declared.change.Cell.{Cell}
+use Rattle.dbl_model_table.specs.declared.change.Cell.TheVariants.{Given, Unchanged}
+use Rattle.dbl_model_table.specs.declared.change.Change.{Change}
+use Rattle.dbl_model_table.specs.declared.change.Change.TheVariants.{Insert, Update, Delete, Clear}
+use Rattle.dbl_model_table.specs.Tables.{column_names}
+use Rattle.dbl_model_table.specs.Keys.{new_key_of, same_key, given_or_null}
+use Rattle.dbl_model_table.specs.Rows.{all_given, table_of}
+use Rattle.dbl_model_event.specs.Events.{Updated, notice, move_notices, notices, change_notices}
+use Rattle.dbl_model_event.specs.Clashes.{Clash, is_clash, clash_among, old_cells, clash_at, notice_clash, first_found, rows_clash}
+use Rattle.dbl_model_table.proofs.KeyLemmas.{same_key-itself}
 use Rattle.dbl_envelope.specs.Suits.{SuitsUpdate, SuitsTable}
 use Rattle.dbl_envelope.specs.Clashing.{clash_error, IsClash, change_clash, notices_clash, row_clash}
 use Rattle.dbl_envelope.specs.declared.error.EnvelopeError.{EnvelopeError}
-use Rattle.dbl_event_text.proofs.LayoutLemmas.{drop_here}
+use Rattle.dbl_envelope_json.proofs.LayoutLemmas.{drop_here}
 
 or_assoc : {B : Type 0} (o p q : Option B) → option_or o (option_or p q) ≡ option_or (option_or o p) q
 or_assoc None p q = refl

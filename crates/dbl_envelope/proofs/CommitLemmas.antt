@@ -5,22 +5,22 @@ use Rattle.std.specs.Prelude.{IsSomeAnd, option_map, unwrap_or, if◌then◌else
 use Rattle.std.proofs.lemmas.Grind.{common_steps}
 use Rattle.std.proofs.lemmas.List.{append-nil, drop_all, length-map}
 use Rattle.dbl_record.specs.declared.record.Record.{Record}
-use Rattle.dbl_table.specs.declared.table.TableInfo.{TableInfo}
-use Rattle.dbl_table.specs.declared.change.Change.{Change}
-use Rattle.dbl_table.specs.declared.change.Change.TheVariants.{Insert, Update, Delete, Clear}
-use Rattle.dbl_table.specs.declared.change.Commit.{Commit}
-use Rattle.dbl_table.specs.Keys.{new_key_of, same_key, given_or_null}
-use Rattle.dbl_event.specs.Events.{Notice, Updated, notice, move_notices, notices, change_notices, numbered, is_nil}
-use Rattle.dbl_event.specs.EventJson.{print, envelopes}
-use Rattle.dbl_table.specs.Rows.{changes_of, table_of}
-use Rattle.dbl_event_text.specs.Frames.{events_from, print_as, told, tail_text}
-use Rattle.dbl_event_text.specs.declared.frame.Frame.{Frame}
-use Rattle.dbl_table.specs.declared.identity.Identity.{Identity}
+use Rattle.dbl_model_table.specs.declared.table.TableInfo.{TableInfo}
+use Rattle.dbl_model_table.specs.declared.change.Change.{Change}
+use Rattle.dbl_model_table.specs.declared.change.Change.TheVariants.{Insert, Update, Delete, Clear}
+use Rattle.dbl_model_table.specs.declared.change.Commit.{Commit}
+use Rattle.dbl_model_table.specs.Keys.{new_key_of, same_key, given_or_null}
+use Rattle.dbl_model_event.specs.Events.{Notice, Updated, notice, move_notices, notices, change_notices, numbered, is_nil}
+use Rattle.dbl_model_event.specs.EventJson.{print, envelopes}
+use Rattle.dbl_model_table.specs.Rows.{changes_of, table_of}
+use Rattle.dbl_envelope_json.specs.Frames.{events_from, print_as, told, tail_text}
+use Rattle.dbl_envelope_json.specs.declared.frame.Frame.{Frame}
+use Rattle.dbl_model_table.specs.declared.identity.Identity.{Identity}
 use Rattle.dbl_envelope.specs.Suits.{SuitsTable, Suits}
 use Rattle.dbl_envelope.specs.Writers.{Captured, records_from, change_records, tail_at}
-use Rattle.dbl_event_text.specs.Layouts.{layout_of}
-use Rattle.dbl_event_text.specs.declared.layout.Layout.{Layout}
-use Rattle.dbl_event_text.specs.declared.stamp.Stamp.{Stamp}
+use Rattle.dbl_envelope_json.specs.Layouts.{layout_of}
+use Rattle.dbl_envelope_json.specs.declared.layout.Layout.{Layout}
+use Rattle.dbl_envelope_json.specs.declared.stamp.Stamp.{Stamp}
 
 pub all_by : {A : Type 0} (P : A → Type 0) (xs : List A) → All P xs → AllByRecursion P xs
 all_by P [] h = tt

@@ -1,3 +1,4 @@
+pub use Rattle.dbl_model_event.proofs.EventLemmas as ModelEventEventLemmas
 pub mod CommitLemmas
 pub mod ClashLemmas
 pub mod SuitLemmas

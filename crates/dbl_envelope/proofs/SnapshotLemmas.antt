@@ -2,14 +2,14 @@
 use Rattle.std.proofs.Common.{◌≡◌, ◌∙◌, ◌+◌, ℕ, ℤ, Bool, Option, Some, None, List, [], ◌∷◌, ◌++◌, suc, length, length-append, slice_get, refl, sym, ap, ap₂, subst, arith, append_assoc}
 use Rattle.std.specs.Prelude.{IsSomeAnd, option_map, unwrap_or}
 use Rattle.dbl_record.specs.declared.record.Record.{Record}
-use Rattle.dbl_table.specs.declared.identity.Identity.{Identity}
-use Rattle.dbl_table.specs.declared.row.Key.{Key}
-use Rattle.dbl_table.specs.declared.row.Row.{Row}
-use Rattle.dbl_table.specs.declared.table.TableInfo.{TableInfo}
-use Rattle.dbl_table.specs.declared.change.Commit.{Commit}
-use Rattle.dbl_event.specs.declared.closed.Closed.{Closed}
-use Rattle.dbl_event.specs.Snapshots.{read_record, read_records, progress_record, chunk_records, snapshot}
-use Rattle.dbl_event.specs.Clashes.{rows_clash, snapshot_clash}
+use Rattle.dbl_model_table.specs.declared.identity.Identity.{Identity}
+use Rattle.dbl_model_table.specs.declared.row.Key.{Key}
+use Rattle.dbl_model_table.specs.declared.row.Row.{Row}
+use Rattle.dbl_model_table.specs.declared.table.TableInfo.{TableInfo}
+use Rattle.dbl_model_table.specs.declared.change.Commit.{Commit}
+use Rattle.dbl_model_event.specs.declared.closed.Closed.{Closed}
+use Rattle.dbl_model_event.specs.Snapshots.{read_record, read_records, progress_record, chunk_records, snapshot}
+use Rattle.dbl_model_event.specs.Clashes.{rows_clash, snapshot_clash}
 use Rattle.dbl_envelope.specs.Suits.{SuitsChunk, SuitsSnapshot}
 
 -- one more row

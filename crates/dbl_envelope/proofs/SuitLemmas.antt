@@ -6,20 +6,20 @@ use Rattle.std.proofs.lemmas.Bool.{false≢true}
 use Rattle.std.proofs.lemmas.List.{length-map}
 use Rattle.dbl_value.specs.declared.column_type.PgType.{PgType}
 use Rattle.dbl_value.specs.declared.value.Val.{Val}
-use Rattle.dbl_table.specs.declared.row.Key.{Key}
-use Rattle.dbl_table.specs.declared.row.Row.{Row}
-use Rattle.dbl_table.specs.declared.change.Cell.{Cell}
-use Rattle.dbl_table.specs.declared.change.Change.{Change}
-use Rattle.dbl_table.specs.declared.change.Change.TheVariants.{Insert, Update, Delete, Clear}
-use Rattle.dbl_event.specs.declared.closed.Closed.{Closed}
-use Rattle.dbl_table.specs.declared.table.TableInfo.{TableInfo}
-use Rattle.dbl_table.specs.declared.table.Column.{Column}
-use Rattle.dbl_table.specs.Tables.{type_at}
-use Rattle.dbl_table.specs.Infos.{width, column_types, key_types}
-use Rattle.dbl_table.specs.Keys.{key_of, cell_or_null}
-use Rattle.dbl_history.specs.Fit.{AreOf, IsKeyOf}
-use Rattle.dbl_history.specs.FitsInfos.{AreCellsOf, AreSentOf, FitsInsert, FitsUpdate, FitsDelete, FitsInfos}
-use Rattle.dbl_event.specs.Snapshots.{FitsChunk, FitsSnapshot}
+use Rattle.dbl_model_table.specs.declared.row.Key.{Key}
+use Rattle.dbl_model_table.specs.declared.row.Row.{Row}
+use Rattle.dbl_model_table.specs.declared.change.Cell.{Cell}
+use Rattle.dbl_model_table.specs.declared.change.Change.{Change}
+use Rattle.dbl_model_table.specs.declared.change.Change.TheVariants.{Insert, Update, Delete, Clear}
+use Rattle.dbl_model_event.specs.declared.closed.Closed.{Closed}
+use Rattle.dbl_model_table.specs.declared.table.TableInfo.{TableInfo}
+use Rattle.dbl_model_table.specs.declared.table.Column.{Column}
+use Rattle.dbl_model_table.specs.Tables.{type_at}
+use Rattle.dbl_model_table.specs.Infos.{width, column_types, key_types}
+use Rattle.dbl_model_table.specs.Keys.{key_of, cell_or_null}
+use Rattle.dbl_model_event.specs.ModelHistory.Fit.{AreOf, IsKeyOf}
+use Rattle.dbl_model_event.specs.ModelHistory.FitsInfos.{AreCellsOf, AreSentOf, FitsInsert, FitsUpdate, FitsDelete, FitsInfos}
+use Rattle.dbl_model_event.specs.Snapshots.{FitsChunk, FitsSnapshot}
 use Rattle.dbl_envelope.specs.Suits.{SuitsUpdate, SuitsDelete, Suits, SuitsRows, SuitsChunk, SuitsSnapshot, FittingSuits}
 
 cells_long : (types : List PgType) (values : List Val) → AreCellsOf types values → length values ≡ length types

@@ -5,14 +5,14 @@ use Rattle.std.specs.Bool.{Decides}
 use Rattle.std.specs.List.{list_all}
 use Rattle.std.proofs.lemmas.Bool.{false≢true}
 use Rattle.dbl_value.specs.declared.value.Val.{Val}
-use Rattle.dbl_table.specs.declared.row.Key.{Key}
-use Rattle.dbl_table.specs.declared.change.Cell.{Cell}
-use Rattle.dbl_table.specs.declared.change.Cell.TheVariants.{Given, Unchanged}
-use Rattle.dbl_table.specs.declared.table.TableInfo.{TableInfo}
-use Rattle.dbl_table.specs.Keys.{same_key, new_key_of}
-use Rattle.dbl_table.specs.Rows.{all_given}
-use Rattle.dbl_history.specs.PlainRows.{is_sent}
-use Rattle.dbl_table.proofs.KeyLemmas.{same_key-Decides}
+use Rattle.dbl_model_table.specs.declared.row.Key.{Key}
+use Rattle.dbl_model_table.specs.declared.change.Cell.{Cell}
+use Rattle.dbl_model_table.specs.declared.change.Cell.TheVariants.{Given, Unchanged}
+use Rattle.dbl_model_table.specs.declared.table.TableInfo.{TableInfo}
+use Rattle.dbl_model_table.specs.Keys.{same_key, new_key_of}
+use Rattle.dbl_model_table.specs.Rows.{all_given}
+use Rattle.dbl_model_event.specs.ModelHistory.PlainRows.{is_sent}
+use Rattle.dbl_model_table.proofs.KeyLemmas.{same_key-Decides}
 
 pub passes : {P : Type 0} → P → Decides true P
 passes p = (λ _. p, λ _. refl)

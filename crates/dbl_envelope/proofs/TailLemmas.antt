@@ -1,6 +1,6 @@
 -- The tails that were made, table by table.
 use Rattle.std.proofs.Common.{◌≡◌, ◌∙◌, ◌<◌, ℕ, ℤ, zero, suc, List, [], ◌∷◌, length, replicate, slice_get, slice_set, Option, Some, None, refl, sym, ap, subst, arith}
-use Rattle.dbl_table.specs.declared.change.Commit.{Commit}
+use Rattle.dbl_model_table.specs.declared.change.Commit.{Commit}
 use Rattle.dbl_envelope.specs.Writers.{Captured, tail_at, AreTails}
 
 -- what stands at a place after one item was set

@@ -1,14 +1,14 @@
 -- The three records of a row that moves.
 use Rattle.std.proofs.Common.{◌≡◌, ◌∙◌, ◌+◌, ℕ, List, [], ◌∷◌, ◌++◌, map, Option, Some, false, ap, ap₂, append_assoc, arith}
 use Rattle.dbl_record.specs.declared.record.Record.{Record}
-use Rattle.dbl_table.specs.declared.row.Key.{Key}
-use Rattle.dbl_table.specs.declared.row.Row.{Row}
-use Rattle.dbl_table.specs.declared.change.Cell.{Cell}
-use Rattle.dbl_table.specs.Keys.{new_key_of, given_or_null}
-use Rattle.dbl_event.specs.Events.{Created, Deleted, Tombstone, notice}
-use Rattle.dbl_event_text.specs.declared.frame.Frame.{Frame}
-use Rattle.dbl_event_text.specs.declared.stamp.Stamp.{Stamp}
-use Rattle.dbl_event_text.specs.Frames.{TellsMove, printed}
+use Rattle.dbl_model_table.specs.declared.row.Key.{Key}
+use Rattle.dbl_model_table.specs.declared.row.Row.{Row}
+use Rattle.dbl_model_table.specs.declared.change.Cell.{Cell}
+use Rattle.dbl_model_table.specs.Keys.{new_key_of, given_or_null}
+use Rattle.dbl_model_event.specs.Events.{Created, Deleted, Tombstone, notice}
+use Rattle.dbl_envelope_json.specs.declared.frame.Frame.{Frame}
+use Rattle.dbl_envelope_json.specs.declared.stamp.Stamp.{Stamp}
+use Rattle.dbl_envelope_json.specs.Frames.{TellsMove, printed}
 
 pub moved : (frame : Frame) (stamp : Stamp) (key : Key) (old : Option Row) (cells : List Cell) (before after : List Record) (r s t : Record)
     → r ≡ printed frame (record { ordinal = stamp.ordinal; last = false }) (record (notice 0 frame.info.now (Some key) (Deleted old)) { newkey = Some (new_key_of frame.info.now cells) })

@@ -15,8 +15,8 @@ use Rattle.serde_json.specs.Data.{string, number}
 use Rattle.serde_json.specs.Find.{of_integer}
 use Rattle.dbl_value.specs.declared.value.Val.TheVariants as val
 use Rattle.dbl_time.specs.Stamps.{zulu_text, day_of_stamp, clock_of_stamp, is_instant}
-use Rattle.dbl_table.specs.declared.change.Cell.TheVariants.{Given}
-use Rattle.dbl_event.specs.Clashes.{is_string, is_clash}
+use Rattle.dbl_model_table.specs.declared.change.Cell.TheVariants.{Given}
+use Rattle.dbl_model_event.specs.Clashes.{is_string, is_clash}
 
 is_false : (b : Bool) → (b ≡ true → ⊥) → b ≡ false
 is_false true h = absurd (h refl)

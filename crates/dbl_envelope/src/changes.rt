@@ -1,7 +1,7 @@
 ghost use Rattle.std.specs.Prelude.{◌≡◌};
-ghost use Rattle.dbl_table.specs.Rows.{changes_of};
+ghost use Rattle.dbl_model_table.specs.Rows.{changes_of};
 
-use dbl_table::{Body, Change, Commit};
+use dbl_model_table::{Body, Change, Commit};
 
 pub(crate) fn changes(commit: &Commit) -> &[Change]
     ensures { result.now ≡ changes_of commit.now }

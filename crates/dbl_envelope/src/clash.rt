@@ -1,13 +1,13 @@
-//! Cells that every consumer would take for unsent ones.
+//! Cells with a value equal to the placeholder, which every consumer would take for unsent ones.
 
 ghost use Rattle.std.specs.Prelude.{◌≡◌, ◌≢◌, ◌==◌, ◌-◌, length, slice_get, true, false, Some, None, IfOk, IfErr, OnOk, All, map};
 ghost use Rattle.std.specs.Option.{option_or};
 ghost use Rattle.base64.specs.Rfc4648.{encoded_size};
-ghost use Rattle.dbl_table.specs.declared.change.Cell.TheVariants.{Given};
-ghost use Rattle.dbl_table.specs.Tables.{column_names};
-ghost use Rattle.dbl_table.specs.Rows.{changes_of};
+ghost use Rattle.dbl_model_table.specs.declared.change.Cell.TheVariants.{Given};
+ghost use Rattle.dbl_model_table.specs.Tables.{column_names};
+ghost use Rattle.dbl_model_table.specs.Rows.{changes_of};
 ghost use Rattle.dbl_envelope.specs.Suits.{Suits};
-ghost use Rattle.dbl_event.specs.Clashes.{is_clash, clash_among, clash_at, old_cells, clash_of};
+ghost use Rattle.dbl_model_event.specs.Clashes.{is_clash, clash_among, clash_at, old_cells, clash_of};
 ghost use Rattle.dbl_envelope.specs.Clashing.{IsClash, change_clash, notices_clash};
 
 use crate::changes::changes;
@@ -16,19 +16,19 @@ use crate::writer::EventWriter;
 use base64::encoded_len;
 use base64::engine::general_purpose::STANDARD;
 use dbl_base::{Bytes, Seq, Text};
-use dbl_table::{Cell, Change, Column, Commit, Row, TableInfo};
+use dbl_model_table::{Cell, Change, Column, Commit, Row, TableInfo};
 use dbl_value::{Val, json_tree};
 use serde_json::Value;
 use std::alloc::{AllocError, Global};
 
-// Whether the base64 of so many bytes has this length.
+// Whether the base64 of this many bytes has this length.
 fn has_length(count: usize, length: usize) -> bool
     ensures { result ≡ (length == encoded_size count true) }
 {
     encoded_len(count, true) == Some(length)
 }
 
-// Whether bytes are written as this text. Those of another length are not written out.
+// Whether the bytes are encoded as this text; they are encoded only if the length matches.
 #[tactic(auto, using(crate::proofs::WrittenLemmas::other_size))]
 fn are_written_as(alloc: Global, placeholder: &Text, bytes: &Bytes) -> Result<bool, AllocError>
     ensures { IfOk result
@@ -49,7 +49,7 @@ fn ends_in_z(text: &Text) -> bool
     matches!(text.as_str().as_bytes().last(), Some(b'Z'))
 }
 
-// Whether an instant is written as this text. Its text would end in Z.
+// Whether the instant is printed as this text, which then ends in Z.
 #[tactic(auto, using(crate::proofs::WrittenLemmas::other_instant))]
 fn is_written_as(alloc: Global, placeholder: &Text, instant: i64) -> Result<bool, AllocError>
     ensures { IfOk result
@@ -89,7 +89,7 @@ fn is_sent_clash(alloc: Global, placeholder: &Text, cell: &Cell) -> Result<bool,
     }
 }
 
-/// The first column of a row whose cell is a clash.
+/// The first column of a row with a value equal to the placeholder.
 pub(crate) fn row_clash(
     alloc: Global,
     placeholder: &Text,
@@ -202,7 +202,7 @@ fn clash_error(alloc: Global, info: &TableInfo, column: Text) -> EnvelopeError
     }
 }
 
-/// The refusal of a clash in this column, if any.
+/// The error for a value equal to the placeholder in this column, if any.
 pub(crate) fn refuse(
     alloc: Global,
     info: &TableInfo,
@@ -217,7 +217,6 @@ pub(crate) fn refuse(
     }
 }
 
-/// Whether the change's records have no clash; else the first one.
 fn check_change(alloc: Global, writer: &EventWriter, change: &Change) -> Result<(), EnvelopeError>
     requires suits { Suits writer.now.infos change.now }
     ensures ok { OnOk result
@@ -230,7 +229,7 @@ fn check_change(alloc: Global, writer: &EventWriter, change: &Change) -> Result<
     refuse(alloc, info, found)
 }
 
-/// Whether the commit's records have no clash; else the first one.
+/// Checks that no value in the commit's records equals the placeholder; else returns the first one.
 pub(crate) fn check(
     alloc: Global,
     writer: &EventWriter,

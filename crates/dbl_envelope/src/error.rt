@@ -1,12 +1,13 @@
 use dbl_base::Text;
-use dbl_table::TableName;
+use dbl_model_table::TableName;
 use std::alloc::{AllocError, AllocFailed};
 use thiserror::Error;
 
 /// Why no records are made.
 #[derive(Debug, Drop, PartialEq, Eq, Error)]
 pub enum EnvelopeError {
-    /// A cell that the records would print in `before` or `after` has the placeholder of unsent cells as its JSON string.
+    /// A cell that would be printed in `before` or `after` has the placeholder of unsent cells as
+    /// its JSON string.
     #[error("placeholder in {table}.{column}")]
     PlaceholderClash { table: TableName, column: Text },
     #[error("out of memory")]

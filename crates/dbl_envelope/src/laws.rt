@@ -1,8 +1,8 @@
-//! The crate's law. Its function does nothing: its contract is the law.
+//! The crate's theorem; the function has an empty body.
 
 ghost use Rattle.dbl_envelope.specs.Suits.{FittingSuits};
 
-/// What fits the captured tables suits a writer of them.
+/// Changes and windows valid for the captured tables are accepted by a writer of these tables.
 pub fn fitting_suits()
     ensures { FittingSuits }
 {}

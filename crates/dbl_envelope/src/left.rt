@@ -1,10 +1,10 @@
 ghost use Rattle.std.specs.Prelude.{◌≡◌, ◌≤◌, ◌<◌, ◌+◌, ◌*◌, ◌^◌, ◌++◌, ℕ, [], None, Some, length, replicate};
 ghost use Rattle.std.specs.Prelude.{slice_get, All, IfOk, IfErr, OnOk, OnErr, codes};
-ghost use Rattle.dbl_table.specs.Rows.{changes_of, table_of};
-ghost use Rattle.dbl_event.specs.EventJson.{envelopes};
+ghost use Rattle.dbl_model_table.specs.Rows.{changes_of, table_of};
+ghost use Rattle.dbl_model_event.specs.EventJson.{envelopes};
 ghost use Rattle.dbl_envelope.specs.Suits.{Suits, SuitsTable};
-ghost use Rattle.dbl_event_text.specs.Frames.{Framed};
-ghost use Rattle.dbl_event.specs.Clashes.{clash_of};
+ghost use Rattle.dbl_envelope_json.specs.Frames.{Framed};
+ghost use Rattle.dbl_model_event.specs.Clashes.{clash_of};
 ghost use Rattle.dbl_envelope.specs.Clashing.{IsClash};
 ghost use Rattle.dbl_envelope.specs.Writers.{records_from, change_records, tail_at, AreTails};
 ghost use Rattle.dbl_envelope.specs.declared.left.TheConstants.{CHANGES_AT_ONCE};
@@ -12,29 +12,30 @@ ghost use Rattle.dbl_envelope.specs.declared.left.TheConstants.{CHANGES_AT_ONCE}
 use crate::changes::changes;
 use crate::clash::check;
 use crate::error::EnvelopeError;
-use crate::tell::tell;
+use crate::tell::append_change_records;
 use crate::writer::EventWriter;
 use dbl_base::Text;
-use dbl_event_text::{Frame, Stamp, tail_text};
+use dbl_envelope_json::{Frame, Stamp, tail_text};
+use dbl_model_table::{Change, Commit};
 use dbl_record::Record;
-use dbl_table::{Change, Commit};
 use std::alloc::{AllocError, Global};
 use std::marker::Model;
 
-/// So many changes' records are made at a time. They are few, so that the memory of the last ones serves the next.
+/// The number of changes whose records are made in one batch; it is small, so that memory is reused
+/// from batch to batch.
 pub const CHANGES_AT_ONCE: usize = 6;
 
-/// The records of a commit that are still to be made. Contracts see their list.
+/// An iterator over the records of a commit; contracts see the list of those that are left.
 #[derive(Drop)]
 pub struct RecordsLeft<'a> {
     writer: &'a EventWriter,
     commit: &'a Commit,
     now_ms: i64,
-    // of each table whose tail was wanted: its text
+    // the tails of the tables that needed one so far
     tails: Vec<Option<Text>>,
-    // how many changes' records are made
+    // the number of changes whose records are made
     change: usize,
-    // how many records are made
+    // the number of records made
     ordinal: u64,
 }
 
@@ -44,7 +45,7 @@ impl<'a> Model for RecordsLeft<'a> {
 
     ghost Value = { List SpecRecord };
 
-    ghost use Rattle.dbl_table.specs.Rows.{changes_of};
+    ghost use Rattle.dbl_model_table.specs.Rows.{changes_of};
     ghost use Rattle.dbl_envelope.specs.Suits.{Suits};
     ghost use Rattle.dbl_envelope.specs.Writers.{records_from, AreTails};
 
@@ -56,7 +57,7 @@ impl<'a> Model for RecordsLeft<'a> {
         × AreTails l.writer.now l.commit.now l.now_ms l.tails.items))) };
 }
 
-/// Makes the tail of a table where there is none.
+/// Makes the tail of a table unless it exists.
 fn make_tail(
     alloc: Global,
     writer: &EventWriter,
@@ -89,7 +90,7 @@ fn make_tail(
     Ok(())
 }
 
-/// What the records of a change's table have in common, whose tail is made.
+/// The frame of the records of a change's table, whose tail exists.
 fn frame_of<'a>(
     writer: &'a EventWriter,
     commit: &'a Commit,
@@ -118,7 +119,7 @@ fn frame_of<'a>(
     }
 }
 
-/// Adds the records of a change, whose table's tail is made.
+/// Appends the records of a change, whose table's tail exists.
 fn tell_change(
     out: &mut Vec<Record>,
     alloc: Global,
@@ -136,10 +137,9 @@ fn tell_change(
         change_records writer.now commit.now now_ms.now stamp.now change.now) }
 {
     let frame = frame_of(writer, commit, now_ms, tail, change);
-    tell(out, alloc, &frame, stamp, change)
+    append_change_records(out, alloc, &frame, stamp, change)
 }
 
-/// Adds the records of a change.
 fn add_change(
     out: &mut Vec<Record>,
     alloc: Global,
@@ -167,7 +167,7 @@ fn add_change(
     }
 }
 
-// The records of the changes from one place up to another, the first of them with this ordinal.
+// The records of the changes in a range of indices, numbered from this ordinal on.
 fn some_records(
     alloc: Global,
     writer: &EventWriter,
@@ -214,7 +214,7 @@ fn some_records(
     Ok(made)
 }
 
-// The place behind the next changes.
+// The index after the next batch of changes.
 fn next_place(change: usize, count: usize) -> usize
     requires { change ≤ count }
     ensures within { result ≤ count }
@@ -229,7 +229,7 @@ fn next_place(change: usize, count: usize) -> usize
     }
 }
 
-// As many tails as there are tables, none of them made.
+// An absent tail for each table.
 fn no_tails(alloc: Global, count: usize) -> Result<Vec<Option<Text>>, AllocError>
     ensures { IfOk result (λ tails. tails.items ≡ replicate count None) }
 {
@@ -241,8 +241,8 @@ fn no_tails(alloc: Global, count: usize) -> Result<Vec<Option<Text>>, AllocError
 }
 
 impl<'a> RecordsLeft<'a> {
-    /// Makes the next records, those of up to 6 changes, each of which has at most 3: so 18 at most. There are none only where none is left.
-    /// After an error the same records are left.
+    /// Makes the next batch of records, those of up to 6 changes of up to 3 records each. It is
+    /// empty if and only if none is left. After an error the same records are left.
     pub fn next(&mut self, alloc: Global) -> Result<Vec<Record>, AllocError>
         ensures ok { IfOk result (λ made. self.old ≡ made.items ++ self.new) }
         ensures few { IfOk result (λ made. length made.items ≤ 18) }
@@ -267,8 +267,8 @@ impl<'a> RecordsLeft<'a> {
 }
 
 impl EventWriter {
-    /// The records of a commit, to be made some at a time. `now_ms` is in milliseconds since 1970-01-01 UTC. It looks at
-    /// all cells first, and refuses the commit where one that would be printed is the placeholder.
+    /// Starts making the records of a commit, batch by batch; `now_ms` is in milliseconds since
+    /// 1970-01-01 UTC. A commit with a value equal to the placeholder is refused.
     pub fn records_left<'a>(
         &'a self,
         alloc: Global,
@@ -294,7 +294,7 @@ impl EventWriter {
         })
     }
 
-    /// The records of a commit, made at `now_ms`, in milliseconds since 1970-01-01 UTC.
+    /// Makes the records of a commit; `now_ms` is in milliseconds since 1970-01-01 UTC.
     pub fn records(
         &self,
         alloc: Global,

@@ -1,4 +1,4 @@
-//! Change events as records: the fast writer of what `dbl_event` defines.
+//! Change events as records: the efficient writer of what `dbl_model_event` defines.
 #![tactic(auto)]
 
 mod changes;

@@ -1,26 +1,26 @@
 //! The records of a snapshot's closed window.
 
 ghost use Rattle.std.specs.Prelude.{◌≡◌, None, IfOk, IfErr, IfSome, OnOk, length, codes};
-ghost use Rattle.dbl_table.specs.Infos.{width};
-ghost use Rattle.dbl_event.specs.Clashes.{clash_at, rows_clash, snapshot_clash};
-ghost use Rattle.dbl_event.specs.Snapshots.{AreInKeyOrder, read_record, read_records, chunk_records, snapshot};
+ghost use Rattle.dbl_model_table.specs.Infos.{width};
+ghost use Rattle.dbl_model_event.specs.Clashes.{clash_at, rows_clash, snapshot_clash};
+ghost use Rattle.dbl_model_event.specs.Snapshots.{AreInKeyOrder, read_record, read_records, chunk_records, snapshot};
 ghost use Rattle.dbl_envelope.specs.Clashing.{IsClash, row_clash};
-ghost use Rattle.dbl_event_text.specs.Frames.{Framed};
+ghost use Rattle.dbl_envelope_json.specs.Frames.{Framed};
 ghost use Rattle.dbl_envelope.specs.Suits.{SuitsRows, SuitsSnapshot};
 
 use crate::clash::{refuse, row_clash};
 use crate::error::EnvelopeError;
 use crate::writer::EventWriter;
 use dbl_base::Text;
-use dbl_event::{Closed, KeyedRows};
-use dbl_event_text::{
-    Frame, Side, Stamp, framed_key, plain_record, progress_record, tail_text, value_text,
+use dbl_envelope_json::{
+    Frame, Side, Stamp, key_json, plain_record, progress_record, tail_text, value_json,
 };
+use dbl_model_event::{Closed, KeyedRows};
+use dbl_model_table::{Commit, Key, Row, TableInfo};
 use dbl_record::Record;
-use dbl_table::{Commit, Key, Row, TableInfo};
 use std::alloc::{AllocError, Global};
 
-/// Whether the row has no clash; else the first one.
+/// Checks that no value of the row equals the placeholder; else returns the first one.
 fn check_row(
     alloc: Global,
     placeholder: &Text,
@@ -35,7 +35,7 @@ fn check_row(
     refuse(alloc, info, found)
 }
 
-/// Whether the rows have no clash; else the first one.
+/// Checks that no value of the rows equals the placeholder; else returns the first one.
 fn check_rows(
     alloc: Global,
     placeholder: &Text,
@@ -55,7 +55,7 @@ fn check_rows(
     Ok(())
 }
 
-/// The record of a row that was read.
+/// The snapshot record of a row.
 fn read_record(
     alloc: Global,
     frame: &Frame<'_>,
@@ -72,8 +72,8 @@ fn read_record(
         (key.now, row.now)) }
 {
     let after = Side::Row(&row.cells);
-    let value = value_text(alloc, frame, &after, &Side::Nothing, "r")?;
-    let key = framed_key(alloc, frame, key)?;
+    let value = value_json(alloc, frame, &after, &Side::Nothing, "r")?;
+    let key = key_json(alloc, frame, key)?;
     let stamp = Stamp {
         ordinal,
         last: false,
@@ -124,8 +124,9 @@ fn chunk_records(
 }
 
 impl EventWriter {
-    /// The records of a closed window: its rows in key order, and then how far the table's snapshot has come. `commit` is
-    /// the one that made the window's high watermark, and `now_ms` is in milliseconds since 1970-01-01 UTC.
+    /// Makes the snapshot records of a closed window in key order, then the progress record.
+    /// `commit` is that of the window's high watermark, and `now_ms` is in milliseconds since
+    /// 1970-01-01 UTC.
     pub fn snapshot(
         &self,
         alloc: Global,

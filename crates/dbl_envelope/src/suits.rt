@@ -1,20 +1,20 @@
-//! Whether a commit's changes suit a writer.
+//! Whether a writer accepts a commit's changes.
 
 ghost use Rattle.std.specs.Prelude.{◌≡◌, ◌⊎◌, All, IfSome, IsSome, length};
 ghost use Rattle.std.specs.List.{list_all};
 ghost use Rattle.std.specs.Bool.{Decides};
-ghost use Rattle.dbl_table.specs.Infos.{width};
-ghost use Rattle.dbl_table.specs.Keys.{new_key_of};
-ghost use Rattle.dbl_table.specs.Rows.{changes_of, all_given};
-ghost use Rattle.dbl_history.specs.PlainRows.{is_sent};
+ghost use Rattle.dbl_model_table.specs.Infos.{width};
+ghost use Rattle.dbl_model_table.specs.Keys.{new_key_of};
+ghost use Rattle.dbl_model_table.specs.Rows.{changes_of, all_given};
+ghost use Rattle.dbl_model_event.specs.ModelHistory.PlainRows.{is_sent};
 ghost use Rattle.dbl_envelope.specs.Suits.{Suits, SuitsTable, SuitsUpdate, SuitsDelete, SuitsRows, SuitsChunk, SuitsSnapshot};
 
 use crate::changes::changes;
 use crate::writer::EventWriter;
 use dbl_base::Seq;
-use dbl_event::{Closed, KeyedRows};
-use dbl_event_text::is_key_of;
-use dbl_table::{Cell, Change, Commit, Key, Row, TableInfo};
+use dbl_envelope_json::is_key_of;
+use dbl_model_event::{Closed, KeyedRows};
+use dbl_model_table::{Cell, Change, Commit, Key, Row, TableInfo};
 use dbl_value::Val;
 
 fn is_wide(info: &TableInfo, cells: &Seq<Val>) -> bool
@@ -161,7 +161,7 @@ fn suits_chunk(info: &TableInfo, closed: &Closed) -> bool
 }
 
 impl EventWriter {
-    /// Whether the commit's changes suit the writer, so that it can write their records. Takes no memory.
+    /// Whether the writer accepts the commit's changes.
     pub fn suits(&self, commit: &Commit) -> bool
         ensures { Decides result (All (Suits self.now.infos) (changes_of commit.now)) }
     {
@@ -173,7 +173,7 @@ impl EventWriter {
         true
     }
 
-    /// Whether the window suits the writer, so that it can write its records. Takes no memory.
+    /// Whether the writer accepts the window.
     pub fn suits_snapshot(&self, closed: &Closed) -> bool
         ensures { Decides result (SuitsSnapshot self.now.infos closed.now) }
     {

@@ -1,19 +1,19 @@
 //! The records of each kind of change.
 
 ghost use Rattle.std.specs.Prelude.{◌≡◌, ◌<◌, ◌≤◌, ◌+◌, ◌^◌, IfSome, IsSome, OnOk, length};
-ghost use Rattle.dbl_table.specs.declared.change.Change.TheVariants.{Insert, Update, Delete, Clear};
-ghost use Rattle.dbl_table.specs.Infos.{width};
-ghost use Rattle.dbl_table.specs.Rows.{all_given};
+ghost use Rattle.dbl_model_table.specs.declared.change.Change.TheVariants.{Insert, Update, Delete, Clear};
+ghost use Rattle.dbl_model_table.specs.Infos.{width};
+ghost use Rattle.dbl_model_table.specs.Rows.{all_given};
 ghost use Rattle.dbl_envelope.specs.Suits.{SuitsUpdate, SuitsDelete, SuitsTable};
-ghost use Rattle.dbl_event_text.specs.Frames.{Framed, Tells, TellsMove};
+ghost use Rattle.dbl_envelope_json.specs.Frames.{Framed, AppendsEvents, TellsMove};
 
 use dbl_base::Seq;
-use dbl_event_text::{
+use dbl_envelope_json::{
     Frame, Side, Stamp, created_record, deleted_record, is_key_of, moved_from, moved_to, tombstone,
     truncated_record, updated_record,
 };
+use dbl_model_table::{Cell, Change, Key, Row};
 use dbl_record::Record;
-use dbl_table::{Cell, Change, Key, Row};
 use std::alloc::{AllocError, Global};
 
 fn tell_insert(
@@ -26,13 +26,13 @@ fn tell_insert(
     requires framed { Framed frame.now }
     requires wide { length row.now.cells ≡ width frame.now.info.now }
     ensures { OnOk result
-        (Tells frame.now stamp.now (Insert 0 row.now) out.old.items out.new.items) }
+        (AppendsEvents frame.now stamp.now (Insert 0 row.now) out.old.items out.new.items) }
 {
     out.push(created_record(alloc, frame, stamp, row)?)?;
     Ok(())
 }
 
-/// The delete, its tombstone and the create of a row that moves.
+/// Appends the delete, the tombstone and the create of a key update.
 fn tell_move(
     out: &mut Vec<Record>,
     alloc: Global,
@@ -79,7 +79,7 @@ fn tell_update(
     requires framed { Framed frame.now }
     requires room { stamp.now.ordinal + 2 < 2 ^ 64 }
     requires suits { SuitsUpdate frame.now.info.now key.now old.now cells.now }
-    ensures { OnOk result (Tells frame.now stamp.now
+    ensures { OnOk result (AppendsEvents frame.now stamp.now
         (Update 0 key.now old.now cells.now) out.old.items out.new.items) }
 {
     if is_key_of(frame.info, key, cells) {
@@ -102,18 +102,18 @@ fn tell_delete(
     requires room { stamp.now.ordinal + 2 < 2 ^ 64 }
     requires suits { SuitsDelete frame.now.info.now key.now old.now }
     ensures { OnOk result
-        (Tells frame.now stamp.now (Delete 0 key.now old.now) out.old.items out.new.items) }
+        (AppendsEvents frame.now stamp.now (Delete 0 key.now old.now) out.old.items out.new.items) }
 {
     let first = Stamp {
         ordinal: stamp.ordinal,
         last: false,
     };
-    let behind = Stamp {
+    let subsequent = Stamp {
         ordinal: stamp.ordinal + 1,
         last: stamp.last,
     };
     out.push(deleted_record(alloc, frame, &first, key, &Side::Row(&old.cells))?)?;
-    out.push(tombstone(alloc, frame, &behind, key)?)?;
+    out.push(tombstone(alloc, frame, &subsequent, key)?)?;
     Ok(())
 }
 
@@ -124,15 +124,15 @@ fn tell_clear(
     stamp: &Stamp,
 ) -> Result<(), AllocError>
     requires framed { Framed frame.now }
-    ensures { OnOk result (Tells frame.now stamp.now (Clear 0) out.old.items out.new.items) }
+    ensures { OnOk result (AppendsEvents frame.now stamp.now (Clear 0) out.old.items out.new.items) }
 {
     out.push(truncated_record(alloc, frame, stamp)?)?;
     Ok(())
 }
 
-/// Adds the records of a change of the frame's table, the first of them with the stamp's ordinal. The stamp says whether
-/// the last of them is the last of its commit.
-pub(crate) fn tell(
+/// Appends the records of a change of the frame's table, numbered from the stamp's ordinal on. The
+/// stamp says whether the last of them is the last of its commit.
+pub(crate) fn append_change_records(
     out: &mut Vec<Record>,
     alloc: Global,
     frame: &Frame<'_>,
@@ -142,7 +142,7 @@ pub(crate) fn tell(
     requires framed { Framed frame.now }
     requires room { stamp.now.ordinal + 2 < 2 ^ 64 }
     requires suits { SuitsTable frame.now.info.now change.now }
-    ensures { OnOk result (Tells frame.now stamp.now change.now out.old.items out.new.items) }
+    ensures { OnOk result (AppendsEvents frame.now stamp.now change.now out.old.items out.new.items) }
 {
     match change {
         Change::Insert { table: _, row } => tell_insert(out, alloc, frame, stamp, row),

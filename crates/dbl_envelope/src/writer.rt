@@ -1,15 +1,16 @@
 ghost use Rattle.std.specs.Prelude.{◌≡◌, ◌<◌, ◌++◌, ◌∷◌, [], Some, length, map, option_map, slice_get, IfOk, IfErr, OnOk, OnErr};
-ghost use Rattle.dbl_table.specs.Rows.{table_of};
+ghost use Rattle.dbl_model_table.specs.Rows.{table_of};
 ghost use Rattle.dbl_envelope.specs.Suits.{Suits, SuitsTable};
-ghost use Rattle.dbl_event_text.specs.Layouts.{layout_of};
+ghost use Rattle.dbl_envelope_json.specs.Layouts.{layout_of};
 
 use crate::error::EnvelopeError;
-use dbl_event_text::Layout;
-use dbl_table::{Change, Identity, TableInfo};
+use dbl_envelope_json::Layout;
+use dbl_model_table::{Change, Identity, TableInfo};
 use std::alloc::{AllocError, Global};
 use std::marker::Model;
 
-/// Makes the records of one connector's commits. It is made once, as it sorts the columns of each captured table.
+/// The writer of one connector's records. It is made once, as it sorts the columns of each captured
+/// table.
 #[derive(Debug, Drop)]
 pub struct EventWriter {
     identity: Identity,
@@ -23,7 +24,7 @@ impl Model for EventWriter {
 
     ghost Value = { Captured };
 
-    ghost use Rattle.dbl_event_text.specs.Layouts.{layout_of};
+    ghost use Rattle.dbl_envelope_json.specs.Layouts.{layout_of};
 
     ghost view = { λ w. record { identity = w.identity; infos = w.infos.items } };
 
@@ -46,7 +47,7 @@ fn layouts(
 }
 
 impl EventWriter {
-    /// Takes n log n steps for n columns.
+    /// Makes a writer, in O(n log n) time for n columns.
     pub fn make(
         alloc: Global,
         identity: Identity,
@@ -77,7 +78,7 @@ impl EventWriter {
         self.infos.len()
     }
 
-    /// A captured table, by its place among them.
+    /// The captured table at an index.
     pub fn info_at(&self, table: usize) -> &TableInfo
         requires captured { table < length self.now.infos }
         ensures { slice_get self.now.infos table ≡ Some result.now }
@@ -103,7 +104,7 @@ impl EventWriter {
         &self.layouts[table]
     }
 
-    /// One more captured table, behind the others. Takes n log n steps for its n columns.
+    /// Adds a captured table, in O(n log n) time for its n columns.
     pub fn learn(&mut self, alloc: Global, info: TableInfo) -> Result<(), EnvelopeError>
         ensures learnt { OnOk result
             (self.new ≡ record self.old { infos = self.old.infos ++ info ∷ [] }) }

@@ -8,25 +8,25 @@ use Rattle.std.proofs.lemmas.List.{take-append-le, take_all}
 use Rattle.std.proofs.lemmas.List.Elements.{recursion_from_All}
 use Rattle.dbl_record.specs.declared.record.Record.{Record}
 use Rattle.dbl_record.specs.Places.{place_of, IsBefore, IsFresh}
-use Rattle.dbl_table.specs.declared.identity.Identity.{Identity}
-use Rattle.dbl_table.specs.declared.row.Key.{Key}
-use Rattle.dbl_table.specs.declared.row.Row.{Row}
-use Rattle.dbl_table.specs.declared.table.TableInfo.{TableInfo}
-use Rattle.dbl_table.specs.declared.change.Commit.{Commit}
-use Rattle.dbl_table.specs.Rows.{all_changes, rows, moment_at}
-use Rattle.dbl_history.specs.Image.{image_row}
-use Rattle.dbl_event.specs.EventJson.{envelopes}
-use Rattle.dbl_event.specs.Snapshots.{read_record, read_records, progress_record}
-use Rattle.dbl_event.proofs.EventLemmas.{commits_are_numbered}
-use Rattle.dbl_agreement.specs.Laws.{Holds}
-use Rattle.dbl_ageing.specs.Commits.{AreFitCommits}
-use Rattle.dbl_ageing.specs.Moments.{record_moment, reach}
-use Rattle.dbl_ageing.specs.KnownKeys.{IsKnown}
-use Rattle.dbl_ageing.specs.Ages.{held_row, IsAged, AreNamed}
+use Rattle.dbl_model_table.specs.declared.identity.Identity.{Identity}
+use Rattle.dbl_model_table.specs.declared.row.Key.{Key}
+use Rattle.dbl_model_table.specs.declared.row.Row.{Row}
+use Rattle.dbl_model_table.specs.declared.table.TableInfo.{TableInfo}
+use Rattle.dbl_model_table.specs.declared.change.Commit.{Commit}
+use Rattle.dbl_model_table.specs.Rows.{all_changes, rows, moment_at}
+use Rattle.dbl_consume_laws.specs.ModelHistory.Image.{image_row}
+use Rattle.dbl_consume_laws.specs.ModelEvent.EventJson.{envelopes}
+use Rattle.dbl_consume_laws.specs.ModelEvent.Snapshots.{read_record, read_records, progress_record}
+use Rattle.dbl_consume_laws.proofs.ModelEventEventLemmas.{commits_are_numbered}
+use Rattle.dbl_consume_laws.specs.Laws.{HoldsJsonTexts}
+use Rattle.dbl_consume_laws.specs.Commits.{AreFitCommits}
+use Rattle.dbl_consume_laws.specs.Moments.{record_moment, last_moment}
+use Rattle.dbl_consume_laws.specs.KnownKeys.{IsKnown}
+use Rattle.dbl_consume_laws.specs.Ages.{held_row, IsAged, HasNamedRows}
 use Rattle.dbl_faithful.specs.Agreements.{Agrees}
-use Rattle.dbl_ageing.proofs.Lists.{slice_get-front, slice_get-behind}
-use Rattle.dbl_ageing.proofs.Moments.{later_places, reach-one, reach_under}
-use Rattle.dbl_ageing.proofs.Rows.{aged_records_agree}
+use Rattle.dbl_consume_laws.proofs.Lists.{slice_get-front, slice_get-subsequent}
+use Rattle.dbl_consume_laws.proofs.Moments.{later_places, last_moment-one, reach_under}
+use Rattle.dbl_consume_laws.proofs.Rows.{aged_records_agree}
 
 -- ---- lists
 
@@ -86,7 +86,7 @@ module _ (identity : Identity) (infos : List TableInfo) (commits : List Commit) 
   -- With any front of such records, whose position's moment is this. Where one of the front says that it is the last, the records are
   -- aged there with all of them.
   pub agrees_more : (records rs : List Record) (position m n : ℕ) → IsRun position rs → ((j : ℕ) (item : Record) → slice_get rs j ≡ Some item → record_moment infos commits item ≤ m) → moment_at commits position ≡ m → start ≤ m
-      → ((j : ℕ) (item : Record) → slice_get (take n rs) j ≡ Some item → item.last ≡ true → IsAged identity infos commits start (records ++ rs) m) → AreNamed identity infos (records ++ rs) → Agrees identity infos commits start records → Agrees identity infos commits start (records ++ take n rs)
+      → ((j : ℕ) (item : Record) → slice_get (take n rs) j ≡ Some item → item.last ≡ true → IsAged identity infos commits start (records ++ rs) m) → HasNamedRows identity infos (records ++ rs) → Agrees identity infos commits start records → Agrees identity infos commits start (records ++ take n rs)
   agrees_more records rs position m n run most is from aged named agrees = record {
     each = λ i item at fresh last topic text table key names known. elim (cases_lt i (length records)) [
       | inl early ↦ (
@@ -95,11 +95,11 @@ module _ (identity : Identity) (infos : List TableInfo) (commits : List Commit) 
           let old_at : slice_get records i ≡ Some item = sym (slice_get-front records (take n rs) i early) ∙ at in
           let old_fresh : IsFresh records i =
           (fresh.0, sym (slice_get-front records (take n rs) i early) ∙ fresh.1, subst (All (λ earlier. IsBefore (place_of earlier) (place_of fresh.0))) front fresh.2) in
-          subst (λ (l : List Record). Holds (held_row identity l topic text) (image_row infos (rows infos commits (moment_at commits item.position)) table key)) (sym same)
+          subst (λ (l : List Record). HoldsJsonTexts (held_row identity l topic text) (image_row infos (rows infos commits (moment_at commits item.position)) table key)) (sym same)
           (agrees.each i item old_at old_fresh last topic text table key names (subst (λ (l : List Record). IsKnown identity infos (all_changes commits) start l (moment_at commits item.position) table key) same known)))
       | inr late ↦ (
           let j : ℕ = i - length records in
-          let at_front : slice_get (take n rs) j ≡ Some item = sym (slice_get-behind records (take n rs) i late) ∙ at in
+          let at_front : slice_get (take n rs) j ≡ Some item = sym (slice_get-subsequent records (take n rs) i late) ∙ at in
           let at_rs : slice_get rs j ≡ Some item = slice_get-take n rs j item at_front in
           let end : j + 1 ≡ length rs = (run j item at_rs).1 last in
           let full : take n rs ≡ rs = take_whole n rs j item at_front end in
@@ -109,18 +109,18 @@ module _ (identity : Identity) (infos : List TableInfo) (commits : List Commit) 
           let one : fresh.0 ≡ item = same_item (slice_get (records ++ take n rs) i) fresh.0 item fresh.1 at in
           let before : AllByRecursion (λ earlier. IsBefore (place_of earlier) (place_of item)) (take i (records ++ take n rs)) =
           recursion_from_All (λ earlier. IsBefore (place_of earlier) (place_of item)) (take i (records ++ take n rs)) (subst (λ (r : Record). All (λ earlier. IsBefore (place_of earlier) (place_of r)) (take i (records ++ take n rs))) one fresh.2) in
-          let far : reach infos commits start (take i (records ++ take n rs)) ≤ max start (record_moment infos commits item) =
+          let far : last_moment infos commits start (take i (records ++ take n rs)) ≤ max start (record_moment infos commits item) =
           reach_under infos commits (record_moment infos commits item) start (take i (records ++ take n rs)) (before_under infos commits item (take i (records ++ take n rs)) before) in
-          let under : max (reach infos commits start (take i (records ++ take n rs))) (record_moment infos commits item) ≤ m =
-          under_both start (record_moment infos commits item) (reach infos commits start (take i (records ++ take n rs))) m far (most j item at_rs) from in
-          let low : reach infos commits start (records ++ rs) ≤ m =
-          subst (λ (l : List Record). reach infos commits start l ≤ m) parted (subst (λ (k : ℕ). k ≤ m) (sym (reach-one infos commits start (take i (records ++ take n rs)) item)) under) in
+          let under : max (last_moment infos commits start (take i (records ++ take n rs))) (record_moment infos commits item) ≤ m =
+          under_both start (record_moment infos commits item) (last_moment infos commits start (take i (records ++ take n rs))) m far (most j item at_rs) from in
+          let low : last_moment infos commits start (records ++ rs) ≤ m =
+          subst (λ (l : List Record). last_moment infos commits start l ≤ m) parted (subst (λ (k : ℕ). k ≤ m) (sym (last_moment-one infos commits start (take i (records ++ take n rs)) item)) under) in
           let moment : moment_at commits item.position ≡ m = ap (moment_at commits) (run j item at_rs).0 ∙ is in
           let known_there : IsKnown identity infos (all_changes commits) start (records ++ rs) m table key =
           subst (λ (k : ℕ). IsKnown identity infos (all_changes commits) start (records ++ rs) k table key) moment
           (subst (λ (l : List Record). IsKnown identity infos (all_changes commits) start l (moment_at commits item.position) table key) listed known) in
-          subst (λ (l : List Record). Holds (held_row identity l topic text) (image_row infos (rows infos commits (moment_at commits item.position)) table key)) (sym listed)
-          (subst (λ (k : ℕ). Holds (held_row identity (records ++ rs) topic text) (image_row infos (rows infos commits k) table key)) (sym moment)
+          subst (λ (l : List Record). HoldsJsonTexts (held_row identity l topic text) (image_row infos (rows infos commits (moment_at commits item.position)) table key)) (sym listed)
+          (subst (λ (k : ℕ). HoldsJsonTexts (held_row identity (records ++ rs) topic text) (image_row infos (rows infos commits k) table key)) (sym moment)
           (aged_records_agree identity infos commits start m (records ++ rs) topic text table key facts (aged j item at_front last) named low names known_there)))
     ];
   }

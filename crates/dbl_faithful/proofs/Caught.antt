@@ -6,38 +6,38 @@ use Rattle.std.specs.List.{AllByRecursion}
 use Rattle.std.proofs.lemmas.Bool.Decides.{nat_tests}
 use Rattle.std.proofs.lemmas.List.{length-map, take_all}
 use Rattle.dbl_record.specs.declared.record.Record.{Record}
-use Rattle.dbl_table.specs.declared.identity.Identity.{Identity}
-use Rattle.dbl_table.specs.declared.table.TableInfo.{TableInfo}
-use Rattle.dbl_table.specs.declared.change.Change.{Change}
-use Rattle.dbl_table.specs.declared.change.Commit.{Commit}
-use Rattle.dbl_table.specs.Rows.{Rows, rows_at, changes_of, all_changes, rows, moment_at}
-use Rattle.dbl_history.specs.Image.{image_row}
-use Rattle.dbl_history.specs.Ranges.{IsMomentInRange}
-use Rattle.dbl_history.proofs.FitsInfosLemmas.{some_value}
-use Rattle.dbl_history.proofs.MomentLemmas.{positions_are}
-use Rattle.dbl_history.proofs.RowLemmas.{all_changes-append, rows_at-longer}
-use Rattle.dbl_event.specs.Events.{Notice, notices, numbered, events_of}
-use Rattle.dbl_event.specs.EventJson.{print, envelopes}
-use Rattle.dbl_event.specs.Clashes.{notice_clash, first_found, clash_of}
-use Rattle.dbl_event.specs.Snapshots.{chunk_records}
-use Rattle.dbl_agreement.specs.Laws.{Holds}
-use Rattle.dbl_agreement.proofs.CellEvents.{found_parts, events_change_cells}
-use Rattle.dbl_agreement.proofs.Held.{at_place}
-use Rattle.dbl_ageing.specs.Commits.{moment_after, AreFitCommits, IsNext}
-use Rattle.dbl_ageing.specs.Moments.{changes_through, place_moment, record_moment, reach}
-use Rattle.dbl_ageing.specs.KnownKeys.{IsKnown}
-use Rattle.dbl_ageing.specs.Ages.{held_row, IsAged, AreNamed}
-use Rattle.dbl_faithful.specs.Agreements.{Agrees, IsCaught}
-use Rattle.dbl_ageing.specs.ChangeLaws.{IsRecordOf}
+use Rattle.dbl_model_table.specs.declared.identity.Identity.{Identity}
+use Rattle.dbl_model_table.specs.declared.table.TableInfo.{TableInfo}
+use Rattle.dbl_model_table.specs.declared.change.Change.{Change}
+use Rattle.dbl_model_table.specs.declared.change.Commit.{Commit}
+use Rattle.dbl_model_table.specs.Rows.{Rows, rows_at, changes_of, all_changes, rows, moment_at}
+use Rattle.dbl_consume_laws.specs.ModelHistory.Image.{image_row}
+use Rattle.dbl_consume_laws.specs.ModelHistory.Ranges.{IsMomentInRange}
+use Rattle.dbl_consume_laws.proofs.ModelHistoryFitsInfosLemmas.{some_value}
+use Rattle.dbl_consume_laws.proofs.ModelHistoryMomentLemmas.{positions_are}
+use Rattle.dbl_consume_laws.proofs.ModelHistoryRowLemmas.{all_changes-append, rows_at-longer}
+use Rattle.dbl_consume_laws.specs.ModelEvent.Events.{Notice, notices, numbered, events_of}
+use Rattle.dbl_consume_laws.specs.ModelEvent.EventJson.{print, envelopes}
+use Rattle.dbl_consume_laws.specs.ModelEvent.Clashes.{notice_clash, first_found, clash_of}
+use Rattle.dbl_consume_laws.specs.ModelEvent.Snapshots.{chunk_records}
+use Rattle.dbl_consume_laws.specs.Laws.{HoldsJsonTexts}
+use Rattle.dbl_consume_laws.proofs.CellEvents.{found_parts, events_change_cells}
+use Rattle.dbl_consume_laws.proofs.Held.{at_place}
+use Rattle.dbl_consume_laws.specs.Commits.{moment_after, AreFitCommits, IsCommitAmong}
+use Rattle.dbl_consume_laws.specs.Moments.{changes_through, place_moment, record_moment, last_moment}
+use Rattle.dbl_consume_laws.specs.KnownKeys.{IsKnown}
+use Rattle.dbl_consume_laws.specs.Ages.{held_row, IsAged, HasNamedRows}
+use Rattle.dbl_faithful.specs.Agreements.{Agrees, AgreesUpTo}
+use Rattle.dbl_consume_laws.specs.ChangeLaws.{IsRecordOf}
 use Rattle.dbl_faithful.specs.CaughtLaws.{StartsAreCaught, EarlierMomentsAreCaught, PartsOfCommitsAreCaught, CommitsAreCaught, SilentCommitsAreCaught, PartsOfSnapshotsAreCaught, LongerHistoriesAreCaught}
-use Rattle.dbl_ageing.proofs.Lists.{all_take}
-use Rattle.dbl_ageing.proofs.Moments.{AreAbovePosition, place_moment-at, changes_through-most, marks_stand, reach-more, reach-longer}
-use Rattle.dbl_ageing.proofs.Spans.{known_shorter, goes_back, stays_in_longer}
-use Rattle.dbl_ageing.proofs.Deliver.{here_reached, commit_in_range, chunk, AllDo, rest_records, first_does, first_records, next_is, next_moment, chunk_reach}
-use Rattle.dbl_ageing.proofs.Changes.{silent_same, parts_keep_age, commits_move_age}
-use Rattle.dbl_ageing.proofs.Snapshot.{parts_of_snapshots_keep_age}
-use Rattle.dbl_ageing.proofs.Named.{no_records_are_named, events_keep_names, snapshots_keep_names}
-use Rattle.dbl_ageing.proofs.Spans.{no_records_are_aged}
+use Rattle.dbl_consume_laws.proofs.Lists.{all_take}
+use Rattle.dbl_consume_laws.proofs.Moments.{AreAbovePosition, place_moment-at, changes_through-most, marks_stand, last_moment-more, last_moment-longer}
+use Rattle.dbl_consume_laws.proofs.Spans.{known_shorter, goes_back, stays_in_longer}
+use Rattle.dbl_consume_laws.proofs.Deliver.{here_reached, commit_in_range, chunk, AllDo, rest_records, first_does, first_records, next_is, next_moment, chunk_reach}
+use Rattle.dbl_consume_laws.proofs.Changes.{silent_same, parts_keep_age, commits_move_age}
+use Rattle.dbl_consume_laws.proofs.Snapshot.{parts_of_snapshots_keep_age}
+use Rattle.dbl_consume_laws.proofs.AgeingNames.{no_records_are_named, events_keep_names, snapshots_keep_names}
+use Rattle.dbl_consume_laws.proofs.Spans.{no_records_are_aged}
 use Rattle.dbl_faithful.proofs.Items.{all_by_place, mapped, take_long}
 use Rattle.dbl_faithful.proofs.Agree.{slice_get-take, take_whole, agrees_more, commit_run, chunk_run}
 
@@ -62,7 +62,7 @@ to_end from to far le reached = omega (arith, reached)
 
 pub earlier_moments_are_caught : EarlierMomentsAreCaught
 earlier_moments_are_caught identity infos commits start from to records le caught = record {
-  aged = goes_back identity infos commits start from to records le (to_end from to (reach infos commits start records) le caught.reached) caught.aged;
+  aged = goes_back identity infos commits start from to records le (to_end from to (last_moment infos commits start records) le caught.reached) caught.aged;
   reached = le_trans le caught.reached;
   agrees = caught.agrees;
   named = caught.named;
@@ -98,24 +98,24 @@ module _ (identity : Identity) (infos : List TableInfo) (before : List Commit) (
 
   -- all of them reach the moment behind it
   module _ (now : ℤ) (start : ℕ) where
-    rest_reach : (earlier rest : List Change) → changes_of commit ≡ earlier ++ rest → AllDo identity infos before commit later facts now earlier rest → (records : List Record) → length (all_changes before ++ earlier) ≤ reach infos cs start records
-        → length (all_changes before ++ (earlier ++ rest)) ≤ reach infos cs start (records ++ rest_records identity infos before commit later facts now earlier rest)
+    rest_reach : (earlier rest : List Change) → changes_of commit ≡ earlier ++ rest → AllDo identity infos before commit later facts now earlier rest → (records : List Record) → length (all_changes before ++ earlier) ≤ last_moment infos cs start records
+        → length (all_changes before ++ (earlier ++ rest)) ≤ last_moment infos cs start (records ++ rest_records identity infos before commit later facts now earlier rest)
     rest_reach earlier [] is does records reached =
-        subst (λ (l : List Change). length (all_changes before ++ l) ≤ reach infos cs start (records ++ [])) (sym (append-nil earlier))
-        (subst (λ (l : List Record). length (all_changes before ++ earlier) ≤ reach infos cs start l) (sym (append-nil records)) reached)
+        subst (λ (l : List Change). length (all_changes before ++ l) ≤ last_moment infos cs start (records ++ [])) (sym (append-nil earlier))
+        (subst (λ (l : List Record). length (all_changes before ++ earlier) ≤ last_moment infos cs start l) (sym (append-nil records)) reached)
     rest_reach earlier (c ∷ others) is does records reached =
         let parts = first_does identity infos before commit later facts now earlier c others does in
         let rs : List Record = chunk identity infos before commit later facts earlier c others is now in
         let more : List Record = rest_records identity infos before commit later facts now (earlier ++ c ∷ []) others in
-        let far : reach infos cs start (records ++ rs) ≡ max (reach infos cs start records) (length (all_changes before ++ earlier) + 1) = chunk_reach identity infos before commit later facts earlier c others is now parts.0 start records in
-        let here : length (all_changes before ++ (earlier ++ c ∷ [])) ≤ reach infos cs start (records ++ rs) =
-        next_reached (length (all_changes before ++ (earlier ++ c ∷ []))) (length (all_changes before ++ earlier)) (reach infos cs start records) (reach infos cs start (records ++ rs)) far (next_moment identity infos before commit later facts now earlier c) in
-        let rest : length (all_changes before ++ ((earlier ++ c ∷ []) ++ others)) ≤ reach infos cs start ((records ++ rs) ++ more) =
+        let far : last_moment infos cs start (records ++ rs) ≡ max (last_moment infos cs start records) (length (all_changes before ++ earlier) + 1) = chunk_reach identity infos before commit later facts earlier c others is now parts.0 start records in
+        let here : length (all_changes before ++ (earlier ++ c ∷ [])) ≤ last_moment infos cs start (records ++ rs) =
+        next_reached (length (all_changes before ++ (earlier ++ c ∷ []))) (length (all_changes before ++ earlier)) (last_moment infos cs start records) (last_moment infos cs start (records ++ rs)) far (next_moment identity infos before commit later facts now earlier c) in
+        let rest : length (all_changes before ++ ((earlier ++ c ∷ []) ++ others)) ≤ last_moment infos cs start ((records ++ rs) ++ more) =
         rest_reach (earlier ++ c ∷ []) others (next_is identity infos before commit later facts now earlier c others is) parts.1 (records ++ rs) here in
         let list : (records ++ rs) ++ more ≡ records ++ rest_records identity infos before commit later facts now earlier (c ∷ others) =
         append_assoc records rs more ∙ ap (λ (l : List Record). records ++ l) (sym (first_records identity infos before commit later facts now earlier c others)) in
-        subst (λ (l : List Record). length (all_changes before ++ (earlier ++ c ∷ others)) ≤ reach infos cs start l) list
-        (subst (λ (l : List Change). length (all_changes before ++ l) ≤ reach infos cs start ((records ++ rs) ++ more)) (append_assoc earlier (c ∷ []) others) rest)
+        subst (λ (l : List Record). length (all_changes before ++ (earlier ++ c ∷ others)) ≤ last_moment infos cs start l) list
+        (subst (λ (l : List Change). length (all_changes before ++ l) ≤ last_moment infos cs start ((records ++ rs) ++ more)) (append_assoc earlier (c ∷ []) others) rest)
       where
         next_reached : (q p far later : ℕ) → later ≡ max far (p + 1) → q ≡ p + 1 → q ≤ later
         next_reached q p far later is e = omega (arith, is, e)
@@ -146,9 +146,9 @@ clear_whole identity infos commit now n clear full =
     ap (first_found (notice_clash identity.placeholder)) (sym (take_all n told enough)) ∙ clear
 
 -- with any prefix, from what all of them come to
-agrees_parts : (identity : Identity) (infos : List TableInfo) (commits before : List Commit) (commit : Commit) (later : List Commit) (start : ℕ) (records : List Record) (now : ℤ) (n : ℕ) → IsNext infos commits before commit later
+agrees_parts : (identity : Identity) (infos : List TableInfo) (commits before : List Commit) (commit : Commit) (later : List Commit) (start : ℕ) (records : List Record) (now : ℤ) (n : ℕ) → IsCommitAmong infos commits before commit later
     → first_found (notice_clash identity.placeholder) (take n (flat_map (notices infos) (changes_of commit))) ≡ None → IsMomentInRange now
-    → start ≤ moment_after before → IsCaught identity infos commits start records (moment_after before) → Agrees identity infos commits start (records ++ take n (envelopes identity infos commit now))
+    → start ≤ moment_after before → AgreesUpTo identity infos commits start records (moment_after before) → Agrees identity infos commits start (records ++ take n (envelopes identity infos commit now))
 agrees_parts identity infos commits before commit later start records now n next clear in_time from caught =
     let facts : AreFitCommits infos (before ++ commit ∷ later) = subst (AreFitCommits infos) next.spelled next.fit in
     let m : ℕ = moment_after (before ++ commit ∷ []) in
@@ -169,8 +169,8 @@ agrees_parts identity infos commits before commit later start records now n next
 
 pub parts_of_commits_are_caught : PartsOfCommitsAreCaught
 parts_of_commits_are_caught identity infos commits before commit later start records now n next in_time clear from caught = record {
-  aged = parts_keep_age identity infos commits before commit later start (moment_after before) records now n next in_time clear (le_refl (moment_after before)) (here_reached (moment_after before) (reach infos commits start records)) caught.aged;
-  reached = le_trans caught.reached (reach-more infos commits start records (take n (envelopes identity infos commit now)));
+  aged = parts_keep_age identity infos commits before commit later start (moment_after before) records now n next in_time clear (le_refl (moment_after before)) (here_reached (moment_after before) (last_moment infos commits start records)) caught.aged;
+  reached = le_trans caught.reached (last_moment-more infos commits start records (take n (envelopes identity infos commit now)));
   agrees = agrees_parts identity infos commits before commit later start records now n next clear in_time from caught;
   named = events_keep_names identity infos commits before commit later records (take n (envelopes identity infos commit now)) next (all_take (IsRecordOf identity infos commit) n (envelopes identity infos commit now) (envelopes_are_of identity infos commit now in_time)) caught.named;
 }
@@ -180,14 +180,14 @@ commits_are_caught identity infos commits before commit later start records now 
     let facts : AreFitCommits infos (before ++ commit ∷ later) = subst (AreFitCommits infos) next.spelled next.fit in
     let es : List Record = envelopes identity infos commit now in
     let none : length (all_changes before) ≡ length (all_changes before ++ []) = ap length (sym (append-nil (all_changes before))) in
-    let far : length (all_changes before ++ []) ≤ reach infos (before ++ commit ∷ later) start records =
-    subst (λ (k : ℕ). k ≤ reach infos (before ++ commit ∷ later) start records) none (subst (λ (l : List Commit). moment_after before ≤ reach infos l start records) next.spelled caught.reached) in
-    let whole : length (all_changes before ++ changes_of commit) ≤ reach infos (before ++ commit ∷ later) start (records ++ es) =
+    let far : length (all_changes before ++ []) ≤ last_moment infos (before ++ commit ∷ later) start records =
+    subst (λ (k : ℕ). k ≤ last_moment infos (before ++ commit ∷ later) start records) none (subst (λ (l : List Commit). moment_after before ≤ last_moment infos l start records) next.spelled caught.reached) in
+    let whole : length (all_changes before ++ changes_of commit) ≤ last_moment infos (before ++ commit ∷ later) start (records ++ es) =
     rest_reach identity infos before commit later facts now start [] (changes_of commit) refl (events_change_cells identity infos commit now (commit_in_range identity infos before commit later facts) in_time clear) records far in
     let size : length (all_changes before ++ changes_of commit) ≡ moment_after (before ++ commit ∷ []) = length-append (all_changes before) (changes_of commit) ∙ sym (after_size identity infos before commit later facts) in
     record {
       aged = commits_move_age identity infos commits before commit later start records now next clear in_time caught.aged;
-      reached = subst (λ (l : List Commit). moment_after (before ++ commit ∷ []) ≤ reach infos l start (records ++ es)) (sym next.spelled) (subst (λ (k : ℕ). k ≤ reach infos (before ++ commit ∷ later) start (records ++ es)) size whole);
+      reached = subst (λ (l : List Commit). moment_after (before ++ commit ∷ []) ≤ last_moment infos l start (records ++ es)) (sym next.spelled) (subst (λ (k : ℕ). k ≤ last_moment infos (before ++ commit ∷ later) start (records ++ es)) size whole);
       agrees = subst (λ (l : List Record). Agrees identity infos commits start (records ++ l)) (take_all (length es) es (le_refl (length es))) (agrees_parts identity infos commits before commit later start records now (length es) next (found_first (notice_clash identity.placeholder) (length es) (flat_map (notices infos) (changes_of commit)) clear) in_time from caught);
       named = events_keep_names identity infos commits before commit later records es next (envelopes_are_of identity infos commit now in_time) caught.named;
     }
@@ -195,7 +195,7 @@ commits_are_caught identity infos commits before commit later start records now 
 pub silent_commits_are_caught : SilentCommitsAreCaught
 silent_commits_are_caught identity infos commits before commit later start records now next none caught =
     let facts : AreFitCommits infos (before ++ commit ∷ later) = subst (AreFitCommits infos) next.spelled next.fit in
-    subst (IsCaught identity infos commits start records) (silent_same identity infos before commit later facts now none) caught
+    subst (AgreesUpTo identity infos commits start records) (silent_same identity infos before commit later facts now none) caught
 
 -- ---- the records of a snapshot
 
@@ -206,7 +206,7 @@ at_most : (a m : ℕ) → a ≡ m → a ≤ m
 at_most a m e = omega (arith, e)
 
 pub parts_of_snapshots_are_caught : PartsOfSnapshotsAreCaught
-parts_of_snapshots_are_caught identity infos commits before mark later start low above closed records snapshot now n next none in_time whole clear right behind under told caught =
+parts_of_snapshots_are_caught identity infos commits before mark later start low above closed records snapshot now n next none in_time whole clear right subsequent under told caught =
     let facts : AreFitCommits infos (before ++ mark ∷ later) = subst (AreFitCommits infos) next.spelled next.fit in
     let m : ℕ = moment_after before in
     let chunk_is : List Record = chunk_records identity whole.info closed.rows closed.through closed.done mark now in
@@ -221,15 +221,15 @@ parts_of_snapshots_are_caught identity infos commits before mark later start low
     ∙ (marks_stand infos before mark later item.ordinal facts.rise none ∙ same)))) in
     let all_aged : IsAged identity infos commits start (records ++ chunk_is) m =
     subst (λ (l : List Record). IsAged identity infos commits start (records ++ l) m) (take_all (length snapshot) snapshot (le_refl (length snapshot)) ∙ listed)
-    (parts_of_snapshots_keep_age identity infos commits before mark later start low above closed records snapshot now (length snapshot) next none in_time whole clear right behind told caught.aged) in
-    let all_named : AreNamed identity infos (records ++ chunk_is) =
-    subst (λ (l : List Record). AreNamed identity infos (records ++ l)) (take_all (length snapshot) snapshot (le_refl (length snapshot)) ∙ listed)
+    (parts_of_snapshots_keep_age identity infos commits before mark later start low above closed records snapshot now (length snapshot) next none in_time whole clear right subsequent told caught.aged) in
+    let all_named : HasNamedRows identity infos (records ++ chunk_is) =
+    subst (λ (l : List Record). HasNamedRows identity infos (records ++ l)) (take_all (length snapshot) snapshot (le_refl (length snapshot)) ∙ listed)
     (snapshots_keep_names identity infos closed mark now records snapshot (length snapshot) (commit_in_range identity infos before mark later facts) in_time whole caught.named) in
     record {
-      aged = parts_of_snapshots_keep_age identity infos commits before mark later start low above closed records snapshot now n next none in_time whole clear right behind told caught.aged;
-      reached = le_trans caught.reached (reach-more infos commits start records (take n snapshot));
+      aged = parts_of_snapshots_keep_age identity infos commits before mark later start low above closed records snapshot now n next none in_time whole clear right subsequent told caught.aged;
+      reached = le_trans caught.reached (last_moment-more infos commits start records (take n snapshot));
       agrees = subst (λ (l : List Record). Agrees identity infos commits start (records ++ take n l)) (sym listed)
-          (agrees_more identity infos commits next.fit start records chunk_is mark.lsn.0 m n run most moment (le_trans behind under) (λ j item at last. all_aged) all_named caught.agrees);
+          (agrees_more identity infos commits next.fit start records chunk_is mark.lsn.0 m n run most moment (le_trans subsequent under) (λ j item at last. all_aged) all_named caught.agrees);
       named = snapshots_keep_names identity infos closed mark now records snapshot n (commit_in_range identity infos before mark later facts) in_time whole caught.named;
     }
 
@@ -262,7 +262,7 @@ moment_at-most (c ∷ commits) p =
 pub longer_histories_are_caught : LongerHistoriesAreCaught
 longer_histories_are_caught identity infos commits more start moment records in_start in_moment above caught = record {
   aged = stays_in_longer identity infos commits more start moment records in_start in_moment above caught.aged;
-  reached = subst (λ (n : ℕ). moment ≤ n) (sym (reach-longer infos commits more start records above)) caught.reached;
+  reached = subst (λ (n : ℕ). moment ≤ n) (sym (last_moment-longer infos commits more start records above)) caught.reached;
   agrees = record {
     each = λ i item at fresh last topic text table key names known. (
         let here : AreAbovePosition item.position more = some_value (slice_get records i) (λ (r : Record). AreAbovePosition r.position more) item (at_place (λ (r : Record). AreAbovePosition r.position more) records i above) at in
@@ -276,7 +276,7 @@ longer_histories_are_caught identity infos commits more start moment records in_
         ap (λ (n : ℕ). image_row infos (rows infos (commits ++ more) n) table key) same
         ∙ (ap (λ (l : List Change). image_row infos (rows_at infos l (moment_at commits item.position)) table key) (all_changes-append commits more)
         ∙ ap (λ (r : Rows). image_row infos r table key) (rows_at-longer infos (all_changes commits) (all_changes more) (moment_at commits item.position) le)) in
-        subst (Holds (held_row identity (take (i + 1) records) topic text)) (sym image) (caught.agrees.each i item at fresh last topic text table key names old));
+        subst (HoldsJsonTexts (held_row identity (take (i + 1) records) topic text)) (sym image) (caught.agrees.each i item at fresh last topic text table key names old));
   };
   named = caught.named;
 }

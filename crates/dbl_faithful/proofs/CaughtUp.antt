@@ -4,42 +4,42 @@ use Rattle.std.specs.Prelude.{◌==◌, slice_get, option_map, unwrap_or}
 use Rattle.std.specs.List.{AllByRecursion, AllZip}
 use Rattle.dbl_record.specs.declared.record.Record.{Record}
 use Rattle.dbl_record.specs.Places.{Place, place_of, IsBefore}
-use Rattle.dbl_table.specs.declared.identity.Identity.{Identity}
-use Rattle.dbl_table.specs.declared.row.Key.{Key}
-use Rattle.dbl_table.specs.declared.row.Row.{Row}
-use Rattle.dbl_table.specs.declared.table.TableInfo.{TableInfo}
-use Rattle.dbl_table.specs.declared.change.Commit.{Commit}
-use Rattle.dbl_table.specs.Rows.{rows_at, all_changes, moment_at}
-use Rattle.dbl_table.proofs.Lists.{slice_get-lt}
-use Rattle.dbl_history.specs.History.{AreRising}
-use Rattle.dbl_history.specs.Ranges.{IsMomentInRange}
-use Rattle.dbl_history.proofs.MomentLemmas.{lsns, moment_at-commit}
-use Rattle.dbl_history.proofs.RowLemmas.{all_changes-append}
-use Rattle.dbl_event.specs.declared.closed.Closed.{Closed}
-use Rattle.dbl_event.specs.Snapshots.{chunk_records}
-use Rattle.dbl_event.specs.SnapshotLists.{IsSnapshot}
-use Rattle.dbl_agreement.proofs.Consumers.{all_left}
-use Rattle.dbl_agreement.proofs.Notices.{all_append}
-use Rattle.dbl_ageing.specs.Commits.{moment_after, AreFitCommits, IsNext}
-use Rattle.dbl_ageing.specs.Moments.{reach}
-use Rattle.dbl_ageing.specs.Windows.{IsRightWindow}
-use Rattle.dbl_ageing.proofs.Deliver.{commit_in_range}
-use Rattle.dbl_faithful.specs.Agreements.{IsCaught}
-use Rattle.dbl_faithful.specs.Kinds.{is_change}
-use Rattle.dbl_faithful.specs.ToldEvents.{ToldEvent, told_of, told_by, told_behind, IsPrint, IsClearPrint, IsAmong, ArePutBefore}
+use Rattle.dbl_model_table.specs.declared.identity.Identity.{Identity}
+use Rattle.dbl_model_table.specs.declared.row.Key.{Key}
+use Rattle.dbl_model_table.specs.declared.row.Row.{Row}
+use Rattle.dbl_model_table.specs.declared.table.TableInfo.{TableInfo}
+use Rattle.dbl_model_table.specs.declared.change.Commit.{Commit}
+use Rattle.dbl_model_table.specs.Rows.{rows_at, all_changes, moment_at}
+use Rattle.dbl_model_table.proofs.Lists.{slice_get-lt}
+use Rattle.dbl_consume_laws.specs.ModelHistory.History.{AreRising}
+use Rattle.dbl_consume_laws.specs.ModelHistory.Ranges.{IsMomentInRange}
+use Rattle.dbl_consume_laws.proofs.ModelHistoryMomentLemmas.{lsns, moment_at-commit}
+use Rattle.dbl_consume_laws.proofs.ModelHistoryRowLemmas.{all_changes-append}
+use Rattle.dbl_consume_laws.specs.ModelEvent.declared.closed.Closed.{Closed}
+use Rattle.dbl_consume_laws.specs.ModelEvent.Snapshots.{chunk_records}
+use Rattle.dbl_consume_laws.specs.ModelEvent.SnapshotLists.{IsSnapshot}
+use Rattle.dbl_consume_laws.proofs.Consumers.{all_left}
+use Rattle.dbl_consume_laws.proofs.Notices.{all_append}
+use Rattle.dbl_consume_laws.specs.Commits.{moment_after, AreFitCommits, IsCommitAmong}
+use Rattle.dbl_consume_laws.specs.Moments.{last_moment}
+use Rattle.dbl_consume_laws.specs.Windows.{IsRightWindow}
+use Rattle.dbl_consume_laws.proofs.Deliver.{commit_in_range}
+use Rattle.dbl_faithful.specs.Agreements.{AgreesUpTo}
+use Rattle.dbl_faithful.specs.Kinds.{is_change_record}
+use Rattle.dbl_faithful.specs.ToldEvents.{ToldEvent, events_of_commit, events_of_commits, events_since, IsPrint, IsClearPrint, IsAmong, ArePutBefore}
 use Rattle.dbl_faithful.specs.ExactLogs.{news, IsExact}
-use Rattle.dbl_faithful.specs.RightSnapshots.{IsHighMark, records_at, IsWindowAt, AreSnapshotsRight}
-use Rattle.dbl_faithful.specs.CaughtUp.{IsLog, next_told, IsCaughtUp}
+use Rattle.dbl_faithful.specs.RightSnapshots.{IsHighMark, records_at, IsWindowOfRecords, AreSnapshotsRight}
+use Rattle.dbl_faithful.specs.CaughtUp.{IsExactLog, next_told, HasDeliveredUpTo}
 use Rattle.dbl_faithful.specs.CaughtUpLaws.{StartsAreCaughtUp, PutLogsAreCaughtUp, SentRecordsAreCaughtUp, CommitsAreCaughtUp, SilentCommitsAreCaughtUp, SnapshotsAreCaughtUp, LongerHistoriesAreCaughtUp, CaughtUpLogsAreRight, DeliveredEventsArePut}
 use Rattle.dbl_faithful.proofs.Caught.{starts_are_caught, earlier_moments_are_caught, parts_of_snapshots_are_caught, longer_histories_are_caught, after_size, moment_at-longer, moment_at-most}
 use Rattle.dbl_faithful.proofs.Exact.{AreBehind, GoOn, put_among, first_print, log_more, log_others}
 use Rattle.dbl_faithful.proofs.Items.{at_left, at_right, at_cases, taken_at, drop_get, take_within, all_by_place, at_all, all_weaker, zip_at, zip_append, zip_length, filter_whole}
 use Rattle.dbl_faithful.proofs.News.{AreBefore, fresh_place}
-use Rattle.dbl_faithful.proofs.Positions.{rising_behind, end_behind, end_under, end_moment, start_moment}
+use Rattle.dbl_faithful.proofs.Positions.{rising_behind, end_after, end_under, end_moment, start_moment}
 use Rattle.dbl_faithful.proofs.Prints.{prints_are_caught, all_prints_are_caught}
 use Rattle.dbl_faithful.proofs.Reached.{put_reached}
 use Rattle.dbl_faithful.proofs.RightSnapshots.{at_test, at-append, at_others, mark_is_silent, right_behind, right_kept, right_longer, listing, listing_places, listing_others, rows_in_range}
-use Rattle.dbl_faithful.proofs.Told.{of_commit, told_above, told_behind-append, behind_rise, behind_changes, behind_all, behind_none, print_place}
+use Rattle.dbl_faithful.proofs.Trace.{of_commit, told_above, events_since-append, behind_rise, behind_changes, behind_all, behind_none, print_place}
 
 -- ---- numbers and lists
 
@@ -67,17 +67,17 @@ under_count (x ∷ xs) (suc count) under =
 -- ---- the commits that are next
 
 -- the events behind the start: those of the commits before, and those of the later ones
-told_parts : (infos : List TableInfo) (start : ℕ) (commits before later : List Commit) → commits ≡ before ++ later → AllByRecursion (λ c. start < c.lsn.0) later → told_behind infos start commits ≡ told_behind infos start before ++ told_by infos later
+told_parts : (infos : List TableInfo) (start : ℕ) (commits before later : List Commit) → commits ≡ before ++ later → AllByRecursion (λ c. start < c.lsn.0) later → events_since infos start commits ≡ events_since infos start before ++ events_of_commits infos later
 told_parts infos start commits before later is ahead =
-    ap (told_behind infos start) is
-    ∙ (told_behind-append infos start before later ∙ ap (λ (l : List Commit). told_behind infos start before ++ told_by infos l) (behind_all start later ahead))
+    ap (events_since infos start) is
+    ∙ (events_since-append infos start before later ∙ ap (λ (l : List Commit). events_since infos start before ++ events_of_commits infos l) (behind_all start later ahead))
 
 -- with the next commit
-told_next : (infos : List TableInfo) (start : ℕ) (before : List Commit) (c : Commit) → start < c.lsn.0 → length (told_behind infos start (before ++ c ∷ [])) ≡ length (told_behind infos start before) + length (told_of infos c)
+told_next : (infos : List TableInfo) (start : ℕ) (before : List Commit) (c : Commit) → start < c.lsn.0 → length (events_since infos start (before ++ c ∷ [])) ≡ length (events_since infos start before) + length (events_of_commit infos c)
 told_next infos start before c lt =
-    ap length (told_behind-append infos start before (c ∷ []))
-    ∙ (length-append (told_behind infos start before) (told_behind infos start (c ∷ []))
-    ∙ ap (λ (n : ℕ). length (told_behind infos start before) + n) (ap (λ (l : List Commit). length (told_by infos l)) (behind_all start (c ∷ []) (lt, tt)) ∙ ap length (append-nil (told_of infos c))))
+    ap length (events_since-append infos start before (c ∷ []))
+    ∙ (length-append (events_since infos start before) (events_since infos start (c ∷ []))
+    ∙ ap (λ (n : ℕ). length (events_since infos start before) + n) (ap (λ (l : List Commit). length (events_of_commits infos l)) (behind_all start (c ∷ []) (lt, tt)) ∙ ap length (append-nil (events_of_commit infos c))))
 
 split_next : (commits before : List Commit) (c : Commit) (later : List Commit) → commits ≡ before ++ c ∷ later → commits ≡ (before ++ c ∷ []) ++ later
 split_next commits before c later is = is ∙ sym (append_assoc before (c ∷ []) later)
@@ -87,10 +87,10 @@ split_next commits before c later is = is ∙ sym (append_assoc before (c ∷ []
 module _ (identity : Identity) (infos : List TableInfo) (commits before later : List Commit) (start far : ℕ) where
   -- a log of which nothing of the next commit was sent
   fresh_start : (records : List Record) → AreFitCommits infos commits → commits ≡ before ++ later → AllByRecursion (λ c. start < c.lsn.0) later
-      → IsCaught identity infos commits (moment_at commits start) records (moment_after before)
-      → IsLog identity (told_behind infos start commits) records (length (told_behind infos start before))
-      → AreSnapshotsRight identity infos commits (told_behind infos start commits) records → AllByRecursion (λ item. item.position ≤ far) records
-      → IsCaughtUp identity infos commits start far before later 0 records
+      → AgreesUpTo identity infos commits (moment_at commits start) records (moment_after before)
+      → IsExactLog identity (events_since infos start commits) records (length (events_since infos start before))
+      → AreSnapshotsRight identity infos commits (events_since infos start commits) records → AllByRecursion (λ item. item.position ≤ far) records
+      → HasDeliveredUpTo identity infos commits start far before later 0 records
   fresh_start records fit is ahead caught log snapshots placed = record {
     fit = fit;
     spelled = is;
@@ -101,7 +101,7 @@ module _ (identity : Identity) (infos : List TableInfo) (commits before later : 
     caught = caught;
     few = none_le (length (next_told infos later));
     sending = tt;
-    log = subst (IsLog identity (told_behind infos start commits) records) (nothing_sent (length (told_behind infos start before))) log;
+    log = subst (IsExactLog identity (events_since infos start commits) records) (nothing_sent (length (events_since infos start before))) log;
     snapshots = snapshots;
     placed = placed;
   }
@@ -110,28 +110,28 @@ pub starts_are_caught_up : StartsAreCaughtUp
 starts_are_caught_up identity infos commits before later start far fit is ends =
     let rise : AreRising 0 (lsns (before ++ later)) = subst (λ (l : List Commit). AreRising 0 (lsns l)) is fit.rise in
     let moment : moment_at commits start ≡ moment_after before = ap (λ (l : List Commit). moment_at l start) is ∙ end_moment start before later rise ends in
-    let none : told_behind infos start before ≡ [] = ap (told_by infos) (behind_none start before (end_under start before later rise ends)) in
-    fresh_start identity infos commits before later start far [] fit is (end_behind start before later rise ends)
-    (subst (IsCaught identity infos commits (moment_at commits start) []) moment (starts_are_caught identity infos commits (moment_at commits start)))
+    let none : events_since infos start before ≡ [] = ap (events_of_commits infos) (behind_none start before (end_under start before later rise ends)) in
+    fresh_start identity infos commits before later start far [] fit is (end_after start before later rise ends)
+    (subst (AgreesUpTo identity infos commits (moment_at commits start) []) moment (starts_are_caught identity infos commits (moment_at commits start)))
     (record {
       count = 0;
-      exact = record { few = none_le (length (told_behind infos start commits)); fresh = tt; others = λ place item at change. no_item place item at };
+      exact = record { few = none_le (length (events_since infos start commits)); fresh = tt; others = λ place item at change. no_item place item at };
       not_after = subst (λ (l : List ToldEvent). length l ≤ 0) (sym none) (le_refl 0);
     })
     (record { each = λ place item at other. no_item place item at }) tt
 
 pub put_logs_are_caught_up : PutLogsAreCaughtUp
 put_logs_are_caught_up identity infos commits before later start far records fit is ahead put aged agrees named exact snapshots placed =
-    let told : List ToldEvent = told_behind infos start commits in
-    let parts : told ≡ told_behind infos start before ++ told_by infos later = told_parts infos start commits before later is ahead in
-    let reached : moment_after before ≤ reach infos commits (moment_at commits start) records =
-    subst (λ (l : List Commit). moment_after before ≤ reach infos l (moment_at l start) records) (sym is) (put_reached identity infos start before later records (subst (AreFitCommits infos) is fit) put) in
-    let under : (k : ℕ) (t : ToldEvent) → slice_get (told_behind infos start before) k ≡ Some t → k < exact.0 =
+    let told : List ToldEvent = events_since infos start commits in
+    let parts : told ≡ events_since infos start before ++ events_of_commits infos later = told_parts infos start commits before later is ahead in
+    let reached : moment_after before ≤ last_moment infos commits (moment_at commits start) records =
+    subst (λ (l : List Commit). moment_after before ≤ last_moment infos l (moment_at l start) records) (sym is) (put_reached identity infos start before later records (subst (AreFitCommits infos) is fit) put) in
+    let under : (k : ℕ) (t : ToldEvent) → slice_get (events_since infos start before) k ≡ Some t → k < exact.0 =
     (λ k t at. put_among identity told (behind_rise infos start 0 commits fit.rise) (behind_changes identity infos start commits fit.in_range) records exact.0 k t exact.1
-    (ap (λ (l : List ToldEvent). slice_get l k) parts ∙ at_left (told_behind infos start before) (told_by infos later) k t at) (put k t at)) in
+    (ap (λ (l : List ToldEvent). slice_get l k) parts ∙ at_left (events_since infos start before) (events_of_commits infos later) k t at) (put k t at)) in
     fresh_start identity infos commits before later start far records fit is ahead
     (record { aged = aged; reached = reached; agrees = agrees; named = named })
-    (record { count = exact.0; exact = exact.1; not_after = under_count (told_behind infos start before) exact.0 under }) snapshots placed
+    (record { count = exact.0; exact = exact.1; not_after = under_count (events_since infos start before) exact.0 under }) snapshots placed
 
 -- ---- records of the next commit
 
@@ -162,37 +162,37 @@ take_short (suc n) (x ∷ xs) = let rest : length (take n xs) ≤ length xs = ta
 
 pub sent_records_are_caught_up : SentRecordsAreCaughtUp
 sent_records_are_caught_up identity infos commits before commit later start far sent records more zipped up =
-    let told : List ToldEvent = told_behind infos start commits in
-    let parts : told ≡ told_behind infos start before ++ told_by infos (commit ∷ later) = told_parts infos start commits before (commit ∷ later) up.spelled up.ahead in
+    let told : List ToldEvent = events_since infos start commits in
+    let parts : told ≡ events_since infos start before ++ events_of_commits infos (commit ∷ later) = told_parts infos start commits before (commit ∷ later) up.spelled up.ahead in
     let kinds = behind_changes identity infos start commits up.fit.in_range in
-    let stands : (j : ℕ) (item : Record) → slice_get more j ≡ Some item → (t : ToldEvent) × (slice_get (told_of infos commit) (sent + j) ≡ Some t) × IsPrint identity t item =
+    let stands : (j : ℕ) (item : Record) → slice_get more j ≡ Some item → (t : ToldEvent) × (slice_get (events_of_commit infos commit) (sent + j) ≡ Some t) × IsPrint identity t item =
     (λ j item at. (
-    let found = zip_at (IsClearPrint identity) (take (length more) (drop sent (told_of infos commit))) more j item zipped at in
-    let placed = taken_at (length more) (drop sent (told_of infos commit)) j found.0 found.1 in
-    (found.0, sym (drop_get sent (told_of infos commit) j) ∙ placed.1, found.2.is))) in
-    let go_on : GoOn identity told (length (told_behind infos start before) + sent) more =
+    let found = zip_at (IsClearPrint identity) (take (length more) (drop sent (events_of_commit infos commit))) more j item zipped at in
+    let placed = taken_at (length more) (drop sent (events_of_commit infos commit)) j found.0 found.1 in
+    (found.0, sym (drop_get sent (events_of_commit infos commit) j) ∙ placed.1, found.2.is))) in
+    let go_on : GoOn identity told (length (events_since infos start before) + sent) more =
     (λ j item at. (
     let found = stands j item at in
-    let index : length (told_behind infos start before) + sent + j ≡ length (told_behind infos start before) + (sent + j) = further_on (length (told_behind infos start before)) sent j (sent + j) refl in (
+    let index : length (events_since infos start before) + sent + j ≡ length (events_since infos start before) + (sent + j) = further_on (length (events_since infos start before)) sent j (sent + j) refl in (
       found.0,
-      ap (slice_get told) index ∙ (ap (λ (l : List ToldEvent). slice_get l (length (told_behind infos start before) + (sent + j))) parts
-          ∙ at_right (told_behind infos start before) (told_by infos (commit ∷ later)) (sent + j) found.0 (at_left (told_of infos commit) (told_by infos later) (sent + j) found.0 found.1)),
+      ap (slice_get told) index ∙ (ap (λ (l : List ToldEvent). slice_get l (length (events_since infos start before) + (sent + j))) parts
+          ∙ at_right (events_since infos start before) (events_of_commits infos (commit ∷ later)) (sent + j) found.0 (at_left (events_of_commit infos commit) (events_of_commits infos later) (sent + j) found.0 found.1)),
       found.2,
     ))) in
     let position : (j : ℕ) (item : Record) → slice_get more j ≡ Some item → item.position ≡ commit.lsn.0 =
     (λ j item at. (
     let found = stands j item at in
     ap (λ (p : Place). p.0) (print_place identity found.0 item found.2) ∙ (of_commit infos commit (sent + j) found.0 found.1).1)) in
-    let behind : AreBehind identity told records = right_behind identity infos start commits records up.fit.rise up.snapshots in
-    let logged = log_more identity told (behind_rise infos start 0 commits up.fit.rise) kinds records more (length (told_behind infos start before) + sent) go_on behind up.log in
-    let change : (j : ℕ) (item : Record) → slice_get more j ≡ Some item → is_change item ≡ true =
-    (λ j item at. (let found = go_on j item at in kinds (length (told_behind infos start before) + sent + j) found.0 item found.1 found.2)) in
-    let apart : (place : ℕ) (old : Record) → slice_get records place ≡ Some old → is_change old ≡ false → (j : ℕ) (item : Record) → slice_get more j ≡ Some item → item.position ≡ old.position → ⊥ =
+    let subsequent : AreBehind identity told records = right_behind identity infos start commits records up.fit.rise up.snapshots in
+    let logged = log_more identity told (behind_rise infos start 0 commits up.fit.rise) kinds records more (length (events_since infos start before) + sent) go_on subsequent up.log in
+    let change : (j : ℕ) (item : Record) → slice_get more j ≡ Some item → is_change_record item ≡ true =
+    (λ j item at. (let found = go_on j item at in kinds (length (events_since infos start before) + sent + j) found.0 item found.1 found.2)) in
+    let apart : (place : ℕ) (old : Record) → slice_get records place ≡ Some old → is_change_record old ≡ false → (j : ℕ) (item : Record) → slice_get more j ≡ Some item → item.position ≡ old.position → ⊥ =
     (λ place old at_old other j item at same. (
     let found = go_on j item at in
-    behind.apart place old at_old other (length (told_behind infos start before) + sent + j) found.0 found.1 (ap (λ (p : Place). p.0) (sym (print_place identity found.0 item found.2)) ∙ same))) in
-    let count : length (take (length more) (drop sent (told_of infos commit))) ≡ length more = zip_length (IsClearPrint identity) (take (length more) (drop sent (told_of infos commit))) more zipped in
-    let left : length more ≤ length (drop sent (told_of infos commit)) = subst (λ (k : ℕ). k ≤ length (drop sent (told_of infos commit))) count (take_short (length more) (drop sent (told_of infos commit))) in
+    subsequent.apart place old at_old other (length (events_since infos start before) + sent + j) found.0 found.1 (ap (λ (p : Place). p.0) (sym (print_place identity found.0 item found.2)) ∙ same))) in
+    let count : length (take (length more) (drop sent (events_of_commit infos commit))) ≡ length more = zip_length (IsClearPrint identity) (take (length more) (drop sent (events_of_commit infos commit))) more zipped in
+    let left : length more ≤ length (drop sent (events_of_commit infos commit)) = subst (λ (k : ℕ). k ≤ length (drop sent (events_of_commit infos commit))) count (take_short (length more) (drop sent (events_of_commit infos commit))) in
     record {
       fit = up.fit;
       spelled = up.spelled;
@@ -201,14 +201,14 @@ sent_records_are_caught_up identity infos commits before commit later start far 
       own = up.own ++ more;
       parted = ap (λ (l : List Record). l ++ more) up.parted ∙ append_assoc up.kept up.own more;
       caught = up.caught;
-      few = enough_left sent (length more) (length (told_of infos commit)) (length (drop sent (told_of infos commit))) (drop_length sent (told_of infos commit)) left up.few;
-      sending = subst (λ (l : List ToldEvent). AllZip (IsClearPrint identity) l (up.own ++ more)) (sym (take-add sent (length more) (told_of infos commit)))
-          (zip_append (IsClearPrint identity) (take sent (told_of infos commit)) (take (length more) (drop sent (told_of infos commit))) up.own more up.sending zipped);
-      log = subst (IsLog identity told (records ++ more)) (added (length (told_behind infos start before)) sent (length more)) logged.0;
+      few = enough_left sent (length more) (length (events_of_commit infos commit)) (length (drop sent (events_of_commit infos commit))) (drop_length sent (events_of_commit infos commit)) left up.few;
+      sending = subst (λ (l : List ToldEvent). AllZip (IsClearPrint identity) l (up.own ++ more)) (sym (take-add sent (length more) (events_of_commit infos commit)))
+          (zip_append (IsClearPrint identity) (take sent (events_of_commit infos commit)) (take (length more) (drop sent (events_of_commit infos commit))) up.own more up.sending zipped);
+      log = subst (IsExactLog identity told (records ++ more)) (added (length (events_since infos start before)) sent (length more)) logged.0;
       snapshots = record {
         each = λ place item at other. elim (at_cases records more place item at) [
           | inl old ↦ right_kept identity infos commits told records more place item.position (apart place item old other) (up.snapshots.each place item old other)
-          | inr new ↦ two_ways (is_change item) (change new.0 item new.1) other
+          | inr new ↦ two_ways (is_change_record item) (change new.0 item new.1) other
         ];
       };
       placed = all_append (λ (item : Record). item.position ≤ max far commit.lsn.0) records more
@@ -226,10 +226,10 @@ index_on a s w e = omega (arith, e)
 
 pub commits_are_caught_up : CommitsAreCaughtUp
 commits_are_caught_up identity infos commits before commit later start far sent records all up =
-    let next : IsNext infos commits before commit later = record { fit = up.fit; spelled = up.spelled } in
+    let next : IsCommitAmong infos commits before commit later = record { fit = up.fit; spelled = up.spelled } in
     let from : moment_at commits start ≤ moment_after before = subst (λ (l : List Commit). moment_at l start ≤ moment_after before) (sym up.spelled) (start_moment start before (commit ∷ later) up.ahead) in
-    let whole : AllZip (IsClearPrint identity) (told_of infos commit) up.own =
-    subst (λ (l : List ToldEvent). AllZip (IsClearPrint identity) l up.own) (take_all sent (told_of infos commit) (subst (λ (k : ℕ). length (told_of infos commit) ≤ k) (sym all) (le_refl (length (told_of infos commit))))) up.sending in
+    let whole : AllZip (IsClearPrint identity) (events_of_commit infos commit) up.own =
+    subst (λ (l : List ToldEvent). AllZip (IsClearPrint identity) l up.own) (take_all sent (events_of_commit infos commit) (subst (λ (k : ℕ). length (events_of_commit infos commit) ≤ k) (sym all) (le_refl (length (events_of_commit infos commit))))) up.sending in
     record {
       fit = up.fit;
       spelled = split_next commits before commit later up.spelled;
@@ -237,13 +237,13 @@ commits_are_caught_up identity infos commits before commit later start far sent 
       kept = records;
       own = [];
       parted = sym (append-nil records);
-      caught = subst (λ (l : List Record). IsCaught identity infos commits (moment_at commits start) l (moment_after (before ++ commit ∷ []))) (sym up.parted)
+      caught = subst (λ (l : List Record). AgreesUpTo identity infos commits (moment_at commits start) l (moment_after (before ++ commit ∷ []))) (sym up.parted)
           (all_prints_are_caught identity infos commits before commit later (moment_at commits start) up.kept up.own next whole from up.caught);
       few = none_le (length (next_told infos later));
       sending = tt;
-      log = subst (IsLog identity (told_behind infos start commits) records)
-          (index_on (length (told_behind infos start before)) sent (length (told_behind infos start (before ++ commit ∷ [])))
-          (told_next infos start before commit up.ahead.0 ∙ ap (λ (k : ℕ). length (told_behind infos start before) + k) (sym all))) up.log;
+      log = subst (IsExactLog identity (events_since infos start commits) records)
+          (index_on (length (events_since infos start before)) sent (length (events_since infos start (before ++ commit ∷ [])))
+          (told_next infos start before commit up.ahead.0 ∙ ap (λ (k : ℕ). length (events_since infos start before) + k) (sym all))) up.log;
       snapshots = up.snapshots;
       placed = up.placed;
     }
@@ -272,9 +272,9 @@ ordinal_before a b i j one two lt = omega (arith, one, two, lt)
 shorter : (k l n i j : ℕ) → k < l → k ≡ n + i → l ≡ n + j → i < j
 shorter k l n i j lt one two = omega (arith, lt, one, two)
 
-module _ (identity : Identity) (infos : List TableInfo) (commits before : List Commit) (mark : Commit) (later : List Commit) (start far low : ℕ) (above : Option Key) (closed : Closed) (records snapshot : List Record) (now : ℤ) (n : ℕ) (high : IsHighMark mark) (beyond : far < mark.lsn.0) (in_time : IsMomentInRange now) (listed : IsSnapshot identity infos closed mark now snapshot) (right : IsRightWindow infos (all_changes commits) low (moment_after before) above closed) (up : IsCaughtUp identity infos commits start far before (mark ∷ later) 0 records) where
+module _ (identity : Identity) (infos : List TableInfo) (commits before : List Commit) (mark : Commit) (later : List Commit) (start far low : ℕ) (above : Option Key) (closed : Closed) (records snapshot : List Record) (now : ℤ) (n : ℕ) (high : IsHighMark mark) (beyond : far < mark.lsn.0) (in_time : IsMomentInRange now) (listed : IsSnapshot identity infos closed mark now snapshot) (right : IsRightWindow infos (all_changes commits) low (moment_after before) above closed) (up : HasDeliveredUpTo identity infos commits start far before (mark ∷ later) 0 records) where
   abbrev told : List ToldEvent
-  told = told_behind infos start commits
+  told = events_since infos start commits
 
   facts : AreFitCommits infos (before ++ mark ∷ later)
   facts = subst (AreFitCommits infos) up.spelled up.fit
@@ -295,7 +295,7 @@ module _ (identity : Identity) (infos : List TableInfo) (commits before : List C
   places : (j : ℕ) (item : Record) → slice_get (take n snapshot) j ≡ Some item → (item.position ≡ mark.lsn.0) × (item.ordinal ≡ 0 + j)
   places j item at = listing_places identity listed.info mark now closed.through closed.done 0 closed.rows j item (in_chunk j item at)
 
-  others : (j : ℕ) (item : Record) → slice_get (take n snapshot) j ≡ Some item → is_change item ≡ false
+  others : (j : ℕ) (item : Record) → slice_get (take n snapshot) j ≡ Some item → is_change_record item ≡ false
   others j item at =
       listing_others identity listed.info mark now closed.through closed.done 0 (0 + length closed.rows) closed.rows
       (rows_in_range listed.info mark now closed.rows (commit_in_range identity infos before mark later facts) in_time listed.fits.rows listed.keys) j item (in_chunk j item at)
@@ -311,7 +311,7 @@ module _ (identity : Identity) (infos : List TableInfo) (commits before : List C
       ∙ (after_size identity infos before mark later facts
       ∙ (ap (λ (l : List _). length (all_changes before) + length l) (mark_is_silent mark high) ∙ sym (nothing_sent (length (all_changes before))))))
 
-  window_here : IsWindowAt identity infos commits (records ++ take n snapshot) mark.lsn.0
+  window_here : IsWindowOfRecords identity infos commits (records ++ take n snapshot) mark.lsn.0
   window_here = record {
     before = before;
     mark = mark;
@@ -335,14 +335,14 @@ module _ (identity : Identity) (infos : List TableInfo) (commits before : List C
   -- all earlier events were put
   put_here : ArePutBefore identity (records ++ take n snapshot) told mark.lsn.0
   put_here number t at lt =
-      elim (at_cases (told_behind infos start before) (told_by infos (mark ∷ later)) number t (ap (λ (l : List ToldEvent). slice_get l number) (sym (told_parts infos start commits before (mark ∷ later) up.spelled up.ahead)) ∙ at)) [
+      elim (at_cases (events_since infos start before) (events_of_commits infos (mark ∷ later)) number t (ap (λ (l : List ToldEvent). slice_get l number) (sym (told_parts infos start commits before (mark ∷ later) up.spelled up.ahead)) ∙ at)) [
         | inl early ↦ (
-            let index : number < up.log.count = soon number (length (told_behind infos start before)) up.log.count (slice_get-lt (told_behind infos start before) number t early) up.log.not_after in
+            let index : number < up.log.count = soon number (length (events_since infos start before)) up.log.count (slice_get-lt (events_since infos start before) number t early) up.log.not_after in
             let first = first_print identity told (behind_rise infos start 0 commits up.fit.rise) (behind_changes identity infos start commits up.fit.in_range) records up.log.count number t up.log.exact at index in
             record { place = first.2.place; item = first.0; stands = at_left records (take n snapshot) first.2.place first.0 first.2.stands; is = first.1 })
-        | inr late ↦ elim (at_cases (told_of infos mark) (told_by infos later) late.0 t late.1) [
+        | inr late ↦ elim (at_cases (events_of_commit infos mark) (events_of_commits infos later) late.0 t late.1) [
           | inl here ↦ absurd (not_below mark.lsn.0 t.event.position lt (of_commit infos mark late.0 t here).1)
-          | inr behind ↦ absurd (not_above mark.lsn.0 t.event.position lt (told_above infos mark.lsn.0 later (rising_behind 0 before mark later facts.rise) behind.0 t behind.1))
+          | inr subsequent ↦ absurd (not_above mark.lsn.0 t.event.position lt (told_above infos mark.lsn.0 later (rising_behind 0 before mark later facts.rise) subsequent.0 t subsequent.1))
         ]
       ]
     where
@@ -375,7 +375,7 @@ module _ (identity : Identity) (infos : List TableInfo) (commits before : List C
           let here : mark.lsn.0 ≡ item.position = sym (places new.0 item new.1).0 in
           record {
             fresh = fresh_place (records ++ take n snapshot) place item at (fresh_here new.0 item new.1 place new.2 at);
-            window = subst (IsWindowAt identity infos commits (records ++ take n snapshot)) here window_here;
+            window = subst (IsWindowOfRecords identity infos commits (records ++ take n snapshot)) here window_here;
             put = subst (ArePutBefore identity (records ++ take n snapshot) told) here put_here;
           })
     ];
@@ -386,19 +386,19 @@ module _ (identity : Identity) (infos : List TableInfo) (commits before : List C
       (all_weaker (λ (item : Record). item.position ≤ far) (λ (item : Record). item.position ≤ mark.lsn.0) records (λ item le. below_le item.position far mark.lsn.0 le beyond) up.placed)
       (all_by_place (λ (item : Record). item.position ≤ mark.lsn.0) (take n snapshot) (λ j item at. same_le item.position mark.lsn.0 (places j item at).0))
 
-  window_log : IsLog identity told (records ++ take n snapshot) (length (told_behind infos start before))
+  window_log : IsExactLog identity told (records ++ take n snapshot) (length (events_since infos start before))
   window_log =
-      log_others identity told (behind_rise infos start 0 commits up.fit.rise) (behind_changes identity infos start commits up.fit.in_range) records (take n snapshot) (length (told_behind infos start before)) others
-      (subst (IsLog identity told records) (sym (nothing_sent (length (told_behind infos start before)))) up.log)
+      log_others identity told (behind_rise infos start 0 commits up.fit.rise) (behind_changes identity infos start commits up.fit.in_range) records (take n snapshot) (length (events_since infos start before)) others
+      (subst (IsExactLog identity told records) (sym (nothing_sent (length (events_since infos start before)))) up.log)
 
 pub snapshots_are_caught_up : SnapshotsAreCaughtUp
-snapshots_are_caught_up identity infos commits before mark later start far low above closed records snapshot now n high beyond in_time listed clear right behind under told_to up =
-    let next : IsNext infos commits before mark later = record { fit = up.fit; spelled = up.spelled } in
+snapshots_are_caught_up identity infos commits before mark later start far low above closed records snapshot now n high beyond in_time listed clear right subsequent under told_to up =
+    let next : IsCommitAmong infos commits before mark later = record { fit = up.fit; spelled = up.spelled } in
     let none : up.own ≡ [] = none_own (IsClearPrint identity) (next_told infos (mark ∷ later)) up.own up.sending in
     let same : records ≡ up.kept = up.parted ∙ (ap (λ (l : List Record). up.kept ++ l) none ∙ append-nil up.kept) in
-    let caught : IsCaught identity infos commits (moment_at commits start) records (moment_after before) = subst (λ (l : List Record). IsCaught identity infos commits (moment_at commits start) l (moment_after before)) (sym same) up.caught in
+    let caught : AgreesUpTo identity infos commits (moment_at commits start) records (moment_after before) = subst (λ (l : List Record). AgreesUpTo identity infos commits (moment_at commits start) l (moment_after before)) (sym same) up.caught in
     fresh_start identity infos commits before (mark ∷ later) start mark.lsn.0 (records ++ take n snapshot) up.fit up.spelled up.ahead
-    (parts_of_snapshots_are_caught identity infos commits before mark later (moment_at commits start) low above closed records snapshot now n next (mark_is_silent mark high) in_time listed clear right behind under told_to caught)
+    (parts_of_snapshots_are_caught identity infos commits before mark later (moment_at commits start) low above closed records snapshot now n next (mark_is_silent mark high) in_time listed clear right subsequent under told_to caught)
     (window_log identity infos commits before mark later start far low above closed records snapshot now n high beyond in_time listed right up)
     (window_right identity infos commits before mark later start far low above closed records snapshot now n high beyond in_time listed right up)
     (window_placed identity infos commits before mark later start far low above closed records snapshot now n high beyond in_time listed right up)
@@ -434,7 +434,7 @@ longer_histories_are_caught_up identity infos commits before later more start fa
     let begins : moment_at (commits ++ more) start ≡ moment_at commits start = moment_at-longer commits more start ahead in
     let size : moment_after commits ≡ moment_after before + moment_after later = ap moment_after up.spelled ∙ (ap length (all_changes-append before later) ∙ length-append (all_changes before) (all_changes later)) in
     let next = next_longer (IsClearPrint identity) infos later more sent up.own up.few up.sending in
-    let told_are : told_behind infos start (commits ++ more) ≡ told_behind infos start commits ++ told_behind infos start more = told_behind-append infos start commits more in
+    let told_are : events_since infos start (commits ++ more) ≡ events_since infos start commits ++ events_since infos start more = events_since-append infos start commits more in
     record {
       fit = fit;
       spelled = ap (λ (l : List Commit). l ++ more) up.spelled ∙ append_assoc before later more;
@@ -442,12 +442,12 @@ longer_histories_are_caught_up identity infos commits before later more start fa
       kept = up.kept;
       own = up.own;
       parted = up.parted;
-      caught = subst (λ (s : ℕ). IsCaught identity infos (commits ++ more) s up.kept (moment_after before)) (sym begins)
+      caught = subst (λ (s : ℕ). AgreesUpTo identity infos (commits ++ more) s up.kept (moment_after before)) (sym begins)
           (longer_histories_are_caught identity infos commits more (moment_at commits start) (moment_after before) up.kept (moment_at-most commits start) (within_all (moment_after before) (moment_after later) (moment_after commits) size) over up.caught);
       few = next.0;
       sending = next.1;
-      log = subst (λ (l : List ToldEvent). IsLog identity l records (length (told_behind infos start before) + sent)) (sym told_are)
-          (record { count = up.log.count; exact = exact_longer identity (told_behind infos start commits) (told_behind infos start more) records up.log.count up.log.exact; not_after = up.log.not_after });
+      log = subst (λ (l : List ToldEvent). IsExactLog identity l records (length (events_since infos start before) + sent)) (sym told_are)
+          (record { count = up.log.count; exact = exact_longer identity (events_since infos start commits) (events_since infos start more) records up.log.count up.log.exact; not_after = up.log.not_after });
       snapshots = right_longer identity infos commits more records start far up.placed above up.snapshots;
       placed = up.placed;
     }
@@ -455,9 +455,9 @@ longer_histories_are_caught_up identity infos commits before later more start fa
 -- ---- what a session may stop with
 
 caught_now : (identity : Identity) (infos : List TableInfo) (commits before later : List Commit) (start sent : ℕ) (kept own : List Record) → AreFitCommits infos commits → commits ≡ before ++ later → moment_at commits start ≤ moment_after before
-    → AllZip (IsClearPrint identity) (take sent (next_told infos later)) own → sent ≤ length (next_told infos later) → IsCaught identity infos commits (moment_at commits start) kept (moment_after before)
-    → IsCaught identity infos commits (moment_at commits start) (kept ++ own) (moment_after before)
-caught_now identity infos commits before [] start zero kept [] fit is from zipped few caught = subst (λ (l : List Record). IsCaught identity infos commits (moment_at commits start) l (moment_after before)) (sym (append-nil kept)) caught
+    → AllZip (IsClearPrint identity) (take sent (next_told infos later)) own → sent ≤ length (next_told infos later) → AgreesUpTo identity infos commits (moment_at commits start) kept (moment_after before)
+    → AgreesUpTo identity infos commits (moment_at commits start) (kept ++ own) (moment_after before)
+caught_now identity infos commits before [] start zero kept [] fit is from zipped few caught = subst (λ (l : List Record). AgreesUpTo identity infos commits (moment_at commits start) l (moment_after before)) (sym (append-nil kept)) caught
 caught_now identity infos commits before [] start zero kept (item ∷ own) fit is from zipped few caught = absurd zipped
 caught_now identity infos commits before [] start (suc sent) kept own fit is from zipped few caught = absurd (omega (arith, few))
 caught_now identity infos commits before (commit ∷ later) start sent kept own fit is from zipped few caught =
@@ -466,8 +466,8 @@ caught_now identity infos commits before (commit ∷ later) start sent kept own 
 pub caught_up_logs_are_right : CaughtUpLogsAreRight
 caught_up_logs_are_right identity infos commits before later start far sent moment records le up =
     let from : moment_at commits start ≤ moment_after before = subst (λ (l : List Commit). moment_at l start ≤ moment_after before) (sym up.spelled) (start_moment start before later up.ahead) in
-    let caught : IsCaught identity infos commits (moment_at commits start) records (moment_after before) =
-    subst (λ (l : List Record). IsCaught identity infos commits (moment_at commits start) l (moment_after before)) (sym up.parted)
+    let caught : AgreesUpTo identity infos commits (moment_at commits start) records (moment_after before) =
+    subst (λ (l : List Record). AgreesUpTo identity infos commits (moment_at commits start) l (moment_after before)) (sym up.parted)
     (caught_now identity infos commits before later start sent up.kept up.own up.fit up.spelled from up.sending up.few up.caught) in
     (earlier_moments_are_caught identity infos commits (moment_at commits start) moment (moment_after before) records le caught, (up.log.count, up.log.exact), up.snapshots)
 
@@ -476,9 +476,9 @@ among_first k a s b lt le = omega (arith, lt, le)
 
 pub delivered_events_are_put : DeliveredEventsArePut
 delivered_events_are_put identity infos commits before later start far sent records up number t at =
-    let told : List ToldEvent = told_behind infos start commits in
-    let parts : told ≡ told_behind infos start before ++ told_by infos later = told_parts infos start commits before later up.spelled up.ahead in
-    let here : slice_get told number ≡ Some t = ap (λ (l : List ToldEvent). slice_get l number) parts ∙ at_left (told_behind infos start before) (told_by infos later) number t at in
-    let index : number < up.log.count = among_first number (length (told_behind infos start before)) sent up.log.count (slice_get-lt (told_behind infos start before) number t at) up.log.not_after in
+    let told : List ToldEvent = events_since infos start commits in
+    let parts : told ≡ events_since infos start before ++ events_of_commits infos later = told_parts infos start commits before later up.spelled up.ahead in
+    let here : slice_get told number ≡ Some t = ap (λ (l : List ToldEvent). slice_get l number) parts ∙ at_left (events_since infos start before) (events_of_commits infos later) number t at in
+    let index : number < up.log.count = among_first number (length (events_since infos start before)) sent up.log.count (slice_get-lt (events_since infos start before) number t at) up.log.not_after in
     let first = first_print identity told (behind_rise infos start 0 commits up.fit.rise) (behind_changes identity infos start commits up.fit.in_range) records up.log.count number t up.log.exact here index in
     record { place = first.2.place; item = first.0; stands = first.2.stands; is = first.1 }

@@ -5,15 +5,15 @@ use Rattle.std.specs.List.{AllZip}
 use Rattle.std.proofs.lemmas.Bool.{cases_eq, cases_order}
 use Rattle.dbl_record.specs.declared.record.Record.{Record}
 use Rattle.dbl_record.specs.Places.{Place, place_of, IsBefore, IsFresh}
-use Rattle.dbl_table.specs.declared.identity.Identity.{Identity}
-use Rattle.dbl_table.proofs.Lists.{bool_case, slice_get-lt}
-use Rattle.dbl_faithful.specs.Kinds.{is_change}
-use Rattle.dbl_faithful.specs.ToldEvents.{ToldEvent, told_behind, IsPrint, IsAmong, IsPut, ArePutBefore}
+use Rattle.dbl_model_table.specs.declared.identity.Identity.{Identity}
+use Rattle.dbl_model_table.proofs.Lists.{bool_case, slice_get-lt}
+use Rattle.dbl_faithful.specs.Kinds.{is_change_record}
+use Rattle.dbl_faithful.specs.ToldEvents.{ToldEvent, events_since, IsPrint, IsAmong, HasRecordOfEvent, ArePutBefore}
 use Rattle.dbl_faithful.specs.ExactLogs.{is_fresh, news_of, news, IsExact}
 use Rattle.dbl_faithful.specs.ExactLaws.{IsFreshChange, Repeats, ExactLogsHaveOneCount, RepeatsAreEarlier, GapsSpoilExactLogs}
-use Rattle.dbl_faithful.specs.CaughtUp.{IsLog}
+use Rattle.dbl_faithful.specs.CaughtUp.{IsExactLog}
 use Rattle.dbl_faithful.proofs.Items.{at_left, at_cases, at_take, taken_at, only_item, take_push, taken_length, all_by_place, at_all, zip_beside, zip_length, zip_append}
-use Rattle.dbl_faithful.proofs.Told.{told_place, print_place, TellsRise, TellChanges, not_at_itself, told_one, behind_rise, behind_changes}
+use Rattle.dbl_faithful.proofs.Trace.{told_place, print_place, TellsRise, TellChanges, not_at_itself, told_one, behind_rise, behind_changes}
 use Rattle.dbl_faithful.proofs.News.{AreBefore, fresh_true, stale, fresh_before, news_fresh, news_stale, news_other, news-push, news_same, news_stand}
 
 two_ways : {X : Type 0} (b : Bool) → b ≡ true → b ≡ false → X
@@ -21,15 +21,15 @@ two_ways b is isnt = cc
 
 -- what stands of the records that are no changes: each behind all earlier events, and at no event's position
 pub record AreBehind (identity : Identity) (told : List ToldEvent) (records : List Record) : Type 0 where
-  pub put : (place : ℕ) (item : Record) → slice_get records place ≡ Some item → is_change item ≡ false → ArePutBefore identity records told item.position
-  pub apart : (place : ℕ) (item : Record) → slice_get records place ≡ Some item → is_change item ≡ false
+  pub put : (place : ℕ) (item : Record) → slice_get records place ≡ Some item → is_change_record item ≡ false → ArePutBefore identity records told item.position
+  pub apart : (place : ℕ) (item : Record) → slice_get records place ≡ Some item → is_change_record item ≡ false
       → (number : ℕ) (t : ToldEvent) → slice_get told number ≡ Some t → t.event.position ≡ item.position → ⊥
 
 -- these records tell the events from a number on
 abbrev pub GoOn : Identity → List ToldEvent → ℕ → List Record → Type 0
 GoOn identity told index more = (j : ℕ) (item : Record) → slice_get more j ≡ Some item → (t : ToldEvent) × (slice_get told (index + j) ≡ Some t) × IsPrint identity t item
 
-pub put_more : (identity : Identity) (xs ys : List Record) (t : ToldEvent) → IsPut identity xs t → IsPut identity (xs ++ ys) t
+pub put_more : (identity : Identity) (xs ys : List Record) (t : ToldEvent) → HasRecordOfEvent identity xs t → HasRecordOfEvent identity (xs ++ ys) t
 put_more identity xs ys t put = record { place = put.place; item = put.item; stands = at_left xs ys put.place put.item put.stands; is = put.is }
 
 next_number : (n count : ℕ) → n ≤ count → n ≢ count → n < count
@@ -52,7 +52,7 @@ module _ (identity : Identity) (told : List ToldEvent) (rise : TellsRise told) (
       (beside.0, beside.2, news_stand records number beside.0 beside.1)
 
   -- an event that some record tells is one of the first
-  pub put_among : (records : List Record) (count number : ℕ) (t : ToldEvent) → IsExact identity told records count → slice_get told number ≡ Some t → IsPut identity records t → number < count
+  pub put_among : (records : List Record) (count number : ℕ) (t : ToldEvent) → IsExact identity told records count → slice_get told number ≡ Some t → HasRecordOfEvent identity records t → number < count
   put_among records count number t exact at put =
       let among : IsAmong identity (take count told) put.item = exact.others put.place put.item put.stands (kinds number t put.item at put.is) in
       let stands = taken_at count told among.number among.event among.stands in
@@ -81,9 +81,9 @@ module _ (identity : Identity) (told : List ToldEvent) (rise : TellsRise told) (
 
   -- the next event stands behind every record
   next_behind : (records : List Record) (t : ToldEvent) (item : Record) (count : ℕ) → IsExact identity told records count → AreBehind identity told records → slice_get told count ≡ Some t → IsPrint identity t item → AreBefore records item
-  next_behind records t item count exact behind at is = all_by_place (λ (earlier : Record). IsBefore (place_of earlier) (place_of item)) records (λ k x there. before k x there (bool_case (is_change x)))
+  next_behind records t item count exact subsequent at is = all_by_place (λ (earlier : Record). IsBefore (place_of earlier) (place_of item)) records (λ k x there. before k x there (bool_case (is_change_record x)))
     where
-      before : (k : ℕ) (x : Record) → slice_get records k ≡ Some x → (is_change x ≡ true) ⊎ (is_change x ≡ false) → IsBefore (place_of x) (place_of item)
+      before : (k : ℕ) (x : Record) → slice_get records k ≡ Some x → (is_change_record x ≡ true) ⊎ (is_change_record x ≡ false) → IsBefore (place_of x) (place_of item)
       before k x there (inl change) = (
           let among : IsAmong identity (take count told) x = exact.others k x there change in
           let stands = taken_at count told among.number among.event among.stands in
@@ -93,18 +93,18 @@ module _ (identity : Identity) (told : List ToldEvent) (rise : TellsRise told) (
       before k x there (inr other) = (
           let here : item.position ≡ t.event.position = ap (λ (p : Place). p.0) (print_place identity t item is) in
           elim (cases_order x.position item.position) [
-            | inl same ↦ absurd (behind.apart k x there other count t at (sym here ∙ sym same))
+            | inl same ↦ absurd (subsequent.apart k x there other count t at (sym here ∙ sym same))
             | inr rest ↦ elim rest [
               | inl lt ↦ inl lt
-              | inr gt ↦ absurd (not_beyond count (put_among records count count t exact at (behind.put k x there other count t at (subst (λ (p : ℕ). p < x.position) here gt))))
+              | inr gt ↦ absurd (not_beyond count (put_among records count count t exact at (subsequent.put k x there other count t at (subst (λ (p : ℕ). p < x.position) here gt))))
             ]
           ])
 
   exact_next : (records : List Record) (t : ToldEvent) (item : Record) (count : ℕ) → IsExact identity told records count → AreBehind identity told records → slice_get told count ≡ Some t → IsPrint identity t item
       → IsExact identity told (records ++ item ∷ []) (suc count)
-  exact_next records t item count exact behind at is =
-      let change : is_change item ≡ true = kinds count t item at is in
-      let fresh : is_fresh records item ≡ true = fresh_true records item (next_behind records t item count exact behind at is) in
+  exact_next records t item count exact subsequent at is =
+      let change : is_change_record item ≡ true = kinds count t item at is in
+      let fresh : is_fresh records item ≡ true = fresh_true records item (next_behind records t item count exact subsequent at is) in
       let one : news_of records item ≡ item ∷ [] = news_fresh records item fresh change in
       let news_are : news (records ++ item ∷ []) ≡ news records ++ item ∷ [] = news-push records item ∙ ap (λ (l : List Record). news records ++ l) one in
       let told_are : take (suc count) told ≡ take count told ++ t ∷ [] = take_push told count t at in
@@ -132,38 +132,38 @@ module _ (identity : Identity) (told : List ToldEvent) (rise : TellsRise told) (
           record { number = among.number; event = among.event; stands = at_take (suc count) told among.number among.event stands.1 (onward among.number count stands.0); is = among.is })
 
   -- a record that is no change
-  exact_other : (records : List Record) (item : Record) (count : ℕ) → IsExact identity told records count → is_change item ≡ false → IsExact identity told (records ++ item ∷ []) count
+  exact_other : (records : List Record) (item : Record) (count : ℕ) → IsExact identity told records count → is_change_record item ≡ false → IsExact identity told (records ++ item ∷ []) count
   exact_other records item count exact other = record {
     few = exact.few;
     fresh = subst (AllZip (IsPrint identity) (take count told)) (sym (news_same records item (news_other records item other))) exact.fresh;
     others = λ place x there change. elim (at_cases records (item ∷ []) place x there) [
       | inl before ↦ exact.others place x before change
-      | inr last ↦ two_ways (is_change x) change (ap is_change (sym (only_item item x last.0 last.1)) ∙ other)
+      | inr last ↦ two_ways (is_change_record x) change (ap is_change_record (sym (only_item item x last.0 last.1)) ∙ other)
     ];
   }
 
   -- ---- what was put stays put
 
-  pub behind_change : (records : List Record) (item : Record) → is_change item ≡ true → AreBehind identity told records → AreBehind identity told (records ++ item ∷ [])
-  behind_change records item change behind = record {
+  pub behind_change : (records : List Record) (item : Record) → is_change_record item ≡ true → AreBehind identity told records → AreBehind identity told (records ++ item ∷ [])
+  behind_change records item change subsequent = record {
     put = λ place x there other number t at lt. elim (at_cases records (item ∷ []) place x there) [
-      | inl before ↦ put_more identity records (item ∷ []) t (behind.put place x before other number t at lt)
-      | inr last ↦ two_ways (is_change x) (ap is_change (sym (only_item item x last.0 last.1)) ∙ change) other
+      | inl before ↦ put_more identity records (item ∷ []) t (subsequent.put place x before other number t at lt)
+      | inr last ↦ two_ways (is_change_record x) (ap is_change_record (sym (only_item item x last.0 last.1)) ∙ change) other
     ];
     apart = λ place x there other. elim (at_cases records (item ∷ []) place x there) [
-      | inl before ↦ behind.apart place x before other
-      | inr last ↦ two_ways (is_change x) (ap is_change (sym (only_item item x last.0 last.1)) ∙ change) other
+      | inl before ↦ subsequent.apart place x before other
+      | inr last ↦ two_ways (is_change_record x) (ap is_change_record (sym (only_item item x last.0 last.1)) ∙ change) other
     ];
   }
 
   -- ---- records that are delivered, again or anew
 
-  log_one : (records : List Record) (index : ℕ) (t : ToldEvent) (item : Record) → slice_get told index ≡ Some t → IsPrint identity t item → AreBehind identity told records → IsLog identity told records index
-      → IsLog identity told (records ++ item ∷ []) (suc index)
-  log_one records index t item at is behind log = ⊎_elim
+  log_one : (records : List Record) (index : ℕ) (t : ToldEvent) (item : Record) → slice_get told index ≡ Some t → IsPrint identity t item → AreBehind identity told records → IsExactLog identity told records index
+      → IsExactLog identity told (records ++ item ∷ []) (suc index)
+  log_one records index t item at is subsequent log = ⊎_elim
       (λ (same : index ≡ log.count). record {
         count = suc log.count;
-        exact = exact_next records t item log.count log.exact behind (ap (slice_get told) (sym same) ∙ at) is;
+        exact = exact_next records t item log.count log.exact subsequent (ap (slice_get told) (sym same) ∙ at) is;
         not_after = at_end index log.count same;
       })
       (λ (apart : index ≢ log.count). (
@@ -178,21 +178,21 @@ module _ (identity : Identity) (told : List ToldEvent) (rise : TellsRise told) (
       at_end : (a b : ℕ) → a ≡ b → suc a ≤ suc b
       at_end a b same = omega (arith, same)
 
-  pub log_more : (records more : List Record) (index : ℕ) → GoOn identity told index more → AreBehind identity told records → IsLog identity told records index
-      → IsLog identity told (records ++ more) (index + length more) × AreBehind identity told (records ++ more)
-  log_more records [] index next behind log =
+  pub log_more : (records more : List Record) (index : ℕ) → GoOn identity told index more → AreBehind identity told records → IsExactLog identity told records index
+      → IsExactLog identity told (records ++ more) (index + length more) × AreBehind identity told (records ++ more)
+  log_more records [] index next subsequent log =
       let e : index ≡ index + 0 = omega arith in
       let same : records ≡ records ++ [] = sym (append-nil records) in
-      (subst (IsLog identity told (records ++ [])) e (subst (λ (l : List Record). IsLog identity told l index) same log), subst (AreBehind identity told) same behind)
-  log_more records (item ∷ more) index next behind log =
+      (subst (IsExactLog identity told (records ++ [])) e (subst (λ (l : List Record). IsExactLog identity told l index) same log), subst (AreBehind identity told) same subsequent)
+  log_more records (item ∷ more) index next subsequent log =
       let own = next 0 item refl in
       let here : index + 0 ≡ index = omega arith in
       let at : slice_get told index ≡ Some own.0 = ap (slice_get told) (sym here) ∙ own.1 in
       let later : GoOn identity told (suc index) more = (λ j x there. moved j (next (suc j) x there)) in
-      let rest = log_more (records ++ item ∷ []) more (suc index) later (behind_change records item (kinds index own.0 item at own.2) behind) (log_one records index own.0 item at own.2 behind log) in
+      let rest = log_more (records ++ item ∷ []) more (suc index) later (behind_change records item (kinds index own.0 item at own.2) subsequent) (log_one records index own.0 item at own.2 subsequent log) in
       let count : suc index + length more ≡ index + suc (length more) = omega arith in
       let list : (records ++ item ∷ []) ++ more ≡ records ++ item ∷ more = append_assoc records (item ∷ []) more in (
-        subst (IsLog identity told (records ++ item ∷ more)) count (subst (λ (l : List Record). IsLog identity told l (suc index + length more)) list rest.0),
+        subst (IsExactLog identity told (records ++ item ∷ more)) count (subst (λ (l : List Record). IsExactLog identity told l (suc index + length more)) list rest.0),
         subst (AreBehind identity told) list rest.1,
       )
     where
@@ -200,16 +200,16 @@ module _ (identity : Identity) (told : List ToldEvent) (rise : TellsRise told) (
       moved j found = (found.0, (let e : suc index + j ≡ index + suc j = omega arith in ap (slice_get told) e ∙ found.1), found.2)
 
   -- records of a snapshot
-  pub log_others : (records more : List Record) (index : ℕ) → ((j : ℕ) (item : Record) → slice_get more j ≡ Some item → is_change item ≡ false) → IsLog identity told records index → IsLog identity told (records ++ more) index
-  log_others records [] index others log = subst (λ (l : List Record). IsLog identity told l index) (sym (append-nil records)) log
+  pub log_others : (records more : List Record) (index : ℕ) → ((j : ℕ) (item : Record) → slice_get more j ≡ Some item → is_change_record item ≡ false) → IsExactLog identity told records index → IsExactLog identity told (records ++ more) index
+  log_others records [] index others log = subst (λ (l : List Record). IsExactLog identity told l index) (sym (append-nil records)) log
   log_others records (item ∷ more) index others log =
-      let now : IsLog identity told (records ++ item ∷ []) index = record { count = log.count; exact = exact_other records item log.count log.exact (others 0 item refl); not_after = log.not_after } in
-      subst (λ (l : List Record). IsLog identity told l index) (append_assoc records (item ∷ []) more)
+      let now : IsExactLog identity told (records ++ item ∷ []) index = record { count = log.count; exact = exact_other records item log.count log.exact (others 0 item refl); not_after = log.not_after } in
+      subst (λ (l : List Record). IsExactLog identity told l index) (append_assoc records (item ∷ []) more)
       (log_others (records ++ item ∷ []) more index (λ j x at. others (suc j) x at) now)
 
   -- ---- the laws, of these events
 
-  pub repeats : (records : List Record) (count place : ℕ) (item : Record) → IsExact identity told records count → slice_get records place ≡ Some item → is_change item ≡ true → (IsFresh records place → ⊥) → Repeats identity records place item
+  pub repeats : (records : List Record) (count place : ℕ) (item : Record) → IsExact identity told records count → slice_get records place ≡ Some item → is_change_record item ≡ true → (IsFresh records place → ⊥) → Repeats identity records place item
   repeats records count place item exact at change isnt =
       let among : IsAmong identity (take count told) item = exact.others place item at change in
       let stands = taken_at count told among.number among.event among.stands in
@@ -226,12 +226,12 @@ module _ (identity : Identity) (told : List ToldEvent) (rise : TellsRise told) (
       ]
 
   pub gaps : (records : List Record) (count place number : ℕ) (item late : Record) (t : ToldEvent) → slice_get records place ≡ Some item → slice_get told number ≡ Some t → t.event.position < item.position
-      → (IsPut identity records t → ⊥) → IsPrint identity t late → IsExact identity told (records ++ late ∷ []) count → ⊥
+      → (HasRecordOfEvent identity records t → ⊥) → IsPrint identity t late → IsExact identity told (records ++ late ∷ []) count → ⊥
   gaps records count place number item late t at at_told lt unput is exact =
       let last : slice_get (records ++ late ∷ []) (length records) ≡ Some late = seam records in
       let here : number < count = put_among (records ++ late ∷ []) count number t exact at_told (record { place = length records; item = late; stands = last; is = is }) in
       let where_late : late.position ≡ t.event.position = ap (λ (p : Place). p.0) (print_place identity t late is) in
-      let old : is_fresh records late ≡ false = stale records late place item at (behind (place_of item) (place_of late) (subst (λ (p : ℕ). p < item.position) (sym where_late) lt)) in
+      let old : is_fresh records late ≡ false = stale records late place item at (subsequent (place_of item) (place_of late) (subst (λ (p : ℕ). p < item.position) (sym where_late) lt)) in
       let beside = zip_beside (IsPrint identity) (take count told) (news (records ++ late ∷ [])) number t exact.fresh (at_take count told number t at_told here) in
       let among : slice_get (news records) number ≡ Some beside.0 = ap (λ (l : List Record). slice_get l number) (sym (news_same records late (news_stale records late old))) ∙ beside.1 in
       let stood = news_stand records number beside.0 among in
@@ -241,9 +241,9 @@ module _ (identity : Identity) (told : List ToldEvent) (rise : TellsRise told) (
       seam [] = refl
       seam (x ∷ xs) = seam xs
 
-      behind : (a b : Place) → b.0 < a.0 → IsBefore a b → ⊥
-      behind a b lt (inl sooner) = absurd (omega (arith, lt, sooner))
-      behind a b lt (inr same) = let e : a.0 ≡ b.0 = same.0 in absurd (omega (arith, lt, e))
+      subsequent : (a b : Place) → b.0 < a.0 → IsBefore a b → ⊥
+      subsequent a b lt (inl sooner) = absurd (omega (arith, lt, sooner))
+      subsequent a b lt (inr same) = let e : a.0 ≡ b.0 = same.0 in absurd (omega (arith, lt, e))
 
 -- ---- the laws
 
@@ -255,8 +255,8 @@ exact_logs_have_one_count identity told records a b one two =
 
 pub repeats_are_earlier : RepeatsAreEarlier
 repeats_are_earlier identity infos commits start records place item fit log at change isnt =
-    repeats identity (told_behind infos start commits) (behind_rise infos start 0 commits fit.rise) (behind_changes identity infos start commits fit.in_range) records log.0 place item log.1 at change isnt
+    repeats identity (events_since infos start commits) (behind_rise infos start 0 commits fit.rise) (behind_changes identity infos start commits fit.in_range) records log.0 place item log.1 at change isnt
 
 pub gaps_spoil_exact_logs : GapsSpoilExactLogs
 gaps_spoil_exact_logs identity infos commits start records place number item late event fit at at_told lt unput is log =
-    gaps identity (told_behind infos start commits) (behind_rise infos start 0 commits fit.rise) (behind_changes identity infos start commits fit.in_range) records log.0 place number item late event at at_told lt unput is log.1
+    gaps identity (events_since infos start commits) (behind_rise infos start 0 commits fit.rise) (behind_changes identity infos start commits fit.in_range) records log.0 place number item late event at at_told lt unput is log.1

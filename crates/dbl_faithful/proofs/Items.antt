@@ -3,8 +3,8 @@ use Rattle.std.proofs.Common.{◌≡◌, ◌∙◌, ◌⊎◌, inl, inr, ◌+◌
 use Rattle.std.specs.Prelude.{slice_get}
 use Rattle.std.specs.List.{AllByRecursion, AllZip}
 use Rattle.std.proofs.lemmas.Bool.{cases_lt}
-use Rattle.dbl_table.proofs.Lists.{slice_get-lt}
-use Rattle.dbl_ageing.proofs.Lists.{slice_get-front, slice_get-behind}
+use Rattle.dbl_model_table.proofs.Lists.{slice_get-lt}
+use Rattle.dbl_consume_laws.proofs.Lists.{slice_get-front, slice_get-subsequent}
 
 pub first_some : {X : Type 0} (x y : X) → Some x ≡ Some y → x ≡ y
 first_some x y e = cc
@@ -26,7 +26,7 @@ pub at_cases : {X : Type 0} (xs ys : List X) (k : ℕ) (x : X) → slice_get (xs
     → (slice_get xs k ≡ Some x) ⊎ ((j : ℕ) × (slice_get ys j ≡ Some x) × (k ≡ length xs + j))
 at_cases xs ys k x at = elim (cases_lt k (length xs)) [
   | inl lt ↦ inl (sym (slice_get-front xs ys k lt) ∙ at)
-  | inr le ↦ inr (k - length xs, sym (slice_get-behind xs ys k le) ∙ at, back_again (length xs) k le)
+  | inr le ↦ inr (k - length xs, sym (slice_get-subsequent xs ys k le) ∙ at, back_again (length xs) k le)
 ]
 
 pub only_item : {X : Type 0} (x y : X) (k : ℕ) → slice_get (x ∷ []) k ≡ Some y → x ≡ y

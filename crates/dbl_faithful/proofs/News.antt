@@ -6,10 +6,10 @@ use Rattle.std.proofs.lemmas.Bool.Decides.{nat_tests}
 use Rattle.std.proofs.lemmas.List.Elements.{All-from_recursion, recursion_from_All}
 use Rattle.dbl_record.specs.declared.record.Record.{Record}
 use Rattle.dbl_record.specs.Places.{Place, place_of, IsBefore, IsFresh}
-use Rattle.dbl_table.proofs.Lists.{bool_case, and_left, and_right, and_both, slice_get-lt}
-use Rattle.dbl_ageing.proofs.Lists.{slice_get-seam}
-use Rattle.dbl_faithful.specs.Kinds.{is_change}
-use Rattle.dbl_faithful.specs.ExactLogs.{is_before, is_fresh, news_of, news_behind, news}
+use Rattle.dbl_model_table.proofs.Lists.{bool_case, and_left, and_right, and_both, slice_get-lt}
+use Rattle.dbl_consume_laws.proofs.Lists.{slice_get-seam}
+use Rattle.dbl_faithful.specs.Kinds.{is_change_record}
+use Rattle.dbl_faithful.specs.ExactLogs.{is_before, is_fresh, news_of, fresh_after, news}
 use Rattle.dbl_faithful.specs.ExactLaws.{IsFreshChange, NewsAreFresh, NewsRise}
 use Rattle.dbl_faithful.proofs.Items.{first_some, at_left, at_right, at_cases, at_all}
 
@@ -65,32 +65,32 @@ fresh_before records place item at fresh =
 
 -- ---- one record
 
-pub news_fresh : (before : List Record) (item : Record) → is_fresh before item ≡ true → is_change item ≡ true → news_of before item ≡ item ∷ []
+pub news_fresh : (before : List Record) (item : Record) → is_fresh before item ≡ true → is_change_record item ≡ true → news_of before item ≡ item ∷ []
 news_fresh before item fresh change =
-    ap (λ (b : Bool). if b then (if is_change item then item ∷ [] else []) else []) fresh ∙ ap (λ (b : Bool). if b then item ∷ [] else []) change
+    ap (λ (b : Bool). if b then (if is_change_record item then item ∷ [] else []) else []) fresh ∙ ap (λ (b : Bool). if b then item ∷ [] else []) change
 
 pub news_stale : (before : List Record) (item : Record) → is_fresh before item ≡ false → news_of before item ≡ []
-news_stale before item isnt = ap (λ (b : Bool). if b then (if is_change item then item ∷ [] else []) else []) isnt
+news_stale before item isnt = ap (λ (b : Bool). if b then (if is_change_record item then item ∷ [] else []) else []) isnt
 
-pub news_other : (before : List Record) (item : Record) → is_change item ≡ false → news_of before item ≡ []
+pub news_other : (before : List Record) (item : Record) → is_change_record item ≡ false → news_of before item ≡ []
 news_other before item other = by (is_fresh before item)
   where
-    by : (b : Bool) → (if b then (if is_change item then item ∷ [] else []) else []) ≡ []
+    by : (b : Bool) → (if b then (if is_change_record item then item ∷ [] else []) else []) ≡ []
     by true = ap (λ (c : Bool). if c then item ∷ [] else []) other
     by false = refl
 
 -- ---- more records
 
-news_behind-append : (before xs ys : List Record) → news_behind before (xs ++ ys) ≡ news_behind before xs ++ news_behind (before ++ xs) ys
-news_behind-append before [] ys = ap (λ (l : List Record). news_behind l ys) (sym (append-nil before))
-news_behind-append before (x ∷ xs) ys =
-    let rest : news_behind (before ++ x ∷ []) (xs ++ ys) ≡ news_behind (before ++ x ∷ []) xs ++ news_behind (before ++ x ∷ xs) ys =
-    news_behind-append (before ++ x ∷ []) xs ys ∙ ap (λ (l : List Record). news_behind (before ++ x ∷ []) xs ++ news_behind l ys) (append_assoc before (x ∷ []) xs) in
+fresh_after-append : (before xs ys : List Record) → fresh_after before (xs ++ ys) ≡ fresh_after before xs ++ fresh_after (before ++ xs) ys
+fresh_after-append before [] ys = ap (λ (l : List Record). fresh_after l ys) (sym (append-nil before))
+fresh_after-append before (x ∷ xs) ys =
+    let rest : fresh_after (before ++ x ∷ []) (xs ++ ys) ≡ fresh_after (before ++ x ∷ []) xs ++ fresh_after (before ++ x ∷ xs) ys =
+    fresh_after-append (before ++ x ∷ []) xs ys ∙ ap (λ (l : List Record). fresh_after (before ++ x ∷ []) xs ++ fresh_after l ys) (append_assoc before (x ∷ []) xs) in
     ap (λ (l : List Record). news_of before x ++ l) rest
-    ∙ sym (append_assoc (news_of before x) (news_behind (before ++ x ∷ []) xs) (news_behind (before ++ x ∷ xs) ys))
+    ∙ sym (append_assoc (news_of before x) (fresh_after (before ++ x ∷ []) xs) (fresh_after (before ++ x ∷ xs) ys))
 
 pub news-push : (records : List Record) (item : Record) → news (records ++ item ∷ []) ≡ news records ++ news_of records item
-news-push records item = news_behind-append [] records (item ∷ []) ∙ ap (λ (l : List Record). news records ++ l) (append-nil (news_of records item))
+news-push records item = fresh_after-append [] records (item ∷ []) ∙ ap (λ (l : List Record). news records ++ l) (append-nil (news_of records item))
 
 -- a record that adds none
 pub news_same : (records : List Record) (item : Record) → news_of records item ≡ [] → news (records ++ item ∷ []) ≡ news records
@@ -104,17 +104,17 @@ of_news true true x item (suc number) at = cc
 of_news true false x item number at = cc
 of_news false change x item number at = cc
 
-stands_behind : (before items : List Record) (number : ℕ) (item : Record) → slice_get (news_behind before items) number ≡ Some item
-    → (j : ℕ) × (slice_get items j ≡ Some item) × (is_fresh (before ++ take j items) item ≡ true) × (is_change item ≡ true)
+stands_behind : (before items : List Record) (number : ℕ) (item : Record) → slice_get (fresh_after before items) number ≡ Some item
+    → (j : ℕ) × (slice_get items j ≡ Some item) × (is_fresh (before ++ take j items) item ≡ true) × (is_change_record item ≡ true)
 stands_behind before [] number item at = cc
-stands_behind before (x ∷ items) number item at = elim (at_cases (news_of before x) (news_behind (before ++ x ∷ []) items) number item at) [
+stands_behind before (x ∷ items) number item at = elim (at_cases (news_of before x) (fresh_after (before ++ x ∷ []) items) number item at) [
   | inl here ↦ (
-      let own = of_news (is_fresh before x) (is_change x) x item number here in
+      let own = of_news (is_fresh before x) (is_change_record x) x item number here in
       let one : x ≡ item = own.0 in (
         0,
         ap Some one,
         subst (λ (l : List Record). is_fresh l item ≡ true) (sym (append-nil before)) (ap (is_fresh before) (sym one) ∙ own.1),
-        ap is_change (sym one) ∙ own.2,
+        ap is_change_record (sym one) ∙ own.2,
       ))
   | inr later ↦ (
       let rest = stands_behind (before ++ x ∷ []) items later.0 item later.1 in
@@ -126,19 +126,19 @@ news_stand records number item at =
     let found = stands_behind [] records number item at in
     record { place = found.0; stands = found.1; fresh = fresh_place records found.0 item found.1 (fresh_is (take found.0 records) item found.2); change = found.3 }
 
-has_behind : (before items : List Record) (j : ℕ) (item : Record) → slice_get items j ≡ Some item → is_fresh (before ++ take j items) item ≡ true → is_change item ≡ true
-    → (number : ℕ) × (slice_get (news_behind before items) number ≡ Some item)
+has_behind : (before items : List Record) (j : ℕ) (item : Record) → slice_get items j ≡ Some item → is_fresh (before ++ take j items) item ≡ true → is_change_record item ≡ true
+    → (number : ℕ) × (slice_get (fresh_after before items) number ≡ Some item)
 has_behind before [] j item at fresh change = cc
 has_behind before (x ∷ items) zero item at fresh change =
     let one : item ≡ x = sym (first_some x item at) in
     let here : is_fresh before x ≡ true = subst (λ (r : Record). is_fresh before r ≡ true) one (subst (λ (l : List Record). is_fresh l item ≡ true) (append-nil before) fresh) in
-    let made : news_of before x ≡ x ∷ [] = news_fresh before x here (ap is_change (sym one) ∙ change) in
-    (0, ap (λ (l : List Record). slice_get (l ++ news_behind (before ++ x ∷ []) items) 0) made ∙ ap Some (sym one))
+    let made : news_of before x ≡ x ∷ [] = news_fresh before x here (ap is_change_record (sym one) ∙ change) in
+    (0, ap (λ (l : List Record). slice_get (l ++ fresh_after (before ++ x ∷ []) items) 0) made ∙ ap Some (sym one))
 has_behind before (x ∷ items) (suc j) item at fresh change =
     let rest = has_behind (before ++ x ∷ []) items j item at (subst (λ (l : List Record). is_fresh l item ≡ true) (sym (append_assoc before (x ∷ []) (take j items))) fresh) change in
-    (length (news_of before x) + rest.0, at_right (news_of before x) (news_behind (before ++ x ∷ []) items) rest.0 item rest.1)
+    (length (news_of before x) + rest.0, at_right (news_of before x) (fresh_after (before ++ x ∷ []) items) rest.0 item rest.1)
 
-pub news_have : (records : List Record) (place : ℕ) (item : Record) → slice_get records place ≡ Some item → IsFresh records place → is_change item ≡ true → (number : ℕ) × (slice_get (news records) number ≡ Some item)
+pub news_have : (records : List Record) (place : ℕ) (item : Record) → slice_get records place ≡ Some item → IsFresh records place → is_change_record item ≡ true → (number : ℕ) × (slice_get (news records) number ≡ Some item)
 news_have records place item at fresh change = has_behind [] records place item at (fresh_true (take place records) item (fresh_before records place item at fresh)) change
 
 pub news_are_fresh : NewsAreFresh
@@ -150,7 +150,7 @@ news_are_fresh records item = (
 -- ---- they rise
 
 -- what is news behind a record stands behind that record
-behind_one : (before items : List Record) (x : Record) (number : ℕ) (item : Record) → slice_get (news_behind (before ++ x ∷ []) items) number ≡ Some item → IsBefore (place_of x) (place_of item)
+behind_one : (before items : List Record) (x : Record) (number : ℕ) (item : Record) → slice_get (fresh_after (before ++ x ∷ []) items) number ≡ Some item → IsBefore (place_of x) (place_of item)
 behind_one before items x number item at =
     let found = stands_behind (before ++ x ∷ []) items number item at in
     let all : AreBefore ((before ++ x ∷ []) ++ take found.0 items) item = fresh_is ((before ++ x ∷ []) ++ take found.0 items) item found.2 in
@@ -169,14 +169,14 @@ never_back i j n k lt is le = omega (arith, lt, is, le)
 still_later : (i j n k l : ℕ) → i < j → i ≡ n + k → j ≡ n + l → k < l
 still_later i j n k l lt one two = omega (arith, lt, one, two)
 
-rise_behind : (before items : List Record) (i j : ℕ) (a b : Record) → i < j → slice_get (news_behind before items) i ≡ Some a → slice_get (news_behind before items) j ≡ Some b → IsBefore (place_of a) (place_of b)
+rise_behind : (before items : List Record) (i j : ℕ) (a b : Record) → i < j → slice_get (fresh_after before items) i ≡ Some a → slice_get (fresh_after before items) j ≡ Some b → IsBefore (place_of a) (place_of b)
 rise_behind before [] i j a b lt at_a at_b = cc
-rise_behind before (x ∷ items) i j a b lt at_a at_b = elim (at_cases (news_of before x) (news_behind (before ++ x ∷ []) items) i a at_a) [
-  | inl first ↦ elim (at_cases (news_of before x) (news_behind (before ++ x ∷ []) items) j b at_b) [
-    | inl second ↦ absurd (never_two (is_fresh before x) (is_change x) x i j b lt second)
-    | inr later ↦ subst (λ (r : Record). IsBefore (place_of r) (place_of b)) (of_news (is_fresh before x) (is_change x) x a i first).0 (behind_one before items x later.0 b later.1)
+rise_behind before (x ∷ items) i j a b lt at_a at_b = elim (at_cases (news_of before x) (fresh_after (before ++ x ∷ []) items) i a at_a) [
+  | inl first ↦ elim (at_cases (news_of before x) (fresh_after (before ++ x ∷ []) items) j b at_b) [
+    | inl second ↦ absurd (never_two (is_fresh before x) (is_change_record x) x i j b lt second)
+    | inr later ↦ subst (λ (r : Record). IsBefore (place_of r) (place_of b)) (of_news (is_fresh before x) (is_change_record x) x a i first).0 (behind_one before items x later.0 b later.1)
   ]
-  | inr rest ↦ elim (at_cases (news_of before x) (news_behind (before ++ x ∷ []) items) j b at_b) [
+  | inr rest ↦ elim (at_cases (news_of before x) (fresh_after (before ++ x ∷ []) items) j b at_b) [
     | inl second ↦ absurd (never_back i j (length (news_of before x)) rest.0 lt rest.2 (slice_get-lt (news_of before x) j b second))
     | inr later ↦ rise_behind (before ++ x ∷ []) items rest.0 later.0 a b (still_later i j (length (news_of before x)) rest.0 later.0 lt rest.2 later.2) rest.1 later.1
   ]

@@ -4,13 +4,13 @@ use Rattle.std.specs.Prelude.{nat_le, if◌then◌else◌, slice_get}
 use Rattle.std.specs.List.{AllByRecursion}
 use Rattle.std.proofs.lemmas.Bool.Decides.{nat_tests}
 use Rattle.std.proofs.Math.Seq.{take-append_seam}
-use Rattle.dbl_table.specs.declared.change.Commit.{Commit}
-use Rattle.dbl_table.specs.Rows.{changes_of, all_changes, moment_at}
-use Rattle.dbl_history.specs.History.{AreRising}
-use Rattle.dbl_history.proofs.MomentLemmas.{lsns, rising_to, moment_at-early, moment_at-commit}
-use Rattle.dbl_agreement.proofs.Prints.{lsn_one}
-use Rattle.dbl_ageing.specs.Commits.{moment_after}
-use Rattle.dbl_ageing.proofs.Lists.{slice_get-seam}
+use Rattle.dbl_model_table.specs.declared.change.Commit.{Commit}
+use Rattle.dbl_model_table.specs.Rows.{changes_of, all_changes, moment_at}
+use Rattle.dbl_consume_laws.specs.ModelHistory.History.{AreRising}
+use Rattle.dbl_consume_laws.proofs.ModelHistoryMomentLemmas.{lsns, rising_to, moment_at-early, moment_at-commit}
+use Rattle.dbl_consume_laws.proofs.Prints.{lsn_one}
+use Rattle.dbl_consume_laws.specs.Commits.{moment_after}
+use Rattle.dbl_consume_laws.proofs.Lists.{slice_get-seam}
 use Rattle.dbl_faithful.specs.CaughtUp.{EndAt, IsEndOf}
 use Rattle.dbl_faithful.specs.CaughtUpLaws.{PositionsEndOnce}
 use Rattle.dbl_faithful.proofs.Items.{all_weaker}
@@ -45,10 +45,10 @@ all_under low (b ∷ before) c later rise = (under b.lsn.0 c.lsn.0 (rising_to be
 seam : (front : List Commit) (last : Commit) (later : List Commit) → (front ++ last ∷ []) ++ later ≡ front ++ last ∷ later
 seam front last later = append_assoc front (last ∷ []) later
 
-pub end_behind : (position : ℕ) (before later : List Commit) → AreRising 0 (lsns (before ++ later)) → IsEndOf position before → AllByRecursion (λ c. position < c.lsn.0) later
-end_behind position before later rise (inl none) =
+pub end_after : (position : ℕ) (before later : List Commit) → AreRising 0 (lsns (before ++ later)) → IsEndOf position before → AllByRecursion (λ c. position < c.lsn.0) later
+end_after position before later rise (inl none) =
     subst (λ (p : ℕ). AllByRecursion (λ (c : Commit). p < c.lsn.0) later) (sym none.0) (all_above 0 later (subst (λ (l : List Commit). AreRising 0 (lsns (l ++ later))) none.1 rise))
-end_behind position before later rise (inr end) =
+end_after position before later rise (inr end) =
     let here : AreRising 0 (lsns (end.front ++ end.last ∷ later)) =
     subst (λ (l : List Commit). AreRising 0 (lsns l)) (seam end.front end.last later) (subst (λ (l : List Commit). AreRising 0 (lsns (l ++ later))) end.spelled rise) in
     subst (λ (p : ℕ). AllByRecursion (λ (c : Commit). p < c.lsn.0) later) end.lsn_is (all_above end.last.lsn.0 later (rising_behind 0 end.front end.last later here))

@@ -8,41 +8,41 @@ use Rattle.std.proofs.lemmas.List.{length-map, take_all}
 use Rattle.dbl_record.specs.declared.acts.HeldCell.{HeldCell}
 use Rattle.dbl_record.specs.declared.record.Record.{Record}
 use Rattle.dbl_record.specs.Places.{Place, place_of}
-use Rattle.dbl_table.specs.declared.identity.Identity.{Identity}
-use Rattle.dbl_table.specs.declared.row.Key.{Key}
-use Rattle.dbl_table.specs.declared.table.TableInfo.{TableInfo}
-use Rattle.dbl_table.specs.declared.change.Commit.{Commit}
-use Rattle.dbl_table.specs.Rows.{changes_of, all_changes, moment_at}
-use Rattle.dbl_table.proofs.Lists.{slice_get-lt}
-use Rattle.dbl_history.specs.Ranges.{IsMomentInRange}
-use Rattle.dbl_history.proofs.MomentLemmas.{positions_are}
-use Rattle.dbl_event.specs.Events.{Notice, Event, is_nil, notices, numbered, events_of}
-use Rattle.dbl_event.specs.EventJson.{print, envelopes}
-use Rattle.dbl_event.specs.Clashes.{notice_clash, first_found, clash_of}
-use Rattle.dbl_agreement.specs.Cells.{Op, cell_after}
-use Rattle.dbl_agreement.proofs.CellEvents.{IsKeyedNotice, event_op, all_keyed, clear_after}
-use Rattle.dbl_agreement.proofs.Notices.{NoticeFits, commit_tells}
-use Rattle.dbl_ageing.specs.Commits.{moment_after, AreFitCommits, IsNext}
-use Rattle.dbl_ageing.specs.Moments.{place_moment, record_moment, reach, span_end}
-use Rattle.dbl_ageing.specs.KnownKeys.{IsKnown}
-use Rattle.dbl_ageing.specs.Ages.{held_cell, source_cell, IsAgedCell, IsAged, AreNamed}
-use Rattle.dbl_ageing.specs.ChangeLaws.{IsRecordOf}
-use Rattle.dbl_ageing.proofs.Cells.{aged_same}
-use Rattle.dbl_ageing.proofs.Changes.{parts_keep_age}
-use Rattle.dbl_ageing.proofs.Deliver.{here_reached, commit_in_range}
-use Rattle.dbl_ageing.proofs.Events.{event_quiet}
-use Rattle.dbl_ageing.proofs.Held.{item_op, held_from, held-more, DoesAsTold}
-use Rattle.dbl_ageing.proofs.KnownKeys.{IsQuiet, told_more, known_quiet}
-use Rattle.dbl_ageing.proofs.Moments.{reach-append, reach-more}
-use Rattle.dbl_ageing.proofs.Named.{events_keep_names}
-use Rattle.dbl_ageing.proofs.Spans.{aged_to}
-use Rattle.dbl_faithful.specs.Agreements.{Agrees, IsCaught}
+use Rattle.dbl_model_table.specs.declared.identity.Identity.{Identity}
+use Rattle.dbl_model_table.specs.declared.row.Key.{Key}
+use Rattle.dbl_model_table.specs.declared.table.TableInfo.{TableInfo}
+use Rattle.dbl_model_table.specs.declared.change.Commit.{Commit}
+use Rattle.dbl_model_table.specs.Rows.{changes_of, all_changes, moment_at}
+use Rattle.dbl_model_table.proofs.Lists.{slice_get-lt}
+use Rattle.dbl_consume_laws.specs.ModelHistory.Ranges.{IsMomentInRange}
+use Rattle.dbl_consume_laws.proofs.ModelHistoryMomentLemmas.{positions_are}
+use Rattle.dbl_consume_laws.specs.ModelEvent.Events.{Notice, Event, is_nil, notices, numbered, events_of}
+use Rattle.dbl_consume_laws.specs.ModelEvent.EventJson.{print, envelopes}
+use Rattle.dbl_consume_laws.specs.ModelEvent.Clashes.{notice_clash, first_found, clash_of}
+use Rattle.dbl_consume_laws.specs.Cells.{Op, cell_after}
+use Rattle.dbl_consume_laws.proofs.CellEvents.{IsKeyedNotice, event_op, all_keyed, clear_after}
+use Rattle.dbl_consume_laws.proofs.Notices.{NoticeFits, commit_tells}
+use Rattle.dbl_consume_laws.specs.Commits.{moment_after, AreFitCommits, IsCommitAmong}
+use Rattle.dbl_consume_laws.specs.Moments.{place_moment, record_moment, last_moment, span_end}
+use Rattle.dbl_consume_laws.specs.KnownKeys.{IsKnown}
+use Rattle.dbl_consume_laws.specs.Ages.{held_cell, source_cell, IsAgedCell, IsAged, HasNamedRows}
+use Rattle.dbl_consume_laws.specs.ChangeLaws.{IsRecordOf}
+use Rattle.dbl_consume_laws.proofs.AgeingCells.{aged_same}
+use Rattle.dbl_consume_laws.proofs.Changes.{parts_keep_age}
+use Rattle.dbl_consume_laws.proofs.Deliver.{here_reached, commit_in_range}
+use Rattle.dbl_consume_laws.proofs.Events.{event_quiet}
+use Rattle.dbl_consume_laws.proofs.AgeingRows.{item_op, held_from, held-more, DoesAsTold}
+use Rattle.dbl_consume_laws.proofs.KnownKeys.{IsQuiet, told_more, known_quiet}
+use Rattle.dbl_consume_laws.proofs.Moments.{last_moment-append, last_moment-more}
+use Rattle.dbl_consume_laws.proofs.AgeingNames.{events_keep_names}
+use Rattle.dbl_consume_laws.proofs.Spans.{aged_to}
+use Rattle.dbl_faithful.specs.Agreements.{Agrees, AgreesUpTo}
 use Rattle.dbl_faithful.specs.CaughtLaws.{PrintsAreCaught, AllPrintsAreCaught}
-use Rattle.dbl_faithful.specs.ToldEvents.{ToldEvent, tell, told_of, IsPrint, IsClearPrint}
+use Rattle.dbl_faithful.specs.ToldEvents.{ToldEvent, tell, events_of_commit, IsPrint, IsClearPrint}
 use Rattle.dbl_faithful.proofs.Agree.{IsRun, agrees_more, commit_run}
 use Rattle.dbl_faithful.proofs.Caught.{after_size, envelope_under, envelopes_length, commits_are_caught, silent_commits_are_caught}
 use Rattle.dbl_faithful.proofs.Items.{taken_at, mapped, map_get, take_long, all_by_place, zip_at, zip_length}
-use Rattle.dbl_faithful.proofs.Told.{print_place}
+use Rattle.dbl_faithful.proofs.Trace.{print_place}
 
 -- ---- two records that do the same
 
@@ -60,12 +60,12 @@ like_held identity topic text column held (r ∷ rs) (s ∷ ss) like =
     ap (λ (op : Op). held_from identity topic text column (cell_after op held) rs) (like.0.same topic text column)
     ∙ like_held identity topic text column (cell_after (item_op identity s topic text column) held) rs ss like.1
 
-like_reach : (identity : Identity) (infos : List TableInfo) (commits : List Commit) (far : ℕ) (rs ss : List Record) → AllZip (IsLike identity) rs ss → reach infos commits far rs ≡ reach infos commits far ss
+like_reach : (identity : Identity) (infos : List TableInfo) (commits : List Commit) (far : ℕ) (rs ss : List Record) → AllZip (IsLike identity) rs ss → last_moment infos commits far rs ≡ last_moment infos commits far ss
 like_reach identity infos commits far [] [] like = refl
 like_reach identity infos commits far [] (s ∷ ss) like = absurd like
 like_reach identity infos commits far (r ∷ rs) [] like = absurd like
 like_reach identity infos commits far (r ∷ rs) (s ∷ ss) like =
-    ap (λ (p : Place). reach infos commits (max far (place_moment infos commits p)) rs) like.0.place
+    ap (λ (p : Place). last_moment infos commits (max far (place_moment infos commits p)) rs) like.0.place
     ∙ like_reach identity infos commits (max far (record_moment infos commits s)) rs ss like.1
 
 like_quiet : (identity : Identity) (rs ss : List Record) → AllZip (IsLike identity) rs ss → AllByRecursion (IsQuiet identity) rs
@@ -75,10 +75,10 @@ like_quiet identity (r ∷ rs) [] like = absurd like
 like_quiet identity (r ∷ rs) (s ∷ ss) like = (like.0.quiet, like_quiet identity rs ss like.1)
 
 module _ (identity : Identity) (infos : List TableInfo) (commits : List Commit) (start : ℕ) (records rs ss : List Record) (like : AllZip (IsLike identity) rs ss) where
-  same_reach : reach infos commits start (records ++ ss) ≡ reach infos commits start (records ++ rs)
+  same_reach : last_moment infos commits start (records ++ ss) ≡ last_moment infos commits start (records ++ rs)
   same_reach =
-      reach-append infos commits start records ss
-      ∙ (sym (like_reach identity infos commits (reach infos commits start records) rs ss like) ∙ sym (reach-append infos commits start records rs))
+      last_moment-append infos commits start records ss
+      ∙ (sym (like_reach identity infos commits (last_moment infos commits start records) rs ss like) ∙ sym (last_moment-append infos commits start records rs))
 
   same_held : (topic text column : List ℕ) → held_cell identity (records ++ ss) topic text column ≡ held_cell identity (records ++ rs) topic text column
   same_held topic text column =
@@ -136,7 +136,7 @@ module _ (identity : Identity) (infos : List TableInfo) (before : List Commit) (
     likes now in_time position (ordinal + 1) n ns rs fits.1 keys.1 zipped.1,
   )
 
-  likes_here : (now : ℤ) → IsMomentInRange now → (n : ℕ) (rs : List Record) → AllZip (IsClearPrint identity) (take n (told_of infos commit)) rs → AllZip (IsLike identity) rs (take n (envelopes identity infos commit now))
+  likes_here : (now : ℤ) → IsMomentInRange now → (n : ℕ) (rs : List Record) → AllZip (IsClearPrint identity) (take n (events_of_commit infos commit)) rs → AllZip (IsLike identity) rs (take n (envelopes identity infos commit now))
   likes_here now in_time n rs zipped =
       likes now in_time commit.lsn.0 0 n told rs (commit_tells infos commit (commit_in_range identity infos before commit later facts)).fit (all_keyed infos (changes_of commit)) zipped
 
@@ -149,17 +149,17 @@ clear_first identity commit position ordinal (suc n) (x ∷ ns) [] zipped = absu
 clear_first identity commit position ordinal (suc n) (x ∷ ns) (r ∷ rs) zipped =
     ap (λ (o : Option _). option_or o (first_found (notice_clash identity.placeholder) (take n ns))) zipped.0.clear ∙ clear_first identity commit position (ordinal + 1) n ns rs zipped.1
 
-pub told_length : (infos : List TableInfo) (commit : Commit) → length (told_of infos commit) ≡ length (events_of infos commit)
+pub told_length : (infos : List TableInfo) (commit : Commit) → length (events_of_commit infos commit) ≡ length (events_of infos commit)
 told_length infos commit = length-map (events_of infos commit) (tell commit)
 
 -- ---- where they stand
 
 -- each is among those that are made at its own time
-own_at : (identity : Identity) (infos : List TableInfo) (commit : Commit) (n : ℕ) (rs : List Record) → AllZip (IsClearPrint identity) (take n (told_of infos commit)) rs → (j : ℕ) (item : Record) → slice_get rs j ≡ Some item
+own_at : (identity : Identity) (infos : List TableInfo) (commit : Commit) (n : ℕ) (rs : List Record) → AllZip (IsClearPrint identity) (take n (events_of_commit infos commit)) rs → (j : ℕ) (item : Record) → slice_get rs j ≡ Some item
     → (now : ℤ) × (e : Event) × IsMomentInRange now × (slice_get (events_of infos commit) j ≡ Some e) × (item ≡ print identity commit now e)
 own_at identity infos commit n rs zipped j item at =
-    let found = zip_at (IsClearPrint identity) (take n (told_of infos commit)) rs j item zipped at in
-    let e = mapped (tell commit) (events_of infos commit) j found.0 (taken_at n (told_of infos commit) j found.0 found.1).1 in
+    let found = zip_at (IsClearPrint identity) (take n (events_of_commit infos commit)) rs j item zipped at in
+    let e = mapped (tell commit) (events_of infos commit) j found.0 (taken_at n (events_of_commit infos commit) j found.0 found.1).1 in
     let is : IsPrint identity (tell commit e.0) item = subst (λ (t : ToldEvent). IsPrint identity t item) e.2 found.2.is in
     (is.now, e.0, is.in_range, e.1, is.printed)
 
@@ -167,7 +167,7 @@ in_envelopes : (identity : Identity) (infos : List TableInfo) (commit : Commit) 
     → slice_get (envelopes identity infos commit now) j ≡ Some item
 in_envelopes identity infos commit j item now e at is = map_get (print identity commit now) (events_of infos commit) j e at ∙ ap Some (sym is)
 
-pub of_records : (identity : Identity) (infos : List TableInfo) (commit : Commit) (n : ℕ) (rs : List Record) → AllZip (IsClearPrint identity) (take n (told_of infos commit)) rs → AllByRecursion (IsRecordOf identity infos commit) rs
+pub of_records : (identity : Identity) (infos : List TableInfo) (commit : Commit) (n : ℕ) (rs : List Record) → AllZip (IsClearPrint identity) (take n (events_of_commit infos commit)) rs → AllByRecursion (IsRecordOf identity infos commit) rs
 of_records identity infos commit n rs zipped = all_by_place (IsRecordOf identity infos commit) rs (λ j item at. (
     let own = own_at identity infos commit n rs zipped j item at in
     record { number = j; event = own.1; stands = own.3; now = own.0; in_range = own.2; printed = own.4 }))
@@ -180,19 +180,19 @@ take_under zero xs = omega arith
 take_under (suc n) [] = omega arith
 take_under (suc n) (x ∷ xs) = let rest : length (take n xs) ≤ length xs = take_under n xs in omega (arith, rest)
 
-module _ (identity : Identity) (infos : List TableInfo) (commit : Commit) (n : ℕ) (rs : List Record) (zipped : AllZip (IsClearPrint identity) (take n (told_of infos commit)) rs) where
-  size : length (take n (told_of infos commit)) ≡ length rs
-  size = zip_length (IsClearPrint identity) (take n (told_of infos commit)) rs zipped
+module _ (identity : Identity) (infos : List TableInfo) (commit : Commit) (n : ℕ) (rs : List Record) (zipped : AllZip (IsClearPrint identity) (take n (events_of_commit infos commit)) rs) where
+  size : length (take n (events_of_commit infos commit)) ≡ length rs
+  size = zip_length (IsClearPrint identity) (take n (events_of_commit infos commit)) rs zipped
 
   -- where one says that it is the last of its commit, all are there
-  ends : (j : ℕ) (item : Record) → slice_get rs j ≡ Some item → item.last ≡ true → (j + 1 ≡ length rs) × (length (told_of infos commit) ≤ n)
+  ends : (j : ℕ) (item : Record) → slice_get rs j ≡ Some item → item.last ≡ true → (j + 1 ≡ length rs) × (length (events_of_commit infos commit) ≤ n)
   ends j item at last =
       let own = own_at identity infos commit n rs zipped j item at in
       let end : j + 1 ≡ length (envelopes identity infos commit own.0) = (commit_run identity infos commit own.0 j item (in_envelopes identity infos commit j item own.0 own.1 own.3 own.4)).1 last in
-      let long : length (envelopes identity infos commit own.0) ≡ length (told_of infos commit) = length-map (events_of infos commit) (print identity commit own.0) ∙ sym (told_length infos commit) in
-      let whole : length (take n (told_of infos commit)) ≡ length (told_of infos commit) =
-      all_there j (length (take n (told_of infos commit))) (length (told_of infos commit)) (subst (λ (k : ℕ). j < k) (sym size) (slice_get-lt rs j item at)) (take_under n (told_of infos commit)) (end ∙ long) in
-      (end ∙ (long ∙ (sym whole ∙ size)), take_long n (told_of infos commit) whole)
+      let long : length (envelopes identity infos commit own.0) ≡ length (events_of_commit infos commit) = length-map (events_of infos commit) (print identity commit own.0) ∙ sym (told_length infos commit) in
+      let whole : length (take n (events_of_commit infos commit)) ≡ length (events_of_commit infos commit) =
+      all_there j (length (take n (events_of_commit infos commit))) (length (events_of_commit infos commit)) (subst (λ (k : ℕ). j < k) (sym size) (slice_get-lt rs j item at)) (take_under n (events_of_commit infos commit)) (end ∙ long) in
+      (end ∙ (long ∙ (sym whole ∙ size)), take_long n (events_of_commit infos commit) whole)
 
   its_run : IsRun commit.lsn.0 rs
   its_run j item at =
@@ -206,27 +206,27 @@ none_told : (infos : List TableInfo) (commit : Commit) (es : List Event) → map
 none_told infos commit [] none = refl
 none_told infos commit (e ∷ es) none = cc
 
-module _ (identity : Identity) (infos : List TableInfo) (commits before : List Commit) (commit : Commit) (later : List Commit) (start : ℕ) (records : List Record) (next : IsNext infos commits before commit later) (from : start ≤ moment_after before) (caught : IsCaught identity infos commits start records (moment_after before)) where
+module _ (identity : Identity) (infos : List TableInfo) (commits before : List Commit) (commit : Commit) (later : List Commit) (start : ℕ) (records : List Record) (next : IsCommitAmong infos commits before commit later) (from : start ≤ moment_after before) (caught : AgreesUpTo identity infos commits start records (moment_after before)) where
   facts : AreFitCommits infos (before ++ commit ∷ later)
   facts = subst (AreFitCommits infos) next.spelled next.fit
 
   -- a prefix of the records leaves the log aged before the commit
-  front_aged : (n : ℕ) (more : List Record) → AllZip (IsClearPrint identity) (take n (told_of infos commit)) more → IsAged identity infos commits start (records ++ more) (moment_after before)
+  front_aged : (n : ℕ) (more : List Record) → AllZip (IsClearPrint identity) (take n (events_of_commit infos commit)) more → IsAged identity infos commits start (records ++ more) (moment_after before)
   front_aged n [] zipped = subst (λ (l : List Record). IsAged identity infos commits start l (moment_after before)) (sym (append-nil records)) caught.aged
   front_aged n (item ∷ more) zipped =
       let own = own_at identity infos commit n (item ∷ more) zipped 0 item refl in
       let clear : first_found (notice_clash identity.placeholder) (take n (flat_map (notices infos) (changes_of commit))) ≡ None =
       clear_first identity commit commit.lsn.0 0 n (flat_map (notices infos) (changes_of commit)) (item ∷ more) zipped in
       same_age identity infos commits start records (item ∷ more) (take n (envelopes identity infos commit own.0)) (likes_here identity infos before commit later facts own.0 own.2 n (item ∷ more) zipped) (moment_after before)
-      (parts_keep_age identity infos commits before commit later start (moment_after before) records own.0 n next own.2 clear (le_refl (moment_after before)) (here_reached (moment_after before) (reach infos commits start records)) caught.aged)
+      (parts_keep_age identity infos commits before commit later start (moment_after before) records own.0 n next own.2 clear (le_refl (moment_after before)) (here_reached (moment_after before) (last_moment infos commits start records)) caught.aged)
 
   -- all of them make a log that is caught up with the commit, but for what is said of agreement
-  module _ (item : Record) (more : List Record) (zipped : AllZip (IsClearPrint identity) (told_of infos commit) (item ∷ more)) where
+  module _ (item : Record) (more : List Record) (zipped : AllZip (IsClearPrint identity) (events_of_commit infos commit) (item ∷ more)) where
     abbrev count : ℕ
-    count = length (told_of infos commit)
+    count = length (events_of_commit infos commit)
 
-    fronted : AllZip (IsClearPrint identity) (take count (told_of infos commit)) (item ∷ more)
-    fronted = subst (λ (l : List ToldEvent). AllZip (IsClearPrint identity) l (item ∷ more)) (sym (take_all count (told_of infos commit) (le_refl count))) zipped
+    fronted : AllZip (IsClearPrint identity) (take count (events_of_commit infos commit)) (item ∷ more)
+    fronted = subst (λ (l : List ToldEvent). AllZip (IsClearPrint identity) l (item ∷ more)) (sym (take_all count (events_of_commit infos commit) (le_refl count))) zipped
 
     abbrev now : ℤ
     now = (own_at identity infos commit count (item ∷ more) fronted 0 item refl).0
@@ -247,20 +247,20 @@ module _ (identity : Identity) (infos : List TableInfo) (commits before : List C
         ap (first_found (notice_clash identity.placeholder)) (sym (take_all count (flat_map (notices infos) (changes_of commit)) (subst (λ (k : ℕ). length (flat_map (notices infos) (changes_of commit)) ≤ k) long (le_refl (length (flat_map (notices infos) (changes_of commit)))))))
         ∙ clear_first identity commit commit.lsn.0 0 count (flat_map (notices infos) (changes_of commit)) (item ∷ more) fronted
 
-    at_once : IsCaught identity infos commits start (records ++ envelopes identity infos commit now) (moment_after (before ++ commit ∷ []))
+    at_once : AgreesUpTo identity infos commits start (records ++ envelopes identity infos commit now) (moment_after (before ++ commit ∷ []))
     at_once = commits_are_caught identity infos commits before commit later start records now next all_clear in_time from caught
 
     whole_aged : IsAged identity infos commits start (records ++ item ∷ more) (moment_after (before ++ commit ∷ []))
     whole_aged = same_age identity infos commits start records (item ∷ more) (envelopes identity infos commit now) all_like (moment_after (before ++ commit ∷ [])) at_once.aged
 
-    whole_reached : moment_after (before ++ commit ∷ []) ≤ reach infos commits start (records ++ item ∷ more)
+    whole_reached : moment_after (before ++ commit ∷ []) ≤ last_moment infos commits start (records ++ item ∷ more)
     whole_reached = subst (λ (k : ℕ). moment_after (before ++ commit ∷ []) ≤ k) (same_reach identity infos commits start records (item ∷ more) (envelopes identity infos commit now) all_like) at_once.reached
 
-  front_named : (n : ℕ) (more : List Record) → AllZip (IsClearPrint identity) (take n (told_of infos commit)) more → AreNamed identity infos (records ++ more)
+  front_named : (n : ℕ) (more : List Record) → AllZip (IsClearPrint identity) (take n (events_of_commit infos commit)) more → HasNamedRows identity infos (records ++ more)
   front_named n more zipped = events_keep_names identity infos commits before commit later records more next (of_records identity infos commit n more zipped) caught.named
 
   -- agreement: only the last record of the commit is one at which a consumer agrees, and with it all are there
-  front_agrees : (n : ℕ) (more : List Record) → AllZip (IsClearPrint identity) (take n (told_of infos commit)) more → Agrees identity infos commits start (records ++ more)
+  front_agrees : (n : ℕ) (more : List Record) → AllZip (IsClearPrint identity) (take n (events_of_commit infos commit)) more → Agrees identity infos commits start (records ++ more)
   front_agrees n more zipped =
       let m : ℕ = moment_after (before ++ commit ∷ []) in
       let most : (j : ℕ) (item : Record) → slice_get more j ≡ Some item → record_moment infos commits item ≤ m =
@@ -278,24 +278,24 @@ module _ (identity : Identity) (infos : List TableInfo) (commits before : List C
       further : (s a m k : ℕ) → s ≤ a → m ≡ a + k → s ≤ m
       further s a m k le size = omega (arith, le, size)
 
-      whole : (n : ℕ) (rs : List Record) → AllZip (IsClearPrint identity) (take n (told_of infos commit)) rs → (j : ℕ) (item : Record) → slice_get rs j ≡ Some item → item.last ≡ true → IsAged identity infos commits start (records ++ rs) (moment_after (before ++ commit ∷ []))
+      whole : (n : ℕ) (rs : List Record) → AllZip (IsClearPrint identity) (take n (events_of_commit infos commit)) rs → (j : ℕ) (item : Record) → slice_get rs j ≡ Some item → item.last ≡ true → IsAged identity infos commits start (records ++ rs) (moment_after (before ++ commit ∷ []))
       whole n [] zipped j item at last = cc
       whole n (r ∷ rs) zipped j item at last =
-          whole_aged r rs (subst (λ (l : List ToldEvent). AllZip (IsClearPrint identity) l (r ∷ rs)) (take_all n (told_of infos commit) (ends identity infos commit n (r ∷ rs) zipped j item at last).1) zipped)
+          whole_aged r rs (subst (λ (l : List ToldEvent). AllZip (IsClearPrint identity) l (r ∷ rs)) (take_all n (events_of_commit infos commit) (ends identity infos commit n (r ∷ rs) zipped j item at last).1) zipped)
 
 pub prints_are_caught : PrintsAreCaught
 prints_are_caught identity infos commits before commit later start n records more next zipped from caught = record {
   aged = front_aged identity infos commits before commit later start records next from caught n more zipped;
-  reached = le_trans caught.reached (reach-more infos commits start records more);
+  reached = le_trans caught.reached (last_moment-more infos commits start records more);
   agrees = front_agrees identity infos commits before commit later start records next from caught n more zipped;
   named = front_named identity infos commits before commit later start records next from caught n more zipped;
 }
 
 pub all_prints_are_caught : AllPrintsAreCaught
 all_prints_are_caught identity infos commits before commit later start records [] next zipped from caught =
-    let none : told_of infos commit ≡ [] = no_events (told_of infos commit) zipped in
+    let none : events_of_commit infos commit ≡ [] = no_events (events_of_commit infos commit) zipped in
     let silent : envelopes identity infos commit pos_zero ≡ [] = ap (map (print identity commit pos_zero)) (none_told infos commit (events_of infos commit) none) in
-    subst (λ (l : List Record). IsCaught identity infos commits start l (moment_after (before ++ commit ∷ []))) (sym (append-nil records))
+    subst (λ (l : List Record). AgreesUpTo identity infos commits start l (moment_after (before ++ commit ∷ []))) (sym (append-nil records))
     (silent_commits_are_caught identity infos commits before commit later start records pos_zero next silent caught)
   where
     pos_zero : ℤ
@@ -305,9 +305,9 @@ all_prints_are_caught identity infos commits before commit later start records [
     no_events [] zipped = refl
     no_events (t ∷ ts) zipped = absurd zipped
 all_prints_are_caught identity infos commits before commit later start records (item ∷ more) next zipped from caught =
-    let count : ℕ = length (told_of infos commit) in
-    let fronted : AllZip (IsClearPrint identity) (take count (told_of infos commit)) (item ∷ more) =
-    subst (λ (l : List ToldEvent). AllZip (IsClearPrint identity) l (item ∷ more)) (sym (take_all count (told_of infos commit) (le_refl count))) zipped in
+    let count : ℕ = length (events_of_commit infos commit) in
+    let fronted : AllZip (IsClearPrint identity) (take count (events_of_commit infos commit)) (item ∷ more) =
+    subst (λ (l : List ToldEvent). AllZip (IsClearPrint identity) l (item ∷ more)) (sym (take_all count (events_of_commit infos commit) (le_refl count))) zipped in
     record {
       aged = whole_aged identity infos commits before commit later start records next from caught item more zipped;
       reached = whole_reached identity infos commits before commit later start records next from caught item more zipped;

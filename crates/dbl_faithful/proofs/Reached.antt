@@ -6,21 +6,21 @@ use Rattle.std.proofs.lemmas.Bool.Decides.{nat_tests}
 use Rattle.std.proofs.lemmas.Grind.{flat_map-append}
 use Rattle.dbl_record.specs.declared.record.Record.{Record}
 use Rattle.dbl_record.specs.Places.{Place, place_of}
-use Rattle.dbl_table.specs.declared.identity.Identity.{Identity}
-use Rattle.dbl_table.specs.declared.table.TableInfo.{TableInfo}
-use Rattle.dbl_table.specs.declared.change.Commit.{Commit}
-use Rattle.dbl_table.specs.Rows.{changes_of, all_changes, moment_at}
-use Rattle.dbl_event.specs.Events.{Notice, notices, events_of}
-use Rattle.dbl_ageing.specs.Commits.{moment_after, AreFitCommits}
-use Rattle.dbl_ageing.specs.Moments.{place_moment, record_moment, reach}
-use Rattle.dbl_ageing.proofs.Deliver.{fit_c}
-use Rattle.dbl_ageing.proofs.Events.{tells_some}
-use Rattle.dbl_ageing.proofs.Moments.{events_stand, reach_grows}
-use Rattle.dbl_faithful.specs.ToldEvents.{ToldEvent, tell, told_of, told_by, commits_behind, told_behind, IsPut, ArePut}
+use Rattle.dbl_model_table.specs.declared.identity.Identity.{Identity}
+use Rattle.dbl_model_table.specs.declared.table.TableInfo.{TableInfo}
+use Rattle.dbl_model_table.specs.declared.change.Commit.{Commit}
+use Rattle.dbl_model_table.specs.Rows.{changes_of, all_changes, moment_at}
+use Rattle.dbl_consume_laws.specs.ModelEvent.Events.{Notice, notices, events_of}
+use Rattle.dbl_consume_laws.specs.Commits.{moment_after, AreFitCommits}
+use Rattle.dbl_consume_laws.specs.Moments.{place_moment, record_moment, last_moment}
+use Rattle.dbl_consume_laws.proofs.Deliver.{fit_c}
+use Rattle.dbl_consume_laws.proofs.Events.{tells_some}
+use Rattle.dbl_consume_laws.proofs.Moments.{events_stand, reach_grows}
+use Rattle.dbl_faithful.specs.ToldEvents.{ToldEvent, tell, events_of_commit, events_of_commits, commits_since, events_since, HasRecordOfEvent, ArePut}
 use Rattle.dbl_faithful.proofs.Caught.{after_size, numbered_length}
 use Rattle.dbl_faithful.proofs.Items.{at_left, at_right, map_get}
 use Rattle.dbl_faithful.proofs.Positions.{moment_least}
-use Rattle.dbl_faithful.proofs.Told.{told_place, print_place, told_behind-append}
+use Rattle.dbl_faithful.proofs.Trace.{told_place, print_place, events_since-append}
 
 -- ---- lists
 
@@ -55,12 +55,12 @@ one_more a b k w one e = omega (arith, one, e)
 
 -- ---- what a record reaches
 
-pub reach_has : (infos : List TableInfo) (commits : List Commit) (far : ℕ) (rs : List Record) (k : ℕ) (item : Record) → slice_get rs k ≡ Some item → record_moment infos commits item ≤ reach infos commits far rs
+pub reach_has : (infos : List TableInfo) (commits : List Commit) (far : ℕ) (rs : List Record) (k : ℕ) (item : Record) → slice_get rs k ≡ Some item → record_moment infos commits item ≤ last_moment infos commits far rs
 reach_has infos commits far [] k item at = cc
 reach_has infos commits far (r ∷ rs) zero item at =
     let same : r ≡ item = one r item at in
-    subst (λ (x : Record). record_moment infos commits x ≤ reach infos commits far (r ∷ rs)) same
-    (left_of far (record_moment infos commits r) (reach infos commits (max far (record_moment infos commits r)) rs) (reach_grows infos commits (max far (record_moment infos commits r)) rs))
+    subst (λ (x : Record). record_moment infos commits x ≤ last_moment infos commits far (r ∷ rs)) same
+    (left_of far (record_moment infos commits r) (last_moment infos commits (max far (record_moment infos commits r)) rs) (reach_grows infos commits (max far (record_moment infos commits r)) rs))
   where
     one : (x y : Record) → Some x ≡ Some y → x ≡ y
     one x y e = cc
@@ -76,8 +76,8 @@ above_test a b lt = grind (arith, nat_tests)
 
 module _ (identity : Identity) (infos : List TableInfo) (start from : ℕ) (records : List Record) where
   -- the last event of a commit that has changes
-  commit_reached : (done : List Commit) (c : Commit) (rest : List Commit) → AreFitCommits infos (done ++ c ∷ rest) → ((number : ℕ) (t : ToldEvent) → slice_get (told_of infos c) number ≡ Some t → IsPut identity records t)
-      → moment_after done ≤ reach infos (done ++ c ∷ rest) from records → moment_after (done ++ c ∷ []) ≤ reach infos (done ++ c ∷ rest) from records
+  commit_reached : (done : List Commit) (c : Commit) (rest : List Commit) → AreFitCommits infos (done ++ c ∷ rest) → ((number : ℕ) (t : ToldEvent) → slice_get (events_of_commit infos c) number ≡ Some t → HasRecordOfEvent identity records t)
+      → moment_after done ≤ last_moment infos (done ++ c ∷ rest) from records → moment_after (done ++ c ∷ []) ≤ last_moment infos (done ++ c ∷ rest) from records
   commit_reached done c rest facts put so_far = elim (last_of (changes_of c)) [
     | inl none ↦ le_trans (no_more (length (all_changes done)) (length (changes_of c)) (moment_after (done ++ c ∷ [])) (ap length none) (after_size identity infos done c rest facts)) so_far
     | inr end ↦ (
@@ -89,49 +89,49 @@ module _ (identity : Identity) (infos : List TableInfo) (start from : ℕ) (reco
         numbered_length c.lsn.0 0 ns ∙ (ap length parts ∙ length-append (flat_map (notices infos) end.0) (notices infos end.1 ++ [])) in
         let there = item_there (events_of infos c) number
         (inside (length (flat_map (notices infos) end.0)) (length (notices infos end.1)) (length (notices infos end.1 ++ [])) (length (events_of infos c)) some long (length-append (notices infos end.1) [])) in
-        let is_put : IsPut identity records (tell c there.0) = put number (tell c there.0) (map_get (tell c) (events_of infos c) number there.0 there.1) in
+        let is_put : HasRecordOfEvent identity records (tell c there.0) = put number (tell c there.0) (map_get (tell c) (events_of infos c) number there.0 there.1) in
         let moment : record_moment infos (done ++ c ∷ rest) is_put.item ≡ moment_after done + length end.0 + 1 =
         stands_for infos (done ++ c ∷ rest) is_put.item (told_place (tell c there.0)) (print_place identity (tell c there.0) is_put.item is_put.is)
         ∙ events_stand infos done c rest end.0 end.1 [] 0 there.0 facts.rise end.2 some there.1 in
         let size : moment_after (done ++ c ∷ []) ≡ moment_after done + length end.0 + 1 =
         one_more (length (all_changes done)) (length end.0) (length (changes_of c)) (moment_after (done ++ c ∷ [])) (ap length end.2 ∙ length-append end.0 (end.1 ∷ [])) (after_size identity infos done c rest facts) in
-        same_reached (record_moment infos (done ++ c ∷ rest) is_put.item) (moment_after (done ++ c ∷ [])) (reach infos (done ++ c ∷ rest) from records) (moment ∙ sym size) (reach_has infos (done ++ c ∷ rest) from records is_put.place is_put.item is_put.stands))
+        same_reached (record_moment infos (done ++ c ∷ rest) is_put.item) (moment_after (done ++ c ∷ [])) (last_moment infos (done ++ c ∷ rest) from records) (moment ∙ sym size) (reach_has infos (done ++ c ∷ rest) from records is_put.place is_put.item is_put.stands))
   ]
 
   -- the events of a commit behind the start are among those that are told
-  of_next : (c : Commit) (cs : List Commit) → start < c.lsn.0 → ArePut identity records (told_behind infos start (c ∷ cs)) → (number : ℕ) (t : ToldEvent) → slice_get (told_of infos c) number ≡ Some t → IsPut identity records t
+  of_next : (c : Commit) (cs : List Commit) → start < c.lsn.0 → ArePut identity records (events_since infos start (c ∷ cs)) → (number : ℕ) (t : ToldEvent) → slice_get (events_of_commit infos c) number ≡ Some t → HasRecordOfEvent identity records t
   of_next c cs lt put number t at =
-      let first : told_behind infos start (c ∷ cs) ≡ told_of infos c ++ told_behind infos start cs =
-      ap (λ (b : Bool). told_by infos (cond b (c ∷ commits_behind start cs) (commits_behind start cs))) (above_test start c.lsn.0 lt) in
-      put number t (ap (λ (l : List ToldEvent). slice_get l number) first ∙ at_left (told_of infos c) (told_behind infos start cs) number t at)
+      let first : events_since infos start (c ∷ cs) ≡ events_of_commit infos c ++ events_since infos start cs =
+      ap (λ (b : Bool). events_of_commits infos (cond b (c ∷ commits_since start cs) (commits_since start cs))) (above_test start c.lsn.0 lt) in
+      put number t (ap (λ (l : List ToldEvent). slice_get l number) first ∙ at_left (events_of_commit infos c) (events_since infos start cs) number t at)
 
   -- those of the later ones too
-  of_later : (c : Commit) (cs : List Commit) → ArePut identity records (told_behind infos start (c ∷ cs)) → ArePut identity records (told_behind infos start cs)
+  of_later : (c : Commit) (cs : List Commit) → ArePut identity records (events_since infos start (c ∷ cs)) → ArePut identity records (events_since infos start cs)
   of_later c cs put number t at =
-      put (length (told_behind infos start (c ∷ [])) + number) t
-      (ap (λ (l : List ToldEvent). slice_get l (length (told_behind infos start (c ∷ [])) + number)) (told_behind-append infos start (c ∷ []) cs)
-      ∙ at_right (told_behind infos start (c ∷ [])) (told_behind infos start cs) number t at)
+      put (length (events_since infos start (c ∷ [])) + number) t
+      (ap (λ (l : List ToldEvent). slice_get l (length (events_since infos start (c ∷ [])) + number)) (events_since-append infos start (c ∷ []) cs)
+      ∙ at_right (events_since infos start (c ∷ [])) (events_since infos start cs) number t at)
 
-  delivered : (done cs later : List Commit) → AreFitCommits infos (done ++ (cs ++ later)) → ArePut identity records (told_behind infos start cs) → moment_at (done ++ (cs ++ later)) start ≤ from
-      → moment_after done ≤ reach infos (done ++ (cs ++ later)) from records → moment_after (done ++ cs) ≤ reach infos (done ++ (cs ++ later)) from records
-  delivered done [] later facts put begins so_far = subst (λ (l : List Commit). moment_after l ≤ reach infos (done ++ later) from records) (sym (append-nil done)) so_far
+  delivered : (done cs later : List Commit) → AreFitCommits infos (done ++ (cs ++ later)) → ArePut identity records (events_since infos start cs) → moment_at (done ++ (cs ++ later)) start ≤ from
+      → moment_after done ≤ last_moment infos (done ++ (cs ++ later)) from records → moment_after (done ++ cs) ≤ last_moment infos (done ++ (cs ++ later)) from records
+  delivered done [] later facts put begins so_far = subst (λ (l : List Commit). moment_after l ≤ last_moment infos (done ++ later) from records) (sym (append-nil done)) so_far
   delivered done (c ∷ cs) later facts put begins so_far =
       let list : (done ++ c ∷ []) ++ (cs ++ later) ≡ done ++ c ∷ (cs ++ later) = append_assoc done (c ∷ []) (cs ++ later) in
-      let here : moment_after (done ++ c ∷ []) ≤ reach infos (done ++ c ∷ (cs ++ later)) from records = by (cases_lt start c.lsn.0) in
-      subst (λ (l : List Commit). moment_after l ≤ reach infos (done ++ c ∷ (cs ++ later)) from records) (append_assoc done (c ∷ []) cs)
-      (subst (λ (l : List Commit). moment_after ((done ++ c ∷ []) ++ cs) ≤ reach infos l from records) list
+      let here : moment_after (done ++ c ∷ []) ≤ last_moment infos (done ++ c ∷ (cs ++ later)) from records = by (cases_lt start c.lsn.0) in
+      subst (λ (l : List Commit). moment_after l ≤ last_moment infos (done ++ c ∷ (cs ++ later)) from records) (append_assoc done (c ∷ []) cs)
+      (subst (λ (l : List Commit). moment_after ((done ++ c ∷ []) ++ cs) ≤ last_moment infos l from records) list
       (delivered (done ++ c ∷ []) cs later (subst (AreFitCommits infos) (sym list) facts) (of_later c cs put) (subst (λ (l : List Commit). moment_at l start ≤ from) (sym list) begins)
-      (subst (λ (l : List Commit). moment_after (done ++ c ∷ []) ≤ reach infos l from records) (sym list) here)))
+      (subst (λ (l : List Commit). moment_after (done ++ c ∷ []) ≤ last_moment infos l from records) (sym list) here)))
     where
-      by : (start < c.lsn.0) ⊎ (c.lsn.0 ≤ start) → moment_after (done ++ c ∷ []) ≤ reach infos (done ++ c ∷ (cs ++ later)) from records
+      by : (start < c.lsn.0) ⊎ (c.lsn.0 ≤ start) → moment_after (done ++ c ∷ []) ≤ last_moment infos (done ++ c ∷ (cs ++ later)) from records
       by (inl lt) = commit_reached done c (cs ++ later) facts (of_next c cs lt put) so_far
       by (inr le) = le_trans (moment_least 0 start done c (cs ++ later) facts.rise le) (le_trans begins (reach_grows infos (done ++ c ∷ (cs ++ later)) from records))
 
 -- from a start on
-pub put_reached : (identity : Identity) (infos : List TableInfo) (start : ℕ) (before later : List Commit) (records : List Record) → AreFitCommits infos (before ++ later) → ArePut identity records (told_behind infos start before)
-    → moment_after before ≤ reach infos (before ++ later) (moment_at (before ++ later) start) records
+pub put_reached : (identity : Identity) (infos : List TableInfo) (start : ℕ) (before later : List Commit) (records : List Record) → AreFitCommits infos (before ++ later) → ArePut identity records (events_since infos start before)
+    → moment_after before ≤ last_moment infos (before ++ later) (moment_at (before ++ later) start) records
 put_reached identity infos start before later records facts put =
-    delivered identity infos start (moment_at (before ++ later) start) records [] before later facts put (le_refl (moment_at (before ++ later) start)) (none (reach infos (before ++ later) (moment_at (before ++ later) start) records))
+    delivered identity infos start (moment_at (before ++ later) start) records [] before later facts put (le_refl (moment_at (before ++ later) start)) (none (last_moment infos (before ++ later) (moment_at (before ++ later) start) records))
   where
     none : (n : ℕ) → 0 ≤ n
     none n = omega arith

@@ -3,15 +3,15 @@ use Rattle.std.proofs.Common.{◌≡◌, ◌∙◌, ℕ, ℤ, Bool, true, false,
 use Rattle.std.specs.Prelude.{if◌then◌else◌}
 use Rattle.std.specs.List.{AllByRecursion}
 use Rattle.dbl_record.specs.Acts.{is_progress}
-use Rattle.dbl_table.specs.declared.identity.Identity.{Identity}
-use Rattle.dbl_table.specs.declared.change.Commit.{Commit}
-use Rattle.dbl_event.specs.Events.{Content, Created, Updated, Deleted, Tombstone, Truncated, Event, events_of}
-use Rattle.dbl_event.specs.EventJson.{print}
-use Rattle.dbl_event.specs.Snapshots.{read_record, progress_record}
-use Rattle.dbl_agreement.specs.Letters.{letter_of, content_letter}
-use Rattle.dbl_agreement.proofs.Letters.{events_have_letters, read_rows_have_their_letter}
-use Rattle.dbl_agreement.proofs.Topics.{not_progress, is_progress_topic}
-use Rattle.dbl_faithful.specs.Kinds.{is_read_letter, is_change, EventsAreChanges, ReadRowsAreRows, ProgressIsNeither, RowsAreNoChanges}
+use Rattle.dbl_model_table.specs.declared.identity.Identity.{Identity}
+use Rattle.dbl_model_table.specs.declared.change.Commit.{Commit}
+use Rattle.dbl_consume_laws.specs.ModelEvent.Events.{Content, Created, Updated, Deleted, Tombstone, Truncated, Event, events_of}
+use Rattle.dbl_consume_laws.specs.ModelEvent.EventJson.{print}
+use Rattle.dbl_consume_laws.specs.ModelEvent.Snapshots.{read_record, progress_record}
+use Rattle.dbl_consume_laws.specs.Letters.{letter_of, content_letter}
+use Rattle.dbl_consume_laws.proofs.Letters.{events_have_letters, read_rows_have_their_letter}
+use Rattle.dbl_consume_laws.proofs.Topics.{not_progress, is_progress_topic}
+use Rattle.dbl_faithful.specs.Kinds.{is_read_letter, is_change_record, EventsAreChanges, ReadRowsAreRows, ProgressIsNeither, RowsAreNoChanges}
 
 other_letter : (content : Content) → not (is_read_letter (content_letter content)) ≡ true
 other_letter (Created row) = refl
@@ -21,12 +21,12 @@ other_letter Tombstone = refl
 other_letter Truncated = refl
 
 module _ (identity : Identity) (commit : Commit) (now : ℤ) where
-  event_is_change : (e : Event) → letter_of (print identity commit now e) ≡ content_letter e.notice.content → is_change (print identity commit now e) ≡ true
+  event_is_change : (e : Event) → letter_of (print identity commit now e) ≡ content_letter e.notice.content → is_change_record (print identity commit now e) ≡ true
   event_is_change e letter =
       ap (λ (b : Bool). if b then false else not (is_read_letter (letter_of (print identity commit now e)))) (not_progress identity e.notice.info)
       ∙ (ap (λ (o : Option (List ℕ)). not (is_read_letter o)) letter ∙ other_letter e.notice.content)
 
-  each_event : (es : List Event) → AllByRecursion (λ e. letter_of (print identity commit now e) ≡ content_letter e.notice.content) es → AllByRecursion (λ e. is_change (print identity commit now e) ≡ true) es
+  each_event : (es : List Event) → AllByRecursion (λ e. letter_of (print identity commit now e) ≡ content_letter e.notice.content) es → AllByRecursion (λ e. is_change_record (print identity commit now e) ≡ true) es
   each_event [] letters = tt
   each_event (e ∷ es) letters = (event_is_change e letters.0, each_event es letters.1)
 

@@ -6,37 +6,37 @@ use Rattle.std.proofs.lemmas.Bool.Decides.{Decides-eqb}
 use Rattle.std.proofs.lemmas.List.Elements.{filter-append}
 use Rattle.dbl_record.specs.declared.record.Record.{Record}
 use Rattle.dbl_record.specs.Places.{place_of, IsBefore, IsFresh}
-use Rattle.dbl_table.specs.declared.identity.Identity.{Identity}
-use Rattle.dbl_table.specs.declared.row.Key.{Key}
-use Rattle.dbl_table.specs.declared.row.Row.{Row}
-use Rattle.dbl_table.specs.declared.table.TableInfo.{TableInfo}
-use Rattle.dbl_table.specs.declared.change.Body.{Body}
-use Rattle.dbl_table.specs.declared.change.Change.{Change}
-use Rattle.dbl_table.specs.declared.change.Commit.{Commit}
-use Rattle.dbl_table.specs.Infos.{column_types}
-use Rattle.dbl_table.specs.Keys.{key_of}
-use Rattle.dbl_table.specs.Rows.{Rows, rows_at, changes_of, all_changes, rows, moment_at}
-use Rattle.dbl_table.proofs.Lists.{bool_case, slice_get-lt}
-use Rattle.dbl_history.specs.History.{AreRising}
-use Rattle.dbl_history.specs.Fit.{IsKeyOf}
-use Rattle.dbl_history.specs.FitsInfos.{AreCellsOf}
-use Rattle.dbl_history.specs.Ranges.{IsCommitInRange, IsMomentInRange}
-use Rattle.dbl_history.proofs.MomentLemmas.{lsns}
-use Rattle.dbl_history.proofs.RowLemmas.{all_changes-append, rows_at-longer}
-use Rattle.dbl_event.specs.Events.{Event, notices, numbered, events_of}
-use Rattle.dbl_event.specs.Snapshots.{read_record, read_records, progress_record}
-use Rattle.dbl_agreement.specs.Snapshots.{IsReadInRange}
-use Rattle.dbl_agreement.proofs.Prints.{event_numbered, lsn_one, through_in_range}
-use Rattle.dbl_ageing.proofs.Lists.{slice_get-seam}
-use Rattle.dbl_ageing.proofs.Snapshot.{cells_in_range}
-use Rattle.dbl_faithful.specs.Kinds.{is_change}
-use Rattle.dbl_faithful.specs.ToldEvents.{ToldEvent, told_behind, commits_behind}
+use Rattle.dbl_model_table.specs.declared.identity.Identity.{Identity}
+use Rattle.dbl_model_table.specs.declared.row.Key.{Key}
+use Rattle.dbl_model_table.specs.declared.row.Row.{Row}
+use Rattle.dbl_model_table.specs.declared.table.TableInfo.{TableInfo}
+use Rattle.dbl_model_table.specs.declared.change.Body.{Body}
+use Rattle.dbl_model_table.specs.declared.change.Change.{Change}
+use Rattle.dbl_model_table.specs.declared.change.Commit.{Commit}
+use Rattle.dbl_model_table.specs.Infos.{column_types}
+use Rattle.dbl_model_table.specs.Keys.{key_of}
+use Rattle.dbl_model_table.specs.Rows.{Rows, rows_at, changes_of, all_changes, rows, moment_at}
+use Rattle.dbl_model_table.proofs.Lists.{bool_case, slice_get-lt}
+use Rattle.dbl_consume_laws.specs.ModelHistory.History.{AreRising}
+use Rattle.dbl_consume_laws.specs.ModelHistory.Fit.{IsKeyOf}
+use Rattle.dbl_consume_laws.specs.ModelHistory.FitsInfos.{AreCellsOf}
+use Rattle.dbl_consume_laws.specs.ModelHistory.Ranges.{IsCommitInRange, IsMomentInRange}
+use Rattle.dbl_consume_laws.proofs.ModelHistoryMomentLemmas.{lsns}
+use Rattle.dbl_consume_laws.proofs.ModelHistoryRowLemmas.{all_changes-append, rows_at-longer}
+use Rattle.dbl_consume_laws.specs.ModelEvent.Events.{Event, notices, numbered, events_of}
+use Rattle.dbl_consume_laws.specs.ModelEvent.Snapshots.{read_record, read_records, progress_record}
+use Rattle.dbl_consume_laws.specs.Snapshots.{IsReadInRange}
+use Rattle.dbl_consume_laws.proofs.Prints.{event_numbered, lsn_one, through_in_range}
+use Rattle.dbl_consume_laws.proofs.Lists.{slice_get-seam}
+use Rattle.dbl_consume_laws.proofs.Snapshot.{cells_in_range}
+use Rattle.dbl_faithful.specs.Kinds.{is_change_record}
+use Rattle.dbl_faithful.specs.ToldEvents.{ToldEvent, events_since, commits_since}
 use Rattle.dbl_faithful.specs.RightSnapshots.{IsHighMark, records_at, IsRightSnapshot, AreSnapshotsRight}
 use Rattle.dbl_faithful.proofs.Caught.{moment_at-longer, moment_at-most}
 use Rattle.dbl_faithful.proofs.Exact.{AreBehind, put_more}
 use Rattle.dbl_faithful.proofs.Items.{first_some, at_left, at_cases, take_within, all_by_place, at_all, all_weaker, filter_none}
 use Rattle.dbl_faithful.proofs.RecordKinds.{read_rows_are_rows, progress_is_neither}
-use Rattle.dbl_faithful.proofs.Told.{IsToldAt, told_at, told_behind-append, all_filter}
+use Rattle.dbl_faithful.proofs.Trace.{IsToldAt, told_at, events_since-append, all_filter}
 
 -- ---- tests of positions
 
@@ -93,12 +93,12 @@ event_position infos commits t at = (event_numbered t.commit.lsn.0 0 (flat_map (
 
 -- so none stands at a mark's
 pub no_event_at_mark : (infos : List TableInfo) (start : ℕ) (commits before : List Commit) (mark : Commit) (later : List Commit) → AreRising 0 (lsns commits) → commits ≡ before ++ mark ∷ later → changes_of mark ≡ []
-    → (number : ℕ) (t : ToldEvent) → slice_get (told_behind infos start commits) number ≡ Some t → t.event.position ≡ mark.lsn.0 → ⊥
+    → (number : ℕ) (t : ToldEvent) → slice_get (events_since infos start commits) number ≡ Some t → t.event.position ≡ mark.lsn.0 → ⊥
 no_event_at_mark infos start commits before mark later rise is none number t at same =
-    let found = told_at infos (commits_behind start commits) number t at in
+    let found = told_at infos (commits_since start commits) number t at in
     let stands = filter_from (λ (c : Commit). nat_lt start c.lsn.0) commits found.place t.commit found.commit_at in
     let marked : slice_get commits (length before) ≡ Some mark = ap (λ (l : List Commit). slice_get l (length before)) is ∙ slice_get-seam before mark later in
-    let lsn : t.commit.lsn.0 ≡ mark.lsn.0 = sym (event_position infos (commits_behind start commits) t found) ∙ same in
+    let lsn : t.commit.lsn.0 ≡ mark.lsn.0 = sym (event_position infos (commits_since start commits) t found) ∙ same in
     let place : stands.0 ≡ length before = lsn_one 0 commits stands.0 (length before) t.commit mark rise stands.1 marked lsn in
     let one : t.commit ≡ mark = first_some t.commit mark (sym stands.1 ∙ (ap (slice_get commits) place ∙ marked)) in
     let empty : events_of infos t.commit ≡ [] = ap (events_of infos) one ∙ ap (λ (l : List Change). numbered mark.lsn.0 0 (flat_map (notices infos) l)) none in
@@ -109,8 +109,8 @@ no_event_at_mark infos start commits before mark later rise is none number t at 
 
 -- ---- what right snapshots are to the events
 
-pub right_behind : (identity : Identity) (infos : List TableInfo) (start : ℕ) (commits : List Commit) (records : List Record) → AreRising 0 (lsns commits) → AreSnapshotsRight identity infos commits (told_behind infos start commits) records
-    → AreBehind identity (told_behind infos start commits) records
+pub right_behind : (identity : Identity) (infos : List TableInfo) (start : ℕ) (commits : List Commit) (records : List Record) → AreRising 0 (lsns commits) → AreSnapshotsRight identity infos commits (events_since infos start commits) records
+    → AreBehind identity (events_since infos start commits) records
 right_behind identity infos start commits records rise right = record {
   put = λ place item at other. (right.each place item at other).put;
   apart = λ place item at other number t at_told same. (
@@ -172,14 +172,14 @@ module _ (identity : Identity) (infos : List TableInfo) (commits more : List Com
       ∙ rows_at-longer infos (all_changes commits) (all_changes more) (moment_at commits position) (moment_at-most commits position))
 
   -- the events of the new commits stand behind every record
-  new_events : (number : ℕ) (t : ToldEvent) → slice_get (told_behind infos start more) number ≡ Some t → far < t.event.position
+  new_events : (number : ℕ) (t : ToldEvent) → slice_get (events_since infos start more) number ≡ Some t → far < t.event.position
   new_events number t at =
-      let found = told_at infos (commits_behind start more) number t at in
+      let found = told_at infos (commits_since start more) number t at in
       let lsn : (far < t.commit.lsn.0) × (start < t.commit.lsn.0) =
-      at_all (λ (c : Commit). (far < c.lsn.0) × (start < c.lsn.0)) (commits_behind start more) found.place t.commit (all_filter (λ (c : Commit). (far < c.lsn.0) × (start < c.lsn.0)) (λ (c : Commit). nat_lt start c.lsn.0) more above) found.commit_at in
-      subst (λ (p : ℕ). far < p) (sym (event_position infos (commits_behind start more) t found)) lsn.0
+      at_all (λ (c : Commit). (far < c.lsn.0) × (start < c.lsn.0)) (commits_since start more) found.place t.commit (all_filter (λ (c : Commit). (far < c.lsn.0) × (start < c.lsn.0)) (λ (c : Commit). nat_lt start c.lsn.0) more above) found.commit_at in
+      subst (λ (p : ℕ). far < p) (sym (event_position infos (commits_since start more) t found)) lsn.0
 
-  pub right_longer : AreSnapshotsRight identity infos commits (told_behind infos start commits) records → AreSnapshotsRight identity infos (commits ++ more) (told_behind infos start (commits ++ more)) records
+  pub right_longer : AreSnapshotsRight identity infos commits (events_since infos start commits) records → AreSnapshotsRight identity infos (commits ++ more) (events_since infos start (commits ++ more)) records
   right_longer right = record {
     each = λ place item at other. (
         let old = right.each place item at other in
@@ -202,7 +202,7 @@ module _ (identity : Identity) (infos : List TableInfo) (commits more : List Com
             front = old.window.front;
             right = subst (λ (at_position : Rows). AllByRecursion (λ (entry : Key × Row). at_position old.window.closed.table entry.0 ≡ Some entry.1.cells) old.window.closed.rows) (sym (same_rows item.position le)) old.window.right;
           };
-          put = λ number t at_told lt. elim (at_cases (told_behind infos start commits) (told_behind infos start more) number t (ap (λ (l : List ToldEvent). slice_get l number) (sym (told_behind-append infos start commits more)) ∙ at_told)) [
+          put = λ number t at_told lt. elim (at_cases (events_since infos start commits) (events_since infos start more) number t (ap (λ (l : List ToldEvent). slice_get l number) (sym (events_since-append infos start commits more)) ∙ at_told)) [
             | inl known ↦ old.put number t known lt
             | inr new ↦ absurd (not_both far item.position t.event.position le lt (new_events new.0 t new.1))
           ];
@@ -250,12 +250,12 @@ module _ (identity : Identity) (info : TableInfo) (mark : Commit) (now : ℤ) (t
   ]
 
   -- and none is a change
-  pub listing_others : (ordinal last : ℕ) (rows : List (Key × Row)) → AllByRecursion (λ entry. IsReadInRange entry mark now) rows → (j : ℕ) (item : Record) → slice_get (listing ordinal last rows) j ≡ Some item → is_change item ≡ false
+  pub listing_others : (ordinal last : ℕ) (rows : List (Key × Row)) → AllByRecursion (λ entry. IsReadInRange entry mark now) rows → (j : ℕ) (item : Record) → slice_get (listing ordinal last rows) j ≡ Some item → is_change_record item ≡ false
   listing_others ordinal last rows ranges j item at = elim (listing_cases ordinal last rows j item at) [
     | inl found ↦ (
         let range : IsReadInRange found.1 mark now = at_all (λ (entry : Key × Row). IsReadInRange entry mark now) rows found.0 found.1 ranges found.3 in
-        ap is_change found.4 ∙ (read_rows_are_rows identity info mark now found.2 found.1 range).1)
-    | inr progress ↦ ap is_change progress ∙ (progress_is_neither identity info mark last through done).1
+        ap is_change_record found.4 ∙ (read_rows_are_rows identity info mark now found.2 found.1 range).1)
+    | inr progress ↦ ap is_change_record progress ∙ (progress_is_neither identity info mark last through done).1
   ]
 
 -- the rows of a window that fits are in range

@@ -9,22 +9,22 @@ use Rattle.jiff_core.proofs.SignedLemmas.{signed_arith, fits_between}
 use Rattle.dbl_value.specs.declared.column_type.PgType.TheVariants as type
 use Rattle.dbl_value.specs.declared.value.Val.TheVariants as val
 use Rattle.dbl_value.specs.Values.{IsOf}
-use Rattle.dbl_table.specs.declared.row.Key.{Key}
-use Rattle.dbl_table.specs.Keys.{key_cmp, same_key}
-use Rattle.dbl_table.specs.declared.change.Body.TheVariants.{Changes, Mark}
-use Rattle.dbl_table.specs.declared.change.Change.TheVariants.{Insert}
-use Rattle.dbl_table.specs.Rows.{at_key, row_after, rows_at, all_changes}
-use Rattle.dbl_table.specs.Rows.Effect.{Whole}
-use Rattle.dbl_table.proofs.Lists.{bool_case}
-use Rattle.dbl_table.proofs.KeyLemmas.{same_key-is}
-use Rattle.dbl_history.specs.KeyBounds.{IsUpTo}
-use Rattle.dbl_history.specs.KeyedRows.{row_in}
-use Rattle.dbl_history.specs.Ranges.{IsCommitInRange}
-use Rattle.dbl_ageing.specs.Commits.{AreFitCommits}
-use Rattle.dbl_ageing.specs.Windows.{IsRightWindow}
-use Rattle.dbl_event.specs.Snapshots.{AreInKeyOrder, snapshot}
-use Rattle.dbl_event.specs.SnapshotLists.{IsSnapshot}
-use Rattle.dbl_faithful.specs.TornExample.{example_identity, example_table, made, row_of, keyed, first, low_mark, high_mark, example_commits, example_window, TornWindowsStand}
+use Rattle.dbl_model_table.specs.declared.row.Key.{Key}
+use Rattle.dbl_model_table.specs.Keys.{key_cmp, same_key}
+use Rattle.dbl_model_table.specs.declared.change.Body.TheVariants.{Changes, Mark}
+use Rattle.dbl_model_table.specs.declared.change.Change.TheVariants.{Insert}
+use Rattle.dbl_model_table.specs.Rows.{at_key, row_after, rows_at, all_changes}
+use Rattle.dbl_model_table.specs.Rows.Effect.{Whole}
+use Rattle.dbl_model_table.proofs.Lists.{bool_case}
+use Rattle.dbl_model_table.proofs.KeyLemmas.{same_key-is}
+use Rattle.dbl_consume_laws.specs.ModelHistory.KeyBounds.{IsUpTo}
+use Rattle.dbl_consume_laws.specs.ModelHistory.KeyedRows.{row_in}
+use Rattle.dbl_consume_laws.specs.ModelHistory.Ranges.{IsCommitInRange}
+use Rattle.dbl_consume_laws.specs.Commits.{AreFitCommits}
+use Rattle.dbl_consume_laws.specs.Windows.{IsRightWindow}
+use Rattle.dbl_consume_laws.specs.ModelEvent.Snapshots.{AreInKeyOrder, snapshot}
+use Rattle.dbl_consume_laws.specs.ModelEvent.SnapshotLists.{IsSnapshot}
+use Rattle.dbl_faithful.specs.TornExample.{example_identity, example_table, example_commit_at, example_text_row, keyed, first, low_mark, high_mark, example_commits, example_window, TornWindowsStand}
 
 at_zero : FitsSigned w64 (pos 0)
 at_zero = fits_between w64 (pos 0) (omega (arith, signed_arith), omega (arith, signed_arith))
@@ -45,10 +45,10 @@ text_b = record { text = codes "b"; utf8 = plain_b; spells = refl }
 
 -- ---- the history
 
-mark_in_range : (lsn : ℕ) (value : List ℕ) → lsn < 2 ^ 64 → IsUtf8 value → IsCommitInRange (made lsn (Mark value))
+mark_in_range : (lsn : ℕ) (value : List ℕ) → lsn < 2 ^ 64 → IsUtf8 value → IsCommitInRange (example_commit_at lsn (Mark value))
 mark_in_range lsn value lt plain = record { lsn = lt; end_lsn = lt; time = at_zero; xid = omega arith; body = plain }
 
-insert_in_range : (lsn : ℕ) (text : List ℕ) → lsn < 2 ^ 64 → IsUtf8 text → IsCommitInRange (made lsn (Changes (Insert 0 (row_of text) ∷ [])))
+insert_in_range : (lsn : ℕ) (text : List ℕ) → lsn < 2 ^ 64 → IsUtf8 text → IsCommitInRange (example_commit_at lsn (Changes (Insert 0 (example_text_row text) ∷ [])))
 insert_in_range lsn text lt plain = record { lsn = lt; end_lsn = lt; time = at_zero; xid = omega arith; body = (omega arith, ((plain, tt), tt)) }
 
 fit : AreFitCommits (example_table ∷ []) example_commits
@@ -101,7 +101,7 @@ torn_windows_stand = (
     ends = inr (record { front = []; last = first; spelled = refl; lsn_is = refl });
     low_is = refl;
     table = 0;
-    row = row_of (codes "b");
+    row = example_text_row (codes "b");
     late_is = refl;
     is_high = record { front = codes "1-1"; is = refl };
     above = None;

@@ -4,50 +4,50 @@ use Rattle.std.specs.Prelude.{IsSomeAnd, IsTrue, option_map, option_and_then, un
 use Rattle.std.proofs.Math.Seq.{take-append_seam}
 use Rattle.dbl_value.specs.declared.value.Val.{Val}
 use Rattle.dbl_record.specs.declared.record.Record.{Record}
-use Rattle.dbl_table.specs.declared.identity.Identity.{Identity}
-use Rattle.dbl_table.specs.declared.row.Key.{Key}
-use Rattle.dbl_table.specs.declared.row.Row.{Row}
-use Rattle.dbl_table.specs.declared.table.TableInfo.{TableInfo}
-use Rattle.dbl_table.specs.declared.change.Change.{Change}
-use Rattle.dbl_table.specs.declared.change.Change.TheVariants.{Insert}
-use Rattle.dbl_table.specs.declared.change.Commit.{Commit}
-use Rattle.dbl_table.specs.Infos.{key_places}
-use Rattle.dbl_table.specs.Keys.{key_at}
-use Rattle.dbl_table.specs.Rows.{IsWholeFor, Rows, no_rows, rows_from, rows_at, changes_of, all_changes, moment_at}
-use Rattle.dbl_history.specs.Fit.{IsFitInsert, IsFit, AreFit}
-use Rattle.dbl_history.specs.History.{AreRising}
-use Rattle.dbl_history.specs.Image.{texts_of}
-use Rattle.dbl_table.specs.Infos.{columns_of}
-use Rattle.dbl_history.specs.KeyBounds.{IsUpTo}
-use Rattle.dbl_history.specs.WholeChanges.{IsTouched}
-use Rattle.dbl_history.proofs.MomentLemmas.{lsns}
-use Rattle.dbl_history.proofs.RowLemmas.{all_changes-append, AreFit-at}
-use Rattle.dbl_history.proofs.WholeLemmas.{whole_by_case}
-use Rattle.dbl_event.specs.declared.closed.Closed.{Closed}
-use Rattle.dbl_event.specs.Snapshots.{read_record, read_records, progress_record, chunk_records, snapshot}
-use Rattle.dbl_event.specs.SnapshotLists.{IsSnapshot}
-use Rattle.dbl_ageing.specs.Commits.{moment_after, AreFitCommits}
-use Rattle.dbl_ageing.specs.Moments.{record_moment, reach, span_end}
-use Rattle.dbl_ageing.specs.KnownKeys.{IsKnown}
-use Rattle.dbl_ageing.specs.Ages.{held_cell, source_cell, Occurs, AreAged, IsAged}
-use Rattle.dbl_ageing.specs.Windows.{IsRightWindow}
-use Rattle.dbl_ageing.proofs.Cells.{aged_wider}
-use Rattle.dbl_ageing.proofs.Deliver.{commit_in_range}
-use Rattle.dbl_ageing.proofs.Lists.{slice_get-seam}
-use Rattle.dbl_ageing.proofs.Moments.{AreAt, reach_at, marks_stand}
-use Rattle.dbl_faithful.specs.Agreements.{IsCaught}
-use Rattle.dbl_faithful.specs.Kinds.{is_change}
-use Rattle.dbl_faithful.specs.ToldEvents.{ToldEvent, told_of, told_by, told_behind, IsAmong, IsPut}
+use Rattle.dbl_model_table.specs.declared.identity.Identity.{Identity}
+use Rattle.dbl_model_table.specs.declared.row.Key.{Key}
+use Rattle.dbl_model_table.specs.declared.row.Row.{Row}
+use Rattle.dbl_model_table.specs.declared.table.TableInfo.{TableInfo}
+use Rattle.dbl_model_table.specs.declared.change.Change.{Change}
+use Rattle.dbl_model_table.specs.declared.change.Change.TheVariants.{Insert}
+use Rattle.dbl_model_table.specs.declared.change.Commit.{Commit}
+use Rattle.dbl_model_table.specs.Infos.{key_places}
+use Rattle.dbl_model_table.specs.Keys.{key_at}
+use Rattle.dbl_model_table.specs.Rows.{IsWholeFor, Rows, no_rows, rows_from, rows_at, changes_of, all_changes, moment_at}
+use Rattle.dbl_consume_laws.specs.ModelHistory.Fit.{IsFitInsert, IsFit, AreFit}
+use Rattle.dbl_consume_laws.specs.ModelHistory.History.{AreRising}
+use Rattle.dbl_consume_laws.specs.ModelHistory.Image.{row_json_texts}
+use Rattle.dbl_model_table.specs.Infos.{columns_of}
+use Rattle.dbl_consume_laws.specs.ModelHistory.KeyBounds.{IsUpTo}
+use Rattle.dbl_consume_laws.specs.ModelHistory.WholeChanges.{IsTouched}
+use Rattle.dbl_consume_laws.proofs.ModelHistoryMomentLemmas.{lsns}
+use Rattle.dbl_consume_laws.proofs.ModelHistoryRowLemmas.{all_changes-append, AreFit-at}
+use Rattle.dbl_consume_laws.proofs.ModelHistoryWholeLemmas.{whole_by_case}
+use Rattle.dbl_consume_laws.specs.ModelEvent.declared.closed.Closed.{Closed}
+use Rattle.dbl_consume_laws.specs.ModelEvent.Snapshots.{read_record, read_records, progress_record, chunk_records, snapshot}
+use Rattle.dbl_consume_laws.specs.ModelEvent.SnapshotLists.{IsSnapshot}
+use Rattle.dbl_consume_laws.specs.Commits.{moment_after, AreFitCommits}
+use Rattle.dbl_consume_laws.specs.Moments.{record_moment, last_moment, span_end}
+use Rattle.dbl_consume_laws.specs.KnownKeys.{IsKnown}
+use Rattle.dbl_consume_laws.specs.Ages.{held_cell, source_cell, HadValueWithin, AreAged, IsAged}
+use Rattle.dbl_consume_laws.specs.Windows.{IsRightWindow}
+use Rattle.dbl_consume_laws.proofs.AgeingCells.{aged_wider}
+use Rattle.dbl_consume_laws.proofs.Deliver.{commit_in_range}
+use Rattle.dbl_consume_laws.proofs.Lists.{slice_get-seam}
+use Rattle.dbl_consume_laws.proofs.Moments.{AreAt, reach_at, marks_stand}
+use Rattle.dbl_faithful.specs.Agreements.{AgreesUpTo}
+use Rattle.dbl_faithful.specs.Kinds.{is_change_record}
+use Rattle.dbl_faithful.specs.ToldEvents.{ToldEvent, events_of_commit, events_of_commits, events_since, IsAmong, HasRecordOfEvent}
 use Rattle.dbl_faithful.specs.ExactLogs.{IsLogExact}
 use Rattle.dbl_faithful.specs.RightSnapshots.{AreSnapshotsRight}
-use Rattle.dbl_faithful.specs.CaughtUp.{IsEndOf, IsLog, IsCaughtUp}
+use Rattle.dbl_faithful.specs.CaughtUp.{IsEndOf, IsExactLog, HasDeliveredUpTo}
 use Rattle.dbl_faithful.specs.Controls.{IsTornWindow, MeetsAllElse, TornWindowsAreSpoilt}
 use Rattle.dbl_faithful.proofs.CaughtUp.{starts_are_caught_up, snapshots_are_caught_up, caught_up_logs_are_right}
 use Rattle.dbl_faithful.proofs.Exact.{log_others, gaps_spoil_exact_logs}
 use Rattle.dbl_faithful.proofs.Items.{first_some, at_left, at_right, taken_at, take_within, all_by_place}
-use Rattle.dbl_faithful.proofs.Positions.{end_behind, end_moment}
+use Rattle.dbl_faithful.proofs.Positions.{end_after, end_moment}
 use Rattle.dbl_faithful.proofs.RightSnapshots.{mark_is_silent, listing, listing_places, listing_others, rows_in_range}
-use Rattle.dbl_faithful.proofs.Told.{behind_all, behind_rise, behind_changes, told_behind-append, of_commit}
+use Rattle.dbl_faithful.proofs.Trace.{behind_all, behind_rise, behind_changes, events_since-append, of_commit}
 
 -- ---- the records of rows
 
@@ -131,7 +131,7 @@ module _ (identity : Identity) (infos : List TableInfo) (commits : List Commit) 
   late_is = ap (λ (l : List Commit). moment_at l late.lsn.0) split ∙ end_moment late.lsn.0 front (mark ∷ torn.later) facts.rise late_ends
 
   late_before : late.lsn.0 < mark.lsn.0
-  late_before = (end_behind late.lsn.0 front (mark ∷ torn.later) facts.rise late_ends).0
+  late_before = (end_after late.lsn.0 front (mark ∷ torn.later) facts.rise late_ends).0
 
   -- ---- the row that the insert makes wasn't there before
 
@@ -162,12 +162,12 @@ module _ (identity : Identity) (infos : List TableInfo) (commits : List Commit) 
           ap (λ (at : Rows). at torn.table (key_at (key_places infos torn.table) torn.row.cells)) rows_are
           ∙ (ap (λ (o : Option TableInfo). rows_from infos no_rows (all_changes torn.before) torn.table (key_at (unwrap_or (option_map (λ (i : TableInfo). i.key) o) []) torn.row.cells)) is ∙ fit_here.absent)
 
-  touched_gone : (e table : ℕ) (key : Key) (column : List ℕ) → e ≡ s + 1 → IsTouched infos (all_changes commits) s e table key → Occurs (source_cell infos (all_changes commits) table key column) s e None
+  touched_gone : (e table : ℕ) (key : Key) (column : List ℕ) → e ≡ s + 1 → IsTouched infos (all_changes commits) s e table key → HadValueWithin (source_cell infos (all_changes commits) table key column) s e None
   touched_gone e table key column size touched =
       let here : touched.place ≡ s = one_place s touched.place e touched.not_before touched.before size in
       let one : touched.change ≡ Insert torn.table torn.row = first_some touched.change (Insert torn.table torn.row) (sym touched.is ∙ (ap (slice_get (all_changes commits)) here ∙ inserted)) in
       let case = (whole_by_case infos (Insert torn.table torn.row) table key).0 (subst (λ (c : Change). IsWholeFor infos c table key) one touched.whole) in
-      record { moment = s; not_before = le_refl s; not_after = room s e size; is = ap₂ (λ (t : ℕ) (k : Key). source_cell infos (all_changes commits) t k column s) (sym case.0) (sym case.1) ∙ ap (λ (row : Option (List Val)). option_and_then (λ texts. texts column) (option_map (texts_of (columns_of infos torn.table)) row)) absent }
+      record { moment = s; not_before = le_refl s; not_after = room s e size; is = ap₂ (λ (t : ℕ) (k : Key). source_cell infos (all_changes commits) t k column s) (sym case.0) (sym case.1) ∙ ap (λ (row : Option (List Val)). option_and_then (λ texts. texts column) (option_map (row_json_texts (columns_of infos torn.table)) row)) absent }
     where
       room : (a b : ℕ) → b ≡ a + 1 → a ≤ b
       room a b is = omega (arith, is)
@@ -211,14 +211,14 @@ module _ (identity : Identity) (infos : List TableInfo) (commits : List Commit) 
       nothing key (inr up_to) = up_to
 
   -- with the start at the insert, the log is caught up
-  up : IsCaughtUp identity infos commits late.lsn.0 mark.lsn.0 front (mark ∷ torn.later) 0 records
+  up : HasDeliveredUpTo identity infos commits late.lsn.0 mark.lsn.0 front (mark ∷ torn.later) 0 records
   up =
-      subst (IsCaughtUp identity infos commits late.lsn.0 mark.lsn.0 front (mark ∷ torn.later) 0) others_are
+      subst (HasDeliveredUpTo identity infos commits late.lsn.0 mark.lsn.0 front (mark ∷ torn.later) 0) others_are
       (snapshots_are_caught_up identity infos commits front mark torn.later late.lsn.0 late.lsn.0 m None closed [] (snapshot identity infos closed mark torn.now) torn.now torn.count
       torn.is_high late_before torn.in_range listed torn.clear right (at_most (moment_at commits late.lsn.0) m late_is) (le_refl m) (λ key up_to. absurd up_to)
       (starts_are_caught_up identity infos commits front (mark ∷ torn.later) late.lsn.0 late.lsn.0 fit split late_ends))
 
-  settled : IsCaught identity infos commits (moment_at commits late.lsn.0) records m × IsLogExact identity infos commits late.lsn.0 records × AreSnapshotsRight identity infos commits (told_behind infos late.lsn.0 commits) records
+  settled : AgreesUpTo identity infos commits (moment_at commits late.lsn.0) records m × IsLogExact identity infos commits late.lsn.0 records × AreSnapshotsRight identity infos commits (events_since infos late.lsn.0 commits) records
   settled = caught_up_logs_are_right identity infos commits front (mark ∷ torn.later) late.lsn.0 mark.lsn.0 0 m records (le_refl m) up
 
   -- ---- its records
@@ -232,7 +232,7 @@ module _ (identity : Identity) (infos : List TableInfo) (commits : List Commit) 
   position_is : (j : ℕ) (item : Record) → slice_get records j ≡ Some item → item.position ≡ mark.lsn.0
   position_is j item at = (listing_places identity info mark torn.now None false 0 torn.closed.rows j item (of_listing j item at)).0
 
-  no_change : (j : ℕ) (item : Record) → slice_get records j ≡ Some item → is_change item ≡ false
+  no_change : (j : ℕ) (item : Record) → slice_get records j ≡ Some item → is_change_record item ≡ false
   no_change j item at =
       listing_others identity info mark torn.now None false 0 (0 + length torn.closed.rows) torn.closed.rows
       (rows_in_range info mark torn.now torn.closed.rows (commit_in_range identity infos front mark torn.later facts) torn.in_range torn.listed.fits.rows torn.listed.keys) j item (of_listing j item at)
@@ -259,7 +259,7 @@ module _ (identity : Identity) (infos : List TableInfo) (commits : List Commit) 
       taken_some (suc n) [] lt le = absurd (omega (arith, le))
       taken_some (suc n) (x ∷ xs) lt le = omega arith
 
-  reaches : (far : ℕ) → reach infos commits far records ≡ max far m
+  reaches : (far : ℕ) → last_moment infos commits far records ≡ max far m
   reaches far = reach_at infos commits m far records some all_at
 
   -- ---- it is aged
@@ -289,9 +289,9 @@ module _ (identity : Identity) (infos : List TableInfo) (commits : List Commit) 
   -- ---- and all else
 
   abbrev told : List ToldEvent
-  told = told_behind infos start commits
+  told = events_since infos start commits
 
-  log : IsLog identity told records 0
+  log : IsExactLog identity told records 0
   log =
       log_others identity told (behind_rise infos start 0 commits fit.rise) (behind_changes identity infos start commits fit.in_range) [] records 0 no_change
       (record { count = 0; exact = record { few = omega arith; fresh = tt; others = λ place item at change. never place item at }; not_after = le_refl 0 })
@@ -312,21 +312,21 @@ module _ (identity : Identity) (infos : List TableInfo) (commits : List Commit) 
   -- ---- and is spoilt by what comes next
 
   -- the insert's events are told behind the start
-  stands : (k : ℕ) (t : ToldEvent) → slice_get (told_of infos late) k ≡ Some t → (number : ℕ) × (slice_get told number ≡ Some t)
+  stands : (k : ℕ) (t : ToldEvent) → slice_get (events_of_commit infos late) k ≡ Some t → (number : ℕ) × (slice_get told number ≡ Some t)
   stands k t at =
       let rise : AreRising 0 (lsns (torn.before ++ low ∷ late ∷ mark ∷ torn.later)) = subst (λ (l : List Commit). AreRising 0 (lsns l)) torn.spelled fit.rise in
-      let parts : told ≡ told_behind infos start torn.before ++ told_by infos (low ∷ late ∷ mark ∷ torn.later) =
-      ap (told_behind infos start) torn.spelled
-      ∙ (told_behind-append infos start torn.before (low ∷ late ∷ mark ∷ torn.later)
-      ∙ ap (λ (l : List Commit). told_behind infos start torn.before ++ told_by infos l) (behind_all start (low ∷ late ∷ mark ∷ torn.later) (end_behind start torn.before (low ∷ late ∷ mark ∷ torn.later) rise torn.ends))) in
-      let there : slice_get (told_by infos (low ∷ late ∷ mark ∷ torn.later)) (length (told_of infos low) + k) ≡ Some t =
-      at_right (told_of infos low) (told_by infos (late ∷ mark ∷ torn.later)) k t (at_left (told_of infos late) (told_by infos (mark ∷ torn.later)) k t at) in (
-        length (told_behind infos start torn.before) + (length (told_of infos low) + k),
-        ap (λ (l : List ToldEvent). slice_get l (length (told_behind infos start torn.before) + (length (told_of infos low) + k))) parts
-            ∙ at_right (told_behind infos start torn.before) (told_by infos (low ∷ late ∷ mark ∷ torn.later)) (length (told_of infos low) + k) t there,
+      let parts : told ≡ events_since infos start torn.before ++ events_of_commits infos (low ∷ late ∷ mark ∷ torn.later) =
+      ap (events_since infos start) torn.spelled
+      ∙ (events_since-append infos start torn.before (low ∷ late ∷ mark ∷ torn.later)
+      ∙ ap (λ (l : List Commit). events_since infos start torn.before ++ events_of_commits infos l) (behind_all start (low ∷ late ∷ mark ∷ torn.later) (end_after start torn.before (low ∷ late ∷ mark ∷ torn.later) rise torn.ends))) in
+      let there : slice_get (events_of_commits infos (low ∷ late ∷ mark ∷ torn.later)) (length (events_of_commit infos low) + k) ≡ Some t =
+      at_right (events_of_commit infos low) (events_of_commits infos (late ∷ mark ∷ torn.later)) k t (at_left (events_of_commit infos late) (events_of_commits infos (mark ∷ torn.later)) k t at) in (
+        length (events_since infos start torn.before) + (length (events_of_commit infos low) + k),
+        ap (λ (l : List ToldEvent). slice_get l (length (events_since infos start torn.before) + (length (events_of_commit infos low) + k))) parts
+            ∙ at_right (events_since infos start torn.before) (events_of_commits infos (low ∷ late ∷ mark ∷ torn.later)) (length (events_of_commit infos low) + k) t there,
       )
 
-  spoilt : (item : Record) → IsAmong identity (told_of infos late) item → IsLogExact identity infos commits start (records ++ item ∷ []) → ⊥
+  spoilt : (item : Record) → IsAmong identity (events_of_commit infos late) item → IsLogExact identity infos commits start (records ++ item ∷ []) → ⊥
   spoilt item among = by records refl
     where
       by : (rs : List Record) → records ≡ rs → IsLogExact identity infos commits start (records ++ item ∷ []) → ⊥
@@ -344,8 +344,8 @@ module _ (identity : Identity) (infos : List TableInfo) (commits : List Commit) 
           before_mark : (p l q h : ℕ) → p ≡ l → l < h → q ≡ h → p < q
           before_mark p l q h one lt two = omega (arith, one, lt, two)
 
-          unput : (number : ℕ) → slice_get told number ≡ Some among.event → IsPut identity records among.event → ⊥
-          unput number at put = both_ways (is_change put.item) (behind_changes identity infos start commits fit.in_range number among.event put.item at put.is) (no_change put.place put.item put.stands)
+          unput : (number : ℕ) → slice_get told number ≡ Some among.event → HasRecordOfEvent identity records among.event → ⊥
+          unput number at put = both_ways (is_change_record put.item) (behind_changes identity infos start commits fit.in_range number among.event put.item at put.is) (no_change put.place put.item put.stands)
 
 pub torn_windows_are_spoilt : TornWindowsAreSpoilt
 torn_windows_are_spoilt identity infos commits start late records fit torn = (meets identity infos commits start late records fit torn, spoilt identity infos commits start late records fit torn)

@@ -7,43 +7,43 @@ use Rattle.std.proofs.lemmas.Option.{get_or_from_slice_get}
 use Rattle.dbl_record.specs.declared.record.Record.{Record}
 use Rattle.dbl_record.specs.Consumers.{HeldCells}
 use Rattle.dbl_record.specs.Places.{Place, place_of, IsBefore}
-use Rattle.dbl_table.specs.declared.identity.Identity.{Identity}
+use Rattle.dbl_model_table.specs.declared.identity.Identity.{Identity}
 use Rattle.dbl_value.specs.declared.value.Val.{Val}
-use Rattle.dbl_table.specs.declared.row.Key.{Key}
-use Rattle.dbl_table.specs.declared.row.Row.{Row}
-use Rattle.dbl_table.specs.declared.table.Column.{Column}
-use Rattle.dbl_table.specs.declared.table.TableInfo.{TableInfo}
-use Rattle.dbl_table.specs.declared.change.Commit.{Commit}
-use Rattle.dbl_table.specs.Rows.{rows, moment_at}
-use Rattle.dbl_table.proofs.Lists.{slice_get-lt}
-use Rattle.dbl_history.specs.Image.{Names, texts_of, image_row, IsImage}
-use Rattle.dbl_table.specs.Infos.{columns_of}
-use Rattle.dbl_event.specs.Snapshots.{read_record, chunk_records}
-use Rattle.dbl_agreement.specs.Laws.{Holds}
-use Rattle.dbl_history.specs.History.{AreRising}
-use Rattle.dbl_history.proofs.MomentLemmas.{lsns}
-use Rattle.dbl_ageing.specs.Commits.{moment_after, AreFitCommits}
-use Rattle.dbl_ageing.specs.KnownKeys.{IsTold}
-use Rattle.dbl_ageing.specs.Ages.{held_row, IsAged, AreNamed, IsNamedRow}
-use Rattle.dbl_ageing.specs.Moments.{record_moment, reach}
-use Rattle.dbl_ageing.proofs.Lists.{slice_get-seam}
-use Rattle.dbl_ageing.proofs.Moments.{place_moment-longer, place_moment-most, reach_under}
-use Rattle.dbl_ageing.proofs.Rows.{aged_records_agree}
+use Rattle.dbl_model_table.specs.declared.row.Key.{Key}
+use Rattle.dbl_model_table.specs.declared.row.Row.{Row}
+use Rattle.dbl_model_table.specs.declared.table.Column.{Column}
+use Rattle.dbl_model_table.specs.declared.table.TableInfo.{TableInfo}
+use Rattle.dbl_model_table.specs.declared.change.Commit.{Commit}
+use Rattle.dbl_model_table.specs.Rows.{rows, moment_at}
+use Rattle.dbl_model_table.proofs.Lists.{slice_get-lt}
+use Rattle.dbl_consume_laws.specs.ModelHistory.Image.{Names, row_json_texts, image_row, IsImage}
+use Rattle.dbl_model_table.specs.Infos.{columns_of}
+use Rattle.dbl_consume_laws.specs.ModelEvent.Snapshots.{read_record, chunk_records}
+use Rattle.dbl_consume_laws.specs.Laws.{HoldsJsonTexts}
+use Rattle.dbl_consume_laws.specs.ModelHistory.History.{AreRising}
+use Rattle.dbl_consume_laws.proofs.ModelHistoryMomentLemmas.{lsns}
+use Rattle.dbl_consume_laws.specs.Commits.{moment_after, AreFitCommits}
+use Rattle.dbl_consume_laws.specs.KnownKeys.{IsTold}
+use Rattle.dbl_consume_laws.specs.Ages.{held_row, IsAged, HasNamedRows, IsNamedRow}
+use Rattle.dbl_consume_laws.specs.Moments.{record_moment, last_moment}
+use Rattle.dbl_consume_laws.proofs.Lists.{slice_get-seam}
+use Rattle.dbl_consume_laws.proofs.Moments.{place_moment-longer, place_moment-most, reach_under}
+use Rattle.dbl_consume_laws.proofs.Rows.{aged_records_agree}
 use Rattle.dbl_faithful.specs.Kinds.{is_row}
-use Rattle.dbl_faithful.specs.ToldEvents.{ToldEvent, told_behind}
+use Rattle.dbl_faithful.specs.ToldEvents.{ToldEvent, events_since}
 use Rattle.dbl_faithful.specs.ExactLogs.{IsExact}
-use Rattle.dbl_faithful.specs.RightSnapshots.{IsWindowAt, IsRightSnapshot}
+use Rattle.dbl_faithful.specs.RightSnapshots.{IsWindowOfRecords, IsRightSnapshot}
 use Rattle.dbl_faithful.specs.Controls.{CellsMissEmptyRows}
-use Rattle.dbl_faithful.specs.CaughtUp.{IsEndOf, IsCaughtUp}
+use Rattle.dbl_faithful.specs.CaughtUp.{IsEndOf, HasDeliveredUpTo}
 use Rattle.dbl_faithful.specs.CaughtUpLaws.{IsSourceRow, IsPutAhead, SnapshotRowsOverwriteNothing, IsDone, DoneLogsAreImages, DoneLogsHaveImages, CompleteLogsAreImages}
 use Rattle.dbl_faithful.proofs.CaughtUp.{caught_up_logs_are_right}
 use Rattle.dbl_faithful.proofs.Exact.{put_among, first_print}
 use Rattle.dbl_faithful.proofs.Items.{first_some, at_take, taken_at, at_all, all_weaker}
 use Rattle.dbl_faithful.proofs.RecordKinds.{rows_are_no_changes, progress_is_neither}
 use Rattle.dbl_faithful.proofs.News.{fresh_before}
-use Rattle.dbl_faithful.proofs.Positions.{end_behind, start_moment}
+use Rattle.dbl_faithful.proofs.Positions.{end_after, start_moment}
 use Rattle.dbl_faithful.proofs.RightSnapshots.{at_test, filter_has, listing, listing_cases}
-use Rattle.dbl_faithful.proofs.Told.{behind_rise, behind_changes, print_place}
+use Rattle.dbl_faithful.proofs.Trace.{behind_rise, behind_changes, print_place}
 
 -- ---- cells and rows
 
@@ -57,7 +57,7 @@ two_ways b is isnt = cc
 
 module _ (identity : Identity) (infos : List TableInfo) (commits : List Commit) (start : ℕ) (records : List Record) (place : ℕ) (item : Record) (at : slice_get records place ≡ Some item) (row : is_row item ≡ true) where
   -- it is one of its window's rows
-  source_row : IsWindowAt identity infos commits records item.position → IsSourceRow identity infos commits item
+  source_row : IsWindowOfRecords identity infos commits records item.position → IsSourceRow identity infos commits item
   source_row window =
       let info : TableInfo = window.listed.info in
       let chunk_is : window.snapshot ≡ listing identity info window.mark window.now window.closed.through window.closed.done 0 (length window.closed.rows) window.closed.rows =
@@ -85,21 +85,21 @@ module _ (identity : Identity) (infos : List TableInfo) (commits : List Commit) 
       ]
 
   -- an event before its position has its record before it
-  put_ahead : AreFitCommits infos commits → (count : ℕ) → IsExact identity (told_behind infos start commits) records count → IsRightSnapshot identity infos commits (told_behind infos start commits) records place item.position
-      → (number : ℕ) (t : ToldEvent) → slice_get (told_behind infos start commits) number ≡ Some t → t.event.position < item.position → IsPutAhead identity records place t
+  put_ahead : AreFitCommits infos commits → (count : ℕ) → IsExact identity (events_since infos start commits) records count → IsRightSnapshot identity infos commits (events_since infos start commits) records place item.position
+      → (number : ℕ) (t : ToldEvent) → slice_get (events_since infos start commits) number ≡ Some t → t.event.position < item.position → IsPutAhead identity records place t
   put_ahead fit count exact right number t at_told lt =
       let rise = behind_rise infos start 0 commits fit.rise in
       let kinds = behind_changes identity infos start commits fit.in_range in
-      let under : number < count = put_among identity (told_behind infos start commits) rise kinds records count number t exact at_told (right.put number t at_told lt) in
-      let first = first_print identity (told_behind infos start commits) rise kinds records count number t exact at_told under in
+      let under : number < count = put_among identity (events_since infos start commits) rise kinds records count number t exact at_told (right.put number t at_told lt) in
+      let first = first_print identity (events_since infos start commits) rise kinds records count number t exact at_told under in
       let here : first.0.position ≡ t.event.position = ap (λ (p : Place). p.0) (print_place identity t first.0 first.1) in
       elim (cases_order first.2.place place) [
         | inl same ↦ absurd (not_here first.0 first.2.place first.2.stands same here)
         | inr rest ↦ elim rest [
           | inl before ↦ record { earlier = first.2.place; first = first.0; before = before; stands = first.2.stands; is = first.1 }
-          | inr behind ↦ absurd (not_before first.0 t.event.position here
+          | inr subsequent ↦ absurd (not_before first.0 t.event.position here
               (at_all (λ (earlier : Record). IsBefore (place_of earlier) (place_of first.0)) (take first.2.place records) place item
-              (fresh_before records first.2.place first.0 first.2.stands first.2.fresh) (at_take first.2.place records place item at behind)))
+              (fresh_before records first.2.place first.0 first.2.stands first.2.fresh) (at_take first.2.place records place item at subsequent)))
         ]
       ]
     where
@@ -139,41 +139,41 @@ done_tells identity infos records table key info captured done =
     record { info = info; captured = captured; item = done.item; stands = contains_at records done.place done.item done.stands; through = done.through; done = true; tells = done.tells; covers = inl refl }
 
 -- where nothing is held there is no row, and where a row is held there is one
-no_row : (columns : List Column) (row : Option (List Val)) → Holds None (option_map (texts_of columns) row) → row ≡ None
+no_row : (columns : List Column) (row : Option (List Val)) → HoldsJsonTexts None (option_map (row_json_texts columns) row) → row ≡ None
 no_row columns None holds = refl
 no_row columns (Some values) holds = elim holds [ ]
 
-some_row : (columns : List Column) (cells : HeldCells) (row : Option (List Val)) → Holds (Some cells) (option_map (texts_of columns) row) → (values : List Val) × (row ≡ Some values)
+some_row : (columns : List Column) (cells : HeldCells) (row : Option (List Val)) → HoldsJsonTexts (Some cells) (option_map (row_json_texts columns) row) → (values : List Val) × (row ≡ Some values)
 some_row columns cells None holds = elim holds [ ]
 some_row columns cells (Some values) holds = (values, refl)
 
-module _ (identity : Identity) (infos : List TableInfo) (commits : List Commit) (start moment : ℕ) (records : List Record) (topic text : List ℕ) (fit : AreFitCommits infos commits) (aged : IsAged identity infos commits start records moment) (named : AreNamed identity infos records) (low : reach infos commits start records ≤ moment) (all : AllByRecursion (IsDone identity records) infos) where
-  holds_at : (table : ℕ) (key : Key) → Names identity infos topic text table key → Holds (held_row identity records topic text) (image_row infos (rows infos commits moment) table key)
+module _ (identity : Identity) (infos : List TableInfo) (commits : List Commit) (start moment : ℕ) (records : List Record) (topic text : List ℕ) (fit : AreFitCommits infos commits) (aged : IsAged identity infos commits start records moment) (named : HasNamedRows identity infos records) (low : last_moment infos commits start records ≤ moment) (all : AllByRecursion (IsDone identity records) infos) where
+  holds_at : (table : ℕ) (key : Key) → Names identity infos topic text table key → HoldsJsonTexts (held_row identity records topic text) (image_row infos (rows infos commits moment) table key)
   holds_at table key names =
       let told : IsTold identity infos records table key = done_tells identity infos records table key names.info names.captured (at_all (IsDone identity records) infos table names.info all names.captured) in
       aged_records_agree identity infos commits start moment records topic text table key fit aged named low names (inl told)
 
-  holds_none : ((table : ℕ) (key : Key) → Names identity infos topic text table key → rows infos commits moment table key ≡ None) → Holds (held_row identity records topic text) None
+  holds_none : ((table : ℕ) (key : Key) → Names identity infos topic text table key → rows infos commits moment table key ≡ None) → HoldsJsonTexts (held_row identity records topic text) None
   holds_none gone = by (held_row identity records topic text) refl
     where
-      by : (held : Option HeldCells) → held_row identity records topic text ≡ held → Holds held None
+      by : (held : Option HeldCells) → held_row identity records topic text ≡ held → HoldsJsonTexts held None
       by None is = tt
       by (Some cells) is =
           let row : IsNamedRow identity infos topic text cells = named.each topic text cells is in
-          let none : image_row infos (rows infos commits moment) row.table row.key ≡ None = ap (option_map (texts_of (columns_of infos row.table))) (gone row.table row.key row.names) in
-          subst (λ (h : Option HeldCells). Holds h None) is (subst (Holds (held_row identity records topic text)) none (holds_at row.table row.key row.names))
+          let none : image_row infos (rows infos commits moment) row.table row.key ≡ None = ap (option_map (row_json_texts (columns_of infos row.table))) (gone row.table row.key row.names) in
+          subst (λ (h : Option HeldCells). HoldsJsonTexts h None) is (subst (HoldsJsonTexts (held_row identity records topic text)) none (holds_at row.table row.key row.names))
 
-  holds_image : (image : Option (List ℕ → Option (List ℕ))) → IsImage identity infos (rows infos commits moment) topic text image → Holds (held_row identity records topic text) image
+  holds_image : (image : Option (List ℕ → Option (List ℕ))) → IsImage identity infos (rows infos commits moment) topic text image → HoldsJsonTexts (held_row identity records topic text) image
   holds_image None is = holds_none is
-  holds_image (Some texts) is = subst (Holds (held_row identity records topic text)) is.row (holds_at is.table is.key is.names)
+  holds_image (Some texts) is = subst (HoldsJsonTexts (held_row identity records topic text)) is.row (holds_at is.table is.key is.names)
 
   -- what it holds tells what there is
   image_there : (held : Option HeldCells) → held_row identity records topic text ≡ held → (image : Option (List ℕ → Option (List ℕ))) × IsImage identity infos (rows infos commits moment) topic text image
-  image_there None is = (None, λ table key names. no_row (columns_of infos table) (rows infos commits moment table key) (subst (λ (h : Option HeldCells). Holds h (image_row infos (rows infos commits moment) table key)) is (holds_at table key names)))
+  image_there None is = (None, λ table key names. no_row (columns_of infos table) (rows infos commits moment table key) (subst (λ (h : Option HeldCells). HoldsJsonTexts h (image_row infos (rows infos commits moment) table key)) is (holds_at table key names)))
   image_there (Some cells) is =
       let row : IsNamedRow identity infos topic text cells = named.each topic text cells is in
-      let here = some_row (columns_of infos row.table) cells (rows infos commits moment row.table row.key) (subst (λ (h : Option HeldCells). Holds h (image_row infos (rows infos commits moment) row.table row.key)) is (holds_at row.table row.key row.names)) in
-      (Some (texts_of (columns_of infos row.table) here.0), record { table = row.table; key = row.key; names = row.names; row = ap (option_map (texts_of (columns_of infos row.table))) here.1 })
+      let here = some_row (columns_of infos row.table) cells (rows infos commits moment row.table row.key) (subst (λ (h : Option HeldCells). HoldsJsonTexts h (image_row infos (rows infos commits moment) row.table row.key)) is (holds_at row.table row.key row.names)) in
+      (Some (row_json_texts (columns_of infos row.table) here.0), record { table = row.table; key = row.key; names = row.names; row = ap (option_map (row_json_texts (columns_of infos row.table))) here.1 })
 
 pub done_logs_have_images : DoneLogsHaveImages
 done_logs_have_images identity infos commits start moment records topic text fit aged named low all =
@@ -192,22 +192,22 @@ reached_under : (start m far : ℕ) → far ≤ max start m → start ≤ m → 
 reached_under start m far le from = omega (arith, le, from)
 
 -- then its records reach no further than the delivered commits
-pub complete_reach : (identity : Identity) (infos : List TableInfo) (commits before later : List Commit) (start far sent position : ℕ) (records : List Record) → IsCaughtUp identity infos commits start far before later sent records
-    → IsEndOf position before → far ≤ position → reach infos commits (moment_at commits start) records ≤ moment_after before
+pub complete_reach : (identity : Identity) (infos : List TableInfo) (commits before later : List Commit) (start far sent position : ℕ) (records : List Record) → HasDeliveredUpTo identity infos commits start far before later sent records
+    → IsEndOf position before → far ≤ position → last_moment infos commits (moment_at commits start) records ≤ moment_after before
 complete_reach identity infos commits before later start far sent position records up ends le =
     let rise : AreRising 0 (lsns (before ++ later)) = subst (λ (l : List Commit). AreRising 0 (lsns l)) up.spelled up.fit.rise in
-    let above : AllByRecursion (λ c. position < c.lsn.0) later = end_behind position before later rise ends in
+    let above : AllByRecursion (λ c. position < c.lsn.0) later = end_after position before later rise ends in
     let from : moment_at commits start ≤ moment_after before = subst (λ (l : List Commit). moment_at l start ≤ moment_after before) (sym up.spelled) (start_moment start before later up.ahead) in
     let one : (item : Record) → item.position ≤ far → record_moment infos commits item ≤ moment_after before =
     (λ item low. subst (λ (l : List Commit). record_moment infos l item ≤ moment_after before) (sym up.spelled)
     (subst (λ (n : ℕ). n ≤ moment_after before)
     (sym (place_moment-longer infos before later (place_of item) (all_weaker (λ (c : Commit). position < c.lsn.0) (λ (c : Commit). item.position < c.lsn.0) later (λ c lt. no_later item.position far position c.lsn.0 low le lt) above)))
     (place_moment-most infos before (place_of item)))) in
-    reached_under (moment_at commits start) (moment_after before) (reach infos commits (moment_at commits start) records)
+    reached_under (moment_at commits start) (moment_after before) (last_moment infos commits (moment_at commits start) records)
     (reach_under infos commits (moment_after before) (moment_at commits start) records (all_weaker (λ (item : Record). item.position ≤ far) (λ (item : Record). record_moment infos commits item ≤ moment_after before) records one up.placed)) from
 
 pub complete_logs_are_images : CompleteLogsAreImages
 complete_logs_are_images identity infos commits before later start far sent position records topic text image up ends le all is =
-    let low : reach infos commits (moment_at commits start) records ≤ moment_after before = complete_reach identity infos commits before later start far sent position records up ends le in
+    let low : last_moment infos commits (moment_at commits start) records ≤ moment_after before = complete_reach identity infos commits before later start far sent position records up ends le in
     let right = caught_up_logs_are_right identity infos commits before later start far sent (moment_after before) records (le_refl (moment_after before)) up in
     done_logs_are_images identity infos commits (moment_at commits start) (moment_after before) records topic text image up.fit right.0.aged right.0.named low all is

@@ -1,38 +1,38 @@
--- Why two definitions say as much as they do.
+-- Why two definitions are as strong as they are.
 use Rattle.std.specs.Prelude.{◌≡◌, ℕ, ℤ, ◌<◌, ◌≤◌, false, Option, Some, None, List, [], ◌∷◌, ◌++◌, length, take, slice_get}
 use Rattle.dbl_record.specs.declared.record.Record.{Record}
 use Rattle.dbl_record.specs.Consumers.{held_at}
 use Rattle.dbl_record.specs.Places.{IsFresh}
-use Rattle.dbl_table.specs.declared.identity.Identity.{Identity}
-use Rattle.dbl_table.specs.declared.row.Key.{Key}
-use Rattle.dbl_table.specs.declared.row.Row.{Row}
-use Rattle.dbl_table.specs.declared.table.TableInfo.{TableInfo}
-use Rattle.dbl_table.specs.declared.change.Change.TheVariants.{Insert}
-use Rattle.dbl_table.specs.declared.change.Commit.{Commit}
-use Rattle.dbl_event.specs.declared.closed.Closed.{Closed}
-use Rattle.dbl_table.specs.Rows.{changes_of, all_changes, moment_at}
-use Rattle.dbl_history.specs.Ranges.{IsMomentInRange}
-use Rattle.dbl_event.specs.Clashes.{snapshot_clash}
-use Rattle.dbl_event.specs.SnapshotLists.{IsSnapshot}
-use Rattle.dbl_agreement.specs.Laws.{Holds}
-use Rattle.dbl_ageing.specs.Commits.{moment_after, AreFitCommits}
-use Rattle.dbl_ageing.specs.Ages.{IsAged, AreNamed}
-use Rattle.dbl_ageing.specs.Windows.{IsRightWindow}
+use Rattle.dbl_model_table.specs.declared.identity.Identity.{Identity}
+use Rattle.dbl_model_table.specs.declared.row.Key.{Key}
+use Rattle.dbl_model_table.specs.declared.row.Row.{Row}
+use Rattle.dbl_model_table.specs.declared.table.TableInfo.{TableInfo}
+use Rattle.dbl_model_table.specs.declared.change.Change.TheVariants.{Insert}
+use Rattle.dbl_model_table.specs.declared.change.Commit.{Commit}
+use Rattle.dbl_consume_laws.specs.ModelEvent.declared.closed.Closed.{Closed}
+use Rattle.dbl_model_table.specs.Rows.{changes_of, all_changes, moment_at}
+use Rattle.dbl_consume_laws.specs.ModelHistory.Ranges.{IsMomentInRange}
+use Rattle.dbl_consume_laws.specs.ModelEvent.Clashes.{snapshot_clash}
+use Rattle.dbl_consume_laws.specs.ModelEvent.SnapshotLists.{IsSnapshot}
+use Rattle.dbl_consume_laws.specs.Laws.{HoldsJsonTexts}
+use Rattle.dbl_consume_laws.specs.Commits.{moment_after, AreFitCommits}
+use Rattle.dbl_consume_laws.specs.Ages.{IsAged, HasNamedRows}
+use Rattle.dbl_consume_laws.specs.Windows.{IsRightWindow}
 use Rattle.dbl_faithful.specs.Agreements.{Agrees}
-use Rattle.dbl_faithful.specs.Kinds.{is_change}
-use Rattle.dbl_faithful.specs.ToldEvents.{told_of, IsAmong}
+use Rattle.dbl_faithful.specs.Kinds.{is_change_record}
+use Rattle.dbl_faithful.specs.ToldEvents.{events_of_commit, IsAmong}
 use Rattle.dbl_faithful.specs.ExactLogs.{IsLogExact}
-use Rattle.dbl_faithful.specs.RightSnapshots.{IsHighMark, IsWindowAt}
+use Rattle.dbl_faithful.specs.RightSnapshots.{IsHighMark, IsWindowOfRecords}
 use Rattle.dbl_faithful.specs.CaughtUp.{IsEndOf}
 
--- Cell by cell a row without cells is no row: its cells agree with a source that has no row there, and the row doesn't.
+-- A row without cells agrees by its cells with a source that has no row, although the rows differ.
 abbrev pub CellsMissEmptyRows : Type 0
-CellsMissEmptyRows = ((column : List ℕ) → held_at (Some []) column ≡ held_at None column) × (Holds (Some []) None → ⊥)
+CellsMissEmptyRows = ((column : List ℕ) → held_at (Some []) column ≡ held_at None column) × (HoldsJsonTexts (Some []) None → ⊥)
 
 -- ---- why a right snapshot has all earlier events before it
 
--- After the start come a commit without changes, as a low mark is one, a commit that inserts a row, and a high mark. Of the window
--- that is right there the log has the first rows, and nothing else: the insert was never told.
+-- A torn window: after the start come a commit without changes, one that inserts a row, and a high watermark. The log has first rows of the
+-- window that is right there, and no record of the insert.
 pub record IsTornWindow (identity : Identity) (infos : List TableInfo) (commits : List Commit) (start : ℕ) (late : Commit)
     (records : List Record) : Type 0 where
   pub before : List Commit
@@ -60,22 +60,22 @@ pub record IsTornWindow (identity : Identity) (infos : List TableInfo) (commits 
   pub no_progress : count ≤ length closed.rows
   pub front : records ≡ take count snapshot
 
--- All that stores ask of a log whose offset is at its start, but that the events before a snapshot's row are in it.
+-- Whether a log whose offset is at its start satisfies all requirements of stores except that the events before a snapshot's row are in it.
 pub record MeetsAllElse (identity : Identity) (infos : List TableInfo) (commits : List Commit) (start : ℕ)
     (records : List Record) : Type 0 where
   pub agrees : Agrees identity infos commits (moment_at commits start) records
   pub exact : IsLogExact identity infos commits start records
   pub aged : IsAged identity infos commits (moment_at commits start) records (moment_at commits start)
-  pub named : AreNamed identity infos records
-  pub fresh : (place : ℕ) (item : Record) → slice_get records place ≡ Some item → is_change item ≡ false → IsFresh records place
-  pub windows : (place : ℕ) (item : Record) → slice_get records place ≡ Some item → is_change item ≡ false
-      → IsWindowAt identity infos commits records item.position
+  pub named : HasNamedRows identity infos records
+  pub fresh : (place : ℕ) (item : Record) → slice_get records place ≡ Some item → is_change_record item ≡ false → IsFresh records place
+  pub windows : (place : ℕ) (item : Record) → slice_get records place ≡ Some item → is_change_record item ≡ false
+      → IsWindowOfRecords identity infos commits records item.position
 
--- Such a log meets all else. A session that goes on from there delivers the insert, and no record of it leaves the log exact.
+-- A log with a torn window satisfies all other requirements, but after a session delivers the insert no record of it leaves the log exact.
 abbrev pub TornWindowsAreSpoilt : Type 0
 TornWindowsAreSpoilt = (identity : Identity) (infos : List TableInfo) (commits : List Commit) (start : ℕ) (late : Commit)
     (records : List Record)
     → AreFitCommits infos commits → IsTornWindow identity infos commits start late records
     → MeetsAllElse identity infos commits start records
-    × ((item : Record) → IsAmong identity (told_of infos late) item
+    × ((item : Record) → IsAmong identity (events_of_commit infos late) item
     → IsLogExact identity infos commits start (records ++ item ∷ []) → ⊥)

@@ -1,3 +1,7 @@
+pub use Rattle.dbl_offset.specs as Offset
+pub use Rattle.dbl_consume_laws.specs as ConsumeLaws
+pub use Rattle.dbl_consume_laws.specs.ModelEvent
+pub use Rattle.dbl_consume_laws.specs.ModelHistory
 pub mod Agreements
 pub mod Kinds
 pub mod ToldEvents
@@ -9,3 +13,10 @@ pub mod CaughtUp
 pub mod CaughtUpLaws
 pub mod Controls
 pub mod TornExample
+pub mod Stores
+pub mod Lag
+pub mod Faithful
+pub mod Onward
+pub mod Laws
+pub mod Kept
+pub mod Complete

@@ -1,67 +1,77 @@
--- The smallest history that has a torn window: insert a, low mark, insert b, high mark; and a log that has the row of a that the
--- window read, and nothing else.
+-- The smallest history with a torn window: insert a, low watermark, insert b, high watermark; and a log that has only the row of a that the
+-- window read.
 use Rattle.std.specs.Prelude.{ℕ, pos, true, false, Some, List, [], ◌∷◌, codes}
 use Rattle.dbl_value.specs.declared.column_type.PgType.TheVariants as type
 use Rattle.dbl_value.specs.declared.value.Val.TheVariants as val
 use Rattle.dbl_record.specs.declared.record.Record.{Record}
-use Rattle.dbl_table.specs.declared.identity.Identity.{Identity}
-use Rattle.dbl_table.specs.declared.row.Key.{Key}
-use Rattle.dbl_table.specs.declared.row.Row.{Row}
-use Rattle.dbl_table.specs.declared.table.TableInfo.{TableInfo}
-use Rattle.dbl_table.specs.declared.change.Body.{Body}
-use Rattle.dbl_table.specs.declared.change.Body.TheVariants.{Changes, Mark}
-use Rattle.dbl_table.specs.declared.change.Change.TheVariants.{Insert}
-use Rattle.dbl_table.specs.declared.change.Commit.{Commit}
-use Rattle.dbl_event.specs.declared.closed.Closed.{Closed}
-use Rattle.dbl_event.specs.Snapshots.{read_record}
-use Rattle.dbl_ageing.specs.Commits.{AreFitCommits}
+use Rattle.dbl_model_table.specs.declared.identity.Identity.{Identity}
+use Rattle.dbl_model_table.specs.declared.row.Key.{Key}
+use Rattle.dbl_model_table.specs.declared.row.Row.{Row}
+use Rattle.dbl_model_table.specs.declared.table.TableInfo.{TableInfo}
+use Rattle.dbl_model_table.specs.declared.change.Body.{Body}
+use Rattle.dbl_model_table.specs.declared.change.Body.TheVariants.{Changes, Mark}
+use Rattle.dbl_model_table.specs.declared.change.Change.TheVariants.{Insert}
+use Rattle.dbl_model_table.specs.declared.change.Commit.{Commit}
+use Rattle.dbl_consume_laws.specs.ModelEvent.declared.closed.Closed.{Closed}
+use Rattle.dbl_consume_laws.specs.ModelEvent.Snapshots.{read_record}
+use Rattle.dbl_consume_laws.specs.Commits.{AreFitCommits}
 use Rattle.dbl_faithful.specs.Controls.{IsTornWindow}
 
+-- The identity of the example.
 abbrev pub example_identity : Identity
 example_identity = record { prefix = codes "p"; db = codes "d"; placeholder = codes "unset" }
 
--- one column of texts, which is the key
+-- A table with one column of texts, which is the key.
 abbrev pub example_table : TableInfo
 example_table = record {
   name = record { schema = codes "public"; name = codes "t" };
   columns = record { name = codes "k"; ty = type.Text } ∷ [];
   key = 0 ∷ [];
-  -- the name is good, and the key is a column
+  -- The name is allowed, and the key is a column.
   sound = λ i. true;
 }
 
-abbrev pub row_of : List ℕ → Row
-row_of text = record { cells = val.Text text ∷ [] }
+-- The row with this text.
+abbrev pub example_text_row : List ℕ → Row
+example_text_row text = record { cells = val.Text text ∷ [] }
 
+-- The key with this text.
 abbrev pub keyed : List ℕ → Key
 keyed text = record { cells = val.Text text ∷ [] }
 
-abbrev pub made : ℕ → Body → Commit
-made lsn body = record { lsn = record { 0 = lsn }; end_lsn = record { 0 = lsn }; time = pos 0; xid = 1; body = body }
+-- A commit with this LSN and these contents.
+abbrev pub example_commit_at : ℕ → Body → Commit
+example_commit_at lsn body = record { lsn = record { 0 = lsn }; end_lsn = record { 0 = lsn }; time = pos 0; xid = 1; body = body }
 
+-- The commit that inserts a.
 abbrev pub first : Commit
-first = made 1 (Changes (Insert 0 (row_of (codes "a")) ∷ []))
+first = example_commit_at 1 (Changes (Insert 0 (example_text_row (codes "a")) ∷ []))
 
+-- The commit of the low watermark.
 abbrev pub low_mark : Commit
-low_mark = made 2 (Mark (codes "1-1-L"))
+low_mark = example_commit_at 2 (Mark (codes "1-1-L"))
 
+-- The commit that inserts b.
 abbrev pub late : Commit
-late = made 3 (Changes (Insert 0 (row_of (codes "b")) ∷ []))
+late = example_commit_at 3 (Changes (Insert 0 (example_text_row (codes "b")) ∷ []))
 
+-- The commit of the high watermark.
 abbrev pub high_mark : Commit
-high_mark = made 4 (Mark (codes "1-1-H"))
+high_mark = example_commit_at 4 (Mark (codes "1-1-H"))
 
+-- The commits of the example.
 abbrev pub example_commits : List Commit
 example_commits = first ∷ low_mark ∷ late ∷ high_mark ∷ []
 
--- the window had room for one row
+-- A window of at most one row.
 abbrev pub example_window : Closed
-example_window = record { table = 0; rows = (keyed (codes "a"), row_of (codes "a")) ∷ []; through = Some (keyed (codes "a")); done = false }
+example_window = record { table = 0; rows = (keyed (codes "a"), example_text_row (codes "a")) ∷ []; through = Some (keyed (codes "a")); done = false }
 
+-- The log of the example.
 abbrev pub example_records : List Record
-example_records = read_record example_identity example_table high_mark (pos 0) 0 (keyed (codes "a"), row_of (codes "a")) ∷ []
+example_records = read_record example_identity example_table high_mark (pos 0) 0 (keyed (codes "a"), example_text_row (codes "a")) ∷ []
 
--- the history is fit, and the window is torn behind the first commit
+-- The history is valid, and the window is torn after the first commit.
 abbrev pub TornWindowsStand : Type 0
 TornWindowsStand = AreFitCommits (example_table ∷ []) example_commits
     × IsTornWindow example_identity (example_table ∷ []) example_commits 1 late example_records

@@ -1,4 +1,4 @@
-//! What records are told by: their topics and the letters of their values.
+//! How kinds of records are distinguished: by their topics and the letters of their values.
 ghost use Rattle.dbl_faithful.specs.Kinds.{EventsAreChanges, ReadRowsAreRows, ProgressIsNeither, RowsAreNoChanges};
 
 /// The records of a commit are changes.
@@ -11,7 +11,7 @@ pub fn read_rows_are_rows()
     ensures { ReadRowsAreRows }
 {}
 
-/// A progress record is neither.
+/// A progress record is neither a change nor a row.
 pub fn progress_is_neither()
     ensures { ProgressIsNeither }
 {}

@@ -1,50 +1,51 @@
-//! What a session keeps of its records, step by step.
+//! What a session preserves of its records, step by step: they agree up to a point in the history
+//! (`AgreesUpTo`).
 ghost use Rattle.dbl_faithful.specs.CaughtLaws.{StartsAreCaught, EarlierMomentsAreCaught, PartsOfCommitsAreCaught};
 ghost use Rattle.dbl_faithful.specs.CaughtLaws.{PrintsAreCaught, AllPrintsAreCaught, CommitsAreCaught};
 ghost use Rattle.dbl_faithful.specs.CaughtLaws.{SilentCommitsAreCaught, PartsOfSnapshotsAreCaught};
 ghost use Rattle.dbl_faithful.specs.CaughtLaws.{LongerHistoriesAreCaught};
 
-/// A first session begins with it.
+/// The empty list of records agrees up to the start.
 pub fn starts_are_caught()
     ensures { StartsAreCaught }
 {}
 
-/// It is so at each earlier moment, where an offset may stand.
+/// Records that agree up to a point in the history agree up to each earlier one.
 pub fn earlier_moments_are_caught()
     ensures { EarlierMomentsAreCaught }
 {}
 
-/// A prefix of the next commit's records keeps it.
+/// A prefix of the next commit's records keeps the agreement.
 pub fn parts_of_commits_are_caught()
     ensures { PartsOfCommitsAreCaught }
 {}
 
-/// So do such records that are each made at their own time.
+/// Such records, each made at its own time, keep the agreement.
 pub fn prints_are_caught()
     ensures { PrintsAreCaught }
 {}
 
-/// With all of them, each made at its own time, it is kept at the moment behind the commit.
+/// With all of them, each made at its own time, records agree after the commit.
 pub fn all_prints_are_caught()
     ensures { AllPrintsAreCaught }
 {}
 
-/// All of them that are made at one time keep it, at the moment behind the commit.
+/// With all of them, made at one time, records agree after the commit.
 pub fn commits_are_caught()
     ensures { CommitsAreCaught }
 {}
 
-/// A commit that has no records keeps it by itself, at the moment behind it.
+/// Records that agree up to a commit without records agree after it.
 pub fn silent_commits_are_caught()
     ensures { SilentCommitsAreCaught }
 {}
 
-/// A prefix of the records of a window that is right at its high mark keeps it.
+/// A prefix of a right window's records keeps the agreement.
 pub fn parts_of_snapshots_are_caught()
     ensures { PartsOfSnapshotsAreCaught }
 {}
 
-/// So do other clients' commits behind every record.
+/// Other clients' commits after every record keep the agreement.
 pub fn longer_histories_are_caught()
     ensures { LongerHistoriesAreCaught }
 {}

@@ -3,22 +3,22 @@ use Rattle.std.proofs.Common.{◌≡◌, ◌≢◌, ◌∙◌, ◌<◌, ℕ, ℤ
 use Rattle.std.specs.Prelude.{if◌then◌else◌, slice_get, slice_set, flat_map, IsSomeAnd}
 use Rattle.std.proofs.lemmas.List.Elements.{All-weaker}
 use Rattle.std.proofs.lemmas.Slice.Eq.{bytes_eq-Decides}
-use Rattle.dbl_table.specs.declared.row.Key.{Key}
-use Rattle.dbl_table.specs.declared.row.Row.{Row}
-use Rattle.dbl_table.specs.declared.table.TableInfo.{TableInfo}
-use Rattle.dbl_table.specs.declared.change.Body.{Body}
-use Rattle.dbl_table.specs.declared.change.Body.TheVariants.{Changes, Mark}
-use Rattle.dbl_table.specs.declared.change.Change.{Change}
-use Rattle.dbl_table.specs.declared.change.Commit.{Commit}
-use Rattle.dbl_table.specs.declared.identity.Identity.{Identity}
-use Rattle.dbl_history.specs.declared.cursor.Cursor.{Cursor}
-use Rattle.dbl_history.specs.Cursors.{IsCursorOf, AreCursorsOf}
-use Rattle.dbl_history.specs.FitsInfos.{FitsInfos}
-use Rattle.dbl_event.specs.declared.closed.Closed.{Closed}
-use Rattle.dbl_event.specs.Events.{notices, numbered}
-use Rattle.dbl_event.specs.EventJson.{print, envelopes}
-use Rattle.dbl_event.specs.Clashes.{clash_of, first_found, notice_clash}
-use Rattle.dbl_event.specs.Snapshots.{FitsChunk, FitsSnapshot}
+use Rattle.dbl_model_table.specs.declared.row.Key.{Key}
+use Rattle.dbl_model_table.specs.declared.row.Row.{Row}
+use Rattle.dbl_model_table.specs.declared.table.TableInfo.{TableInfo}
+use Rattle.dbl_model_table.specs.declared.change.Body.{Body}
+use Rattle.dbl_model_table.specs.declared.change.Body.TheVariants.{Changes, Mark}
+use Rattle.dbl_model_table.specs.declared.change.Change.{Change}
+use Rattle.dbl_model_table.specs.declared.change.Commit.{Commit}
+use Rattle.dbl_model_table.specs.declared.identity.Identity.{Identity}
+use Rattle.dbl_model_history.specs.declared.cursor.Cursor.{Cursor}
+use Rattle.dbl_model_history.specs.Cursors.{IsCursorOf, AreCursorsOf}
+use Rattle.dbl_model_history.specs.FitsInfos.{FitsInfos}
+use Rattle.dbl_model_event.specs.declared.closed.Closed.{Closed}
+use Rattle.dbl_model_event.specs.Events.{notices, numbered}
+use Rattle.dbl_model_event.specs.EventJson.{print, envelopes}
+use Rattle.dbl_model_event.specs.Clashes.{clash_of, first_found, notice_clash}
+use Rattle.dbl_model_event.specs.Snapshots.{FitsChunk, FitsSnapshot}
 use Rattle.dbl_envelope.specs.Suits.{Suits}
 use Rattle.dbl_envelope.proofs.SuitLemmas.{fitting_suits}
 use Rattle.dbl_window.specs.Plans.{Chunk, low_text, high_text}
@@ -27,7 +27,7 @@ use Rattle.dbl_window.proofs.LeftLemmas.{left_goes_on}
 use Rattle.dbl_follow.specs.declared.window.Window.{Window}
 use Rattle.dbl_follow.specs.declared.window.Window.TheVariants.{Absent, Armed, Open}
 use Rattle.dbl_follow.specs.Followed.{Following, awaited}
-use Rattle.dbl_follow.specs.Steps.{mark_in, mark_of, closing, records_of, clash_in, clash_by, cursors_behind, Passes, seen_by, Becomes, Steps}
+use Rattle.dbl_follow.specs.Steps.{watermark_in, mark_of, closing, records_of, clash_in, clash_by, cursors_after, Passes, seen_by, Becomes, Steps}
 use Rattle.dbl_follow.specs.Laws.{StepsAreOne, OtherMarksDoNothing}
 
 -- ---- one outcome
@@ -50,7 +50,7 @@ one_step old commit a b by_a by_b =
 
 -- ---- marks of others
 
-marked_so : (body : Body) (value : List ℕ) → mark_in body ≡ Some value → body ≡ Mark value
+marked_so : (body : Body) (value : List ℕ) → watermark_in body ≡ Some value → body ≡ Mark value
 marked_so (Changes changes) value is = cc
 marked_so (Mark v) value is = let same : v ≡ value = cc in ap (λ (l : List ℕ). Mark l) same
 
@@ -85,7 +85,7 @@ nothing_done old new commit value now mark other by_it =
     let body : commit.body ≡ Mark value = marked_so commit.body value mark in
     let closes : closing old.window (mark_of commit) ≡ None = ap (closing old.window) mark ∙ closing_not old.window value other in
     let window : new.window ≡ old.window = subst (λ (b : Body). Becomes old.infos old.window b new.window) body by_it.window ∙ seen_not old.window value other in
-    let cursors : new.cursors ≡ old.cursors = by_it.cursors ∙ ap (cursors_behind old.cursors) closes in
+    let cursors : new.cursors ≡ old.cursors = by_it.cursors ∙ ap (cursors_after old.cursors) closes in
     let identity : new.identity ≡ old.identity = by_it.identity in
     let infos : new.infos ≡ old.infos = by_it.infos in (
       λ i. record { identity = identity i; infos = infos i; cursors = cursors i; window = window i },
@@ -149,13 +149,13 @@ pub marked_steps : (old new : Following) (commit : Commit) (value : List ℕ) �
 marked_steps old new commit value is closes window identity infos cursors = record {
   identity = identity;
   infos = infos;
-  cursors = cursors ∙ sym (ap (λ (b : Body). cursors_behind old.cursors (closing old.window (mark_in b))) is ∙ ap (cursors_behind old.cursors) closes);
+  cursors = cursors ∙ sym (ap (λ (b : Body). cursors_after old.cursors (closing old.window (watermark_in b))) is ∙ ap (cursors_after old.cursors) closes);
   window = subst (λ (b : Body). Becomes old.infos old.window b new.window) (sym is) window;
 }
 
 pub marked_clash : (f : Following) (commit : Commit) (value : List ℕ) → commit.body ≡ Mark value → closing f.window (Some value) ≡ None → clash_by f commit ≡ None
 marked_clash f commit value is closes =
-    ap (λ (b : Body). clash_in f (closing f.window (mark_in b)) commit) is
+    ap (λ (b : Body). clash_in f (closing f.window (watermark_in b)) commit) is
     ∙ (ap (λ (o : Option Chunk). clash_in f o commit) closes ∙ nothing_clashes f.identity f.infos commit value is)
 
 -- another mark closes nothing

@@ -1,3 +1,6 @@
+pub use Rattle.dbl_window.specs as Window
+pub use Rattle.dbl_window.specs.SourceModel
+pub use Rattle.dbl_window.specs.ModelCommit
 pub mod Followed
 pub mod Steps
 pub mod Faults

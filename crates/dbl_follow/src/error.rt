@@ -2,10 +2,10 @@ use dbl_envelope::EnvelopeError;
 use std::alloc::{AllocError, AllocFailed};
 use thiserror::Error;
 
-/// Why a commit isn't followed.
+/// Why the records of a commit can't be built.
 #[derive(Debug, Drop, PartialEq, Eq, Error)]
 pub enum FollowError {
-    /// A cell that its records would print is the placeholder. It is never `Memory`.
+    /// A cell that its records would print equals the placeholder. Never wraps `Memory`.
     #[error("{0}")]
     Envelope(EnvelopeError),
     #[error("out of memory")]

@@ -1,16 +1,16 @@
 ghost use Rattle.std.specs.Prelude.{◌≡◌, ◌≤◌, not, length, None, Some, List, [], ◌∷◌, slice_set, position, All, IfOk, IfErr, OnOk};
 ghost use Rattle.std.specs.Option.{option_copied};
-ghost use Rattle.dbl_table.specs.declared.change.Body.TheVariants as bodies;
-ghost use Rattle.dbl_table.specs.declared.table.TableInfo.{TableInfo as SpecInfo};
-ghost use Rattle.dbl_table.specs.Rows.{changes_of};
-ghost use Rattle.dbl_history.specs.Cursors.{AreCursorsOf};
-ghost use Rattle.dbl_history.specs.FitsInfos.{FitsInfos};
-ghost use Rattle.dbl_event.specs.Clashes.{snapshot_clash};
-ghost use Rattle.dbl_event.specs.Snapshots.{snapshot, FitsSnapshot};
-ghost use Rattle.dbl_event.specs.SnapshotLists.{IsSnapshot};
+ghost use Rattle.dbl_model_table.specs.declared.change.Body.TheVariants as bodies;
+ghost use Rattle.dbl_model_table.specs.declared.table.TableInfo.{TableInfo as SpecInfo};
+ghost use Rattle.dbl_model_table.specs.Rows.{changes_of};
+ghost use Rattle.dbl_model_history.specs.Cursors.{AreCursorsOf};
+ghost use Rattle.dbl_model_history.specs.FitsInfos.{FitsInfos};
+ghost use Rattle.dbl_model_event.specs.Clashes.{snapshot_clash};
+ghost use Rattle.dbl_model_event.specs.Snapshots.{snapshot, FitsSnapshot};
+ghost use Rattle.dbl_model_event.specs.SnapshotLists.{IsSnapshot};
 ghost use Rattle.dbl_window.specs.Plans.{Chunk, high_text};
 ghost use Rattle.dbl_follow.specs.declared.window.Window.TheVariants as windows;
-ghost use Rattle.dbl_follow.specs.Followed.{awaited, FitsWindow, IsPlanned, IsOpenOf, IsWindowOf};
+ghost use Rattle.dbl_follow.specs.Followed.{awaited, FitsWindow, IsPlanOfCaptured, IsOpenOf, IsWindowOf};
 ghost use Rattle.dbl_follow.specs.Faults.{IsClashOf};
 ghost use Rattle.dbl_follow.specs.Steps.{Passes, Steps, clash_by, closed_of, closing, mark_of, records_by, seen_by};
 
@@ -18,16 +18,17 @@ use crate::FollowError;
 use crate::window::Window;
 use dbl_base::Text;
 use dbl_envelope::EventWriter;
-use dbl_event::Closed;
-use dbl_history::Cursor;
+use dbl_model_event::Closed;
+use dbl_model_history::Cursor;
+use dbl_model_table::{Body, Change, Commit, Identity, TableInfo};
 use dbl_record::Record;
-use dbl_table::{Body, Change, Commit, Identity, TableInfo};
 use dbl_window::{Armed, Open, Seen};
 use std::alloc::{AllocError, Global};
 use std::marker::Model;
 use std::mem;
 
-/// Follows the commits of a log. It has at most one window, whose snapshot stands among their records at the window's high mark.
+/// Follows the commits of a log. It has at most one window, whose snapshot is delivered at the
+/// window's high watermark, in order with the records of the commits.
 #[derive(Drop)]
 pub struct Follower {
     alloc: Global,
@@ -51,17 +52,17 @@ impl Model for Follower {
     ghost invariant = { λ f. IsFollowing f.writer f.cursors.items f.window };
 }
 
-// The place of the first cursor that isn't done.
+// The index of the first snapshot that isn't done.
 fn first_open(cursors: &Vec<Cursor>) -> Option<usize>
     ensures { result ≡ position (λ cursor. not cursor.done) cursors.now.items }
 {
     cursors.iter().position(|cursor| !cursor.done)
 }
 
-// What a mark makes of an armed window.
+// The window after an armed window sees a watermark.
 fn seen_window(armed: Armed, value: &Text) -> Window
     ensures seen { result ≡ seen_by (windows.Armed armed) value.now }
-    ensures fits { (infos : List SpecInfo) → IsPlanned infos armed.plan → IsWindowOf infos result }
+    ensures fits { (infos : List SpecInfo) → IsPlanOfCaptured infos armed.plan → IsWindowOf infos result }
 {
     match armed.see(value) {
         Seen::Opened(opened) => Window::Open(opened),
@@ -70,7 +71,8 @@ fn seen_window(armed: Armed, value: &Text) -> Window
 }
 
 impl Follower {
-    /// A follower without a window, of at most 64 captured tables, each with a cursor. Later calls use the allocator.
+    /// A follower without a window, of at most 64 captured tables, each with its progress. Later
+    /// calls use the allocator.
     pub fn make(
         alloc: Global,
         identity: Identity,
@@ -97,17 +99,17 @@ impl Follower {
         })
     }
 
-    /// Gives it a window of one of its tables, where it has none. Takes no memory.
+    /// Sets the window of one of its tables, if it has none. Takes no memory.
     pub fn arm(&mut self, armed: Armed)
         requires none { self.old.window ≡ windows.Absent }
-        requires planned { IsPlanned self.old.infos armed.plan }
+        requires planned { IsPlanOfCaptured self.old.infos armed.plan }
         ensures { self.new ≡ record self.old { window = windows.Armed armed } }
     {
         self.window = Window::Armed(armed);
     }
 
-    /// The mark for which its window waits: the low one while it is armed, the high one while it is open. None exactly where it has no
-    /// window. Takes no memory.
+    /// The watermark for which its window waits: the low one while it is armed, the high one while
+    /// it is open. None if and only if it has no window. Takes no memory.
     pub fn waits_for(&self) -> Option<&Text>
         ensures text { option_copied result ≡ awaited self.now.window }
         ensures fits { FitsWindow self.now.window }
@@ -119,7 +121,8 @@ impl Follower {
         }
     }
 
-    /// The first table whose snapshot isn't done. None exactly where all are. Takes no memory.
+    /// The first table whose snapshot isn't done. None if and only if all are done. Takes no
+    /// memory.
     pub fn next_table(&self) -> Option<u32>
         ensures { result ≡ position (λ cursor. not cursor.done) self.now.cursors }
     {
@@ -129,7 +132,7 @@ impl Follower {
         }
     }
 
-    /// How far the snapshot of each table has come. Takes no memory.
+    /// The progress of each table's snapshot. Takes no memory.
     pub fn cursors(&self) -> &Vec<Cursor>
         ensures cursors { result.now.items ≡ self.now.cursors }
         ensures are { AreCursorsOf self.now.infos self.now.cursors }
@@ -137,7 +140,7 @@ impl Follower {
         &self.cursors
     }
 
-    // A change passes its window, apart from the records that it gives.
+    // Passes a change to the window; its records are built separately.
     fn see_change(&mut self, change: &Change) -> Result<(), AllocError>
         requires { FitsInfos self.old.infos change.now }
         ensures passes { OnOk result
@@ -150,14 +153,14 @@ impl Follower {
         }
     }
 
-    // The changes of a commit pass it one after the other.
+    // Passes the changes of a commit to the window, one after the other.
     fn see_changes(&mut self, changes: &Vec<Change>) -> Result<(), AllocError>
         requires { All (FitsInfos self.old.infos) changes.now.items }
         ensures passes { OnOk result
             (Passes self.old.infos self.old.window changes.now.items self.new.window) }
         ensures same { self.new ≡ record self.old { window = self.new.window } }
     {
-        // What the window keeps is known where it is looked at.
+        // Reading the window shows the prover its invariant.
         let _window = &self.window;
         for change in changes {
             self.see_change(change)?;
@@ -165,7 +168,7 @@ impl Follower {
         Ok(())
     }
 
-    // The records of a closed window, whose cursor moves to where it read.
+    // The records of a closed window, whose table's progress is advanced to its last key.
     fn close(
         &mut self,
         closed: Closed,
@@ -194,7 +197,7 @@ impl Follower {
         Ok(records)
     }
 
-    // An open window sees a mark.
+    // Passes a watermark to an open window.
     fn see_high(
         &mut self,
         opened: Open,
@@ -224,7 +227,7 @@ impl Follower {
         }
     }
 
-    // A mark came.
+    // Handles a watermark.
     fn see_mark(
         &mut self,
         value: &Text,
@@ -252,7 +255,7 @@ impl Follower {
         }
     }
 
-    // Changes came.
+    // Handles a commit with changes.
     fn see_commit(
         &mut self,
         changes: &Vec<Change>,
@@ -272,9 +275,9 @@ impl Follower {
         Ok(records)
     }
 
-    /// A commit came: its records, made at `now_ms`, in milliseconds since 1970-01-01 UTC. At the high mark of an open window they are
-    /// the window's snapshot, and its table's cursor moves to where the window read. Marks of earlier sessions open and close nothing.
-    /// After an error the follower is to be given up.
+    /// The records of the next commit, made at `now_ms`, in milliseconds since 1970-01-01 UTC; at
+    /// the high watermark of an open window the window's snapshot. Watermarks of earlier sessions
+    /// open and close nothing. After an error the follower must not be used any more.
     pub fn step(&mut self, commit: &Commit, now_ms: i64) -> Result<Vec<Record>, FollowError>
         requires { All (FitsInfos self.old.infos) (changes_of commit.now) }
         ensures records { IfOk result

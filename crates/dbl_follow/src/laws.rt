@@ -1,13 +1,13 @@
-//! Laws of followers. The functions do nothing: their contracts are the laws.
+//! Theorems about followers, as contracts of empty functions.
 
 ghost use Rattle.dbl_follow.specs.Laws.{StepsAreOne, OtherMarksDoNothing};
 
-/// A commit makes one thing of a follower.
+/// The state of a follower after a commit is unique.
 pub fn steps_are_one()
     ensures { StepsAreOne }
 {}
 
-/// A mark that the window doesn't wait for opens and closes nothing, and gives no record.
+/// A watermark that the window doesn't wait for opens and closes nothing, and has no record.
 pub fn other_marks_do_nothing()
     ensures { OtherMarksDoNothing }
 {}

@@ -1,4 +1,5 @@
-//! A follower of a log: the records of its commits, and the snapshots of the windows that its marks open and close.
+//! A follower of a log: the records of its commits, and the snapshots of the windows that its
+//! watermarks open and close.
 #![tactic(auto)]
 
 mod error;

@@ -1,6 +1,6 @@
 use dbl_window::{Armed, Open};
 
-// The window that waits for a mark, where there is one.
+// The window that waits for a watermark, if there is one.
 #[derive(Drop)]
 pub(crate) enum Window {
     Absent,

@@ -5,7 +5,7 @@ use Rattle.std.specs.Str.Parse.{digits_value}
 use Rattle.std.proofs.lemmas.List.{append-nil}
 use Rattle.std.proofs.lemmas.List.Folds.{list_all-append}
 use Rattle.dbl_base.specs.Lines.{lines_of, lines_text}
-use Rattle.dbl_table.specs.declared.table.TableName.{TableName}
+use Rattle.dbl_model_table.specs.declared.table.TableName.{TableName}
 use Rattle.dbl_script.specs.declared.script.Script.{Script}
 use Rattle.dbl_script.specs.declared.script.ScriptTable.{ScriptTable}
 use Rattle.dbl_script.specs.declared.line.Line.TheVariants.{Table, Row, Act}
@@ -13,7 +13,7 @@ use Rattle.dbl_script.specs.Reads.{all_of, some_of}
 use Rattle.dbl_script.specs.Texts as text
 use Rattle.dbl_script.specs.Columns.{column_of, named_column, typed_column, columns_of}
 use Rattle.dbl_script.specs.Grammar.{identity_of, toast_of, table_in, worded, line_at}
-use Rattle.dbl_script.specs.Scripts.{script_of, is_empty, may_follow, follows, is_good, first_bad_behind, first_bad}
+use Rattle.dbl_script.specs.Scripts.{script_of, is_empty, may_follow, follows, is_good, first_bad_after, first_bad}
 use Rattle.dbl_script.specs.Building.{with_said}
 use Rattle.dbl_script.proofs.ScriptLemmas.{script_more}
 use Rattle.dbl_gen.specs.Draws.{next_state, drawn}
@@ -122,10 +122,10 @@ rows_are (suc count) first fits = (row_is first (omega arith), rows_are count (f
 
 -- ---- each line may follow those before it
 
-good_step : (before : List (List ℕ)) (line : List ℕ) (rest : List (List ℕ)) → is_good before line ≡ true → first_bad_behind before (line ∷ rest) ≡ first_bad_behind (before ++ line ∷ []) rest
+good_step : (before : List (List ℕ)) (line : List ℕ) (rest : List (List ℕ)) → is_good before line ≡ true → first_bad_after before (line ∷ rest) ≡ first_bad_after (before ++ line ∷ []) rest
 good_step before line rest is = rw is refl
 
-steps_follow : (lines before : List (List ℕ)) → AllSteps lines → is_empty (script_of before).tables ≡ false → first_bad_behind before lines ≡ None
+steps_follow : (lines before : List (List ℕ)) → AllSteps lines → is_empty (script_of before).tables ≡ false → first_bad_after before lines ≡ None
 unfolding may_follow
 steps_follow [] before all some = rw some refl
 steps_follow (line ∷ lines) before all some =
@@ -134,7 +134,7 @@ steps_follow (line ∷ lines) before all some =
     let next : is_empty (script_of (before ++ line ∷ [])).tables ≡ false = ap (λ (s : Script). is_empty s.tables) (script_more before line ∙ ap (with_said (script_of before)) said) ∙ some in
     good_step before line lines good ∙ steps_follow lines (before ++ line ∷ []) all.1 next
 
-rows_follow : (rows steps before : List (List ℕ)) → AllRows rows → AllSteps steps → is_empty (script_of before).tables ≡ false → is_empty (script_of before).steps ≡ true → first_bad_behind before (rows ++ steps) ≡ None
+rows_follow : (rows steps before : List (List ℕ)) → AllRows rows → AllSteps steps → is_empty (script_of before).tables ≡ false → is_empty (script_of before).steps ≡ true → first_bad_after before (rows ++ steps) ≡ None
 unfolding may_follow
 rows_follow [] steps before all later some none = steps_follow steps before later some
 rows_follow (line ∷ rows) steps before all later some none =

@@ -8,8 +8,8 @@ use Rattle.std.proofs.lemmas.Fmt.{decimal_digit}
 use Rattle.std.proofs.lemmas.List.{append-nil}
 use Rattle.std.proofs.lemmas.Str.{is_utf8-from_IsUtf8, IsUtf8-from_ascii}
 use Rattle.dbl_base.specs.Lines.{is_passed_over}
-use Rattle.dbl_table.specs.declared.table.TableName.{TableName}
-use Rattle.dbl_table.specs.declared.named_cell.NamedCell.{NamedCell}
+use Rattle.dbl_model_table.specs.declared.table.TableName.{TableName}
+use Rattle.dbl_model_table.specs.declared.named_cell.NamedCell.{NamedCell}
 use Rattle.dbl_script.specs.declared.script.ScriptRow.{ScriptRow}
 use Rattle.dbl_script.specs.declared.script.Step.{Step}
 use Rattle.dbl_script.specs.declared.script.Step.TheVariants.{Begin, Commit, Insert, Update, Delete, Tick}

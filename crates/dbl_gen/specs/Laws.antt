@@ -1,11 +1,11 @@
--- What holds of the workloads. Source: own.
+-- Theorem about the generated workloads.
 use Rattle.std.specs.Prelude.{◌≡◌, ◌≤◌, ℕ, false, None, List, [], ◌∷◌, length, codes}
 use Rattle.dbl_base.specs.Lines.{lines_of}
 use Rattle.dbl_script.specs.declared.script.ScriptTable.{ScriptTable}
 use Rattle.dbl_script.specs.Scripts.{script_of, first_bad}
 use Rattle.dbl_gen.specs.Workload.{workload}
 
--- the accounts, with the OIDs of int8 and text (PostgreSQL's catalog `pg_type`)
+-- the table of accounts, with the OIDs of int8 and text (PostgreSQL's catalog `pg_type`)
 abbrev pub accounts_table : ScriptTable
 accounts_table = record {
   raw = record {
@@ -18,7 +18,7 @@ accounts_table = record {
   line = 1;
 }
 
--- the table that stays empty, with the OIDs of int4 and text
+-- the table without rows, with the OIDs of int4 and text
 abbrev pub empty_table : ScriptTable
 empty_table = record {
   raw = record {
@@ -31,12 +31,12 @@ empty_table = record {
   line = 2;
 }
 
--- the text is read as a script of the two tables
+-- the text is accepted as a script of the two tables
 pub record IsRead (text : List ℕ) : Type 0 where
   pub good : first_bad (lines_of text) ≡ None
   pub few : length (lines_of text) ≤ 1000000
   pub tables : (script_of (lines_of text)).tables ≡ accounts_table ∷ empty_table ∷ []
 
--- each workload within the limits of rows and groups is
+-- each workload within the limits of rows and groups is accepted
 abbrev pub WorkloadsAreRead : Type 0
 WorkloadsAreRead = (number rows groups : ℕ) → rows ≤ 400000 → groups ≤ 90000 → IsRead (workload number rows groups)

@@ -8,7 +8,7 @@ pub struct Draws {
 }
 
 impl Draws {
-    /// The next number, below 2^31: the higher bits of the state.
+    /// The next pseudorandom number, below 2^31: the high bits of the state.
     pub fn draw(&mut self) -> u64
         ensures state { self.new.state ≡ next_state self.old.state }
         ensures value { result ≡ drawn self.new.state }

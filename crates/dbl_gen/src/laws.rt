@@ -1,8 +1,9 @@
-//! What holds of the workloads, as a call without a body.
+//! Theorem about the generated workloads; the function has an empty body.
 
 ghost use Rattle.dbl_gen.specs.Laws.{WorkloadsAreRead};
 
-/// `dbl_script::parse` reads each workload, unless memory runs out: no line of it is bad, and its tables are the two.
+/// `dbl_script::parse` accepts each workload unless memory runs out: it has no bad line, and
+/// exactly the two tables.
 pub fn workloads_are_read()
     ensures { WorkloadsAreRead }
 {}

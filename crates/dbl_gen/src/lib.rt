@@ -1,4 +1,4 @@
-//! A workload made from a number: tables, rows and the traffic of three sessions.
+//! A workload generated from a number: tables, rows and the traffic of three sessions.
 #![tactic(auto)]
 
 mod draws;

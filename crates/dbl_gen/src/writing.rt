@@ -17,7 +17,7 @@ table public.empty default toast 64 id:int4:key name:text
 
 const SESSIONS: u32 = 3;
 
-// The number of the session of a group: they take turns.
+// The session of a group; the three take turns.
 fn session_of(group: u32) -> u32
     ensures { result ≡ group % 3 }
 {
@@ -114,7 +114,7 @@ fn write_commit(text: &mut String, group: u32) -> Result<(), AllocError>
     writeln!(text, "s{session} commit")
 }
 
-// The transaction of the group before commits, where there is one.
+// Writes the commit of the previous group's transaction, if there is one.
 fn write_commit_before(text: &mut String, group: u32) -> Result<(), AllocError>
     ensures { OnOk result
         (string_bytes text.new ≡ string_bytes text.old ++ lines_text (lines_before group)) }
@@ -194,8 +194,8 @@ fn write_last(text: &mut String, groups: u32) -> Result<(), AllocError>
     write_commit(text, groups)
 }
 
-/// The workload of a number, as a text of the workload language: two tables, `rows` accounts, and `groups` groups of
-/// steps, by three sessions in turn. All that is drawn follows from the number.
+/// Generates the workload of a number in the workload language: two tables, `rows` accounts, and
+/// `groups` groups of steps, by three sessions in turn.
 pub fn script(alloc: Global, number: u64, rows: u32, groups: u32) -> Result<Text, AllocError>
     requires rows { rows ≤ 400_000 }
     requires groups { groups ≤ 90_000 }

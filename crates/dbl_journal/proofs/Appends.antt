@@ -87,8 +87,8 @@ module _ (entries : List (List ℕ)) (gate : ℕ) (gate_is : gate ≡ length (up
       omega (arith, long h.gate h.tail bytes h.spelled)
 
   -- the closed gate stands in each outcome of the first write
-  pub behind : (n : ℕ) (bytes crashed : List ℕ) → IsJournal bytes entries → Torn (gate + 1) n bytes crashed → IsJournal crashed entries
-  behind n bytes crashed journal torn =
+  pub subsequent : (n : ℕ) (bytes crashed : List ℕ) → IsJournal bytes entries → Torn (gate + 1) n bytes crashed → IsJournal crashed entries
+  subsequent n bytes crashed journal torn =
       let h = has_gate bytes entries journal.rest journal.spelled journal.closed in
       let same : take (gate + 1) crashed ≡ up_to_gate entries ++ h.gate ∷ [] = torn_front (gate + 1) n bytes crashed torn (omega (arith, long h.gate h.tail bytes h.spelled)) ∙ to_gate h.gate h.tail bytes h.spelled in
       record {

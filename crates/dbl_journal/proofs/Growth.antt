@@ -3,7 +3,7 @@ use Rattle.std.proofs.Common.{◌≡◌, ◌⊎◌, ◌∙◌, inl, inr, ℕ, �
 use Rattle.std.specs.Prelude.{IsTrue, max}
 use Rattle.dbl_journal.specs.Form.{IsEntry, IsJournal, up_to_gate}
 use Rattle.dbl_journal.specs.Stored.{LeavesEntries, Lists, OnDisk, size}
-use Rattle.dbl_journal.specs.Growth.{ComesOf, HasCome, ReachesFrom}
+use Rattle.dbl_journal.specs.Growth.{ExtendsJournal, HasCome, ReachesFrom}
 use Rattle.dbl_journal.proofs.Appends.{length-up_to_gate-push}
 use Rattle.dbl_journal.proofs.Reading.{one_journal}
 
@@ -21,10 +21,10 @@ no_more gate most before entries left entry old new short same on was now (inr e
     (omega (arith, on, first, second, push), omega (arith, was, now, first, second, push, short))
 
 module _ {D : Type 0} (seen : D → Option (List ℕ)) (may_leave : D → List ℕ → Type 0) where
-  pub comes_self : (journal : OnDisk D) → ComesOf seen may_leave journal journal
+  pub comes_self : (journal : OnDisk D) → ExtendsJournal seen may_leave journal journal
   comes_self journal gate most has = has
 
-  pub comes_on : (first second third : OnDisk D) → ComesOf seen may_leave first second → ComesOf seen may_leave second third → ComesOf seen may_leave first third
+  pub comes_on : (first second third : OnDisk D) → ExtendsJournal seen may_leave first second → ExtendsJournal seen may_leave second third → ExtendsJournal seen may_leave first third
   comes_on first second third a b gate most has = b gate most (a gate most has)
 
   -- an append to a journal that could be used, whatever it answered
@@ -33,7 +33,7 @@ module _ {D : Type 0} (seen : D → Option (List ℕ)) (may_leave : D → List �
       → ((entries : List (List ℕ)) → Lists seen may_leave old entries → LeavesEntries may_leave new.disk (λ left. (left ≡ entries) ⊎ (left ≡ entries ++ entry ∷ [])))
       → ((entries : List (List ℕ)) (before after : List ℕ) → Lists seen may_leave old entries → seen old.disk ≡ Some before → seen new.disk ≡ Some after → length after ≤ max (length before) (size (entries ++ entry ∷ [])))
       → ((before : List ℕ) → seen old.disk ≡ Some before → (after : List ℕ) × (seen new.disk ≡ Some after))
-      → ComesOf seen may_leave old new
+      → ExtendsJournal seen may_leave old new
   comes_by_append may_be_left old new entry short live added left grows told_on gate most has =
       let listed = has.lists live in
       let entries = listed.0 in
@@ -50,11 +50,11 @@ module _ {D : Type 0} (seen : D → Option (List ℕ)) (may_leave : D → List �
       }
 
   -- a journal with the same parts comes of what the other does
-  pub comes_at : (parts whole new : OnDisk D) → parts ≡ whole → ComesOf seen may_leave parts new → ComesOf seen may_leave whole new
-  comes_at parts whole new same comes = subst (λ (j : OnDisk D). ComesOf seen may_leave j new) same comes
+  pub comes_at : (parts whole new : OnDisk D) → parts ≡ whole → ExtendsJournal seen may_leave parts new → ExtendsJournal seen may_leave whole new
+  comes_at parts whole new same comes = subst (λ (j : OnDisk D). ExtendsJournal seen may_leave j new) same comes
 
   -- the disk of a journal that comes of one with entries goes on telling its bytes
-  pub told_from : (old new : OnDisk D) (entries : List (List ℕ)) → ComesOf seen may_leave old new → Lists seen may_leave old entries → (after : List ℕ) × (seen new.disk ≡ Some after)
+  pub told_from : (old new : OnDisk D) (entries : List (List ℕ)) → ExtendsJournal seen may_leave old new → Lists seen may_leave old entries → (after : List ℕ) × (seen new.disk ≡ Some after)
   told_from old new entries comes lists =
       let has : HasCome seen may_leave 0 (length lists.bytes) old =
       record {
@@ -68,7 +68,7 @@ module _ {D : Type 0} (seen : D → Option (List ℕ)) (may_leave : D → List �
       (comes 0 (length lists.bytes) has).told
 
   -- the bytes of a journal that comes of one with entries
-  pub grown_from : (old new : OnDisk D) (entries : List (List ℕ)) (before after : List ℕ) → ComesOf seen may_leave old new → Lists seen may_leave old entries → seen old.disk ≡ Some before → seen new.disk ≡ Some after
+  pub grown_from : (old new : OnDisk D) (entries : List (List ℕ)) (before after : List ℕ) → ExtendsJournal seen may_leave old new → Lists seen may_leave old entries → seen old.disk ≡ Some before → seen new.disk ≡ Some after
       → ReachesFrom (length (up_to_gate entries)) (length before) after
   grown_from old new entries before after comes lists was told =
       let has : HasCome seen may_leave (length (up_to_gate entries)) (length before) old =

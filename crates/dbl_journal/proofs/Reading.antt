@@ -36,8 +36,8 @@ none_if_broken : (bytes : List ℕ) → IsBroken bytes → HasNoFrame bytes
 unfolding HasNoFrame
 none_if_broken [] broken = λ entry rest short is. cc
 none_if_broken (gate ∷ bytes) broken = λ entry rest short is.
-    let behind : bytes ≡ body entry ++ rest = cc in
-    broken.1 entry rest short behind
+    let subsequent : bytes ≡ body entry ++ rest = cc in
+    broken.1 entry rest short subsequent
 
 not_both : (bytes : List ℕ) → IsClosed bytes → IsBroken bytes → ⊥
 not_both [] closed broken = closed
@@ -50,8 +50,8 @@ one_walk [] [] r s ax ay is cr cs = (refl, is)
 one_walk [] (y ∷ ys) r s ax ay is cr cs = absurd (cr y (flat_map frame ys ++ s) (All-head IsEntry y ys ay) (is ∙ append_assoc (frame y) (flat_map frame ys) s))
 one_walk (x ∷ xs) [] r s ax ay is cr cs = absurd (cs x (flat_map frame xs ++ r) (All-head IsEntry x xs ax) (sym is ∙ append_assoc (frame x) (flat_map frame xs) r))
 one_walk (x ∷ xs) (y ∷ ys) r s ax ay is cr cs =
-    let behind : (body x ++ flat_map frame xs) ++ r ≡ (body y ++ flat_map frame ys) ++ s = cc in
-    let parts = same_body x y (flat_map frame xs ++ r) (flat_map frame ys ++ s) (All-head IsEntry x xs ax) (All-head IsEntry y ys ay) (sym (append_assoc (body x) (flat_map frame xs) r) ∙ behind ∙ append_assoc (body y) (flat_map frame ys) s) in
+    let subsequent : (body x ++ flat_map frame xs) ++ r ≡ (body y ++ flat_map frame ys) ++ s = cc in
+    let parts = same_body x y (flat_map frame xs ++ r) (flat_map frame ys ++ s) (All-head IsEntry x xs ax) (All-head IsEntry y ys ay) (sym (append_assoc (body x) (flat_map frame xs) r) ∙ subsequent ∙ append_assoc (body y) (flat_map frame ys) s) in
     let rest = one_walk xs ys r s (All-tail IsEntry x xs ax) (All-tail IsEntry y ys ay) parts.1 cr cs in
     (ap (λ (e : List ℕ). e ∷ xs) parts.0 ∙ ap (λ (l : List (List ℕ)). y ∷ l) rest.0, rest.1)
 

@@ -55,14 +55,14 @@ module _ (bytes head : List ℕ) (gate got len : ℕ) (long : length head ≡ 5)
       let quad : List ℕ = to_be_bytes w32 len in
       let entry : List ℕ = take len (drop (gate + 5) bytes) in
       let entry_long : length entry ≡ len = length-take-le len (drop (gate + 5) bytes) (simp length-drop (omega arith)) in
-      let behind : List ℕ = drop (gate + 5 + len) bytes in
-      let rest : drop 5 (drop gate bytes) ≡ entry ++ behind =
+      let subsequent : List ℕ = drop (gate + 5 + len) bytes in
+      let rest : drop 5 (drop gate bytes) ≡ entry ++ subsequent =
       drop-drop 5 gate bytes ∙ sym (take-append-drop len (drop (gate + 5) bytes)) ∙ ap (λ (l : List ℕ). entry ++ l) (drop-drop len (gate + 5) bytes) in
       let body_is : body entry ≡ quad ++ entry = ap (λ (n : ℕ). to_be_bytes w32 n ++ entry) entry_long in (
         entry,
         omega (arith, entry_long),
         sym (take-append-drop 5 (drop gate bytes)) ∙ ap (λ (l : List ℕ). l ++ drop 5 (drop gate bytes)) (whole_head all) ∙ ap (λ (l : List ℕ). 1 ∷ quad ++ l) rest
-            ∙ ap (λ (l : List ℕ). 1 ∷ l) (sym (append_assoc quad entry behind) ∙ ap (λ (l : List ℕ). l ++ behind) (sym body_is))
+            ∙ ap (λ (l : List ℕ). 1 ∷ l) (sym (append_assoc quad entry subsequent) ∙ ap (λ (l : List ℕ). l ++ subsequent) (sym body_is))
             ∙ ap (λ (n : ℕ). 1 ∷ (body entry ++ drop (gate + 5 + n) bytes)) (sym entry_long),
         ap (λ (n : ℕ). record { at = gate + 5; length = n }) (sym entry_long),
       )

@@ -1,11 +1,10 @@
--- What the calls of a store leave of its disk. Source: own.
+-- The state of the disk after a call of a store.
 use Rattle.std.specs.Prelude.{◌≡◌, ℕ, ◌≤◌, Option, Some, List, [], length, false}
-use Rattle.dbl_base.specs.Streams.{Rose}
+use Rattle.dbl_base.specs.Streams.{FaultCounted}
 use Rattle.dbl_journal.specs.Stored.{IsSteady, OnDisk}
 
--- What is left of an empty disk on which a store was made, in a call that tells this failure, or another thing. Its bytes are at
--- most so many. It is told to have failed only where its count of faults rose, and where it tells its bytes, wherever the count
--- rose.
+-- The effect of making a store on an empty disk: the disk then has at most this many bytes, and a failure is reported only if the fault
+-- count rose, for a disk with known contents if and only if.
 pub record Makes
     {D : Type 0}
     (seen : D → Option (List ℕ))
@@ -15,12 +14,11 @@ pub record Makes
     (old new : D) : Type 0 where
   pub small : (bytes : List ℕ) → seen old ≡ Some [] → seen new ≡ Some bytes → length bytes ≤ most
   pub later : faults old ≤ faults new
-  pub cause : failed → Rose (faults old) (faults new)
+  pub cause : failed → FaultCounted (faults old) (faults new)
   pub steady : ¬ failed → IsSteady seen faults old new
 
--- What is left of a disk that was opened, or only read. A read gives the same, and a crash leaves nothing that it couldn't leave
--- before: so it is no longer than it was. It is told to have failed only where its count of faults rose, and where it tells its
--- bytes, wherever the count rose.
+-- The effect of opening or reading on a disk: a read returns the same, a crash leaves nothing new, and a failure is reported only if the
+-- fault count rose, for a disk with known contents if and only if.
 pub record Keeps
     {D : Type 0}
     (seen : D → Option (List ℕ))
@@ -31,12 +29,11 @@ pub record Keeps
   pub same : seen new ≡ seen old
   pub crash : (crashed : List ℕ) → may_leave new crashed → may_leave old crashed
   pub later : faults old ≤ faults new
-  pub cause : failed → Rose (faults old) (faults new)
+  pub cause : failed → FaultCounted (faults old) (faults new)
   pub steady : ¬ failed → IsSteady seen faults old new
 
--- What is left of a journal to which was appended, in a call that tells this failure, or another thing. Its disk goes on telling
--- its bytes. It is told to have failed only where the count of faults rose, and then it can't be used any more; and where the disk
--- tells its bytes, the count rose nowhere else.
+-- The effect of an append on a journal: its contents stay known, and a failure, after which it is no longer usable, is reported only if the
+-- fault count rose, for a disk with known contents if and only if.
 pub record PutLeaves
     {D : Type 0}
     (seen : D → Option (List ℕ))
@@ -45,6 +42,6 @@ pub record PutLeaves
     (old new : OnDisk D) : Type 0 where
   pub told : (bytes : List ℕ) → seen old.disk ≡ Some bytes → (now : List ℕ) × (seen new.disk ≡ Some now)
   pub later : faults old.disk ≤ faults new.disk
-  pub cause : failed → Rose (faults old.disk) (faults new.disk)
+  pub cause : failed → FaultCounted (faults old.disk) (faults new.disk)
   pub dead : failed → new.live ≡ false
   pub steady : ¬ failed → IsSteady seen faults old.disk new.disk

@@ -4,28 +4,28 @@ use Rattle.dbl_disk.specs.Disks.{IsOnly, disk_limit}
 use Rattle.dbl_disk.specs.declared.extent.Extent.{Extent}
 use Rattle.dbl_journal.specs.Form.{IsJournal, up_to_gate}
 
--- the disk, the place of the last gate, where what each entry holds stands, and whether the journal can be used
+-- the disk, the offset of the last commit byte, the extents of the entries, and whether the journal is usable
 pub record OnDisk (D : Type 0) : Type 0 where
   pub disk : D
   pub gate : ℕ
   pub places : List Extent
   pub live : Bool
 
--- how many entries the journal has
+-- the number of entries
 abbrev pub count_of : {D : Type 0} → OnDisk D → ℕ
 count_of journal = length journal.places
 
--- how many bytes a journal of these entries takes, up to its last gate and with it
+-- the number of bytes that a journal of these entries takes, including its last commit byte
 abbrev pub size : List (List ℕ) → ℕ
 size entries = length (up_to_gate entries) + 1
 
--- where what these entries hold stands, the first one's gate being at this place
+-- the extents of these entries, given the offset of the first one's commit byte
 abbrev pub places_from : ℕ → List (List ℕ) → List Extent
 places_from gate [] = []
 places_from gate (entry ∷ entries) = record { at = gate + 5; length = length entry } ∷ places_from (gate + 5 + length entry) entries
 
--- The journal lists these entries: it can be used, its disk tells its bytes, which are a journal of the entries, and a crash
--- leaves nothing else.
+-- The journal lists these entries: it is usable, its disk has known contents, which are a journal of the entries, and a crash leaves
+-- exactly those.
 pub record Lists {D : Type 0} (seen : D → Option (List ℕ)) (may_leave : D → List ℕ → Type 0) (journal : OnDisk D) (entries : List (List ℕ)) : Type 0 where
   pub live : IsTrue journal.live
   pub bytes : List ℕ
@@ -35,7 +35,7 @@ pub record Lists {D : Type 0} (seen : D → Option (List ℕ)) (may_leave : D �
   pub gate : journal.gate ≡ length (up_to_gate entries)
   pub places : journal.places ≡ places_from 8 entries
 
--- A disk that tells its bytes has counted no fault since then: no call of it failed and was made again.
+-- for a disk with known contents the fault count hasn't risen: no call failed and was retried
 abbrev pub IsSteady : {D : Type 0} → (D → Option (List ℕ)) → (D → ℕ) → D → D → Type 0
 IsSteady seen faults old new = (bytes : List ℕ) → seen old ≡ Some bytes → faults new ≡ faults old
 
@@ -43,12 +43,12 @@ IsSteady seen faults old new = (bytes : List ℕ) → seen old ≡ Some bytes �
 abbrev pub MayLeaveEntries : {D : Type 0} → (D → List ℕ → Type 0) → D → List (List ℕ) → Type 0
 MayLeaveEntries may_leave disk entries = (crashed : List ℕ) × may_leave disk crashed × IsJournal crashed entries
 
--- whatever a crash leaves is a journal, of entries of which this holds
+-- a crash leaves a journal, whose entries satisfy the predicate
 abbrev pub LeavesEntries : {D : Type 0} → (D → List ℕ → Type 0) → D → (List (List ℕ) → Type 0) → Type 0
 LeavesEntries may_leave disk P = (crashed : List ℕ) → may_leave disk crashed → (entries : List (List ℕ)) × IsJournal crashed entries × P entries
 
--- what holds of the parts of each journal: the place of the last gate is small, and where the journal can be used, it has no
--- more entries than bytes before that gate, which is among the bytes that the disk tells, where it tells them
+-- The invariant of journals: the last commit byte's offset is small, and in a usable journal within the disk and at least the number of
+-- entries.
 pub record IsPlaced {D : Type 0} (seen : D → Option (List ℕ)) (disk : D) (gate : ℕ) (places : List Extent) (live : Bool) : Type 0 where
   pub small : gate < disk_limit
   pub few : IsTrue live → length places ≤ gate

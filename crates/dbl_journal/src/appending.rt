@@ -1,6 +1,6 @@
 ghost use Rattle.std.specs.Prelude.{◌≡◌, ◌⊎◌, ℕ, ◌+◌, ◌<◌, ◌≤◌, ◌++◌, List, [], ◌∷◌, length, drop, max, Some, IfOk, OnOk, IsErr};
 ghost use Rattle.std.specs.Int.{to_be_bytes, w32};
-ghost use Rattle.dbl_base.specs.Streams.{HasCause};
+ghost use Rattle.dbl_base.specs.Streams.{FailsOnlyIfCounted};
 ghost use Rattle.dbl_disk.specs.Disks.{Follows, IsOnly, Torn, disk_limit};
 ghost use Rattle.dbl_journal.specs.Form.{IsEntry, IsJournal, body, up_to_gate, entry_limit};
 ghost use Rattle.dbl_journal.specs.Steps.{Stages};
@@ -11,8 +11,8 @@ use dbl_base::Failed;
 use dbl_disk::Disk;
 use std::alloc::{AllocError, Global};
 
-// The entry behind room for its length, and with capacity for the next gate.
-pub(crate) fn behind_room(alloc: Global, entry: &[u8]) -> Result<Vec<u8>, AllocError>
+// The entry after room for its length, with capacity for the next commit byte.
+pub(crate) fn entry_after_room(alloc: Global, entry: &[u8]) -> Result<Vec<u8>, AllocError>
     requires { IsEntry entry.now }
     ensures entry { IfOk result (λ bytes. drop 4 bytes.items ≡ entry.now) }
     ensures room { IfOk result (λ bytes. 4 ≤ length bytes.items) }
@@ -23,7 +23,7 @@ pub(crate) fn behind_room(alloc: Global, entry: &[u8]) -> Result<Vec<u8>, AllocE
     Ok(bytes)
 }
 
-// Writes the length of an entry into the room before it.
+// Writes the entry's length into the room before it.
 fn write_length(bytes: &mut [u8], len: u32)
     requires { 4 ≤ length bytes.old }
     ensures { bytes.new ≡ to_be_bytes w32 len ++ drop 4 bytes.old }
@@ -31,8 +31,9 @@ fn write_length(bytes: &mut [u8], len: u32)
     bytes[..ENTRY_ROOM].copy_from_slice(&len.to_be_bytes());
 }
 
-// Writes an entry's length into the room before it, and the next gate, closed, behind it.
-pub(crate) fn spell(bytes: &mut Vec<u8>) -> Result<(), AllocError>
+// Frames an entry: writes its length into the room before it, and appends the next commit byte,
+// unset.
+pub(crate) fn frame_entry(bytes: &mut Vec<u8>) -> Result<(), AllocError>
     requires room { 4 ≤ length bytes.old.items }
     requires short { IsEntry (drop 4 bytes.old.items) }
     ensures bytes { OnOk result (bytes.new.items ≡ body (drop 4 bytes.old.items) ++ 0 ∷ []) }
@@ -44,8 +45,9 @@ pub(crate) fn spell(bytes: &mut Vec<u8>) -> Result<(), AllocError>
     Ok(())
 }
 
-// Writes the entry behind the closed gate, and makes it stable. Until then, and after a fault, a crash leaves the same list.
-pub(crate) fn stage<D: Disk>(disk: &mut D, gate: u64, bytes: &[u8]) -> Result<(), Failed>
+// Writes the entry after the unset commit byte, and syncs. Until that, and after a fault, a crash
+// leaves the same list.
+pub(crate) fn write_entry<D: Disk>(disk: &mut D, gate: u64, bytes: &[u8]) -> Result<(), Failed>
     requires small { gate < disk_limit }
     requires short { length bytes.now ≤ entry_limit + 5 }
     requires there { (old : List ℕ) → D.seen disk.old ≡ Some old → gate < length old }
@@ -63,7 +65,7 @@ pub(crate) fn stage<D: Disk>(disk: &mut D, gate: u64, bytes: &[u8]) -> Result<()
         (D.seen disk.new ≡ Some new) }
     ensures longest { (old new : List ℕ) → D.seen disk.old ≡ Some old → D.seen disk.new ≡ Some new →
         length new ≤ max (length old) (gate + 1 + length bytes.now) }
-    ensures cause { HasCause (IsErr result) (D.faults disk.old) (D.faults disk.new) }
+    ensures cause { FailsOnlyIfCounted (IsErr result) (D.faults disk.old) (D.faults disk.new) }
     ensures steady { (old : List ℕ) → D.seen disk.old ≡ Some old →
         OnOk result (D.faults disk.new ≡ D.faults disk.old) }
 {
@@ -71,9 +73,9 @@ pub(crate) fn stage<D: Disk>(disk: &mut D, gate: u64, bytes: &[u8]) -> Result<()
     disk.sync()
 }
 
-// Opens the gate before a staged entry. Until this is stable, and after a fault, a crash leaves the list or the one with the
-// entry.
-pub(crate) fn open_gate<D: Disk>(disk: &mut D, gate: u64) -> Result<(), Failed>
+// Sets the commit byte before a written entry. Until that is synced, and after a fault, a crash
+// leaves the list with or without the entry.
+pub(crate) fn set_commit_byte<D: Disk>(disk: &mut D, gate: u64) -> Result<(), Failed>
     requires { gate + 1 < disk_limit }
     ensures one_of { (entries : List (List ℕ)) (entry : List ℕ) →
         Stages D.seen D.may_leave disk.old entries entry → gate ≡ length (up_to_gate entries) →
@@ -91,7 +93,7 @@ pub(crate) fn open_gate<D: Disk>(disk: &mut D, gate: u64) -> Result<(), Failed>
         length new ≤ max (length old) (gate + 1) }
     ensures reaches { (new : List ℕ) → D.seen disk.new ≡ Some new →
         OnOk result ((old : List ℕ) × (D.seen disk.old ≡ Some old) × (length old ≤ length new)) }
-    ensures cause { HasCause (IsErr result) (D.faults disk.old) (D.faults disk.new) }
+    ensures cause { FailsOnlyIfCounted (IsErr result) (D.faults disk.old) (D.faults disk.new) }
     ensures steady { (old : List ℕ) → D.seen disk.old ≡ Some old →
         OnOk result (D.faults disk.new ≡ D.faults disk.old) }
 {
@@ -99,7 +101,7 @@ pub(crate) fn open_gate<D: Disk>(disk: &mut D, gate: u64) -> Result<(), Failed>
     disk.sync()
 }
 
-// Writes the magic and a closed gate on an empty disk.
+// Writes the magic and an unset commit byte on an empty disk.
 pub(crate) fn start<D: Disk>(disk: &mut D, bytes: &[u8]) -> Result<(), Failed>
     requires { bytes.now ≡ up_to_gate [] ++ 0 ∷ [] }
     ensures stored { D.seen disk.old ≡ Some [] → OnOk result ((new : List ℕ) ×
@@ -108,7 +110,7 @@ pub(crate) fn start<D: Disk>(disk: &mut D, bytes: &[u8]) -> Result<(), Failed>
     ensures reaches { (new : List ℕ) → D.seen disk.new ≡ Some new → OnOk result (9 ≤ length new) }
     ensures longest { (new : List ℕ) → D.seen disk.old ≡ Some [] → D.seen disk.new ≡ Some new →
         length new ≤ 9 }
-    ensures cause { HasCause (IsErr result) (D.faults disk.old) (D.faults disk.new) }
+    ensures cause { FailsOnlyIfCounted (IsErr result) (D.faults disk.old) (D.faults disk.new) }
     ensures steady { (old : List ℕ) → D.seen disk.old ≡ Some old →
         OnOk result (D.faults disk.new ≡ D.faults disk.old) }
 {

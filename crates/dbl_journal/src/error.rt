@@ -2,16 +2,16 @@ use dbl_base::Failed;
 use std::alloc::{AllocError, AllocFailed};
 use thiserror::Error;
 
-/// Why a journal wasn't made, opened, read or appended to.
+/// Why a journal couldn't be made, opened, read or appended to.
 #[derive(Clone, Copy, Debug, PartialEq, Eq, Error)]
 pub enum JournalError {
     #[error("disk failed")]
     Failed,
-    /// The first byte of the magic that is missing or wrong, the missing gate, or the gate of the entry that is cut or too
-    /// long.
+    /// The offset of the first missing or wrong byte of the magic, of the missing commit byte, or
+    /// of the commit byte whose entry is truncated or too long.
     #[error("not a journal at {at}")]
     NotAJournal { at: u64 },
-    /// More than `ENTRY_LIMIT` bytes.
+    /// The entry is longer than `ENTRY_LIMIT` bytes.
     #[error("entry too long: {len}")]
     EntryTooLong { len: u64 },
     #[error("out of memory")]

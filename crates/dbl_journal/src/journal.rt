@@ -1,32 +1,34 @@
 ghost use Rattle.std.specs.Prelude.{◌≡◌, ◌≢◌, ◌⊎◌, ◌↔◌, ℕ, ◌+◌, ◌<◌, ◌≤◌, ◌++◌, List, [], ◌∷◌, length, drop, max, Some};
 ghost use Rattle.std.specs.Prelude.{IsTrue, IfOk, IfErr, OnOk, OnErr, MatchResult, slice_get};
-ghost use Rattle.dbl_base.specs.Streams.{HasCause, raised};
+ghost use Rattle.dbl_base.specs.Streams.{FailsOnlyIfCounted, incremented};
 ghost use Rattle.dbl_disk.specs.Disks.{Follows, IsOnly, Torn, disk_limit};
 ghost use Rattle.dbl_journal.specs.Form.{IsFaultAt, IsJournal, entry_limit};
-ghost use Rattle.dbl_journal.specs.Growth.{ComesOf};
+ghost use Rattle.dbl_journal.specs.Growth.{ExtendsJournal};
 ghost use Rattle.dbl_journal.specs.Stored.{IsSteady, LeavesEntries, Lists, count_of, size};
 ghost use Rattle.dbl_journal.specs.Calls.{Keeps, Makes, PutLeaves};
 
 use crate::JournalError;
-use crate::appending::{behind_room, open_gate, spell, stage, start};
+use crate::appending::{entry_after_room, frame_entry, set_commit_byte, start, write_entry};
 use crate::scanning::scan;
 use dbl_base::{Bytes, Failed};
 use dbl_disk::{Disk, Extent, Refused};
 use std::alloc::Global;
 use std::marker::Model;
 
-/// An entry holds at most so many bytes: 2^28.
+/// The maximum length of an entry in bytes: 2^28.
 pub const ENTRY_LIMIT: usize = 1 << 28;
 
-/// In a buffer that is appended an entry stands behind so many bytes, which take its length.
+/// The number of bytes before the entry in a buffer passed to `append_built`, which receive the
+/// entry's length.
 pub const ENTRY_ROOM: usize = 4;
 
 pub(crate) const MAGIC: [u8; 8] = *b"DBLJRNL1";
 
-/// A list of entries on a disk. A crash while an entry is appended leaves the list as it was, or the list with the entry.
+/// A list of entries on a disk. A crash during an append leaves the list with or without the entry.
 ///
-/// On the disk stand the bytes `DBLJRNL1`, then each entry: a gate of one byte, 1, its length in four bytes, the highest
-/// first, and what it holds. Behind the last entry stands a gate that is closed, which is any byte but 1.
+/// The disk contains the bytes `DBLJRNL1`, then for each entry a commit byte of 1, the length in
+/// four bytes, big-endian, and the entry's bytes. After the last entry is an unset commit byte: any
+/// byte but 1.
 #[derive(Drop)]
 pub struct Journal<D: Disk> {
     disk: D,
@@ -46,8 +48,8 @@ impl<D: Disk> Model for Journal<D> {
 }
 
 impl<D: Disk> Journal<D> {
-    /// An empty journal on an empty disk: a write and a sync. The allocator is for the places of entries, and no memory is
-    /// taken now.
+    /// Makes an empty journal on an empty disk by a write and a sync. The allocator is for the
+    /// index of entries; this call takes no memory.
     pub fn make(alloc: Global, mut disk: D) -> Result<Journal<D>, Refused<D, JournalError>>
         requires { (bytes : List ℕ) → D.seen disk ≡ Some bytes → bytes ≡ [] }
         ensures made { D.seen disk ≡ Some [] →
@@ -76,9 +78,9 @@ impl<D: Disk> Journal<D> {
         }
     }
 
-    /// The journal on the disk, as a crash may have left it: a sync, and then a few bytes are read of each entry. Whatever it
-    /// answers but `Failed`, a crash leaves what was read and nothing else; and so it does after `Failed`, where more than one
-    /// call was made. The first call that fails is the last one.
+    /// Opens the journal on the disk, as a crash may have left it: a sync, and then a few bytes of
+    /// each entry are read. A crash then leaves exactly what was read, unless the first call
+    /// failed. It stops at the first failed call.
     pub fn open(alloc: Global, mut disk: D) -> Result<Journal<D>, Refused<D, JournalError>>
         ensures opened { (bytes : List ℕ) → D.seen disk ≡ Some bytes →
             IfOk result (λ journal. (entries : List (List ℕ)) × IsJournal bytes entries ×
@@ -91,7 +93,7 @@ impl<D: Disk> Journal<D> {
             IsOnly bytes (D.may_leave refused.disk)) }
         ensures first { (bytes : List ℕ) (calls : ℕ) → D.seen disk ≡ Some bytes →
             D.calls disk ≡ Some calls →
-            IfErr result (λ refused. D.calls refused.disk ≢ Some (raised calls) →
+            IfErr result (λ refused. D.calls refused.disk ≢ Some (incremented calls) →
             IsOnly bytes (D.may_leave refused.disk)) }
         ensures live { IfOk result (λ journal. IsTrue journal.live) }
         ensures short { IfErr result
@@ -112,9 +114,9 @@ impl<D: Disk> Journal<D> {
         }
     }
 
-    /// Adds an entry: a write and a sync behind the last gate, and a write and a sync of that gate. After `Failed` the
-    /// journal isn't live; the other errors come before the first of these calls. A disk that tells its bytes tells them
-    /// after each answer.
+    /// Appends an entry: a write and a sync after the last commit byte, then a write and a sync of
+    /// that byte. After `Failed` the journal isn't live; the other errors come before the first
+    /// disk call.
     pub fn append(&mut self, alloc: Global, entry: &[u8]) -> Result<(), JournalError>
         requires { IsTrue self.old.live }
         ensures added { (entries : List (List ℕ)) → Lists D.seen D.may_leave self.old entries →
@@ -126,7 +128,7 @@ impl<D: Disk> Journal<D> {
             Lists D.seen D.may_leave self.old entries → D.seen self.old.disk ≡ Some old →
             D.seen self.new.disk ≡ Some new →
             length new ≤ max (length old) (size (entries ++ entry.now ∷ [])) }
-        ensures comes { ComesOf D.seen D.may_leave self.old self.new }
+        ensures comes { ExtendsJournal D.seen D.may_leave self.old self.new }
         ensures puts { PutLeaves D.seen D.faults (result ≡ Err JournalError.Failed)
             self.old self.new }
         ensures live { OnOk result (IsTrue self.new.live) }
@@ -141,12 +143,12 @@ impl<D: Disk> Journal<D> {
                 len: entry.len() as u64,
             });
         }
-        let bytes = behind_room(alloc, entry)?;
+        let bytes = entry_after_room(alloc, entry)?;
         self.append_built(bytes)
     }
 
-    /// Adds the entry that stands in a buffer behind `ENTRY_ROOM` bytes of any value, as `append` adds one, and without a
-    /// copy of it. The buffer grows by a byte, for which it takes memory only where its capacity is used up.
+    /// Appends the entry after the first `ENTRY_ROOM` bytes of the buffer, of any value, as
+    /// `append` does but without copying it. The buffer grows by a byte.
     pub fn append_built(&mut self, mut bytes: Vec<u8>) -> Result<(), JournalError>
         requires live { IsTrue self.old.live }
         requires room { 4 ≤ length bytes.items }
@@ -159,7 +161,7 @@ impl<D: Disk> Journal<D> {
             Lists D.seen D.may_leave self.old entries → D.seen self.old.disk ≡ Some old →
             D.seen self.new.disk ≡ Some new →
             length new ≤ max (length old) (size (entries ++ drop 4 bytes.items ∷ [])) }
-        ensures comes { ComesOf D.seen D.may_leave self.old self.new }
+        ensures comes { ExtendsJournal D.seen D.may_leave self.old self.new }
         ensures puts { PutLeaves D.seen D.faults (result ≡ Err JournalError.Failed)
             self.old self.new }
         ensures live { OnOk result (IsTrue self.new.live) }
@@ -173,20 +175,20 @@ impl<D: Disk> Journal<D> {
         if len > ENTRY_LIMIT as u64 {
             return Err(JournalError::EntryTooLong { len });
         }
-        spell(&mut bytes)?;
+        frame_entry(&mut bytes)?;
         self.places.push(Extent {
             at: self.gate + 5,
             length: len,
         })?;
         self.live = false;
-        stage(&mut self.disk, self.gate, &bytes)?;
-        open_gate(&mut self.disk, self.gate)?;
+        write_entry(&mut self.disk, self.gate, &bytes)?;
+        set_commit_byte(&mut self.disk, self.gate)?;
         self.gate += bytes.len() as u64;
         self.live = true;
         Ok(())
     }
 
-    /// What the entry with this number, counted from 0, holds. It alone is read. The journal stays live.
+    /// Reads the entry with this number, counted from 0, and no other. The journal stays live.
     pub fn entry(&mut self, alloc: Global, number: u64) -> Result<Bytes, JournalError>
         requires live { IsTrue self.old.live }
         requires within { number < count_of self.old }
@@ -198,7 +200,7 @@ impl<D: Disk> Journal<D> {
         ensures seen { D.seen self.new.disk ≡ D.seen self.old.disk }
         ensures crash { (crashed : List ℕ) → D.may_leave self.new.disk crashed ↔
             D.may_leave self.old.disk crashed }
-        ensures cause { HasCause (result ≡ Err JournalError.Failed)
+        ensures cause { FailsOnlyIfCounted (result ≡ Err JournalError.Failed)
             (D.faults self.old.disk) (D.faults self.new.disk) }
         ensures journal { (at : ℕ) → result ≢ Err (JournalError.NotAJournal at) }
         ensures short { (len : ℕ) → result ≢ Err (JournalError.EntryTooLong len) }
@@ -211,7 +213,7 @@ impl<D: Disk> Journal<D> {
         Ok(Bytes::make(bytes))
     }
 
-    /// The number of entries. Takes no memory.
+    /// The number of entries.
     pub fn count(&self) -> u64
         requires { IsTrue self.now.live }
         ensures count { result ≡ count_of self.now }
@@ -220,14 +222,14 @@ impl<D: Disk> Journal<D> {
         self.places.len() as u64
     }
 
-    /// Whether the journal can be used: until an append fails. Takes no memory.
+    /// Whether the journal is usable, that is no append has failed.
     pub fn is_live(&self) -> bool
         ensures { result ≡ self.now.live }
     {
         self.live
     }
 
-    /// The disk, as it stands. Takes no memory and makes no call of the disk.
+    /// Unwraps the disk in its current state, without a disk call.
     pub fn into_disk(self) -> D
         ensures { result ≡ self.disk }
     {

@@ -1,4 +1,4 @@
-//! Laws of journals. The functions do nothing: their contracts are the laws.
+//! Theorems about journals; the functions have empty bodies.
 
 ghost use Rattle.std.specs.Prelude.{◌≡◌, ◌⊎◌, ◌++◌, ◌∷◌, [], ℕ, List, length};
 ghost use Rattle.dbl_journal.specs.Form.{IsFaultAt, IsJournal};
@@ -6,13 +6,14 @@ ghost use Rattle.dbl_journal.specs.Stored.{LeavesEntries, Lists, MayLeaveEntries
 
 use dbl_disk::Disk;
 
-/// Bytes are a journal of one list of entries at most.
+/// Bytes are a journal of at most one list of entries.
 pub fn journals_are_read_once()
     ensures { (bytes : List ℕ) (first second : List (List ℕ)) → IsJournal bytes first →
         IsJournal bytes second → first ≡ second }
 {}
 
-/// Bytes never are a journal and have a fault, and they have one fault at most.
+/// Bytes are either a journal or invalid, never both, and the offset at which they are invalid is
+/// unique.
 pub fn journals_or_faults()
     ensures not_both { (bytes : List ℕ) (entries : List (List ℕ)) (at : ℕ) →
         IsJournal bytes entries → ¬ IsFaultAt bytes at }
@@ -20,8 +21,8 @@ pub fn journals_or_faults()
         IsFaultAt bytes second → first ≡ second }
 {}
 
-/// A journal lists one list of entries at most, of which it has the count, and which is what a crash may leave of it, and nothing else. What may be left while
-/// an entry is appended is the list or the one with the entry.
+/// A journal has at most one list of entries, of known count; a crash leaves that list, with or
+/// without an entry being appended.
 pub fn lists_are_one<D: Disk>()
     ensures one { (journal : OnDisk D) (first second : List (List ℕ)) →
         Lists D.seen D.may_leave journal first → Lists D.seen D.may_leave journal second →

@@ -1,4 +1,4 @@
-//! A list of entries on a disk, whose append is all or nothing.
+//! A list of entries on a disk, with atomic append.
 #![tactic(auto)]
 
 mod appending;

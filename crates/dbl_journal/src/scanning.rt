@@ -1,7 +1,7 @@
 ghost use Rattle.std.specs.Prelude.{◌≡◌, ◌≢◌, ◌↔◌, ℕ, ◌+◌, ◌^◌, ◌<◌, ◌≤◌, ◌++◌, List, [], ◌∷◌, length, take, drop};
 ghost use Rattle.std.specs.Prelude.{slice_index, Some, IfOk, IfSome, IfNone, OnOk};
 ghost use Rattle.std.specs.Int.{to_be_bytes, w32};
-ghost use Rattle.dbl_base.specs.Streams.{HasCause, raised};
+ghost use Rattle.dbl_base.specs.Streams.{FailsOnlyIfCounted, incremented};
 ghost use Rattle.dbl_disk.specs.Disks.{IsOnly, disk_limit};
 ghost use Rattle.dbl_journal.specs.Form.{IsBroken, IsFaultAt, IsJournal, up_to_gate, magic};
 ghost use Rattle.dbl_journal.specs.Steps.{AreRead, IsStep};
@@ -12,14 +12,14 @@ use crate::journal::{ENTRY_LIMIT, MAGIC};
 use dbl_disk::{Disk, Extent};
 use std::alloc::Global;
 
-// Where the last gate stands, and what each entry holds.
+// The offset of the last commit byte, and the extent of each entry.
 #[derive(Debug, Drop)]
 pub(crate) struct Found {
     pub(crate) gate: u64,
     pub(crate) places: Vec<Extent>,
 }
 
-// With how many bytes of the magic these begin.
+// The number of leading bytes that agree with the magic.
 #[tactic(auto, unfolding(crate::specs::Form::magic))]
 fn matching(bytes: &[u8]) -> u64
     ensures within { result ≤ 8 }
@@ -33,7 +33,7 @@ fn matching(bytes: &[u8]) -> u64
     count as u64
 }
 
-// The length behind an open gate.
+// The length after a set commit byte.
 fn open_length(head: &[u8]) -> Option<u32>
     requires { length head.now ≡ 5 }
     ensures open { IfSome result (λ n. head.now ≡ 1 ∷ to_be_bytes w32 n) }
@@ -46,7 +46,7 @@ fn open_length(head: &[u8]) -> Option<u32>
     Some(u32::from_be_bytes([head[1], head[2], head[3], head[4]]))
 }
 
-// One step over the entries: the place of the next one, or none at a closed gate.
+// One step over the entries: the extent of the next one, or none at an unset commit byte.
 fn next_place<D: Disk>(disk: &mut D, gate: u64, total: u64) -> Result<Option<Extent>, JournalError>
     requires small { total < disk_limit }
     requires within { gate ≤ total }
@@ -60,7 +60,7 @@ fn next_place<D: Disk>(disk: &mut D, gate: u64, total: u64) -> Result<Option<Ext
     ensures seen { D.seen disk.new ≡ D.seen disk.old }
     ensures crash { (crashed : List ℕ) →
         D.may_leave disk.new crashed ↔ D.may_leave disk.old crashed }
-    ensures cause { HasCause (result ≡ Err JournalError.Failed)
+    ensures cause { FailsOnlyIfCounted (result ≡ Err JournalError.Failed)
         (D.faults disk.old) (D.faults disk.new) }
     ensures short { (len : ℕ) → result ≢ Err (JournalError.EntryTooLong len) }
     ensures steady { (bytes : List ℕ) → D.seen disk.old ≡ Some bytes →
@@ -84,7 +84,6 @@ fn next_place<D: Disk>(disk: &mut D, gate: u64, total: u64) -> Result<Option<Ext
     }))
 }
 
-// Looks for the magic.
 fn read_magic<D: Disk>(disk: &mut D) -> Result<(), JournalError>
     ensures right { (bytes : List ℕ) → D.seen disk.old ≡ Some bytes →
         OnOk result (bytes ≡ magic ++ drop 8 bytes) }
@@ -93,7 +92,7 @@ fn read_magic<D: Disk>(disk: &mut D) -> Result<(), JournalError>
     ensures seen { D.seen disk.new ≡ D.seen disk.old }
     ensures crash { (crashed : List ℕ) →
         D.may_leave disk.new crashed ↔ D.may_leave disk.old crashed }
-    ensures cause { HasCause (result ≡ Err JournalError.Failed)
+    ensures cause { FailsOnlyIfCounted (result ≡ Err JournalError.Failed)
         (D.faults disk.old) (D.faults disk.new) }
     ensures short { (len : ℕ) → result ≢ Err (JournalError.EntryTooLong len) }
     ensures steady { (bytes : List ℕ) → D.seen disk.old ≡ Some bytes →
@@ -108,7 +107,7 @@ fn read_magic<D: Disk>(disk: &mut D) -> Result<(), JournalError>
     Ok(())
 }
 
-// Goes over the entries behind the magic.
+// Scans the entries after the magic.
 fn read_places<D: Disk>(alloc: Global, disk: &mut D, total: u64) -> Result<Found, JournalError>
     requires { total < disk_limit }
     ensures read { (bytes : List ℕ) → D.seen disk.old ≡ Some bytes → total ≡ length bytes →
@@ -123,7 +122,7 @@ fn read_places<D: Disk>(alloc: Global, disk: &mut D, total: u64) -> Result<Found
     ensures seen { D.seen disk.new ≡ D.seen disk.old }
     ensures crash { (crashed : List ℕ) →
         D.may_leave disk.new crashed ↔ D.may_leave disk.old crashed }
-    ensures cause { HasCause (result ≡ Err JournalError.Failed)
+    ensures cause { FailsOnlyIfCounted (result ≡ Err JournalError.Failed)
         (D.faults disk.old) (D.faults disk.new) }
     ensures short { (len : ℕ) → result ≢ Err (JournalError.EntryTooLong len) }
     ensures steady { (bytes : List ℕ) → D.seen disk.old ≡ Some bytes →
@@ -141,8 +140,8 @@ fn read_places<D: Disk>(alloc: Global, disk: &mut D, total: u64) -> Result<Found
     Ok(Found { gate, places })
 }
 
-// Finds the entries of what a crash may have left. It begins with a sync, so whatever it finds is what a crash leaves from
-// then on.
+// Finds the entries that a crash may have left. It syncs first, so from then on a crash leaves
+// exactly what was found.
 pub(crate) fn scan<D: Disk>(alloc: Global, disk: &mut D) -> Result<Found, JournalError>
     ensures read { (bytes : List ℕ) → D.seen disk.old ≡ Some bytes →
         IfOk result (λ found. (entries : List (List ℕ)) × IsJournal bytes entries ×
@@ -150,7 +149,7 @@ pub(crate) fn scan<D: Disk>(alloc: Global, disk: &mut D) -> Result<Found, Journa
     ensures only { (bytes : List ℕ) → D.seen disk.old ≡ Some bytes →
         result ≢ Err JournalError.Failed → IsOnly bytes (D.may_leave disk.new) }
     ensures first { (bytes : List ℕ) (calls : ℕ) → D.seen disk.old ≡ Some bytes →
-        D.calls disk.old ≡ Some calls → D.calls disk.new ≢ Some (raised calls) →
+        D.calls disk.old ≡ Some calls → D.calls disk.new ≢ Some (incremented calls) →
         IsOnly bytes (D.may_leave disk.new) }
     ensures broken { (bytes : List ℕ) (at : ℕ) → D.seen disk.old ≡ Some bytes →
         result ≡ Err (JournalError.NotAJournal at) → IsFaultAt bytes at }
@@ -159,7 +158,7 @@ pub(crate) fn scan<D: Disk>(alloc: Global, disk: &mut D) -> Result<Found, Journa
     ensures seen { D.seen disk.new ≡ D.seen disk.old }
     ensures crash { (crashed : List ℕ) →
         D.may_leave disk.new crashed → D.may_leave disk.old crashed }
-    ensures cause { HasCause (result ≡ Err JournalError.Failed)
+    ensures cause { FailsOnlyIfCounted (result ≡ Err JournalError.Failed)
         (D.faults disk.old) (D.faults disk.new) }
     ensures short { (len : ℕ) → result ≢ Err (JournalError.EntryTooLong len) }
     ensures steady { (bytes : List ℕ) → D.seen disk.old ≡ Some bytes →

@@ -1,2 +1,3 @@
 pub mod WritingLemmas
 pub mod PutLemmas
+pub mod SayLemmas

@@ -1,2 +1,4 @@
 pub mod Gathering
 pub mod Writing
+pub mod Faults
+pub mod Says

@@ -1,10 +1,10 @@
 use std::alloc::{AllocError, AllocFailed};
 use thiserror::Error;
 
-/// Why lines aren't written, or not all.
+/// Why some or all lines weren't written.
 #[derive(Clone, Copy, Debug, Drop, PartialEq, Eq, Error)]
 pub enum PrintError {
-    /// The output failed: its count of faults rose.
+    /// The output failed, and its fault count rose.
     #[error("output failed")]
     OutputFailed,
     #[error("out of memory")]

@@ -1,7 +1,7 @@
-//! What a writer of lines makes of its output.
+//! Theorem: the effect of a line writer on its output.
 ghost use Rattle.dbl_lines.specs.Gathering.{TextIsTold};
 
-/// What was written and what is gathered are together the text of the lines that were put.
+/// The text written and the text buffered are together the text of the lines added.
 pub fn text_is_told()
     ensures { TextIsTold }
 {}

@@ -1,4 +1,4 @@
-//! What is written as one line.
+//! Values that are written as one line.
 ghost use Rattle.std.specs.Prelude.{◌≡◌, ◌++◌, List, ℕ, IfOk, IfErr};
 ghost use Rattle.dbl_record.specs.Line.{line_of};
 ghost use Rattle.dbl_lines.specs.declared.error.PrintError.TheVariants.{Memory};
@@ -7,12 +7,12 @@ use crate::PrintError;
 use dbl_base::Text;
 use dbl_record::{Record, append_line};
 
-/// What is written as one line.
+/// A value that is written as one line.
 pub trait Line {
     /// The line, without its newline.
     ghost line: { Self → List ℕ };
 
-    /// Appends the line, without its newline, to a buffer that is handed back.
+    /// Appends the line, without its newline; takes the buffer and returns it.
     fn append(&self, out: Vec<u8>) -> Result<Vec<u8>, PrintError>
         ensures line { IfOk result (λ done. done.items ≡ out.items ++ line self.now) }
         ensures memory { IfErr result (λ error. error ≡ Memory) };

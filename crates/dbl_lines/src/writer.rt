@@ -1,6 +1,6 @@
-//! Lines that are gathered before they are written.
+//! Buffered lines.
 ghost use Rattle.std.specs.Prelude.{◌≡◌, ◌++◌, ◌∷◌, ℕ, List, [], Option, Err, map, IfOk, IfErr, OnOk};
-ghost use Rattle.dbl_base.specs.Streams.{HasCause};
+ghost use Rattle.dbl_base.specs.Streams.{FailsOnlyIfCounted};
 ghost use Rattle.dbl_record.specs.Line.{line_of};
 ghost use Rattle.dbl_lines.specs.declared.error.PrintError.TheVariants.{OutputFailed, Memory};
 ghost use Rattle.dbl_lines.specs.Writing.{Wrote, WrotePrefix, Prints};
@@ -13,14 +13,14 @@ use std::alloc::{AllocError, Global};
 use std::marker::Model;
 use std::mem;
 
-/// The output takes pieces of about this length, which end at a newline.
+/// The approximate length of the pieces that are written, which end at a newline.
 const PIECE_LENGTH: usize = 65_536;
 
-/// What is gathered has so much room at first.
+/// The initial capacity of the buffer.
 const BUFFER_LENGTH: usize = 69_632;
 
-/// A writer of lines, which contracts see as the text that is gathered and isn't written yet. Behind an error it is to be
-/// given up.
+/// A line writer, which contracts see as the buffered text that isn't written yet. It must not be
+/// used after an error.
 #[derive(Drop)]
 pub struct LineWriter {
     alloc: Global,
@@ -36,7 +36,7 @@ impl Model for LineWriter {
 }
 
 impl LineWriter {
-    /// A writer that has gathered nothing.
+    /// Makes a writer with an empty buffer.
     pub fn make(alloc: Global) -> Result<LineWriter, AllocError>
         ensures { IfOk result (λ lines. lines ≡ []) }
     {
@@ -46,21 +46,21 @@ impl LineWriter {
         })
     }
 
-    /// Puts a line behind the others, and writes all that are gathered where they are many.
+    /// Appends a line, and writes the buffered lines if they are many.
     pub fn put<O: Output, L: Line>(&mut self, output: &mut O, line: &L) -> Result<(), PrintError>
         ensures puts { PutsLines (L.line line.now ∷ []) result self.old self.new
             (O.written output.old) (O.written output.new) }
         ensures unwritten { result ≡ Err Memory → O.written output.new ≡ O.written output.old }
-        ensures cause { HasCause (result ≡ Err OutputFailed)
+        ensures cause { FailsOnlyIfCounted (result ≡ Err OutputFailed)
             (O.faults output.old) (O.faults output.new) }
     {
         match self.gather(line) {
-            Ok(()) => self.write_much(output),
+            Ok(()) => self.flush_if_full(output),
             Err(error) => Err(error),
         }
     }
 
-    /// Puts the lines of records.
+    /// Appends the lines of records.
     pub fn put_records<O: Output>(
         &mut self,
         output: &mut O,
@@ -68,7 +68,7 @@ impl LineWriter {
     ) -> Result<(), PrintError>
         ensures puts { PutsLines (map line_of records.now.items) result self.old self.new
             (O.written output.old) (O.written output.new) }
-        ensures cause { HasCause (result ≡ Err OutputFailed)
+        ensures cause { FailsOnlyIfCounted (result ≡ Err OutputFailed)
             (O.faults output.old) (O.faults output.new) }
     {
         'records: for item in records {
@@ -80,7 +80,7 @@ impl LineWriter {
         Ok(())
     }
 
-    /// Writes what is gathered, if anything is.
+    /// Writes the buffered lines, if any.
     pub fn finish<O: Output>(mut self, output: &mut O) -> Result<(), PrintError>
         ensures prints { (start : Option (List ℕ)) (lines : List (List ℕ)) →
             IsPut start (O.written output.old) self lines →
@@ -88,7 +88,7 @@ impl LineWriter {
         ensures wrote { OnOk result (Wrote (O.written output.old) (O.written output.new) self) }
         ensures prefix { IfErr result (λ error. (error ≡ OutputFailed) ×
             WrotePrefix (O.written output.old) (O.written output.new) self) }
-        ensures cause { HasCause (result ≡ Err OutputFailed)
+        ensures cause { FailsOnlyIfCounted (result ≡ Err OutputFailed)
             (O.faults output.old) (O.faults output.new) }
     {
         if self.gathered.is_empty() {
@@ -97,7 +97,7 @@ impl LineWriter {
         flush(output, &mut self.gathered)
     }
 
-    // Gathers one more line.
+    // Buffers one more line.
     fn gather<L: Line>(&mut self, line: &L) -> Result<(), PrintError>
         ensures line { OnOk result (self.new ≡ self.old ++ L.line line.now ++ 10 ∷ []) }
         ensures memory { IfErr result (λ error. error ≡ Memory) }
@@ -109,12 +109,12 @@ impl LineWriter {
         Ok(())
     }
 
-    // Writes what is gathered where that is much.
-    fn write_much<O: Output>(&mut self, output: &mut O) -> Result<(), PrintError>
+    // Writes the buffered lines if they are many.
+    fn flush_if_full<O: Output>(&mut self, output: &mut O) -> Result<(), PrintError>
         ensures stays { StaysPut result self.old self.new
             (O.written output.old) (O.written output.new) }
         ensures failed { IfErr result (λ error. error ≡ OutputFailed) }
-        ensures cause { HasCause (result ≡ Err OutputFailed)
+        ensures cause { FailsOnlyIfCounted (result ≡ Err OutputFailed)
             (O.faults output.old) (O.faults output.new) }
     {
         if self.gathered.len() < PIECE_LENGTH {
@@ -124,14 +124,14 @@ impl LineWriter {
     }
 }
 
-// Writes what is gathered, and empties it.
+// Writes and empties the buffer.
 fn flush<O: Output>(output: &mut O, gathered: &mut Vec<u8>) -> Result<(), PrintError>
     ensures wrote { OnOk result
         (Wrote (O.written output.old) (O.written output.new) gathered.old.items) }
     ensures emptied { OnOk result (gathered.new.items ≡ []) }
     ensures prefix { IfErr result (λ error. (error ≡ OutputFailed) ×
         WrotePrefix (O.written output.old) (O.written output.new) gathered.old.items) }
-    ensures cause { HasCause (result ≡ Err OutputFailed)
+    ensures cause { FailsOnlyIfCounted (result ≡ Err OutputFailed)
         (O.faults output.old) (O.faults output.new) }
 {
     match output.write(gathered.as_slice()) {

@@ -23,15 +23,15 @@ use Rattle.dbl_value.proofs.KindLemmas.{kind_of, spelled_kind, text_spelled}
 use Rattle.dbl_record.specs.Fields.{number64, text_form, truth_form, IsStored}
 use Rattle.dbl_record.specs.GroupReading.{◌>>=◌, truth_at}
 use Rattle.dbl_record.proofs.FieldLaws.{IsBytes, ok_is, bind_ok, guard_held, chosen, Takes, Takes-then, Reads, took, number64_reads, text_reads, truth_reads}
-use Rattle.dbl_table.specs.declared.row.Key.{Key}
-use Rattle.dbl_history.specs.declared.cursor.Cursor.{Cursor}
-use Rattle.dbl_table.specs.declared.table.TableInfo.{TableInfo}
-use Rattle.dbl_table.specs.Tables.{is_key_type}
-use Rattle.dbl_table.specs.Infos.{key_types}
-use Rattle.dbl_history.specs.Fit.{AreOf}
-use Rattle.dbl_history.specs.Cursors.{IsCursorOf}
-use Rattle.dbl_offset.specs.Entries.{cell, last_key, cursor, FitsCell, FitsCursor}
-use Rattle.dbl_offset.specs.Reading.{found, byte_at, is_integer_of, word_of, integer_at, word_at, cell_at, cells_at, key_at, last_at, cursor_at}
+use Rattle.dbl_model_table.specs.declared.row.Key.{Key}
+use Rattle.dbl_model_history.specs.declared.cursor.Cursor.{Cursor}
+use Rattle.dbl_model_table.specs.declared.table.TableInfo.{TableInfo}
+use Rattle.dbl_model_table.specs.Tables.{is_key_type}
+use Rattle.dbl_model_table.specs.Infos.{key_types}
+use Rattle.dbl_model_history.specs.Fit.{AreOf}
+use Rattle.dbl_model_history.specs.Cursors.{IsCursorOf}
+use Rattle.dbl_offset.specs.Entries.{cell, last_key_form, cursor, FitsKeyCell, FitsCursor}
+use Rattle.dbl_offset.specs.Reading.{or_no_offset, offset_byte_at, is_integer_of, word_of, integer_at, word_at, offset_cell_at, cells_at, offset_key_at, last_at, cursor_at}
 use Rattle.dbl_offset.proofs.FieldLaws.{found_is, byte_reads}
 
 -- ---- integers
@@ -68,7 +68,7 @@ integer_again ty z rest h fits = rw ((number64_reads 0).again (cast_unsigned w64
 record IsRead (ty : PgType) (bytes : List ℕ) (v : Val) (rest : List ℕ) : Type 0 where
   takes : Takes bytes (cell v) rest
   is : IsOf ty v
-  fits : FitsCell v
+  fits : FitsKeyCell v
 
 integer_takes : (ty : PgType) (bytes left : List ℕ) (v : Val) (rest : List ℕ) → Takes bytes (1 ∷ []) left → integer_at ty left ≡ Ok (v, rest) → IsRead ty bytes v rest
 unfolding integer_at cell
@@ -109,7 +109,7 @@ word_takes : (ty : PgType) (bytes left : List ℕ) (v : Val) (rest : List ℕ) �
 unfolding word_at cell
 word_takes ty bytes left v rest so_far e =
     let t = took (text_reads 0) bytes (2 ∷ []) left _ (v, rest) so_far e in
-    let w = bind_ok (found (word_of ty t.value)) (λ (v : Val). Ok (v, t.rest)) (v, rest) t.more in
+    let w = bind_ok (or_no_offset (word_of ty t.value)) (λ (v : Val). Ok (v, t.rest)) (v, rest) t.more in
     let made = word_text ty t.value w.0 (found_is (word_of ty t.value) w.0 w.1) in
     let read : IsRead ty bytes (val.Text t.value) t.rest = record { takes = t.takes; is = record { text = t.value; utf8 = t.fits.utf8; spells = made.1 ∙ ap Some (sym made.0) }; fits = t.fits } in
     let here : IsRead ty bytes w.0 t.rest = subst (λ (x : Val). IsRead ty bytes x t.rest) made.0 read in
@@ -134,14 +134,14 @@ no_cell ty v key is not_two not_three =
       | inr three ↦ not_three (spelled_kind ty is.text v is.spells ∙ three)
     ]
 
-cell_again : (ty : PgType) (v : Val) (rest : List ℕ) → is_key_type ty ≡ true → IsOf ty v → FitsCell v → cell_at ty (cell v ++ rest) ≡ Ok (v, rest)
-unfolding cell_at cell byte_at
+cell_again : (ty : PgType) (v : Val) (rest : List ℕ) → is_key_type ty ≡ true → IsOf ty v → FitsKeyCell v → offset_cell_at ty (cell v ++ rest) ≡ Ok (v, rest)
+unfolding offset_cell_at cell offset_byte_at
 cell_again ty (val.Int z) rest key is fits = integer_again ty z rest (is_integer ty z is) fits
 cell_again ty (val.Text t) rest key is fits = word_again ty t rest (is_word ty t key is) fits
 cell_again ty v rest key is fits = absurd (no_cell ty v key is (λ e. eqb-false (rank v) 2 refl e) (λ e. eqb-false (rank v) 3 refl e))
 
-cell_takes : (ty : PgType) (bytes : List ℕ) (v : Val) (rest : List ℕ) → IsBytes bytes → cell_at ty bytes ≡ Ok (v, rest) → IsRead ty bytes v rest
-unfolding cell_at
+cell_takes : (ty : PgType) (bytes : List ℕ) (v : Val) (rest : List ℕ) → IsBytes bytes → offset_cell_at ty bytes ≡ Ok (v, rest) → IsRead ty bytes v rest
+unfolding offset_cell_at
 cell_takes ty bytes v rest fits e =
     let b = took byte_reads bytes [] bytes _ (v, rest) (record { parts = refl; rest_fits = fits }) e in
     elim (chosen (eqb b.value 1) _ _ _ b.more) [
@@ -153,7 +153,7 @@ cell_takes ty bytes v rest fits e =
 
 -- ---- keys
 
-cells_again : (types : List PgType) (cells : List Val) (rest : List ℕ) → AllByRecursion (λ ty. is_key_type ty ≡ true) types → AreOf types cells → AllByRecursion FitsCell cells → cells_at types (flat_map cell cells ++ rest) ≡ Ok (cells, rest)
+cells_again : (types : List PgType) (cells : List Val) (rest : List ℕ) → AllByRecursion (λ ty. is_key_type ty ≡ true) types → AreOf types cells → AllByRecursion FitsKeyCell cells → cells_at types (flat_map cell cells ++ rest) ≡ Ok (cells, rest)
 unfolding cells_at
 cells_again [] [] rest key are fits = refl
 cells_again [] (v ∷ cells) rest key are fits = absurd are
@@ -164,14 +164,14 @@ cells_again (ty ∷ types) (v ∷ cells) rest key are fits =
 record AreRead (types : List PgType) (bytes : List ℕ) (cells : List Val) (rest : List ℕ) : Type 0 where
   takes : Takes bytes (flat_map cell cells) rest
   are : AreOf types cells
-  fits : AllByRecursion FitsCell cells
+  fits : AllByRecursion FitsKeyCell cells
 
 cells_takes : (types : List PgType) (bytes : List ℕ) (cells : List Val) (rest : List ℕ) → IsBytes bytes → cells_at types bytes ≡ Ok (cells, rest) → AreRead types bytes cells rest
 unfolding cells_at
 cells_takes [] bytes cells rest fits e =
     subst (λ (y : List Val × List ℕ). AreRead [] bytes y.0 y.1) (ok_is ([], bytes) (cells, rest) e) (record { takes = record { parts = refl; rest_fits = fits }; are = tt; fits = tt })
 cells_takes (ty ∷ types) bytes cells rest fits e =
-    let a = bind_ok (cell_at ty bytes) _ (cells, rest) e in
+    let a = bind_ok (offset_cell_at ty bytes) _ (cells, rest) e in
     let b = bind_ok (cells_at types a.0.1) (λ others. Ok (a.0.0 ∷ others.0, others.1)) (cells, rest) a.2 in
     let first = cell_takes ty bytes a.0.0 a.0.1 fits a.1 in
     let second = cells_takes types a.0.1 b.0.0 b.0.1 first.takes.rest_fits b.1 in
@@ -189,20 +189,20 @@ abbrev pub IsLastOf : List PgType → Option Key → Type 0
 IsLastOf types last = IfSome last (λ key. AreOf types key.cells)
 
 abbrev pub FitsLast : Option Key → Type 0
-FitsLast last = IfSome last (λ key. AllByRecursion FitsCell key.cells)
+FitsLast last = IfSome last (λ key. AllByRecursion FitsKeyCell key.cells)
 
-last_again : (types : List PgType) (last : Option Key) (rest : List ℕ) → AllByRecursion (λ ty. is_key_type ty ≡ true) types → IsLastOf types last → FitsLast last → last_at types (last_key last ++ rest) ≡ Ok (last, rest)
-unfolding last_at last_key key_at truth_at byte_at
+last_again : (types : List PgType) (last : Option Key) (rest : List ℕ) → AllByRecursion (λ ty. is_key_type ty ≡ true) types → IsLastOf types last → FitsLast last → last_at types (last_key_form last ++ rest) ≡ Ok (last, rest)
+unfolding last_at last_key_form offset_key_at truth_at offset_byte_at
 last_again types None rest keys is fits = refl
 last_again types (Some key) rest keys is fits = rw (cells_again types key.cells rest keys is fits) refl
 
 record IsLastRead (types : List PgType) (bytes : List ℕ) (last : Option Key) (rest : List ℕ) : Type 0 where
-  takes : Takes bytes (last_key last) rest
+  takes : Takes bytes (last_key_form last) rest
   is : IsLastOf types last
   fits : FitsLast last
 
 last_takes : (types : List PgType) (bytes : List ℕ) (last : Option Key) (rest : List ℕ) → IsBytes bytes → last_at types bytes ≡ Ok (last, rest) → IsLastRead types bytes last rest
-unfolding last_at last_key key_at
+unfolding last_at last_key_form offset_key_at
 last_takes types bytes last rest fits e =
     let there = took (truth_reads 0) bytes [] bytes _ (last, rest) (record { parts = refl; rest_fits = fits }) e in
     elim (chosen there.value _ _ _ there.more) [
@@ -227,7 +227,7 @@ module _ (info : TableInfo) (keys : AllByRecursion (λ ty. is_key_type ty ≡ tr
   cursor_again : (c : Cursor) (rest : List ℕ) → IsCursorOf info c × FitsCursor c → cursor_at info (cursor c ++ rest) ≡ Ok (c, rest)
   unfolding cursor_at cursor
   cursor_again c rest h =
-      rw (append_assoc (truth_form c.done) (last_key c.last) rest, (truth_reads 0).again c.done (last_key c.last ++ rest) tt, last_again (key_types info) c.last rest keys h.0 h.1) refl
+      rw (append_assoc (truth_form c.done) (last_key_form c.last) rest, (truth_reads 0).again c.done (last_key_form c.last ++ rest) tt, last_again (key_types info) c.last rest keys h.0 h.1) refl
 
   cursor_takes : (bytes : List ℕ) (c : Cursor) (rest : List ℕ) → IsBytes bytes → cursor_at info bytes ≡ Ok (c, rest) → Takes bytes (cursor c) rest × (IsCursorOf info c × FitsCursor c)
   unfolding cursor_at cursor
@@ -237,7 +237,7 @@ module _ (info : TableInfo) (keys : AllByRecursion (λ ty. is_key_type ty ≡ tr
       let read = last_takes (key_types info) done.rest l.0.0 l.0.1 done.takes.rest_fits l.1 in
       let made : Cursor = record { last = l.0.0; done = done.value } in
       subst (λ (y : Cursor × List ℕ). Takes bytes (cursor y.0) y.1 × (IsCursorOf info y.0 × FitsCursor y.0)) (ok_is (made, l.0.1) (c, rest) l.2)
-      (Takes-then bytes (truth_form done.value) done.rest (last_key l.0.0) l.0.1 done.takes read.takes, (read.is, read.fits))
+      (Takes-then bytes (truth_form done.value) done.rest (last_key_form l.0.0) l.0.1 done.takes read.takes, (read.is, read.fits))
 
   pub cursor_reads : Reads (cursor_at info) cursor (λ c. IsCursorOf info c × FitsCursor c)
   cursor_reads = record { again = cursor_again; takes = cursor_takes }

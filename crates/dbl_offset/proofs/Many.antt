@@ -6,7 +6,7 @@ use Rattle.dbl_value.specs.declared.column_type.PgType.{PgType}
 use Rattle.dbl_value.specs.declared.value.Val.{Val}
 use Rattle.dbl_record.specs.declared.error.RecordError.{RecordError}
 use Rattle.dbl_record.specs.GroupReading.{Read, ◌>>=◌, Fails}
-use Rattle.dbl_offset.specs.Reading.{cell_at, cells_at}
+use Rattle.dbl_offset.specs.Reading.{offset_cell_at, cells_at}
 
 -- what was read before, and what is still read
 abbrev pub with_front : {A : Type 0} → List A → Read (List A) → Read (List A)
@@ -22,7 +22,7 @@ module _ (type_of : ℕ → PgType) (key : List ℕ) where
       let k : suc i ≡ i + 1 = omega arith in
       ap (map type_of) (drop-cons key i 0 lt ∙ ap (λ (y : ℕ). y ∷ drop (suc i) key) (sym is) ∙ ap (λ (k : ℕ). place ∷ drop k key) k)
 
-  pub cells_go_on : (front : List Val) (i place : ℕ) (bytes : List ℕ) (x : Val) (after : List ℕ) (total : Read (List Val)) → i < length key → place ≡ get_or key i 0 → cell_at (type_of place) bytes ≡ Ok (x, after)
+  pub cells_go_on : (front : List Val) (i place : ℕ) (bytes : List ℕ) (x : Val) (after : List ℕ) (total : Read (List Val)) → i < length key → place ≡ get_or key i 0 → offset_cell_at (type_of place) bytes ≡ Ok (x, after)
       → with_front front (cells_at (map type_of (drop i key)) bytes) ≡ total → with_front (front ++ x ∷ []) (cells_at (map type_of (drop (i + 1) key)) after) ≡ total
   unfolding cells_at
   cells_go_on front i place bytes x after total lt is h so_far =
@@ -30,7 +30,7 @@ module _ (type_of : ℕ → PgType) (key : List ℕ) where
       rw (rest_is i place lt is, h) (regroup front x (cells_at (map type_of (drop (i + 1) key)) after)) in
       sym one ∙ so_far
 
-  pub cells_end : (e : RecordError) (front : List Val) (i place : ℕ) (bytes : List ℕ) (total : Read (List Val)) → i < length key → place ≡ get_or key i 0 → Fails e (cell_at (type_of place) bytes)
+  pub cells_end : (e : RecordError) (front : List Val) (i place : ℕ) (bytes : List ℕ) (total : Read (List Val)) → i < length key → place ≡ get_or key i 0 → Fails e (offset_cell_at (type_of place) bytes)
       → with_front front (cells_at (map type_of (drop i key)) bytes) ≡ total → Fails e total
   unfolding cells_at
   cells_end e front i place bytes total lt is (inl m) so_far = inl m

@@ -11,18 +11,18 @@ use Rattle.dbl_record.specs.declared.error.RecordError.TheVariants.{BadRecord, M
 use Rattle.dbl_record.specs.Fields.{number32, number64, text_form}
 use Rattle.dbl_record.specs.GroupReading.{Gives, number_at, many_at}
 use Rattle.dbl_record.proofs.FieldLaws.{IsBytes, ok_is, bind_ok, guard_held, Takes, Takes-then, Reads, took, number32_reads, number64_reads, text_reads, many_again, many_takes}
-use Rattle.dbl_table.specs.declared.table.TableInfo.{TableInfo}
-use Rattle.dbl_table.specs.declared.table.TableName.{TableName}
-use Rattle.dbl_table.specs.declared.identity.Identity.{Identity}
-use Rattle.dbl_history.specs.declared.cursor.Cursor.{Cursor}
-use Rattle.dbl_table.specs.Tables.{same_name, are_distinct}
-use Rattle.dbl_table.specs.Identities.{is_good_identity}
-use Rattle.dbl_history.specs.Cursors.{IsCursorOf, AreCursorsOf}
-use Rattle.dbl_table.proofs.Lists.{and_left, and_right}
+use Rattle.dbl_model_table.specs.declared.table.TableInfo.{TableInfo}
+use Rattle.dbl_model_table.specs.declared.table.TableName.{TableName}
+use Rattle.dbl_model_table.specs.declared.identity.Identity.{Identity}
+use Rattle.dbl_model_history.specs.declared.cursor.Cursor.{Cursor}
+use Rattle.dbl_model_table.specs.Tables.{same_name, are_distinct}
+use Rattle.dbl_model_table.specs.Identities.{is_good_identity}
+use Rattle.dbl_model_history.specs.Cursors.{IsCursorOf, AreCursorsOf}
+use Rattle.dbl_model_table.proofs.Lists.{and_left, and_right}
 use Rattle.dbl_offset.specs.declared.offset.Offset.{Offset}
-use Rattle.dbl_offset.specs.Entries.{names, counted, entry, tables_of, spelling, FitsNames, FitsEntry, Fits}
-use Rattle.dbl_offset.specs.Offsets.{IsOffset, Spells, IsEntry}
-use Rattle.dbl_offset.specs.Reading.{no_offset, entry_at, identity_at, infos_of, cursors_of, tables_at, numbers_at, ended, version_at, offset_at, whole}
+use Rattle.dbl_offset.specs.Entries.{names, counted, entry, tables_with_cursors, offset_bytes_form, FitsNames, FitsTableCursor, FitsOffset}
+use Rattle.dbl_offset.specs.Offsets.{IsOffset, EncodesOffset, IsOffsetEntry}
+use Rattle.dbl_offset.specs.Reading.{no_offset, table_cursor_at, identity_at, infos_of, cursors_of, tables_at, numbers_at, ended, version_at, offset_at, whole}
 use Rattle.dbl_offset.proofs.FieldLaws.{byte_reads}
 use Rattle.dbl_offset.proofs.TableLaws.{HoldsEntry, entry_reads}
 
@@ -117,7 +117,7 @@ unfolding tables_at counted
 tables_takes bytes tables rest fits e =
     let n = took (number32_reads 0) bytes [] bytes _ (tables, rest) (record { parts = refl; rest_fits = fits }) e in
     let g = guard_held (ltb 0 n.value && leb n.value 64) _ _ (tables, rest) n.more in
-    let t = bind_ok (many_at entry_at n.value n.rest) (λ (t : List (TableInfo × Cursor) × List ℕ). cond (distinct_of t.0) (Ok t) (Err no_offset)) (tables, rest) g.1 in
+    let t = bind_ok (many_at table_cursor_at n.value n.rest) (λ (t : List (TableInfo × Cursor) × List ℕ). cond (distinct_of t.0) (Ok t) (Err no_offset)) (tables, rest) g.1 in
     let h = guard_held (distinct_of t.0.0) _ (Ok t.0) (tables, rest) t.2 in
     let read = many_takes entry_reads n.value n.rest t.0.0 t.0.1 n.takes.rest_fits t.1 in
     let long : length t.0.0 ≡ n.value = read.1 in
@@ -144,11 +144,11 @@ cursors_hold : (tables : List (TableInfo × Cursor)) → AllByRecursion HoldsEnt
 cursors_hold [] h = tt
 cursors_hold (t ∷ tables) h = (h.0.0, cursors_hold tables h.1)
 
-entries_fit : (tables : List (TableInfo × Cursor)) → AllByRecursion HoldsEntry tables → AllByRecursion FitsEntry tables
+entries_fit : (tables : List (TableInfo × Cursor)) → AllByRecursion HoldsEntry tables → AllByRecursion FitsTableCursor tables
 entries_fit [] h = tt
 entries_fit (t ∷ tables) h = (h.0.1, entries_fit tables h.1)
 
-entries_hold : (infos : List TableInfo) (cursors : List Cursor) → AllZip IsCursorOf infos cursors → AllByRecursion FitsEntry (zip infos cursors) → AllByRecursion HoldsEntry (zip infos cursors)
+entries_hold : (infos : List TableInfo) (cursors : List Cursor) → AllZip IsCursorOf infos cursors → AllByRecursion FitsTableCursor (zip infos cursors) → AllByRecursion HoldsEntry (zip infos cursors)
 entries_hold [] cursors are fits = tt
 entries_hold (info ∷ infos) [] are fits = tt
 entries_hold (info ∷ infos) (c ∷ cursors) are fits = ((are.0, fits.0), entries_hold infos cursors are.1 fits.1)
@@ -174,11 +174,11 @@ version_again : (rest : List ℕ) → version_at (1 ∷ rest) ≡ Ok rest
 unfolding version_at
 version_again rest = rw (byte_reads.again 1 rest (omega arith)) refl
 
-offset_again : (offset : Offset) (rest : List ℕ) → IsOffset offset → Fits offset → offset_at (spelling offset ++ rest) ≡ Ok (offset, rest)
-unfolding offset_at spelling
+offset_again : (offset : Offset) (rest : List ℕ) → IsOffset offset → FitsOffset offset → offset_at (offset_bytes_form offset ++ rest) ≡ Ok (offset, rest)
+unfolding offset_at offset_bytes_form
 offset_again o rest is fits =
     let n : Numbers = (o.incarnation, o.start.0, o.lsn.0, o.end_lsn.0) in
-    let tables = tables_of o in
+    let tables = tables_with_cursors o in
     let long : length o.cursors ≡ length o.infos = same_long o.infos o.cursors is.cursors in
     let first : infos_of tables ≡ o.infos = firsts-zip o.infos o.cursors long in
     let second : cursors_of tables ≡ o.cursors = seconds-zip o.infos o.cursors long in
@@ -196,13 +196,13 @@ offset_again o rest is fits =
 
 -- what was read of an offset
 record IsOffsetRead (bytes : List ℕ) (offset : Offset) (rest : List ℕ) : Type 0 where
-  takes : Takes bytes (spelling offset) rest
+  takes : Takes bytes (offset_bytes_form offset) rest
   is : IsOffset offset
-  fits : Fits offset
+  fits : FitsOffset offset
 
 offset_made : (bytes rest : List ℕ) (identity : Identity) (n : Numbers) (tables : List (TableInfo × Cursor)) → Takes bytes (1 ∷ (names identity ++ numbers n ++ counted entry tables)) rest → FitsNames identity → is_good_identity identity ≡ true → AreNumbers n → AreTables tables
     → IsOffsetRead bytes (offset_from identity n tables) rest
-unfolding spelling
+unfolding offset_bytes_form
 offset_made bytes rest identity n tables takes fit good ns are =
     let whole_names : names identity ++ numbers n ++ counted entry tables ≡ ((((names identity ++ number64 n.0) ++ number64 n.1) ++ number64 n.2) ++ number64 n.3) ++ counted entry tables = simp append_assoc in
     let again : counted entry tables ≡ counted entry (zip (infos_of tables) (cursors_of tables)) = ap (λ (l : List (TableInfo × Cursor)). counted entry l) (sym (zipped tables)) in
@@ -225,7 +225,7 @@ offset_made bytes rest identity n tables takes fit good ns are =
         start = omega (arith, ns.order, ns.lsn);
         lsn = ns.lsn;
         end_lsn = ns.end_lsn;
-        tables = subst (AllByRecursion FitsEntry) (sym (zipped tables)) (entries_fit tables are.each);
+        tables = subst (AllByRecursion FitsTableCursor) (sym (zipped tables)) (entries_fit tables are.each);
       };
     }
 
@@ -245,35 +245,35 @@ offset_takes bytes offset rest fits e =
 
 -- ---- whole entries
 
-pub whole_takes : (bytes : List ℕ) (offset : Offset) → IsBytes bytes → whole bytes ≡ Ok offset → Spells bytes offset
+pub whole_takes : (bytes : List ℕ) (offset : Offset) → IsBytes bytes → whole bytes ≡ Ok offset → EncodesOffset bytes offset
 unfolding whole ended
 whole_takes bytes offset fits e =
     let a = bind_ok (offset_at bytes) ended offset e in
     let g = guard_held (eqb (length a.0.1) 0) _ (Ok a.0.0) offset a.2 in
     let read = offset_takes bytes a.0.0 a.0.1 fits a.1 in
     let nothing : a.0.1 ≡ [] = nil_from_length a.0.1 (eqb-true _ _ g.0) in
-    let spelled : bytes ≡ spelling a.0.0 = read.takes.parts ∙ ap (λ (r : List ℕ). spelling a.0.0 ++ r) nothing ∙ append-nil (spelling a.0.0) in
-    subst (λ (y : Offset). Spells bytes y) (ok_is a.0.0 offset g.1) (record { asked = read.is; fits = read.fits; spelled = spelled })
+    let spelled : bytes ≡ offset_bytes_form a.0.0 = read.takes.parts ∙ ap (λ (r : List ℕ). offset_bytes_form a.0.0 ++ r) nothing ∙ append-nil (offset_bytes_form a.0.0) in
+    subst (λ (y : Offset). EncodesOffset bytes y) (ok_is a.0.0 offset g.1) (record { asked = read.is; fits = read.fits; spelled = spelled })
 
-pub whole_again : (bytes : List ℕ) (offset : Offset) → Spells bytes offset → whole bytes ≡ Ok offset
+pub whole_again : (bytes : List ℕ) (offset : Offset) → EncodesOffset bytes offset → whole bytes ≡ Ok offset
 unfolding whole ended
 whole_again bytes offset spells =
-    let read : offset_at (spelling offset) ≡ Ok (offset, []) = ap offset_at (sym (append-nil (spelling offset))) ∙ offset_again offset [] spells.asked spells.fits in
+    let read : offset_at (offset_bytes_form offset) ≡ Ok (offset, []) = ap offset_at (sym (append-nil (offset_bytes_form offset))) ∙ offset_again offset [] spells.asked spells.fits in
     ap whole spells.spelled ∙ rw read refl
 
 -- bytes spell one offset at most
-pub one_offset : (bytes : List ℕ) (a b : Offset) → Spells bytes a → Spells bytes b → a ≡ b
+pub one_offset : (bytes : List ℕ) (a b : Offset) → EncodesOffset bytes a → EncodesOffset bytes b → a ≡ b
 one_offset bytes a b of_a of_b = ok_is a b (sym (whole_again bytes a of_a) ∙ whole_again bytes b of_b)
 
-pub no_entry : (bytes : List ℕ) (e : RecordError) → whole bytes ≡ Err e → ¬ IsEntry bytes
+pub no_entry : (bytes : List ℕ) (e : RecordError) → whole bytes ≡ Err e → ¬ IsOffsetEntry bytes
 no_entry bytes e refused entry = let contra : ◌≡◌ {A = Result Offset RecordError} (Ok entry.0) (Err e) = sym (whole_again bytes entry.0 entry.1) ∙ refused in cc
 
 -- what a reader of whole entries answers
-pub is_read : (bytes : List ℕ) (r : Result Offset RecordError) → IsBytes bytes → Gives (λ o. o) r (whole bytes) → IfOk r (λ offset. Spells bytes offset)
+pub is_read : (bytes : List ℕ) (r : Result Offset RecordError) → IsBytes bytes → Gives (λ o. o) r (whole bytes) → IfOk r (λ offset. EncodesOffset bytes offset)
 is_read bytes (Ok o) fits h = whole_takes bytes o fits h
 is_read bytes (Err e) fits h = tt
 
-pub is_refused : (bytes : List ℕ) (r : Result Offset RecordError) → Gives (λ o. o) r (whole bytes) → (at : ℕ) → r ≡ Err (BadRecord at) → ¬ IsEntry bytes
+pub is_refused : (bytes : List ℕ) (r : Result Offset RecordError) → Gives (λ o. o) r (whole bytes) → (at : ℕ) → r ≡ Err (BadRecord at) → ¬ IsOffsetEntry bytes
 is_refused bytes (Ok o) h at is = cc
 is_refused bytes (Err e) (inl m) at is = let same : Memory ≡ BadRecord at = cc in absurd cc
 is_refused bytes (Err e) (inr refused) at is = no_entry bytes e refused
@@ -317,7 +317,7 @@ distinct_zip : (infos : List TableInfo) (cursors : List Cursor) → length curso
 distinct_zip infos cursors long = ap (λ (l : List TableInfo). are_distinct same_name (table_names l)) (firsts-zip infos cursors long)
 
 module _ (bytes : List ℕ) (n : ℕ) (after : List ℕ) (infos : List TableInfo) (cursors : List Cursor) (rest : List ℕ) (of_count : number_at w32 0 bytes ≡ Ok (n, after)) (some : 0 < n) (few : n ≤ 64)
-    (of_tables : many_at entry_at n after ≡ Ok (zip infos cursors, rest)) (long : length cursors ≡ length infos) where
+    (of_tables : many_at table_cursor_at n after ≡ Ok (zip infos cursors, rest)) (long : length cursors ≡ length infos) where
   tables_read : (b : Bool) → are_distinct same_name (table_names infos) ≡ b → tables_at bytes ≡ cond b (Ok (zip infos cursors, rest)) (Err no_offset)
   unfolding tables_at
   tables_read b h = rw (of_count, lt-ltb 0 n some, le-leb n 64 few, of_tables, distinct_zip infos cursors long, h) refl
@@ -328,11 +328,11 @@ module _ (bytes : List ℕ) (n : ℕ) (after : List ℕ) (infos : List TableInfo
   pub tables_none : are_distinct same_name (table_names infos) ≡ false → tables_at bytes ≡ Err no_offset
   tables_none h = tables_read false h
 
-pub offset_some : (bytes behind : List ℕ) (identity : Identity) (after_identity : List ℕ) (n : Numbers) (after_numbers : List ℕ) (infos : List TableInfo) (cursors : List Cursor) (rest : List ℕ) → version_at bytes ≡ Ok behind → identity_at behind ≡ Ok (identity, after_identity)
+pub offset_some : (bytes subsequent : List ℕ) (identity : Identity) (after_identity : List ℕ) (n : Numbers) (after_numbers : List ℕ) (infos : List TableInfo) (cursors : List Cursor) (rest : List ℕ) → version_at bytes ≡ Ok subsequent → identity_at subsequent ≡ Ok (identity, after_identity)
     → numbers_at after_identity ≡ Ok (n, after_numbers) → tables_at after_numbers ≡ Ok (zip infos cursors, rest) → length cursors ≡ length infos
     → offset_at bytes ≡ Ok (record { identity = identity; incarnation = n.0; start = record { 0 = n.1 }; lsn = record { 0 = n.2 }; end_lsn = record { 0 = n.3 }; infos = infos; cursors = cursors }, rest)
 unfolding offset_at
-offset_some bytes behind identity after_identity n after_numbers infos cursors rest of_version of_identity of_numbers of_tables long =
+offset_some bytes subsequent identity after_identity n after_numbers infos cursors rest of_version of_identity of_numbers of_tables long =
     let first : infos_of (zip infos cursors) ≡ infos = firsts-zip infos cursors long in
     let second : cursors_of (zip infos cursors) ≡ cursors = seconds-zip infos cursors long in
     rw (of_version, of_identity, of_numbers, of_tables)

@@ -11,13 +11,13 @@ use Rattle.dbl_value.specs.declared.value.Val.TheVariants as val
 use Rattle.dbl_value.specs.Types.{oid_of}
 use Rattle.dbl_record.specs.Fields.{number32, number64, text_form, IsStored}
 use Rattle.dbl_record.proofs.Sizes.{number32_size, number64_size, next_item, no_item}
-use Rattle.dbl_table.specs.declared.table.Column.{Column}
-use Rattle.dbl_table.specs.declared.table.TableInfo.{TableInfo}
-use Rattle.dbl_table.specs.declared.identity.Identity.{Identity}
-use Rattle.dbl_table.specs.declared.row.Key.{Key}
-use Rattle.dbl_history.specs.declared.cursor.Cursor.{Cursor}
+use Rattle.dbl_model_table.specs.declared.table.Column.{Column}
+use Rattle.dbl_model_table.specs.declared.table.TableInfo.{TableInfo}
+use Rattle.dbl_model_table.specs.declared.identity.Identity.{Identity}
+use Rattle.dbl_model_table.specs.declared.row.Key.{Key}
+use Rattle.dbl_model_history.specs.declared.cursor.Cursor.{Cursor}
 use Rattle.dbl_offset.specs.declared.offset.Offset.{Offset}
-use Rattle.dbl_offset.specs.Entries.{counted, names, column, table, cell, last_key, cursor, entry, tables_of, spelling, FitsNames, FitsColumn, FitsTable, FitsCell, FitsCursor, FitsEntry, Fits}
+use Rattle.dbl_offset.specs.Entries.{counted, names, column, table, cell, last_key_form, cursor, entry, tables_with_cursors, offset_bytes_form, FitsNames, FitsTableColumn, FitsTable, FitsKeyCell, FitsCursor, FitsTableCursor, FitsOffset}
 use Rattle.dbl_offset.specs.Measures.{capped, Measures}
 
 -- ---- sizes
@@ -89,30 +89,30 @@ all_places (place ∷ key) h = (h 0, all_places key (λ i. h (suc i)))
 
 -- ---- measures of the parts
 
-pub int_measured : (before c : ℕ) (z : ℤ) → Measures before 9 (FitsSigned w64 z) c → Measures before (length (cell (val.Int z))) (FitsCell (val.Int z)) c
+pub int_measured : (before c : ℕ) (z : ℤ) → Measures before 9 (FitsSigned w64 z) c → Measures before (length (cell (val.Int z))) (FitsKeyCell (val.Int z)) c
 unfolding cell
 int_measured before c z m = record { long = omega (arith, m.long, number64_size (cast_unsigned w64 z)); fits = m.fits }
 
-pub text_measured : (before a c : ℕ) (t : List ℕ) → a ≡ capped (before + 1) → Measures a (length (text_form t)) (IsStored t) c → Measures before (length (cell (val.Text t))) (FitsCell (val.Text t)) c
+pub text_measured : (before a c : ℕ) (t : List ℕ) → a ≡ capped (before + 1) → Measures a (length (text_form t)) (IsStored t) c → Measures before (length (cell (val.Text t))) (FitsKeyCell (val.Text t)) c
 unfolding cell
 text_measured before a c t h m = record { long = omega (arith, h, m.long); fits = m.fits }
 
-pub other_measured : (before : ℕ) (v : Val) → before < 2 ^ 64 → ((z : ℤ) → v ≡ val.Int z → ⊥) → ((t : List ℕ) → v ≡ val.Text t → ⊥) → Measures before (length (cell v)) (FitsCell v) before
+pub other_measured : (before : ℕ) (v : Val) → before < 2 ^ 64 → ((z : ℤ) → v ≡ val.Int z → ⊥) → ((t : List ℕ) → v ≡ val.Text t → ⊥) → Measures before (length (cell v)) (FitsKeyCell v) before
 unfolding cell
 other_measured before (val.Int z) lt not_int not_text = absurd (not_int z refl)
 other_measured before (val.Text t) lt not_int not_text = absurd (not_text t refl)
 other_measured before v lt not_int not_text = record { long = omega (arith, lt); fits = λ le. tt }
 
 pub none_measured : (before : ℕ) (x : Cursor) (c : ℕ) → x.last ≡ None → c ≡ capped (before + 2) → Measures before (length (cursor x)) (FitsCursor x) c
-unfolding cursor last_key
+unfolding cursor last_key_form
 none_measured before x c none h = rw none (record { long = h; fits = λ le. tt })
 
-pub key_measured : (before a c : ℕ) (x : Cursor) (key : Key) → x.last ≡ Some key → a ≡ capped (before + 2) → Measures a (length (flat_map cell key.cells)) (AllByRecursion FitsCell key.cells) c → Measures before (length (cursor x)) (FitsCursor x) c
-unfolding cursor last_key
+pub key_measured : (before a c : ℕ) (x : Cursor) (key : Key) → x.last ≡ Some key → a ≡ capped (before + 2) → Measures a (length (flat_map cell key.cells)) (AllByRecursion FitsKeyCell key.cells) c → Measures before (length (cursor x)) (FitsCursor x) c
+unfolding cursor last_key_form
 key_measured before a c x key some h m = rw some (record { long = omega (arith, h, m.long); fits = m.fits })
 
 pub table_measured : (before schema name a columns c : ℕ) (info : TableInfo) → Measures before (length (text_form info.name.schema)) (IsStored info.name.schema) schema → Measures schema (length (text_form info.name.name)) (IsStored info.name.name) name
-    → a ≡ capped (name + 4) → Measures a (length (flat_map column info.columns)) (AllByRecursion FitsColumn info.columns) columns
+    → a ≡ capped (name + 4) → Measures a (length (flat_map column info.columns)) (AllByRecursion FitsTableColumn info.columns) columns
     → Measures columns (length (counted number32 info.key)) ((length info.key < 2 ^ 32) × AllByRecursion (λ place. place < 2 ^ 32) info.key) c → Measures before (length (table info)) (FitsTable info) c
 table_measured before schema name a columns c info of_schema of_name h of_columns of_key =
     let below : columns ≤ c = omega (arith, of_columns.long, of_key.long) in
@@ -137,12 +137,12 @@ pub zip_long : {A B : Type 0} (xs : List A) (ys : List B) → length ys ≡ leng
 zip_long xs ys long = omega (arith, length-zip xs ys, long)
 
 -- the fields behind the format's number
-pub spelling_size : (o : Offset) → length (spelling o) ≡ 1 + length (names o.identity) + 36 + length (flat_map entry (tables_of o))
-unfolding spelling
+pub spelling_size : (o : Offset) → length (offset_bytes_form o) ≡ 1 + length (names o.identity) + 36 + length (flat_map entry (tables_with_cursors o))
+unfolding offset_bytes_form
 spelling_size o = simp (length-append, number64_size, counted_size) (omega arith)
 
 pub offset_measured : (a b c : ℕ) (o : Offset) → Measures 1 (length (names o.identity)) (FitsNames o.identity) a → Measures a 36 ((o.start.0 < 2 ^ 64) × (o.lsn.0 < 2 ^ 64) × (o.end_lsn.0 < 2 ^ 64)) b
-    → Measures b (length (flat_map entry (tables_of o))) (AllByRecursion FitsEntry (tables_of o)) c → Measures 0 (length (spelling o)) (Fits o) c
+    → Measures b (length (flat_map entry (tables_with_cursors o))) (AllByRecursion FitsTableCursor (tables_with_cursors o)) c → Measures 0 (length (offset_bytes_form o)) (FitsOffset o) c
 offset_measured a b c o of_names of_numbers of_tables =
     let below : b ≤ c = omega (arith, of_numbers.long, of_tables.long) in
     let first : a ≤ b = omega (arith, of_names.long, of_numbers.long) in
@@ -164,6 +164,6 @@ held_at P xs i x all lt is = subst P (sym is) (All-get_or P xs i x lt (All-from_
 
 -- the parts of an offset, each written behind the others and what stood there
 pub written_whole : (offset : Offset) (old a b c d e f g h : List ℕ) → a ≡ old ++ 1 ∷ [] → b ≡ a ++ names offset.identity → c ≡ b ++ number64 offset.incarnation → d ≡ c ++ number64 offset.start.0 → e ≡ d ++ number64 offset.lsn.0 → f ≡ e ++ number64 offset.end_lsn.0
-    → g ≡ f ++ number32 (length (tables_of offset)) → h ≡ g ++ flat_map entry (tables_of offset) → h ≡ old ++ spelling offset
-unfolding spelling counted
+    → g ≡ f ++ number32 (length (tables_with_cursors offset)) → h ≡ g ++ flat_map entry (tables_with_cursors offset) → h ≡ old ++ offset_bytes_form offset
+unfolding offset_bytes_form counted
 written_whole offset old a b c d e f g h of_a of_b of_c of_d of_e of_f of_g of_h = rw (of_h, of_g, of_f, of_e, of_d, of_c, of_b, of_a) (simp append_assoc refl)

@@ -16,8 +16,8 @@ use Rattle.dbl_journal.specs.declared.error.JournalError.TheVariants as journal_
 use Rattle.dbl_offset.specs.declared.offset.Offset.{Offset}
 use Rattle.dbl_offset.specs.declared.error.OffsetError.{OffsetError}
 use Rattle.dbl_offset.specs.declared.error.OffsetError.TheVariants as error
-use Rattle.dbl_offset.specs.Offsets.{Spells, IsEntry}
-use Rattle.dbl_offset.specs.Stores.{ComesOf, Counts, HasBadOffset, Holds, IsLastOf, IsStore, LeavesOffset, StoreOn, as_offset_error}
+use Rattle.dbl_offset.specs.Offsets.{EncodesOffset, IsOffsetEntry}
+use Rattle.dbl_offset.specs.Stores.{ExtendsOffsets, Counts, HasBadOffset, HoldsOffset, IsLastOf, IsStore, LeavesOffset, StoreOn, as_offset_error}
 use Rattle.dbl_offset.proofs.OffsetLaws.{one_offset}
 
 -- ---- last entries
@@ -38,7 +38,7 @@ last_one entries None (Some o) of_a of_b = absurd (snoc_nil of_b.before of_b.ent
 last_one entries (Some o) None of_a of_b = absurd (snoc_nil of_a.before of_a.entry (sym of_a.last ∙ of_b))
 last_one entries (Some o) (Some p) of_a of_b =
     let same : of_a.entry ≡ of_b.entry = snoc_last of_a.before of_b.before of_a.entry of_b.entry (sym of_a.last ∙ of_b.last) in
-    ap Some (one_offset of_b.entry o p (subst (λ (e : List ℕ). Spells e o) same of_a.spelled) of_b.spelled)
+    ap Some (one_offset of_b.entry o p (subst (λ (e : List ℕ). EncodesOffset e o) same of_a.spelled) of_b.spelled)
 
 pub one_store : (bytes : List ℕ) (a b : Option Offset) → IsStore bytes a → IsStore bytes b → a ≡ b
 one_store bytes a b of_a of_b =
@@ -47,18 +47,18 @@ one_store bytes a b of_a of_b =
 
 -- ---- faults
 
-at_place : (entries : List (List ℕ)) (i : ℕ) (entry : List ℕ) → slice_get entries i ≡ Some entry → All IsEntry entries → IsEntry entry
-at_place entries i entry there all = subst IsEntry (get_or_from_slice_get entries i entry [] there) (All-get_or IsEntry entries i [] (slice_get_within entries i entry there) all)
+at_place : (entries : List (List ℕ)) (i : ℕ) (entry : List ℕ) → slice_get entries i ≡ Some entry → All IsOffsetEntry entries → IsOffsetEntry entry
+at_place entries i entry there all = subst IsOffsetEntry (get_or_from_slice_get entries i entry [] there) (All-get_or IsOffsetEntry entries i [] (slice_get_within entries i entry there) all)
 
-before_place : (entries : List (List ℕ)) (i n : ℕ) (entry : List ℕ) → slice_get entries i ≡ Some entry → i < n → All IsEntry (take n entries) → IsEntry entry
+before_place : (entries : List (List ℕ)) (i n : ℕ) (entry : List ℕ) → slice_get entries i ≡ Some entry → i < n → All IsOffsetEntry (take n entries) → IsOffsetEntry entry
 before_place entries i n entry there lt all =
     let inside = slice_get_within entries i entry there in
-    subst IsEntry (get_or-take n entries i [] lt ∙ get_or_from_slice_get entries i entry [] there) (All-get_or IsEntry (take n entries) i [] (omega (arith, inside, length-take n entries)) all)
+    subst IsOffsetEntry (get_or-take n entries i [] lt ∙ get_or_from_slice_get entries i entry [] there) (All-get_or IsOffsetEntry (take n entries) i [] (omega (arith, inside, length-take n entries)) all)
 
 pub no_bad_offset : (bytes : List ℕ) (offset : Option Offset) (index : ℕ) → IsStore bytes offset → HasBadOffset bytes index → ⊥
 no_bad_offset bytes offset index store bad =
     let same : store.entries ≡ bad.entries = one_journal bytes store.entries bad.entries store.journal bad.journal in
-    bad.bad (at_place bad.entries index bad.entry bad.there (subst (λ (l : List (List ℕ)). All IsEntry l) same store.each))
+    bad.bad (at_place bad.entries index bad.entry bad.there (subst (λ (l : List (List ℕ)). All IsOffsetEntry l) same store.each))
 
 pub no_fault : (bytes : List ℕ) (offset : Option Offset) (at : ℕ) → IsStore bytes offset → IsFaultAt bytes at → ⊥
 no_fault bytes offset at store fault = journal_or_fault bytes store.entries at store.journal fault
@@ -69,7 +69,7 @@ not_both bytes at index fault bad = journal_or_fault bytes bad.entries at bad.jo
 not_before : (bytes : List ℕ) (m n : ℕ) → HasBadOffset bytes m → HasBadOffset bytes n → m < n → ⊥
 not_before bytes m n first second lt =
     let same : second.entries ≡ first.entries = one_journal bytes second.entries first.entries second.journal first.journal in
-    first.bad (before_place first.entries m n first.entry first.there lt (subst (λ (l : List (List ℕ)). All IsEntry (take n l)) same second.before))
+    first.bad (before_place first.entries m n first.entry first.there lt (subst (λ (l : List (List ℕ)). All IsOffsetEntry (take n l)) same second.before))
 
 pub one_bad_offset : (bytes : List ℕ) (m n : ℕ) → HasBadOffset bytes m → HasBadOffset bytes n → m ≡ n
 one_bad_offset bytes m n first second =
@@ -83,7 +83,7 @@ one_bad_offset bytes m n first second =
 
 -- ---- what is left while an offset is stored
 
-pub leaves : {D : Type 0} (may_leave : D → List ℕ → Type 0) (disk : D) (entries : List (List ℕ)) (entry : List ℕ) (old : Option Offset) (offset : Offset) → All IsEntry entries → IsLastOf entries old → Spells entry offset
+pub leaves : {D : Type 0} (may_leave : D → List ℕ → Type 0) (disk : D) (entries : List (List ℕ)) (entry : List ℕ) (old : Option Offset) (offset : Offset) → All IsOffsetEntry entries → IsLastOf entries old → EncodesOffset entry offset
     → LeavesEntries may_leave disk (λ left. (left ≡ entries) ⊎ (left ≡ entries ++ entry ∷ [])) → LeavesOffset may_leave disk (λ left. (left ≡ old) ⊎ (left ≡ Some offset))
 leaves may_leave disk entries entry old offset each last spells left crashed may =
     let found = left crashed may in
@@ -94,7 +94,7 @@ leaves may_leave disk entries entry old offset each last spells left crashed may
         record {
           entries = entries ++ entry ∷ [];
           journal = subst (λ (l : List (List ℕ)). IsJournal crashed l) same found.1;
-          each = All-push IsEntry entries entry each (offset, spells);
+          each = All-push IsOffsetEntry entries entry each (offset, spells);
           last = record { before = entries; entry = entry; last = refl; spelled = spells };
         },
         inr refl,
@@ -113,7 +113,7 @@ count_one bytes first second a b = a.is ∙ ap size (one_journal bytes a.entries
 pub store_counts : (bytes : List ℕ) (offset : Option Offset) → IsStore bytes offset → (count : ℕ) × Counts bytes count
 store_counts bytes offset store = (size store.entries, record { entries = store.entries; journal = store.journal; is = refl })
 
-pub store_grown : {D : Type 0} (seen : D → Option (List ℕ)) (may_leave : D → List ℕ → Type 0) (old new : StoreOn D) (offset : Option Offset) (before after : List ℕ) (count : ℕ) → ComesOf seen may_leave old new → Holds seen may_leave old offset
+pub store_grown : {D : Type 0} (seen : D → Option (List ℕ)) (may_leave : D → List ℕ → Type 0) (old new : StoreOn D) (offset : Option Offset) (before after : List ℕ) (count : ℕ) → ExtendsOffsets seen may_leave old new → HoldsOffset seen may_leave old offset
     → seen old.journal.disk ≡ Some before → seen new.journal.disk ≡ Some after → Counts before count → (more : ℕ) × Counts after more × (count ≤ more) × (length after + 1 ≤ max (length before + 1) (more + 2 ^ 30))
 store_grown seen may_leave old new offset before after count comes held was told counts =
     let far = grown_from seen may_leave old.journal new.journal held.entries before after comes held.lists was told in
@@ -129,21 +129,21 @@ module _ (entries : List (List ℕ)) (i : ℕ) (entry : List ℕ) (there : slice
   one_more : take (i + 1) entries ≡ take i entries ++ entry ∷ []
   one_more = take_more entries i [] (slice_get_within entries i entry there) ∙ ap (λ (e : List ℕ). take i entries ++ e ∷ []) (get_or_from_slice_get entries i entry [] there)
 
-  pub each_more : All IsEntry (take i entries) → IsEntry entry → All IsEntry (take (i + 1) entries)
-  each_more all is = subst (λ (l : List (List ℕ)). All IsEntry l) (sym one_more) (All-push IsEntry (take i entries) entry all is)
+  pub each_more : All IsOffsetEntry (take i entries) → IsOffsetEntry entry → All IsOffsetEntry (take (i + 1) entries)
+  each_more all is = subst (λ (l : List (List ℕ)). All IsOffsetEntry l) (sym one_more) (All-push IsOffsetEntry (take i entries) entry all is)
 
-  pub last_more : (offset : Offset) → Spells entry offset → IsLastOf (take (i + 1) entries) (Some offset)
+  pub last_more : (offset : Offset) → EncodesOffset entry offset → IsLastOf (take (i + 1) entries) (Some offset)
   last_more offset spells = record { before = take i entries; entry = entry; last = one_more; spelled = spells }
 
-  pub bad_first : (n : ℕ) (e : OffsetError) → All IsEntry (take i entries) → (e ≡ error.Memory) ⊎ ((e ≡ error.BadOffset i) × ¬ IsEntry entry) → e ≡ error.BadOffset n → All IsEntry (take n entries) × ((x : List ℕ) × (slice_get entries n ≡ Some x) × ¬ IsEntry x)
+  pub bad_first : (n : ℕ) (e : OffsetError) → All IsOffsetEntry (take i entries) → (e ≡ error.Memory) ⊎ ((e ≡ error.BadOffset i) × ¬ IsOffsetEntry entry) → e ≡ error.BadOffset n → All IsOffsetEntry (take n entries) × ((x : List ℕ) × (slice_get entries n ≡ Some x) × ¬ IsOffsetEntry x)
   bad_first n e all (inl memory) is = let contra : error.Memory ≡ error.BadOffset n = sym memory ∙ is in absurd cc
   bad_first n e all (inr bad) is =
       let both : error.BadOffset i ≡ error.BadOffset n = sym bad.0 ∙ is in
       let same : i ≡ n = cc in
-      (subst (λ (k : ℕ). All IsEntry (take k entries)) same all, (entry, subst (λ (k : ℕ). slice_get entries k ≡ Some entry) same there, bad.1))
+      (subst (λ (k : ℕ). All IsOffsetEntry (take k entries)) same all, (entry, subst (λ (k : ℕ). slice_get entries k ≡ Some entry) same there, bad.1))
 
-pub each_done : (entries : List (List ℕ)) (i : ℕ) → length entries ≤ i → All IsEntry (take i entries) → All IsEntry entries
-each_done entries i le all = subst (λ (l : List (List ℕ)). All IsEntry l) (take_all i entries le) all
+pub each_done : (entries : List (List ℕ)) (i : ℕ) → length entries ≤ i → All IsOffsetEntry (take i entries) → All IsOffsetEntry entries
+each_done entries i le all = subst (λ (l : List (List ℕ)). All IsOffsetEntry l) (take_all i entries le) all
 
 pub last_done : (entries : List (List ℕ)) (i : ℕ) (last : Option Offset) → length entries ≤ i → IsLastOf (take i entries) last → IsLastOf entries last
 last_done entries i last le is = subst (λ (l : List (List ℕ)). IsLastOf l last) (take_all i entries le) is

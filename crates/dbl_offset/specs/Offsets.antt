@@ -1,13 +1,13 @@
--- What an offset is, and which bytes spell one.
+-- Valid offsets, and the bytes that encode them.
 use Rattle.std.specs.Prelude.{◌≡◌, ℕ, ◌≤◌, ◌^◌, IsTrue, List, length}
-use Rattle.dbl_table.specs.Identities.{is_good_identity}
-use Rattle.dbl_history.specs.Laws.{AreDistinctTables}
-use Rattle.dbl_history.specs.Cursors.{AreCursorsOf}
+use Rattle.dbl_model_table.specs.Identities.{is_good_identity}
+use Rattle.dbl_model_history.specs.Laws.{AreDistinctTables}
+use Rattle.dbl_model_history.specs.Cursors.{AreCursorsOf}
 use Rattle.dbl_offset.specs.declared.offset.Offset.{Offset}
-use Rattle.dbl_offset.specs.Entries.{Fits, spelling}
+use Rattle.dbl_offset.specs.Entries.{FitsOffset, offset_bytes_form}
 
--- What is asked of an offset: its identity is one that a connector may go by, incarnations are counted from 1, reading doesn't
--- begin behind the last commit, and it has 1 to 64 tables, none twice, each with a cursor.
+-- Whether an offset is valid: its identity is one that a connector may use, incarnations are counted from 1, reading doesn't begin after
+-- the last commit, and it has 1 to 64 distinct tables, each with its progress.
 pub record IsOffset (offset : Offset) : Type 0 where
   pub identity : IsTrue (is_good_identity offset.identity)
   pub counted : 1 ≤ offset.incarnation
@@ -18,12 +18,12 @@ pub record IsOffset (offset : Offset) : Type 0 where
   pub distinct : AreDistinctTables offset.infos
   pub cursors : AreCursorsOf offset.infos offset.cursors
 
--- the bytes spell the offset
-pub record Spells (bytes : List ℕ) (offset : Offset) : Type 0 where
+-- Whether the bytes encode the offset.
+pub record EncodesOffset (bytes : List ℕ) (offset : Offset) : Type 0 where
   pub asked : IsOffset offset
-  pub fits : Fits offset
-  pub spelled : bytes ≡ spelling offset
+  pub fits : FitsOffset offset
+  pub spelled : bytes ≡ offset_bytes_form offset
 
--- the bytes spell some offset
-abbrev pub IsEntry : List ℕ → Type 0
-IsEntry bytes = (offset : Offset) × Spells bytes offset
+-- Whether the bytes encode some offset.
+abbrev pub IsOffsetEntry : List ℕ → Type 0
+IsOffsetEntry bytes = (offset : Offset) × EncodesOffset bytes offset

@@ -1,5 +1,5 @@
--- Reading an entry from left to right: the step between the form and the code. Fields are read as dbl_record reads them. The
--- place of a fault is never told, so 0 stands for the number of all bytes.
+-- Reading an entry from left to right: the step between the format and the code. Fields are read as dbl_record reads them. The position of
+-- an error is never reported, so 0 is passed for the number of all bytes.
 use Rattle.std.specs.Prelude.{◌≡◌, ℕ, ℤ, ◌==◌, ◌&&◌, ◌^◌, nat_lt, nat_le, Bool, true, false, List, [], ◌∷◌, length, map, Option, Some, None, Result, Ok, Err, if◌then◌else◌}
 use Rattle.std.specs.Int.{w32, w64, cast_signed}
 use Rattle.dbl_value.specs.declared.column_type.PgType.{PgType}
@@ -12,128 +12,140 @@ use Rattle.dbl_value.specs.Values.{value_of}
 use Rattle.dbl_record.specs.declared.error.RecordError.{RecordError}
 use Rattle.dbl_record.specs.declared.error.RecordError.TheVariants.{BadRecord}
 use Rattle.dbl_record.specs.GroupReading.{Read, ◌>>=◌, number_at, text_at, truth_at, many_at}
-use Rattle.dbl_table.specs.declared.table.TableName.{TableName}
-use Rattle.dbl_table.specs.declared.table.Column.{Column}
-use Rattle.dbl_table.specs.declared.table.TableInfo.{TableInfo}
-use Rattle.dbl_table.specs.declared.identity.Identity.{Identity}
-use Rattle.dbl_table.specs.declared.row.Key.{Key}
-use Rattle.dbl_history.specs.declared.cursor.Cursor.{Cursor}
-use Rattle.dbl_table.specs.Tables.{same_name, are_distinct, is_table}
-use Rattle.dbl_table.specs.Infos.{key_types}
-use Rattle.dbl_table.specs.Identities.{is_good_identity}
+use Rattle.dbl_model_table.specs.declared.table.TableName.{TableName}
+use Rattle.dbl_model_table.specs.declared.table.Column.{Column}
+use Rattle.dbl_model_table.specs.declared.table.TableInfo.{TableInfo}
+use Rattle.dbl_model_table.specs.declared.identity.Identity.{Identity}
+use Rattle.dbl_model_table.specs.declared.row.Key.{Key}
+use Rattle.dbl_model_history.specs.declared.cursor.Cursor.{Cursor}
+use Rattle.dbl_model_table.specs.Tables.{same_name, are_distinct, is_table}
+use Rattle.dbl_model_table.specs.Infos.{key_types}
+use Rattle.dbl_model_table.specs.Identities.{is_good_identity}
 use Rattle.dbl_offset.specs.declared.offset.Offset.{Offset}
 
--- the bytes spell no offset
+-- The error of bytes that encode no offset.
 abbrev pub no_offset : RecordError
 no_offset = BadRecord 0
 
--- what is there, or else no offset
-abbrev pub found : {A : Type 0} → Option A → Result A RecordError
-found (Some x) = Ok x
-found None = Err no_offset
+-- A value, or the error if there is none.
+abbrev pub or_no_offset : {A : Type 0} → Option A → Result A RecordError
+or_no_offset (Some x) = Ok x
+or_no_offset None = Err no_offset
 
-unfoldable pub byte_at : List ℕ → Read ℕ
-byte_at [] = Err no_offset
-byte_at (b ∷ rest) = Ok (b, rest)
+-- Reads a byte.
+unfoldable pub offset_byte_at : List ℕ → Read ℕ
+offset_byte_at [] = Err no_offset
+offset_byte_at (b ∷ rest) = Ok (b, rest)
 
--- items behind their number
-unfoldable pub counted_at : {A : Type 0} → (List ℕ → Read A) → List ℕ → Read (List A)
-counted_at item bytes = do
+-- Reads items preceded by their number.
+unfoldable pub offset_items_at : {A : Type 0} → (List ℕ → Read A) → List ℕ → Read (List A)
+offset_items_at item bytes = do
   n ← number_at w32 0 bytes
   many_at item n.0 n.1
 
 -- ---- tables
 
-unfoldable pub column_at : List ℕ → Read Column
-column_at bytes = do
+-- Reads a column; its type's OID must be known.
+unfoldable pub offset_column_at : List ℕ → Read Column
+offset_column_at bytes = do
   name ← text_at 0 bytes
   oid ← number_at w32 0 name.1
-  ty ← found (type_of oid.0)
+  ty ← or_no_offset (type_of oid.0)
   Ok (record { name = name.0; ty = ty }, oid.1)
 
--- the table of these parts, where they are a table's
+-- The table of these parts if they are a table's, or else the error.
 abbrev pub made : (name : TableName) (columns : List Column) (key : List ℕ) (b : Bool) → is_table name columns key ≡ b → Result TableInfo RecordError
 made name columns key true sound = Ok (record { name = name; columns = columns; key = key; sound = sound })
 made name columns key false sound = Err no_offset
 
+-- The table of these parts, or the error if no table with them can be captured.
 unfoldable pub info_of : TableName → List Column → List ℕ → Result TableInfo RecordError
 info_of name columns key = made name columns key (is_table name columns key) (λ i. is_table name columns key)
 
-unfoldable pub table_at : List ℕ → Read TableInfo
-table_at bytes = do
+-- Reads a table that can be captured.
+unfoldable pub offset_table_at : List ℕ → Read TableInfo
+offset_table_at bytes = do
   schema ← text_at 0 bytes
   name ← text_at 0 schema.1
-  columns ← counted_at column_at name.1
-  key ← counted_at (number_at w32 0) columns.1
+  columns ← offset_items_at offset_column_at name.1
+  key ← offset_items_at (number_at w32 0) columns.1
   info ← info_of (record { schema = schema.0; name = name.0 }) columns.0 key.0
   Ok (info, key.1)
 
 -- ---- cursors
 
--- whether a type's values are integers, among which this one is
+-- Whether an integer is a value of this type.
 abbrev pub is_integer_of : PgType → ℤ → Bool
 is_integer_of type.Int2 z = is_within (2 ^ 15) z
 is_integer_of type.Int4 z = is_within (2 ^ 31) z
 is_integer_of type.Int8 z = is_within (2 ^ 63) z
 is_integer_of ty z = false
 
--- the value of a text at a type whose key cells are texts
+-- The value of a text at a type whose key cells are texts.
 abbrev pub word_of : PgType → List ℕ → Option Val
 word_of type.Text text = value_of type.Text text
 word_of type.Varchar text = value_of type.Varchar text
 word_of type.Uuid text = value_of type.Uuid text
 word_of ty text = None
 
+-- Reads an integer cell of this type.
 unfoldable pub integer_at : PgType → List ℕ → Read Val
 integer_at ty bytes = do
   n ← number_at w64 0 bytes
   if is_integer_of ty (cast_signed w64 n.0) then Ok (val.Int (cast_signed w64 n.0), n.1) else Err no_offset
 
+-- Reads a text cell of this type.
 unfoldable pub word_at : PgType → List ℕ → Read Val
 word_at ty bytes = do
   text ← text_at 0 bytes
-  v ← found (word_of ty text.0)
+  v ← or_no_offset (word_of ty text.0)
   Ok (v, text.1)
 
-unfoldable pub cell_at : PgType → List ℕ → Read Val
-cell_at ty bytes = do
-  b ← byte_at bytes
+-- Reads a cell of a key of this type.
+unfoldable pub offset_cell_at : PgType → List ℕ → Read Val
+offset_cell_at ty bytes = do
+  b ← offset_byte_at bytes
   if b.0 == 1 then integer_at ty b.1 else (if b.0 == 2 then word_at ty b.1 else Err no_offset)
 
--- a cell of each type
+-- Reads a cell of each type.
 unfoldable pub cells_at : List PgType → List ℕ → Read (List Val)
 cells_at [] bytes = Ok ([], bytes)
 cells_at (ty ∷ types) bytes = do
-  first ← cell_at ty bytes
+  first ← offset_cell_at ty bytes
   others ← cells_at types first.1
   Ok (first.0 ∷ others.0, others.1)
 
-unfoldable pub key_at : List PgType → List ℕ → Read Key
-key_at types bytes = do
+-- Reads a key with a cell of each type.
+unfoldable pub offset_key_at : List PgType → List ℕ → Read Key
+offset_key_at types bytes = do
   cells ← cells_at types bytes
   Ok (record { cells = cells.0 }, cells.1)
 
+-- Reads a key, if one is present.
 unfoldable pub last_at : List PgType → List ℕ → Read (Option Key)
 last_at types bytes = do
   there ← truth_at 0 bytes
   if there.0 then (do
-    key ← key_at types there.1
+    key ← offset_key_at types there.1
     Ok (Some key.0, key.1)) else Ok (None, there.1)
 
+-- Reads the progress of a table's snapshot.
 unfoldable pub cursor_at : TableInfo → List ℕ → Read Cursor
 cursor_at info bytes = do
   done ← truth_at 0 bytes
   last ← last_at (key_types info) done.1
   Ok (record { last = last.0; done = done.0 }, last.1)
 
-unfoldable pub entry_at : List ℕ → Read (TableInfo × Cursor)
-entry_at bytes = do
-  info ← table_at bytes
+-- Reads a table and the progress of its snapshot.
+unfoldable pub table_cursor_at : List ℕ → Read (TableInfo × Cursor)
+table_cursor_at bytes = do
+  info ← offset_table_at bytes
   cursor ← cursor_at info.0 info.1
   Ok ((info.0, cursor.0), cursor.1)
 
 -- ---- offsets
 
+-- Reads an identity.
 unfoldable pub identity_at : List ℕ → Read Identity
 identity_at bytes = do
   prefix ← text_at 0 bytes
@@ -142,21 +154,23 @@ identity_at bytes = do
   let identity : Identity = record { prefix = prefix.0; db = db.0; placeholder = placeholder.0 } in
       if is_good_identity identity then Ok (identity, placeholder.1) else Err no_offset
 
--- tables and cursors, as the lists in which an offset has them
+-- The tables of a list of tables with their progress.
 abbrev pub infos_of : List (TableInfo × Cursor) → List TableInfo
 infos_of tables = map (λ t. t.0) tables
 
+-- The progress of each table of such a list.
 abbrev pub cursors_of : List (TableInfo × Cursor) → List Cursor
 cursors_of tables = map (λ t. t.1) tables
 
+-- Reads 1 to 64 tables with their progress, no table twice.
 unfoldable pub tables_at : List ℕ → Read (List (TableInfo × Cursor))
 tables_at bytes = do
   n ← number_at w32 0 bytes
   if nat_lt 0 n.0 && nat_le n.0 64 then (do
-    tables ← many_at entry_at n.0 n.1
+    tables ← many_at table_cursor_at n.0 n.1
     if are_distinct same_name (map (λ info. info.name) (infos_of tables.0)) then Ok tables else Err no_offset) else Err no_offset
 
--- incarnation, start, LSN and end LSN
+-- Reads the incarnation, the start, the LSN and the end LSN.
 unfoldable pub numbers_at : List ℕ → Read (ℕ × ℕ × ℕ × ℕ)
 numbers_at bytes = do
   incarnation ← number_at w64 0 bytes
@@ -165,15 +179,17 @@ numbers_at bytes = do
   end_lsn ← number_at w64 0 lsn.1
   if nat_lt 0 incarnation.0 && nat_le incarnation.0 (2 ^ 63) && nat_le start.0 lsn.0 then Ok ((incarnation.0, start.0, lsn.0, end_lsn.0), end_lsn.1) else Err no_offset
 
--- nothing is left
+-- The value, or the error if bytes are left.
 unfoldable pub ended : {X : Type 0} → X × List ℕ → Result X RecordError
 ended x = if length x.1 == 0 then Ok x.0 else Err no_offset
 
+-- Reads the format's number, which must be 1.
 unfoldable pub version_at : List ℕ → Result (List ℕ) RecordError
 version_at bytes = do
-  b ← byte_at bytes
+  b ← offset_byte_at bytes
   if b.0 == 1 then Ok b.1 else Err no_offset
 
+-- Reads an offset; it must be valid.
 unfoldable pub offset_at : List ℕ → Read Offset
 offset_at bytes = do
   rest ← version_at bytes
@@ -193,6 +209,7 @@ offset_at bytes = do
     tables.1,
   )
 
+-- Reads an offset from all of the bytes.
 unfoldable pub whole : List ℕ → Result Offset RecordError
 whole bytes = do
   offset ← offset_at bytes

@@ -1,4 +1,4 @@
--- Offset stores: on bytes, on disks, and what a crash leaves of them.
+-- Offset stores: on bytes, on disks, and after a crash.
 use Rattle.std.specs.Prelude.{◌≡◌, ℕ, ◌+◌, IsTrue, Option, Some, None, List, [], ◌∷◌, ◌++◌, length, slice_get, take}
 use Rattle.std.specs.List.{All}
 use Rattle.dbl_disk.specs.Disks.{Torn}
@@ -10,101 +10,101 @@ use Rattle.dbl_journal.specs.declared.error.JournalError.TheVariants as journal_
 use Rattle.dbl_offset.specs.declared.offset.Offset.{Offset}
 use Rattle.dbl_offset.specs.declared.error.OffsetError.{OffsetError}
 use Rattle.dbl_offset.specs.declared.error.OffsetError.TheVariants as error
-use Rattle.dbl_offset.specs.Entries.{spelling}
-use Rattle.dbl_offset.specs.Offsets.{Spells, IsEntry}
+use Rattle.dbl_offset.specs.Entries.{offset_bytes_form}
+use Rattle.dbl_offset.specs.Offsets.{EncodesOffset, IsOffsetEntry}
 use Rattle.dbl_journal.specs.Calls as calls
 
--- a last entry, and the offset that it spells
+-- Whether the last of some entries encodes the offset.
 pub record EndsWith (entries : List (List ℕ)) (offset : Offset) : Type 0 where
   pub before : List (List ℕ)
   pub entry : List ℕ
   pub last : entries ≡ before ++ entry ∷ []
-  pub spelled : Spells entry offset
+  pub spelled : EncodesOffset entry offset
 
--- the offset of the last entry, and none where there is no entry
+-- Whether the offset is that of the last entry, None if there is no entry.
 abbrev pub IsLastOf : List (List ℕ) → Option Offset → Type 0
 IsLastOf entries None = entries ≡ []
 IsLastOf entries (Some offset) = EndsWith entries offset
 
--- the bytes are a store of this offset: a journal each of whose entries spells an offset, the last one this
+-- Whether the bytes are a store of this offset: a journal each of whose entries encodes an offset, the last one this.
 pub record IsStore (bytes : List ℕ) (offset : Option Offset) : Type 0 where
   pub entries : List (List ℕ)
   pub journal : IsJournal bytes entries
-  pub each : All IsEntry entries
+  pub each : All IsOffsetEntry entries
   pub last : IsLastOf entries offset
 
--- the bytes are a journal whose entry with this number, counted from 0, is the first that spells no offset
+-- Whether the bytes are a journal whose entry with this number, counted from 0, is the first that encodes no offset.
 pub record HasBadOffset (bytes : List ℕ) (index : ℕ) : Type 0 where
   pub entries : List (List ℕ)
   pub journal : IsJournal bytes entries
-  pub before : All IsEntry (take index entries)
+  pub before : All IsOffsetEntry (take index entries)
   pub entry : List ℕ
   pub there : slice_get entries index ≡ Some entry
-  pub bad : ¬ IsEntry entry
+  pub bad : ¬ IsOffsetEntry entry
 
--- The bytes are no store, and this place tells why. Today: they are no journal.
+-- Whether the bytes are no store, by an error at this position: they are no journal.
 abbrev pub IsNoStoreAt : List ℕ → ℕ → Type 0
 IsNoStoreAt bytes at = IsFaultAt bytes at
 
--- So many first bytes of a store count: what stands behind them tells nothing, and the next offset takes their place. Today:
--- those of the journal, up to its last gate and with it.
+-- The number of valid bytes of a store, those of its journal up to and including the last commit byte; bytes after them are ignored, and
+-- the next offset overwrites them.
 pub record Counts (bytes : List ℕ) (count : ℕ) : Type 0 where
   pub entries : List (List ℕ)
   pub journal : IsJournal bytes entries
   pub is : count ≡ size entries
 
--- A store on a disk, as contracts see it: the offset that it answers, and how its bytes are laid out. Today: in a journal, the
--- offset being that of its last entry.
+-- A store on a disk, as contracts see it: its offset, that of the last entry, and the journal that has its bytes.
 pub record StoreOn (D : Type 0) : Type 0 where
   pub journal : OnDisk D
   pub offset : Option Offset
 
--- whether the store can be used
+-- Whether the store can be used.
 abbrev pub IsLive : {D : Type 0} → StoreOn D → Type 0
 IsLive store = IsTrue store.journal.live
 
+-- The disk of a store.
 abbrev pub disk_of : {D : Type 0} → StoreOn D → D
 disk_of store = store.journal.disk
 
--- how many bytes a store without an offset takes
+-- The number of bytes of a store without an offset.
 abbrev pub least_room : ℕ
 least_room = size []
 
--- How many bytes a store takes once this offset stands in it. Today: those that count, those of the offset, and 5.
+-- The number of bytes of a store after this offset is stored: the valid ones, those of the offset, and 5.
 abbrev pub room_of : {D : Type 0} → StoreOn D → Offset → ℕ
-room_of store offset = store.journal.gate + 6 + length (spelling offset)
+room_of store offset = store.journal.gate + 6 + length (offset_bytes_form offset)
 
--- what the bytes may be after a store was made on a disk of these bytes, whether that was done or cut short
+-- The possible contents of a disk of these bytes after a store was made on it, completely or not.
 abbrev pub BeginsTorn : List ℕ → List ℕ → Type 0
 BeginsTorn old new = Torn 0 9 old new
 
--- The new store comes of the old one: what no call undoes, whatever it answers. The disk goes on telling its bytes, no fewer
--- of them count, and they become fewer than 2^30 past those, unless they were more before.
-abbrev pub ComesOf : {D : Type 0} → (D → Option (List ℕ)) → (D → List ℕ → Type 0) → StoreOn D → StoreOn D → Type 0
-ComesOf seen may_leave old new = growth.ComesOf seen may_leave old.journal new.journal
+-- Whether the new store extends the old one, as after every call: the disk's contents stay known, no fewer bytes are valid, and fewer than
+-- 2^30 are after those, unless there were more before.
+abbrev pub ExtendsOffsets : {D : Type 0} → (D → Option (List ℕ)) → (D → List ℕ → Type 0) → StoreOn D → StoreOn D → Type 0
+ExtendsOffsets seen may_leave old new = growth.ExtendsJournal seen may_leave old.journal new.journal
 
--- What a put leaves of a store's disk, in a call that tells this failure, or another thing.
+-- What storing an offset leaves of a store's disk, by whether the call failed.
 abbrev pub PutLeaves : {D : Type 0} → (D → Option (List ℕ)) → (D → ℕ) → Type 0 → StoreOn D → StoreOn D → Type 0
 PutLeaves seen faults failed old new = calls.PutLeaves seen faults failed old.journal new.journal
 
--- The store holds this offset: it can be used, its disk tells its bytes, which are a store of the offset, and a crash leaves
--- nothing else.
-pub record Holds {D : Type 0} (seen : D → Option (List ℕ)) (may_leave : D → List ℕ → Type 0) (store : StoreOn D) (offset : Option Offset) : Type 0 where
+-- Whether the store has this offset: it can be used, its disk's contents are known and a store of the offset, and a crash leaves nothing
+-- else.
+pub record HoldsOffset {D : Type 0} (seen : D → Option (List ℕ)) (may_leave : D → List ℕ → Type 0) (store : StoreOn D) (offset : Option Offset) : Type 0 where
   pub entries : List (List ℕ)
   pub lists : Lists seen may_leave store.journal entries
-  pub each : All IsEntry entries
+  pub each : All IsOffsetEntry entries
   pub last : IsLastOf entries offset
   pub offset_is : store.offset ≡ offset
 
--- a crash may leave a store of this offset
+-- Whether a crash may leave a store of this offset.
 abbrev pub MayLeaveOffset : {D : Type 0} → (D → List ℕ → Type 0) → D → Option Offset → Type 0
 MayLeaveOffset may_leave disk offset = (crashed : List ℕ) × may_leave disk crashed × IsStore crashed offset
 
--- whatever a crash leaves is a store, of an offset of which this holds
+-- Whether every crash leaves a store, of an offset with the property P.
 abbrev pub LeavesOffset : {D : Type 0} → (D → List ℕ → Type 0) → D → (Option Offset → Type 0) → Type 0
 LeavesOffset may_leave disk P = (crashed : List ℕ) → may_leave disk crashed → (offset : Option Offset) × IsStore crashed offset × P offset
 
--- a journal's error, as the store tells it
+-- A journal's error as one of the store.
 abbrev pub as_offset_error : JournalError → OffsetError
 as_offset_error journal_error.Failed = error.Failed
 as_offset_error (journal_error.NotAJournal at) = error.NotAStore at

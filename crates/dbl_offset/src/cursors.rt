@@ -1,18 +1,18 @@
-//! Readers of cursors.
+//! Readers of snapshot progress.
 
 ghost use Rattle.std.specs.Prelude.{◌≡◌, map};
 ghost use Rattle.dbl_record.specs.GroupReading.{Gives};
-ghost use Rattle.dbl_table.specs.Tables.{type_at};
-ghost use Rattle.dbl_table.specs.Infos.{key_types};
-ghost use Rattle.dbl_offset.specs.Reading.{cell_at, cells_at, cursor_at, entry_at, integer_at, is_integer_of, key_at, last_at, word_at};
+ghost use Rattle.dbl_model_table.specs.Tables.{type_at};
+ghost use Rattle.dbl_model_table.specs.Infos.{key_types};
+ghost use Rattle.dbl_offset.specs.Reading.{offset_cell_at, cells_at, cursor_at, table_cursor_at, integer_at, is_integer_of, offset_key_at, last_at, word_at};
 
 use crate::reading::{NO_OFFSET, byte};
 use crate::tables::read_table;
 use dbl_base::Seq;
-use dbl_history::Cursor;
+use dbl_model_history::Cursor;
+use dbl_model_table::{Column, Key, TableInfo};
 use dbl_record::RecordError;
 use dbl_record::fields::{read_number64, read_text, read_truth};
-use dbl_table::{Column, Key, TableInfo};
 use dbl_value::{PgType, Val, ValueError, read_owned};
 use std::alloc::Global;
 
@@ -54,9 +54,9 @@ fn read_word(alloc: Global, ty: PgType, bytes: &[u8]) -> Result<(Val, &[u8]), Re
     }
 }
 
-#[tactic(auto, unfolding(crate::specs::Reading::cell_at))]
+#[tactic(auto, unfolding(crate::specs::Reading::offset_cell_at))]
 fn read_cell(alloc: Global, ty: PgType, bytes: &[u8]) -> Result<(Val, &[u8]), RecordError>
-    ensures { Gives (λ x. (x.0, x.1.now)) result (cell_at ty bytes.now) }
+    ensures { Gives (λ x. (x.0, x.1.now)) result (offset_cell_at ty bytes.now) }
 {
     let (kind, rest) = byte(bytes)?;
     match kind {
@@ -95,13 +95,13 @@ fn read_cells<'a>(
     Ok((cells, rest))
 }
 
-#[tactic(auto, unfolding(crate::specs::Reading::key_at))]
+#[tactic(auto, unfolding(crate::specs::Reading::offset_key_at))]
 fn read_key<'a>(
     alloc: Global,
     info: &TableInfo,
     bytes: &'a [u8],
 ) -> Result<(Key, &'a [u8]), RecordError>
-    ensures { Gives (λ x. (x.0, x.1.now)) result (key_at (key_types info.now) bytes.now) }
+    ensures { Gives (λ x. (x.0, x.1.now)) result (offset_key_at (key_types info.now) bytes.now) }
 {
     let columns = info.columns.items().as_slice();
     let (cells, rest) = read_cells(alloc, columns, info.key.items().as_slice(), bytes)?;
@@ -142,13 +142,13 @@ fn read_cursor<'a>(
     Ok((Cursor { last, done }, rest))
 }
 
-/// A table, and how far its snapshot has come.
-#[tactic(auto, unfolding(crate::specs::Reading::entry_at))]
+/// Reads a table and the progress of its snapshot.
+#[tactic(auto, unfolding(crate::specs::Reading::table_cursor_at))]
 pub(crate) fn read_entry(
     alloc: Global,
     bytes: &[u8],
 ) -> Result<(TableInfo, Cursor, &[u8]), RecordError>
-    ensures { Gives (λ x. ((x.0, x.1), x.2.now)) result (entry_at bytes.now) }
+    ensures { Gives (λ x. ((x.0, x.1), x.2.now)) result (table_cursor_at bytes.now) }
 {
     let (info, rest) = read_table(alloc, bytes)?;
     let (cursor, rest) = read_cursor(alloc, &info, rest)?;

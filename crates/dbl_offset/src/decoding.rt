@@ -3,25 +3,25 @@
 ghost use Rattle.std.specs.Prelude.{◌≡◌, ◌⊎◌, ℕ, ◌^◌, ◌<◌, ◌≤◌, Err, Ok, IfOk, length, map};
 ghost use Rattle.std.specs.List.{list_any, zip};
 ghost use Rattle.dbl_record.specs.GroupReading.{Gives, many_at};
-ghost use Rattle.dbl_table.specs.Tables.{are_distinct, same_name};
+ghost use Rattle.dbl_model_table.specs.Tables.{are_distinct, same_name};
 ghost use Rattle.dbl_offset.specs.declared.offset.Offset.{Offset};
-ghost use Rattle.dbl_offset.specs.Offsets.{IsEntry, Spells};
-ghost use Rattle.dbl_offset.specs.Reading.{entry_at, identity_at, numbers_at, offset_at, tables_at, version_at, whole};
+ghost use Rattle.dbl_offset.specs.Offsets.{IsOffsetEntry, EncodesOffset};
+ghost use Rattle.dbl_offset.specs.Reading.{table_cursor_at, identity_at, numbers_at, offset_at, tables_at, version_at, whole};
 
 use crate::cursors::read_entry;
 use crate::offset::Offset;
 use crate::reading::{NO_OFFSET, byte};
 use dbl_base::{Lsn, Seq};
-use dbl_history::Cursor;
+use dbl_model_history::Cursor;
+use dbl_model_table::{Identity, TableInfo};
 use dbl_record::RecordError;
 use dbl_record::fields::{read_number32, read_number64, read_text};
-use dbl_table::{Identity, TableInfo};
 use std::alloc::Global;
 
 /// The most tables of an offset.
 const TABLES: u32 = 64;
 
-/// The number of the form that is read and written.
+/// The number of the format that is read and written.
 pub(crate) const VERSION: u8 = 1;
 
 #[tactic(auto, unfolding(crate::specs::Reading::version_at))]
@@ -53,7 +53,7 @@ fn read_identity(alloc: Global, bytes: &[u8]) -> Result<(Identity, &[u8]), Recor
     Ok((identity, rest))
 }
 
-// Incarnation, start, LSN and end LSN.
+// The incarnation, the start, the LSN and the end LSN.
 #[derive(Clone, Copy)]
 struct Numbers {
     incarnation: u64,
@@ -83,7 +83,7 @@ fn read_numbers(bytes: &[u8]) -> Result<(Numbers, &[u8]), RecordError>
     Ok((numbers, rest))
 }
 
-// Tables, each with the cursor of the same place.
+// The tables, each with its progress at the same index.
 #[derive(Drop)]
 struct Tables {
     infos: Vec<TableInfo>,
@@ -96,7 +96,7 @@ fn read_each_table(
     bytes: &[u8],
 ) -> Result<(Tables, &[u8]), RecordError>
     ensures read { Gives (λ x. (zip x.0.infos.items x.0.cursors.items, x.1.now)) result
-        (many_at entry_at count bytes.now) }
+        (many_at table_cursor_at count bytes.now) }
     ensures long { IfOk result (λ x. length x.0.cursors.items ≡ length x.0.infos.items) }
 {
     let mut infos = Vec::new(alloc);
@@ -117,7 +117,7 @@ fn is_named_again(info: &TableInfo, others: &[TableInfo]) -> bool
     others.iter().any(|other| info.name == other.name)
 }
 
-// There are few tables, so each is compared with each.
+// Each table is compared with each, as they are few.
 fn have_distinct_names(infos: &[TableInfo]) -> bool
     ensures { result ≡ are_distinct same_name (map (λ info. info.name) infos.now) }
 {
@@ -178,10 +178,10 @@ fn read_whole(alloc: Global, bytes: &[u8]) -> Result<Offset, RecordError>
     Ok(offset)
 }
 
-/// The offset that the bytes spell.
+/// The offset that the bytes encode.
 pub(crate) fn decode(alloc: Global, bytes: &[u8]) -> Result<Offset, RecordError>
-    ensures read { IfOk result (λ offset. Spells bytes.now offset) }
-    ensures refused { (at : ℕ) → result ≡ Err (RecordError.BadRecord at) → ¬ IsEntry bytes.now }
+    ensures read { IfOk result (λ offset. EncodesOffset bytes.now offset) }
+    ensures refused { (at : ℕ) → result ≡ Err (RecordError.BadRecord at) → ¬ IsOffsetEntry bytes.now }
 {
     read_whole(alloc, bytes)
 }

@@ -2,19 +2,19 @@ use dbl_journal::JournalError;
 use std::alloc::AllocError;
 use thiserror::Error;
 
-/// Why an offset store wasn't made, opened or stored to.
+/// Why an offset store wasn't made, opened or written.
 #[derive(Clone, Copy, Debug, PartialEq, Eq, Error)]
 pub enum OffsetError {
     #[error("disk failed")]
     Failed,
-    /// The disk holds no journal: the first byte of the magic that is missing or wrong, the missing gate, or the gate of the
-    /// entry that is cut or too long.
+    /// The disk has no journal: the position of the first missing or wrong byte of the magic, of
+    /// the missing commit byte, or of the commit byte of an entry that is truncated or too long.
     #[error("not a store at {at}")]
     NotAStore { at: u64 },
-    /// The number, counted from 0, of the first entry that spells no offset.
+    /// The number, counted from 0, of the first entry that encodes no offset.
     #[error("bad offset {index}")]
     BadOffset { index: u64 },
-    /// The offset has more than 2^28 bytes. A length above 2^64 - 1 is told as 2^64 - 1.
+    /// The offset has more than 2^28 bytes. A length above 2^64 - 1 is reported as 2^64 - 1.
     #[error("offset too long: {len}")]
     TooLong { len: u64 },
     #[error("out of memory")]

@@ -1,4 +1,5 @@
-//! The offset of a connector: how far its records have come, kept on a disk so that a crash leaves the old one or the new one.
+//! The offset of a connector: how far its records were delivered, stored on a disk so that a crash
+//! leaves the old one or the new one.
 #![tactic(auto)]
 
 mod cursors;

@@ -1,17 +1,17 @@
-//! How long an offset's bytes are. Nothing is written, and no memory is taken.
+//! The length of an offset's bytes, without writing them or taking memory.
 
 ghost use Rattle.std.specs.Prelude.{◌≡◌, ◌<◌, ◌^◌, length, FitsSigned};
 ghost use Rattle.std.specs.Int.{w64};
 ghost use Rattle.std.specs.List.{AllByRecursion, flat_map, zip};
 ghost use Rattle.dbl_record.specs.Fields.{IsStored, number32, text_form};
-ghost use Rattle.dbl_offset.specs.Entries.{Fits, FitsCell, FitsColumn, FitsCursor, FitsEntry, FitsNames, FitsTable};
-ghost use Rattle.dbl_offset.specs.Entries.{cell, column, counted, cursor, entry, names, spelling, table};
+ghost use Rattle.dbl_offset.specs.Entries.{FitsOffset, FitsKeyCell, FitsTableColumn, FitsCursor, FitsTableCursor, FitsNames, FitsTable};
+ghost use Rattle.dbl_offset.specs.Entries.{cell, column, counted, cursor, entry, names, offset_bytes_form, table};
 ghost use Rattle.dbl_offset.specs.Measures.{Measures};
 
 use crate::offset::Offset;
 use dbl_base::Text;
-use dbl_history::Cursor;
-use dbl_table::{Column, Identity, TableInfo};
+use dbl_model_history::Cursor;
+use dbl_model_table::{Column, Identity, TableInfo};
 use dbl_value::Val;
 
 fn add_text(before: u64, content: &Text) -> u64
@@ -38,7 +38,7 @@ fn add_oid(before: u64, oid: u32) -> u64
 }
 
 fn add_column(before: u64, item: &Column) -> u64
-    ensures { Measures before (length (column item.now)) (FitsColumn item.now) result }
+    ensures { Measures before (length (column item.now)) (FitsTableColumn item.now) result }
 {
     let name = add_text(before, &item.name);
     add_oid(name, dbl_value::oid(item.ty))
@@ -46,7 +46,7 @@ fn add_column(before: u64, item: &Column) -> u64
 
 fn add_columns(before: u64, columns: &[Column]) -> u64
     ensures { Measures before (length (flat_map column columns.now))
-        (AllByRecursion FitsColumn columns.now) result }
+        (AllByRecursion FitsTableColumn columns.now) result }
 {
     let mut total = before;
     for item in columns {
@@ -80,7 +80,7 @@ fn add_integer(before: u64, number: &i64) -> u64
 }
 
 fn add_cell(before: u64, value: &Val) -> u64
-    ensures { Measures before (length (cell value.now)) (FitsCell value.now) result }
+    ensures { Measures before (length (cell value.now)) (FitsKeyCell value.now) result }
 {
     match value {
         Val::Int(number) => add_integer(before, number),
@@ -91,7 +91,7 @@ fn add_cell(before: u64, value: &Val) -> u64
 
 fn add_cells(before: u64, cells: &[Val]) -> u64
     ensures { Measures before (length (flat_map cell cells.now))
-        (AllByRecursion FitsCell cells.now) result }
+        (AllByRecursion FitsKeyCell cells.now) result }
 {
     let mut total = before;
     for value in cells {
@@ -112,7 +112,7 @@ fn add_cursor(before: u64, progress: &Cursor) -> u64
 
 fn add_entry(before: u64, info: &TableInfo, progress: &Cursor) -> u64
     ensures { Measures before (length (entry (info.now, progress.now)))
-        (FitsEntry (info.now, progress.now)) result }
+        (FitsTableCursor (info.now, progress.now)) result }
 {
     let total = add_table(before, info);
     add_cursor(total, progress)
@@ -121,7 +121,7 @@ fn add_entry(before: u64, info: &TableInfo, progress: &Cursor) -> u64
 fn add_entries(before: u64, infos: &[TableInfo], cursors: &[Cursor]) -> u64
     requires { length cursors.now ≡ length infos.now }
     ensures { Measures before (length (flat_map entry (zip infos.now cursors.now)))
-        (AllByRecursion FitsEntry (zip infos.now cursors.now)) result }
+        (AllByRecursion FitsTableCursor (zip infos.now cursors.now)) result }
 {
     let mut total = before;
     for i in 0..infos.len() {
@@ -130,17 +130,17 @@ fn add_entries(before: u64, infos: &[TableInfo], cursors: &[Cursor]) -> u64
     total
 }
 
-// The four numbers of an offset, and how many tables it has. The first number is told apart.
+// The four numbers of an offset, and its number of tables. The first number is passed separately.
 fn add_numbers(before: u64, start: u64, lsn: u64, end_lsn: u64) -> u64
     ensures { Measures before 36 ((start < 2 ^ 64) × (lsn < 2 ^ 64) × (end_lsn < 2 ^ 64)) result }
 {
     before.saturating_add(36)
 }
 
-/// How many bytes the offset has. A length above 2^64 - 1 is told as 2^64 - 1.
+/// The number of bytes of the offset. A length above 2^64 - 1 is reported as 2^64 - 1.
 pub(crate) fn measure(offset: &Offset) -> u64
     requires { length offset.now.cursors ≡ length offset.now.infos }
-    ensures { Measures 0 (length (spelling offset.now)) (Fits offset.now) result }
+    ensures { Measures 0 (length (offset_bytes_form offset.now)) (FitsOffset offset.now) result }
 {
     let names = add_names(1, &offset.identity);
     let numbers = add_numbers(names, offset.start.0, offset.lsn.0, offset.end_lsn.0);

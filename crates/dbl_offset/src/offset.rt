@@ -1,26 +1,26 @@
 ghost use Rattle.std.specs.Prelude.{◌≡◌, IfOk};
 
 use dbl_base::{Lsn, Seq};
-use dbl_history::Cursor;
-use dbl_table::{Identity, TableInfo};
+use dbl_model_history::Cursor;
+use dbl_model_table::{Identity, TableInfo};
 use std::alloc::{AllocError, Global};
 
-/// How far a connector has come: what it captures, and from where it goes on after a crash (Debezium PostgreSQL connector,
-/// "How the connector works").
+/// A connector's progress: the tables that it captures, and the position from which it continues
+/// after a crash (Debezium PostgreSQL connector, "How the connector works").
 #[derive(Debug, Drop)]
 pub struct Offset {
     pub identity: Identity,
     /// The number of the session that stored it, counted from 1, at most 2^63.
     pub incarnation: u64,
-    /// Where reading begins again: the commits behind this one are read.
+    /// The position from which reading restarts: the commits after this one are read.
     pub start: Lsn,
-    /// The last commit of which all records were put.
+    /// The last commit of which all records were appended.
     pub lsn: Lsn,
     /// Where that commit ends.
     pub end_lsn: Lsn,
     /// The captured tables, 1 to 64, of distinct names.
     pub infos: Seq<TableInfo>,
-    /// How far each table's snapshot has come.
+    /// The progress of each table's snapshot.
     pub cursors: Seq<Cursor>,
 }
 

@@ -2,14 +2,14 @@ ghost use Rattle.std.specs.Prelude.{◌≡◌, ◌≢◌, ◌⊎◌, ◌↔◌, 
 ghost use Rattle.std.specs.Prelude.{None, Ok, Err, IfOk, IfErr, IfSome, OnOk, OnErr, MatchResult, IsTrue, take};
 ghost use Rattle.std.specs.Prelude.{slice_get};
 ghost use Rattle.std.specs.List.{All};
-ghost use Rattle.dbl_base.specs.Streams.{HasCause};
+ghost use Rattle.dbl_base.specs.Streams.{FailsOnlyIfCounted};
 ghost use Rattle.dbl_disk.specs.Disks.{Follows, IsOnly};
 ghost use Rattle.dbl_journal.specs.Stored.{IsSteady, Lists};
 ghost use Rattle.dbl_offset.specs.declared.offset.Offset.{Offset};
-ghost use Rattle.dbl_offset.specs.Entries.{spelling};
+ghost use Rattle.dbl_offset.specs.Entries.{offset_bytes_form};
 ghost use Rattle.dbl_offset.specs.Measures.{capped};
-ghost use Rattle.dbl_offset.specs.Offsets.{IsEntry, IsOffset, Spells};
-ghost use Rattle.dbl_offset.specs.Stores.{BeginsTorn, ComesOf, HasBadOffset, Holds, IsLastOf, IsLive, IsNoStoreAt};
+ghost use Rattle.dbl_offset.specs.Offsets.{IsOffsetEntry, IsOffset, EncodesOffset};
+ghost use Rattle.dbl_offset.specs.Stores.{BeginsTorn, ExtendsOffsets, HasBadOffset, HoldsOffset, IsLastOf, IsLive, IsNoStoreAt};
 ghost use Rattle.dbl_offset.specs.Stores.{IsStore, LeavesOffset, disk_of, least_room, room_of, PutLeaves};
 ghost use Rattle.dbl_journal.specs.Form.{entry_limit};
 ghost use Rattle.dbl_journal.specs.Calls.{Keeps, Makes};
@@ -24,9 +24,9 @@ use dbl_record::RecordError;
 use std::alloc::Global;
 use std::marker::Model;
 
-/// The offset of a connector, on a disk. A crash while an offset is stored leaves the old one or the new one.
-///
-/// On the disk stands a journal with an entry for each offset that was stored. The last one counts.
+/// The offset of a connector, on a disk. A crash while an offset is stored leaves the old one or
+/// the new one. The disk has a journal with an entry for each offset that was stored, of which the
+/// last is valid.
 #[derive(Drop)]
 pub struct OffsetStore<D: Disk> {
     journal: Journal<D>,
@@ -45,11 +45,11 @@ impl<D: Disk> Model for OffsetStore<D> {
     ghost invariant = { λ s. IfSome s.offset IsOffset };
 }
 
-// The offset that an entry spells.
+// The offset that an entry encodes.
 fn read_entry(alloc: Global, index: u64, bytes: &[u8]) -> Result<Offset, OffsetError>
-    ensures read { IfOk result (λ offset. Spells bytes.now offset) }
+    ensures read { IfOk result (λ offset. EncodesOffset bytes.now offset) }
     ensures refused { IfErr result (λ error. (error ≡ OffsetError.Memory) ⊎
-        ((error ≡ OffsetError.BadOffset index) × ¬ IsEntry bytes.now)) }
+        ((error ≡ OffsetError.BadOffset index) × ¬ IsOffsetEntry bytes.now)) }
 {
     match decode(alloc, bytes) {
         Ok(offset) => Ok(offset),
@@ -65,21 +65,21 @@ fn read_last<D: Disk>(
 ) -> Result<Option<Offset>, OffsetError>
     requires { IsTrue journal.old.live }
     ensures each { (entries : List (List ℕ)) → Lists D.seen D.may_leave journal.old entries →
-        OnOk result (All IsEntry entries) }
+        OnOk result (All IsOffsetEntry entries) }
     ensures last { (entries : List (List ℕ)) → Lists D.seen D.may_leave journal.old entries →
         IfOk result (IsLastOf entries) }
     ensures lists { (entries : List (List ℕ)) → Lists D.seen D.may_leave journal.old entries →
         Lists D.seen D.may_leave journal.new entries }
     ensures bad { (entries : List (List ℕ)) (index : ℕ) →
         Lists D.seen D.may_leave journal.old entries → result ≡ Err (OffsetError.BadOffset index) →
-        All IsEntry (take index entries) ×
-        ((entry : List ℕ) × (slice_get entries index ≡ Some entry) × ¬ IsEntry entry) }
+        All IsOffsetEntry (take index entries) ×
+        ((entry : List ℕ) × (slice_get entries index ≡ Some entry) × ¬ IsOffsetEntry entry) }
     ensures asked { IfOk result (λ last. IfSome last IsOffset) }
     ensures same { journal.new ≡ record journal.old { disk = journal.new.disk } }
     ensures seen { D.seen journal.new.disk ≡ D.seen journal.old.disk }
     ensures crash { (crashed : List ℕ) → D.may_leave journal.new.disk crashed ↔
         D.may_leave journal.old.disk crashed }
-    ensures cause { HasCause (result ≡ Err OffsetError.Failed)
+    ensures cause { FailsOnlyIfCounted (result ≡ Err OffsetError.Failed)
         (D.faults journal.old.disk) (D.faults journal.new.disk) }
     ensures store { (at : ℕ) → result ≢ Err (OffsetError.NotAStore at) }
     ensures short { (len : ℕ) → result ≢ Err (OffsetError.TooLong len) }
@@ -95,11 +95,11 @@ fn read_last<D: Disk>(
 }
 
 impl<D: Disk> OffsetStore<D> {
-    /// A store without an offset, on an empty disk: a write and a sync. No memory is taken.
+    /// Makes a store without an offset on an empty disk, by a write and a sync. Takes no memory.
     pub fn make(alloc: Global, disk: D) -> Result<OffsetStore<D>, Refused<D, OffsetError>>
         requires { (bytes : List ℕ) → D.seen disk ≡ Some bytes → bytes ≡ [] }
         ensures made { D.seen disk ≡ Some [] →
-            IfOk result (λ store. Holds D.seen D.may_leave store None) }
+            IfOk result (λ store. HoldsOffset D.seen D.may_leave store None) }
         ensures live { IfOk result IsLive }
         ensures empty { IfOk result (λ store. store.offset ≡ None) }
         ensures refused { IfErr result (λ refused. refused.error ≡ OffsetError.Failed) }
@@ -123,13 +123,14 @@ impl<D: Disk> OffsetStore<D> {
         Ok(OffsetStore { journal, offset })
     }
 
-    /// The store on the disk, as a crash may have left it. It begins with a sync, and reads each entry once. Whatever it answers
-    /// but `Failed`, a crash leaves what was read and nothing else.
+    /// Opens the store on the disk, as a crash may have left it. Begins with a sync, and reads each
+    /// entry once. Unless the result is `Failed`, a crash from then on leaves exactly what was
+    /// read.
     pub fn open(alloc: Global, disk: D) -> Result<OffsetStore<D>, Refused<D, OffsetError>>
         ensures opened { (bytes : List ℕ) → D.seen disk ≡ Some bytes →
             IfOk result (λ store. IsStore bytes store.offset) }
         ensures holds { (bytes : List ℕ) → D.seen disk ≡ Some bytes →
-            IfOk result (λ store. Holds D.seen D.may_leave store store.offset) }
+            IfOk result (λ store. HoldsOffset D.seen D.may_leave store store.offset) }
         ensures not_a_store { (bytes : List ℕ) (at : ℕ) → D.seen disk ≡ Some bytes → IfErr result
             (λ refused. refused.error ≡ OffsetError.NotAStore at → IsNoStoreAt bytes at) }
         ensures bad_offset { (bytes : List ℕ) (index : ℕ) → D.seen disk ≡ Some bytes → IfErr result
@@ -173,29 +174,29 @@ impl<D: Disk> OffsetStore<D> {
         self.offset.as_ref()
     }
 
-    /// Puts an offset in the place of the last one: a write and a sync behind the last entry, and a write and a sync that make
-    /// it count. Its bytes are there before the first of these calls. After `Failed` the store isn't live; the other errors
-    /// come before them and change nothing.
+    /// Replaces the stored offset by a write and a sync of its entry, and a write and a sync of its
+    /// commit byte. After `Failed` the store isn't live; the other errors come before the first
+    /// call and change nothing.
     pub fn store(&mut self, alloc: Global, offset: Offset) -> Result<(), OffsetError>
         requires live { IsLive self.old }
         requires offset { IsOffset offset }
-        ensures stored { (old : Option Offset) → Holds D.seen D.may_leave self.old old →
-            OnOk result (Holds D.seen D.may_leave self.new (Some offset)) }
-        ensures left { (old : Option Offset) → Holds D.seen D.may_leave self.old old →
+        ensures stored { (old : Option Offset) → HoldsOffset D.seen D.may_leave self.old old →
+            OnOk result (HoldsOffset D.seen D.may_leave self.new (Some offset)) }
+        ensures left { (old : Option Offset) → HoldsOffset D.seen D.may_leave self.old old →
             LeavesOffset D.may_leave (disk_of self.new) (λ left. (left ≡ old) ⊎
             (left ≡ Some offset)) }
         ensures grows { (old : Option Offset) (before after : List ℕ) →
-            Holds D.seen D.may_leave self.old old → D.seen (disk_of self.old) ≡ Some before →
+            HoldsOffset D.seen D.may_leave self.old old → D.seen (disk_of self.old) ≡ Some before →
             D.seen (disk_of self.new) ≡ Some after →
             length after ≤ max (length before) (room_of self.old offset) }
-        ensures comes { ComesOf D.seen D.may_leave self.old self.new }
+        ensures comes { ExtendsOffsets D.seen D.may_leave self.old self.new }
         ensures puts { PutLeaves D.seen D.faults (result ≡ Err OffsetError.Failed)
             self.old self.new }
         ensures loads { OnOk result (self.new.offset ≡ Some offset) }
         ensures keeps { OnErr result (self.new.offset ≡ self.old.offset) }
         ensures live { OnOk result (IsLive self.new) }
         ensures too_long { (len : ℕ) → (result ≡ Err (OffsetError.TooLong len)) ↔
-            ((entry_limit < length (spelling offset)) × (len ≡ capped (length (spelling offset)))) }
+            ((entry_limit < length (offset_bytes_form offset)) × (len ≡ capped (length (offset_bytes_form offset)))) }
         ensures unchanged { OnErr result (result ≢ Err OffsetError.Failed → self.new ≡ self.old) }
         ensures a_store { (at : ℕ) → result ≢ Err (OffsetError.NotAStore at) }
         ensures no_bad_offset { (index : ℕ) → result ≢ Err (OffsetError.BadOffset index) }
@@ -210,7 +211,7 @@ impl<D: Disk> OffsetStore<D> {
         Ok(())
     }
 
-    /// The disk, as it stands. Takes no memory and makes no call of the disk.
+    /// The disk in its present state. Takes no memory and makes no call of the disk.
     pub fn into_disk(self) -> D
         ensures { result ≡ disk_of self }
     {

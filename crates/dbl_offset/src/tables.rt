@@ -3,24 +3,24 @@
 ghost use Rattle.std.specs.Prelude.{◌≡◌, length};
 ghost use Rattle.std.specs.Int.{w32};
 ghost use Rattle.dbl_record.specs.GroupReading.{Gives, many_at, number_at};
-ghost use Rattle.dbl_offset.specs.Reading.{column_at, counted_at, table_at};
+ghost use Rattle.dbl_offset.specs.Reading.{offset_column_at, offset_items_at, offset_table_at};
 
 use crate::reading::NO_OFFSET;
 use dbl_base::Seq;
+use dbl_model_table::{Column, TableInfo, TableName};
 use dbl_record::RecordError;
 use dbl_record::fields::{read_number32, read_text};
-use dbl_table::{Column, TableInfo, TableName};
 use std::alloc::Global;
 
 /// The fewest bytes that a column has.
 const COLUMN_BYTES: usize = 8;
 
-/// The bytes that the place of a key column has.
+/// The number of bytes of a key column's index.
 const PLACE_BYTES: usize = 4;
 
-#[tactic(auto, unfolding(crate::specs::Reading::column_at))]
+#[tactic(auto, unfolding(crate::specs::Reading::offset_column_at))]
 fn read_column(alloc: Global, bytes: &[u8]) -> Result<(Column, &[u8]), RecordError>
-    ensures { Gives (λ x. (x.0, x.1.now)) result (column_at bytes.now) }
+    ensures { Gives (λ x. (x.0, x.1.now)) result (offset_column_at bytes.now) }
 {
     let (name, rest) = read_text(alloc, 0, bytes)?;
     let (oid, rest) = read_number32(0, rest)?;
@@ -30,13 +30,13 @@ fn read_column(alloc: Global, bytes: &[u8]) -> Result<(Column, &[u8]), RecordErr
     Ok((Column { name, ty }, rest))
 }
 
-// A false count wants no more memory than the entry's bytes allow.
+// A wrong count takes no more memory than the entry's bytes allow.
 fn read_each_column(
     alloc: Global,
     count: usize,
     bytes: &[u8],
 ) -> Result<(Vec<Column>, &[u8]), RecordError>
-    ensures { Gives (λ x. (x.0.items, x.1.now)) result (many_at column_at count bytes.now) }
+    ensures { Gives (λ x. (x.0.items, x.1.now)) result (many_at offset_column_at count bytes.now) }
 {
     let mut columns = Vec::with_capacity(alloc, count.min(bytes.len() / COLUMN_BYTES))?;
     let mut rest = bytes;
@@ -48,9 +48,9 @@ fn read_each_column(
     Ok((columns, rest))
 }
 
-#[tactic(auto, unfolding(crate::specs::Reading::counted_at))]
+#[tactic(auto, unfolding(crate::specs::Reading::offset_items_at))]
 fn read_columns(alloc: Global, bytes: &[u8]) -> Result<(Vec<Column>, &[u8]), RecordError>
-    ensures { Gives (λ x. (x.0.items, x.1.now)) result (counted_at column_at bytes.now) }
+    ensures { Gives (λ x. (x.0.items, x.1.now)) result (offset_items_at offset_column_at bytes.now) }
 {
     let (count, rest) = read_number32(0, bytes)?;
     read_each_column(alloc, count as usize, rest)
@@ -73,18 +73,18 @@ fn read_each_place(
     Ok((places, rest))
 }
 
-#[tactic(auto, unfolding(crate::specs::Reading::counted_at))]
+#[tactic(auto, unfolding(crate::specs::Reading::offset_items_at))]
 fn read_places(alloc: Global, bytes: &[u8]) -> Result<(Vec<u32>, &[u8]), RecordError>
-    ensures { Gives (λ x. (x.0.items, x.1.now)) result (counted_at (number_at w32 0) bytes.now) }
+    ensures { Gives (λ x. (x.0.items, x.1.now)) result (offset_items_at (number_at w32 0) bytes.now) }
 {
     let (count, rest) = read_number32(0, bytes)?;
     read_each_place(alloc, count as usize, rest)
 }
 
-/// A table that can be captured.
-#[tactic(auto, unfolding(crate::specs::Reading::table_at))]
+/// Reads a table that can be captured.
+#[tactic(auto, unfolding(crate::specs::Reading::offset_table_at))]
 pub(crate) fn read_table(alloc: Global, bytes: &[u8]) -> Result<(TableInfo, &[u8]), RecordError>
-    ensures { Gives (λ x. (x.0, x.1.now)) result (table_at bytes.now) }
+    ensures { Gives (λ x. (x.0, x.1.now)) result (offset_table_at bytes.now) }
 {
     let (schema, rest) = read_text(alloc, 0, bytes)?;
     let (name, rest) = read_text(alloc, 0, rest)?;

@@ -1,18 +1,18 @@
-//! From an offset to its entry's bytes. Each writer appends to what was written before.
+//! Encoding of an offset as its entry's bytes. Each writer appends to the buffer.
 
 ghost use Rattle.std.specs.Prelude.{◌≡◌, ◌<◌, ◌≤◌, ◌^◌, length, drop, IfOk, OnOk};
 ghost use Rattle.std.specs.List.{AllByRecursion, flat_map, zip};
 ghost use Rattle.dbl_record.specs.Fields.{Extends, number32};
-ghost use Rattle.dbl_offset.specs.Entries.{Fits, FitsCell, FitsColumn, FitsCursor, FitsEntry, FitsNames, FitsTable};
-ghost use Rattle.dbl_offset.specs.Entries.{cell, column, counted, cursor, entry, last_key, names, spelling, table};
+ghost use Rattle.dbl_offset.specs.Entries.{FitsOffset, FitsKeyCell, FitsTableColumn, FitsCursor, FitsTableCursor, FitsNames, FitsTable};
+ghost use Rattle.dbl_offset.specs.Entries.{cell, column, counted, cursor, entry, last_key_form, names, offset_bytes_form, table};
 ghost use Rattle.dbl_journal.specs.Form.{entry_limit};
 
 use crate::decoding::VERSION;
 use crate::offset::Offset;
-use dbl_history::Cursor;
 use dbl_journal::ENTRY_ROOM;
+use dbl_model_history::Cursor;
+use dbl_model_table::{Column, Identity, TableInfo};
 use dbl_record::fields::{append_number32, append_number64, append_text, append_truth};
-use dbl_table::{Column, Identity, TableInfo};
 use dbl_value::Val;
 use std::alloc::{AllocError, Global};
 
@@ -28,7 +28,7 @@ fn write_names(out: &mut Vec<u8>, identity: &Identity) -> Result<(), AllocError>
 
 #[tactic(auto, unfolding(crate::specs::Entries::column))]
 fn write_column(out: &mut Vec<u8>, item: &Column) -> Result<(), AllocError>
-    requires { FitsColumn item.now }
+    requires { FitsTableColumn item.now }
     ensures { OnOk result (Extends out.old.items (column item.now) out.new.items) }
 {
     append_text(out, &item.name)?;
@@ -36,7 +36,7 @@ fn write_column(out: &mut Vec<u8>, item: &Column) -> Result<(), AllocError>
 }
 
 fn write_each_column(out: &mut Vec<u8>, columns: &[Column]) -> Result<(), AllocError>
-    requires { AllByRecursion FitsColumn columns.now }
+    requires { AllByRecursion FitsTableColumn columns.now }
     ensures { OnOk result (Extends out.old.items (flat_map column columns.now) out.new.items) }
 {
     for item in columns {
@@ -48,7 +48,7 @@ fn write_each_column(out: &mut Vec<u8>, columns: &[Column]) -> Result<(), AllocE
 #[tactic(auto, unfolding(crate::specs::Entries::counted))]
 fn write_columns(out: &mut Vec<u8>, columns: &[Column]) -> Result<(), AllocError>
     requires few { length columns.now < 2 ^ 32 }
-    requires each { AllByRecursion FitsColumn columns.now }
+    requires each { AllByRecursion FitsTableColumn columns.now }
     ensures { OnOk result (Extends out.old.items (counted column columns.now) out.new.items) }
 {
     append_number32(out, columns.len() as u32)?;
@@ -86,7 +86,7 @@ fn write_table(out: &mut Vec<u8>, info: &TableInfo) -> Result<(), AllocError>
 
 #[tactic(auto, unfolding(crate::specs::Entries::cell))]
 fn write_cell(out: &mut Vec<u8>, value: &Val) -> Result<(), AllocError>
-    requires { FitsCell value.now }
+    requires { FitsKeyCell value.now }
     ensures { OnOk result (Extends out.old.items (cell value.now) out.new.items) }
 {
     match value {
@@ -103,7 +103,7 @@ fn write_cell(out: &mut Vec<u8>, value: &Val) -> Result<(), AllocError>
 }
 
 fn write_cells(out: &mut Vec<u8>, cells: &[Val]) -> Result<(), AllocError>
-    requires { AllByRecursion FitsCell cells.now }
+    requires { AllByRecursion FitsKeyCell cells.now }
     ensures { OnOk result (Extends out.old.items (flat_map cell cells.now) out.new.items) }
 {
     for value in cells {
@@ -112,7 +112,7 @@ fn write_cells(out: &mut Vec<u8>, cells: &[Val]) -> Result<(), AllocError>
     Ok(())
 }
 
-#[tactic(auto, unfolding(crate::specs::Entries::cursor, crate::specs::Entries::last_key))]
+#[tactic(auto, unfolding(crate::specs::Entries::cursor, crate::specs::Entries::last_key_form))]
 fn write_cursor(out: &mut Vec<u8>, progress: &Cursor) -> Result<(), AllocError>
     requires { FitsCursor progress.now }
     ensures { OnOk result (Extends out.old.items (cursor progress.now) out.new.items) }
@@ -128,7 +128,7 @@ fn write_cursor(out: &mut Vec<u8>, progress: &Cursor) -> Result<(), AllocError>
 }
 
 fn write_entry(out: &mut Vec<u8>, info: &TableInfo, progress: &Cursor) -> Result<(), AllocError>
-    requires { FitsEntry (info.now, progress.now) }
+    requires { FitsTableCursor (info.now, progress.now) }
     ensures { OnOk result (Extends out.old.items (entry (info.now, progress.now)) out.new.items) }
 {
     write_table(out, info)?;
@@ -141,7 +141,7 @@ fn write_entries(
     cursors: &[Cursor],
 ) -> Result<(), AllocError>
     requires long { length cursors.now ≡ length infos.now }
-    requires fit { AllByRecursion FitsEntry (zip infos.now cursors.now) }
+    requires fit { AllByRecursion FitsTableCursor (zip infos.now cursors.now) }
     ensures { OnOk result
         (Extends out.old.items (flat_map entry (zip infos.now cursors.now)) out.new.items) }
 {
@@ -151,12 +151,12 @@ fn write_entries(
     Ok(())
 }
 
-#[tactic(auto, unfolding(crate::specs::Entries::spelling, crate::specs::Entries::counted))]
+#[tactic(auto, unfolding(crate::specs::Entries::offset_bytes_form, crate::specs::Entries::counted))]
 fn write_offset(out: &mut Vec<u8>, offset: &Offset) -> Result<(), AllocError>
     requires long { length offset.now.cursors ≡ length offset.now.infos }
     requires few { length offset.now.infos < 2 ^ 32 }
-    requires fit { Fits offset.now }
-    ensures { OnOk result (Extends out.old.items (spelling offset.now) out.new.items) }
+    requires fit { FitsOffset offset.now }
+    ensures { OnOk result (Extends out.old.items (offset_bytes_form offset.now) out.new.items) }
 {
     out.push(VERSION)?;
     write_names(out, &offset.identity)?;
@@ -169,14 +169,15 @@ fn write_offset(out: &mut Vec<u8>, offset: &Offset) -> Result<(), AllocError>
     Ok(())
 }
 
-/// The offset's bytes, of which there are so many, behind room for their length, in a buffer that the journal needn't grow.
+/// The offset's `count` bytes, after room for their length, in a buffer that the journal needn't
+/// grow.
 pub(crate) fn encode(alloc: Global, count: usize, offset: &Offset) -> Result<Vec<u8>, AllocError>
     requires short { count ≤ entry_limit }
     requires long { length offset.now.cursors ≡ length offset.now.infos }
     requires few { length offset.now.infos < 2 ^ 32 }
-    requires fit { Fits offset.now }
+    requires fit { FitsOffset offset.now }
     ensures room { IfOk result (λ bytes. 4 ≤ length bytes.items) }
-    ensures entry { IfOk result (λ bytes. drop 4 bytes.items ≡ spelling offset.now) }
+    ensures entry { IfOk result (λ bytes. drop 4 bytes.items ≡ offset_bytes_form offset.now) }
 {
     let mut out = Vec::with_capacity(alloc, ENTRY_ROOM + count + 1)?;
     out.extend_from_slice(&[0; ENTRY_ROOM])?;

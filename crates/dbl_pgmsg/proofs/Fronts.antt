@@ -5,16 +5,16 @@ use Rattle.std.proofs.Math.Seq.{take-append_seam}
 use Rattle.dbl_pgmsg.specs.Room.{Begins}
 
 pub begins_same : (old new : List ℕ) → new ≡ old → Begins old new
-begins_same old new e = record { behind = []; parts = e ∙ sym (append-nil old) }
+begins_same old new e = record { subsequent = []; parts = e ∙ sym (append-nil old) }
 
-pub begins_behind : (old bytes mid new : List ℕ) → mid ≡ old ++ bytes → Begins mid new → Begins old new
-begins_behind old bytes mid new e b = record { behind = bytes ++ b.behind; parts = b.parts ∙ ap (λ (w : List ℕ). w ++ b.behind) e ∙ append_assoc old bytes b.behind }
+pub begins_batch : (old bytes mid new : List ℕ) → mid ≡ old ++ bytes → Begins mid new → Begins old new
+begins_batch old bytes mid new e b = record { subsequent = bytes ++ b.subsequent; parts = b.parts ∙ ap (λ (w : List ℕ). w ++ b.subsequent) e ∙ append_assoc old bytes b.subsequent }
 
 pub begins_cut : (old new : List ℕ) → Begins old new → take (length old) new ≡ old
-begins_cut old new b = ap (take (length old)) b.parts ∙ take-append_seam old b.behind
+begins_cut old new b = ap (take (length old)) b.parts ∙ take-append_seam old b.subsequent
 
 pub begins_further : (old mid bytes new : List ℕ) → Begins old mid → new ≡ mid ++ bytes → Begins old new
-begins_further old mid bytes new b e = record { behind = b.behind ++ bytes; parts = e ∙ ap (λ (w : List ℕ). w ++ bytes) b.parts ∙ append_assoc old b.behind bytes }
+begins_further old mid bytes new b e = record { subsequent = b.subsequent ++ bytes; parts = e ∙ ap (λ (w : List ℕ). w ++ bytes) b.parts ∙ append_assoc old b.subsequent bytes }
 
 pub begins_through : (old mid new : List ℕ) → Begins old mid → Begins mid new → Begins old new
-begins_through old mid new a b = begins_further old mid b.behind new a b.parts
+begins_through old mid new a b = begins_further old mid b.subsequent new a b.parts

@@ -15,7 +15,7 @@ use Rattle.dbl_pgmsg.specs.declared.messages.OldTuple.TheVariants.{Key, Whole}
 use Rattle.dbl_pgmsg.specs.declared.messages.TupleCell.TheVariants.{Null, Unchanged, Text}
 use Rattle.dbl_pgmsg.specs.Grammar.{string}
 use Rattle.dbl_pgmsg.specs.Reading.{Read, ◌>>=◌, byte_at, number_at, size_at, count_at, utf8_of, before_zero, string_in, string_at, text_at, many_at, counted_at, cell_at, tuple_at, new_at, column_at, begin_at, commit_at, identity_at, relation_at, insert_at, origin_at, type_name_at, old_at, before_at, update_at, delete_at, truncate_at, content_at, logical_at, message_at}
-use Rattle.dbl_pgmsg.specs.Fields.{Field, Tag, Raw, String, Identity, ColumnCount, CellCount, RelationCount, Cell, TextLength, Characters, ContentLength, New, Old, OldOrNew, Int8, Int32, Int64, width, behind, form, times, kind_fields, counted, sized, cell_fields, new_fields, old_fields, utf8_fields, IsContent, IsWhole, IsCut}
+use Rattle.dbl_pgmsg.specs.Fields.{Field, Tag, Raw, String, Identity, ColumnCount, CellCount, RelationCount, Cell, TextLength, Characters, ContentLength, New, Old, OldOrNew, Int8, Int32, Int64, width, fields_after, form, times, kind_fields, counted, sized, cell_fields, new_fields, old_fields, utf8_fields, IsContent, IsWhole, IsCut}
 use Rattle.dbl_pgmsg.proofs.FieldLaws.{before_zero_is}
 use Rattle.dbl_pgmsg.proofs.Walks.{Walk, walk_done, walk_next, walk_map, Agrees, agrees_if, walk_whole, walk_cut, walk_number, walk_int, walk_signed, walk_byte, walk_many}
 
@@ -68,7 +68,7 @@ module _ (total : ℕ) where
 
   -- ---- lengths and numbers of items
 
-  size_walk : {B : Type 0} (field : Field) (fields : ℕ → List Field) (bytes : List ℕ) (next : ℕ × List ℕ → Read B) → width field ≡ Some 4 → ((at : ℕ) (content : List ℕ) → behind field at content ≡ sized at (from_be_bytes w32 content) (fields (from_be_bytes w32 content)))
+  size_walk : {B : Type 0} (field : Field) (fields : ℕ → List Field) (bytes : List ℕ) (next : ℕ × List ℕ → Read B) → width field ≡ Some 4 → ((at : ℕ) (content : List ℕ) → fields_after field at content ≡ sized at (from_be_bytes w32 content) (fields (from_be_bytes w32 content)))
       → length bytes ≤ total → ((n : ℕ) (rest : List ℕ) → length rest ≤ total → Walk total (fields n) rest (next (n, rest))) → Walk total (field ∷ []) bytes (size_at total bytes >>= next)
   unfolding size_at sized
   size_walk {B = B} field fields bytes next is stands le walks =
@@ -78,7 +78,7 @@ module _ (total : ℕ) where
       (walk_number total field w32 bytes go is le (λ content rest less. subst (λ (x : Result (List Field) MsgError). Agrees total x rest (go (from_be_bytes w32 content, rest))) (sym (stands at content))
       (agrees_guard (leb (2 ^ 31) (from_be_bytes w32 content)) (NegativeLength at) (Ok (fields (from_be_bytes w32 content))) rest (Ok (from_be_bytes w32 content, rest)) next (walks (from_be_bytes w32 content) rest less))))
 
-  count_walk : {B : Type 0} (field : Field) (item : List Field) (bytes : List ℕ) (next : ℕ × List ℕ → Read B) → width field ≡ Some 2 → ((at : ℕ) (content : List ℕ) → behind field at content ≡ counted at (from_be_bytes w16 content) item)
+  count_walk : {B : Type 0} (field : Field) (item : List Field) (bytes : List ℕ) (next : ℕ × List ℕ → Read B) → width field ≡ Some 2 → ((at : ℕ) (content : List ℕ) → fields_after field at content ≡ counted at (from_be_bytes w16 content) item)
       → length bytes ≤ total → ((n : ℕ) (rest : List ℕ) → length rest ≤ total → Walk total (times n item) rest (next (n, rest))) → Walk total (field ∷ []) bytes (count_at total bytes >>= next)
   unfolding count_at counted
   count_walk {B = B} field item bytes next is stands le walks =
@@ -91,7 +91,7 @@ module _ (total : ℕ) where
       agrees_guard (leb (2 ^ 15) n) (NegativeLength at) many rest (cond (ltb 1600 n) (Err (TooManyColumns at)) (Ok (n, rest))) next
       (agrees_guard (ltb 1600 n) (TooManyColumns at) (Ok (times n item)) rest (Ok (n, rest)) next (walks n rest less)))))
 
-  counted_walk : {A : Type 0} (field : Field) (fields : List Field) (item : List ℕ → Read A) (bytes : List ℕ) → width field ≡ Some 2 → ((at : ℕ) (content : List ℕ) → behind field at content ≡ counted at (from_be_bytes w16 content) fields)
+  counted_walk : {A : Type 0} (field : Field) (fields : List Field) (item : List ℕ → Read A) (bytes : List ℕ) → width field ≡ Some 2 → ((at : ℕ) (content : List ℕ) → fields_after field at content ≡ counted at (from_be_bytes w16 content) fields)
       → length bytes ≤ total → ((bytes : List ℕ) → length bytes ≤ total → Walk total fields bytes (item bytes)) → Walk total (field ∷ []) bytes (counted_at item total bytes)
   unfolding counted_at
   counted_walk field fields item bytes is stands le walks = count_walk field fields bytes _ is stands le (λ n rest less. walk_many total fields item walks n rest less)
@@ -131,7 +131,7 @@ module _ (total : ℕ) where
   -- ---- rows and columns
 
   -- a field of one byte
-  one_byte : {A : Type 0} (field : Field) (b : ℕ) (rest : List ℕ) (read : Read A) → width field ≡ Some 1 → length (b ∷ rest) ≤ total → Agrees total (behind field (total - length (b ∷ rest)) (b ∷ [])) rest read → Walk total (field ∷ []) (b ∷ rest) read
+  one_byte : {A : Type 0} (field : Field) (b : ℕ) (rest : List ℕ) (read : Read A) → width field ≡ Some 1 → length (b ∷ rest) ≤ total → Agrees total (fields_after field (total - length (b ∷ rest)) (b ∷ [])) rest read → Walk total (field ∷ []) (b ∷ rest) read
   one_byte field b rest read is le agrees =
       let whole : IsWhole field (b ∷ []) rest (b ∷ rest) = record {
         content_fits = subst (λ (o : Option ℕ). IsContent o (b ∷ [])) (sym is) refl;

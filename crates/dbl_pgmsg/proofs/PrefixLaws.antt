@@ -8,7 +8,7 @@ use Rattle.dbl_pgmsg.specs.declared.error.MsgError.TheVariants.{Truncated, Trail
 use Rattle.dbl_pgmsg.specs.declared.messages.Message.{Message}
 use Rattle.dbl_pgmsg.specs.Grammar.{spelling, is_identity, FitsFields}
 use Rattle.dbl_pgmsg.specs.Reading.{Read, message_at}
-use Rattle.dbl_pgmsg.specs.Fields.{Field, Tag, Raw, String, Identity, ColumnCount, CellCount, RelationCount, Cell, TextLength, Characters, ContentLength, New, Old, OldOrNew, width, behind, form, kind_fields, counted, sized, cell_fields, new_fields, old_fields, utf8_fields, IsWhole}
+use Rattle.dbl_pgmsg.specs.Fields.{Field, Tag, Raw, String, Identity, ColumnCount, CellCount, RelationCount, Cell, TextLength, Characters, ContentLength, New, Old, OldOrNew, width, fields_after, form, kind_fields, counted, sized, cell_fields, new_fields, old_fields, utf8_fields, IsWhole}
 use Rattle.dbl_pgmsg.specs.Faults.{FaultAt, cut, wrong, later, Trails, IsFault, too_long, in_field, trailing, AreBytes}
 use Rattle.dbl_pgmsg.proofs.FieldLaws.{IsBytes, ok_is}
 use Rattle.dbl_pgmsg.proofs.MessageLaws.{message_again, message_takes}
@@ -69,7 +69,7 @@ inner_new : (at b : ℕ) → Inner (new_fields at b)
 unfolding new_fields
 inner_new at b = inner_if (eqb b 78) _ _ yes (record { is = tt })
 
-inner : (field : Field) (at : ℕ) (content : List ℕ) → Inner (behind field at content)
+inner : (field : Field) (at : ℕ) (content : List ℕ) → Inner (fields_after field at content)
 inner Tag at content = inner_kind (get_or content 0 0)
 inner (Raw n) at content = yes
 inner String at content = inner_utf8 at content
@@ -85,7 +85,7 @@ inner New at content = inner_new at (get_or content 0 0)
 inner Old at content = inner_old at (get_or content 0 0) []
 inner OldOrNew at content = inner_if (eqb (get_or content 0 0) 78) _ _ yes (inner_old at (get_or content 0 0) (New ∷ []))
 
-is_inner : (error : MsgError) (field : Field) (at : ℕ) (content : List ℕ) → behind field at content ≡ Err error → IsInner error
+is_inner : (error : MsgError) (field : Field) (at : ℕ) (content : List ℕ) → fields_after field at content ≡ Err error → IsInner error
 is_inner error field at content e = let h : Inner (Err error) = subst Inner e (inner field at content) in h.is
 
 -- ---- truncated at the end alone

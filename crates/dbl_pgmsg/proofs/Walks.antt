@@ -8,7 +8,7 @@ use Rattle.dbl_pgmsg.specs.declared.error.MsgError.{MsgError}
 use Rattle.dbl_pgmsg.specs.declared.error.MsgError.TheVariants.{Truncated}
 use Rattle.dbl_pgmsg.specs.Grammar.{string}
 use Rattle.dbl_pgmsg.specs.Reading.{Read, ◌>>=◌, byte_at, number_at, signed_at, before_zero, many_at}
-use Rattle.dbl_pgmsg.specs.Fields.{Field, Raw, width, behind, form, times, IsContent, IsWhole, IsCut}
+use Rattle.dbl_pgmsg.specs.Fields.{Field, Raw, width, fields_after, form, times, IsContent, IsWhole, IsCut}
 use Rattle.dbl_pgmsg.specs.Faults.{FaultAt, cut, wrong, later}
 use Rattle.dbl_pgmsg.proofs.FieldLaws.{before_zero_again}
 
@@ -52,16 +52,16 @@ not_cut field content rest bytes whole is_cut = let e = sym (split_whole field c
 -- ---- the fault at a first field
 
 abbrev Behind : MsgError → ℕ → Field → List Field → List ℕ → List ℕ → Type 0
-Behind error at field others content rest = (behind field at content ≡ Err error) ⊎ ((more : List Field) × (behind field at content ≡ Ok more) × FaultAt error (at + length (form (width field) content)) (more ++ others) rest)
+Behind error at field others content rest = (fields_after field at content ≡ Err error) ⊎ ((more : List Field) × (fields_after field at content ≡ Ok more) × FaultAt error (at + length (form (width field) content)) (more ++ others) rest)
 
 first_whole : (error : MsgError) (at : ℕ) (field : Field) (others : List Field) (bytes content rest : List ℕ) → IsWhole field content rest bytes → FaultAt error at (field ∷ others) bytes → Behind error at field others content rest
 first_whole error at field others bytes content rest whole (cut is_cut e) = absurd (not_cut field content rest bytes whole is_cut)
 first_whole error at field others bytes content rest whole (wrong content' rest' whole' e) =
     let same = one_whole field content' rest' content rest bytes whole' whole in
-    inl (subst (λ (c : List ℕ). behind field at c ≡ Err error) same.0 e)
+    inl (subst (λ (c : List ℕ). fields_after field at c ≡ Err error) same.0 e)
 first_whole error at field others bytes content rest whole (later content' rest' more whole' e h) =
     let same = one_whole field content' rest' content rest bytes whole' whole in
-    inr (more, subst (λ (c : List ℕ). behind field at c ≡ Ok more) same.0 e, subst (λ (c : List ℕ). FaultAt error (at + length (form (width field) c)) (more ++ others) rest) same.0 (subst (λ (r : List ℕ). FaultAt error (at + length (form (width field) content')) (more ++ others) r) same.1 h))
+    inr (more, subst (λ (c : List ℕ). fields_after field at c ≡ Ok more) same.0 e, subst (λ (c : List ℕ). FaultAt error (at + length (form (width field) c)) (more ++ others) rest) same.0 (subst (λ (r : List ℕ). FaultAt error (at + length (form (width field) content')) (more ++ others) r) same.1 h))
 
 first_cut : (error : MsgError) (at : ℕ) (field : Field) (others : List Field) (bytes : List ℕ) → IsCut (width field) bytes → FaultAt error at (field ∷ others) bytes → error ≡ Truncated (at + length bytes)
 first_cut error at field others bytes is_cut (cut is_cut' e) = e
@@ -76,13 +76,13 @@ module _ (total : ℕ) where
   After others (Ok x) error = FaultAt error (total - length x.1) others x.1
   After others (Err e) error = e ≡ error
 
-  abbrev pub Left : {A : Type 0} → Read A → Type 0
-  Left (Ok x) = length x.1 ≤ total
-  Left (Err e) = Unit {0}
+  abbrev pub CrashState : {A : Type 0} → Read A → Type 0
+  CrashState (Ok x) = length x.1 ≤ total
+  CrashState (Err e) = Unit {0}
 
   -- Reading has passed these fields, or answers their fault.
   pub record Walk {A : Type 0} (fields : List Field) (bytes : List ℕ) (read : Read A) : Type 0 where
-    pub left : Left read
+    pub left : CrashState read
     pub there : (others : List Field) (error : MsgError) → FaultAt error (total - length bytes) (fields ++ others) bytes → After others read error
     pub back : (others : List Field) (error : MsgError) → After others read error → FaultAt error (total - length bytes) (fields ++ others) bytes
 
@@ -136,11 +136,11 @@ module _ (total : ℕ) where
   from_err others e error read is after = subst (λ (r : Read _). After others r error) is after
 
   module _ {A : Type 0} (field : Field) (content rest bytes : List ℕ) (read : Read A) (le : length bytes ≤ total) (whole : IsWhole field content rest bytes) where
-    left_of : (b : Result (List Field) MsgError) → Agrees b rest read → Left read
+    left_of : (b : Result (List Field) MsgError) → Agrees b rest read → CrashState read
     left_of (Ok more) walk = walk.left
-    left_of (Err e) is = subst Left (sym is) tt
+    left_of (Err e) is = subst CrashState (sym is) tt
 
-    there_of : (others : List Field) (error : MsgError) → Agrees (behind field (total - length bytes) content) rest read → Behind error (total - length bytes) field others content rest → After others read error
+    there_of : (others : List Field) (error : MsgError) → Agrees (fields_after field (total - length bytes) content) rest read → Behind error (total - length bytes) field others content rest → After others read error
     there_of others error agrees (inl e) =
         let is : Agrees (Err error) rest read = subst (λ (r : Result (List Field) MsgError). Agrees r rest read) e agrees in
         after_err others error error read is refl
@@ -148,15 +148,15 @@ module _ (total : ℕ) where
         let walk : Agrees (Ok h.0) rest read = subst (λ (r : Result (List Field) MsgError). Agrees r rest read) h.1 agrees in
         walk.there others error (subst (λ (at : ℕ). FaultAt error at (h.0 ++ others) rest) (behind_at field content rest bytes le whole) h.2)
 
-    back_of : (others : List Field) (error : MsgError) (b : Result (List Field) MsgError) → behind field (total - length bytes) content ≡ b → Agrees b rest read → After others read error → FaultAt error (total - length bytes) (field ∷ others) bytes
+    back_of : (others : List Field) (error : MsgError) (b : Result (List Field) MsgError) → fields_after field (total - length bytes) content ≡ b → Agrees b rest read → After others read error → FaultAt error (total - length bytes) (field ∷ others) bytes
     back_of others error (Ok more) e walk after = later content rest more whole e (subst (λ (at : ℕ). FaultAt error at (more ++ others) rest) (sym (behind_at field content rest bytes le whole)) (walk.back others error after))
     back_of others error (Err d) e is after = wrong content rest whole (e ∙ ap (λ (x : MsgError). Err x) (from_err others d error read is after))
 
-    pub walk_whole : Agrees (behind field (total - length bytes) content) rest read → Walk (field ∷ []) bytes read
+    pub walk_whole : Agrees (fields_after field (total - length bytes) content) rest read → Walk (field ∷ []) bytes read
     walk_whole agrees = record {
-      left = left_of (behind field (total - length bytes) content) agrees;
+      left = left_of (fields_after field (total - length bytes) content) agrees;
       there = λ others error h. there_of others error agrees (first_whole error (total - length bytes) field others bytes content rest whole h);
-      back = λ others error after. back_of others error (behind field (total - length bytes) content) refl agrees after;
+      back = λ others error after. back_of others error (fields_after field (total - length bytes) content) refl agrees after;
     }
 
   pub walk_cut : {A : Type 0} (field : Field) (bytes : List ℕ) → length bytes ≤ total → IsCut (width field) bytes → Walk {A = A} (field ∷ []) bytes (Err (Truncated total))
@@ -171,7 +171,7 @@ module _ (total : ℕ) where
   -- ---- numbers
 
   pub walk_number : {B : Type 0} (field : Field) (w : Width) (bytes : List ℕ) (next : ℕ × List ℕ → Read B) → width field ≡ Some (byte_len w) → length bytes ≤ total
-      → ((content rest : List ℕ) → length rest ≤ total → Agrees (behind field (total - length bytes) content) rest (next (from_be_bytes w content, rest))) → Walk (field ∷ []) bytes (number_at w total bytes >>= next)
+      → ((content rest : List ℕ) → length rest ≤ total → Agrees (fields_after field (total - length bytes) content) rest (next (from_be_bytes w content, rest))) → Walk (field ∷ []) bytes (number_at w total bytes >>= next)
   unfolding number_at
   walk_number field w bytes next is le agrees =
       elim (cases_lt (length bytes) (byte_len w)) [

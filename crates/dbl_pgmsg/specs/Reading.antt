@@ -1,5 +1,4 @@
--- Reading a message from left to right, up to the first fault: the step between the grammar and the code. `total` is the
--- number of all bytes of the message, and `bytes` what is left of them.
+-- Reading a message from left to right, up to the first fault; `total` is the length of the message, and `bytes` what is left of it.
 use Rattle.std.specs.Prelude.{◌≡◌, ◌⊎◌, ℕ, ℤ, zero, suc, ◌-◌, ◌^◌, ◌==◌, List, [], ◌∷◌, length, take, drop, Option, Some, None, Result, Ok, Err, nat_lt, nat_le, option_map, if◌then◌else◌}
 use Rattle.std.specs.Str.{byte, is_utf8}
 use Rattle.std.specs.Int.{Width, w16, w32, w64, byte_len, from_be_bytes, cast_signed}
@@ -15,44 +14,49 @@ use Rattle.dbl_pgmsg.specs.declared.messages.TupleCell.{TupleCell}
 use Rattle.dbl_pgmsg.specs.declared.messages.TupleCell.TheVariants.{Null, Unchanged, Text}
 use Rattle.dbl_pgmsg.specs.Grammar.{is_identity}
 
--- what a reader of X answers: an X and what is left, or the first fault
+-- the result of reading an X: it and the bytes left, or the first fault
 abbrev pub Read : Type 0 → Type 0
 Read X = Result (X × List ℕ) MsgError
 
 infixl 10 ◌>>=◌
+-- continues with the value of a result, or returns its error
 abbrev pub ◌>>=◌ : {A B : Type 0} → Result A MsgError → (A → Result B MsgError) → Result B MsgError
 (Ok x) >>= f = f x
 (Err e) >>= f = Err e
 
--- What a function returned, seen by view, is what reading gives, unless memory ran out.
+-- a function's error is the fault that reading finds, unless memory ran out
 abbrev pub Fails : {Y : Type 0} → MsgError → Result Y MsgError → Type 0
 Fails e read = (e ≡ Memory) ⊎ (read ≡ Err e)
 
+-- a function's result, seen through a view, is that of reading, unless memory ran out
 abbrev pub Gives : {X Y : Type 0} → (X → Y) → Result X MsgError → Result Y MsgError → Type 0
 Gives view (Ok x) read = read ≡ Ok (view x)
 Gives view (Err e) read = Fails e read
 
 -- ---- numbers
 
+-- a byte
 unfoldable pub byte_at : ℕ → List ℕ → Read ℕ
 byte_at total [] = Err (Truncated total)
 byte_at total (b ∷ rest) = Ok (b, rest)
 
+-- a big-endian number
 unfoldable pub number_at : Width → ℕ → List ℕ → Read ℕ
 number_at w total bytes = if nat_lt (length bytes) (byte_len w) then Err (Truncated total) else Ok (from_be_bytes w (take (byte_len w) bytes), drop (byte_len w) bytes)
 
+-- a signed big-endian number in two's complement
 unfoldable pub signed_at : Width → ℕ → List ℕ → Read ℤ
 signed_at w total bytes = do
   n ← number_at w total bytes
   Ok (cast_signed w n.0, n.1)
 
--- a length or a number of items
+-- a length or a number of items, which must not be negative
 unfoldable pub size_at : ℕ → List ℕ → Read ℕ
 size_at total bytes = do
   n ← number_at w32 total bytes
   if nat_le (2 ^ 31) n.0 then Err (NegativeLength (total - length bytes)) else Ok n
 
--- a number of columns
+-- a number of columns, within PostgreSQL's limit
 unfoldable pub count_at : ℕ → List ℕ → Read ℕ
 count_at total bytes = do
   n ← number_at w16 total bytes
@@ -61,25 +65,28 @@ count_at total bytes = do
 
 -- ---- texts
 
+-- a text at this offset, which must be UTF-8
 unfoldable pub utf8_of : ℕ → List ℕ → Result (List ℕ) MsgError
 utf8_of at text = if is_utf8 text then Ok text else Err (NotUtf8 at)
 
--- the bytes before the first zero byte, and those behind it
+-- the bytes before the first zero byte, and those after it
 abbrev pub before_zero : List ℕ → Option (List ℕ × List ℕ)
 before_zero [] = None
 before_zero (zero ∷ rest) = Some ([], rest)
 before_zero (suc b ∷ rest) = option_map (λ (x : List ℕ × List ℕ). (suc b ∷ x.0, x.1)) (before_zero rest)
 
+-- a zero-terminated text, given the bytes before and after its zero byte if there is one
 unfoldable pub string_in : ℕ → List ℕ → Option (List ℕ × List ℕ) → Read (List ℕ)
 string_in total bytes None = Err (Truncated total)
 string_in total bytes (Some x) = do
   text ← utf8_of (total - length bytes) x.0
   Ok (text, x.1)
 
+-- a zero-terminated text
 unfoldable pub string_at : ℕ → List ℕ → Read (List ℕ)
 string_at total bytes = string_in total bytes (before_zero bytes)
 
--- a text behind its length
+-- a text preceded by its length
 unfoldable pub text_at : ℕ → List ℕ → Read (List ℕ)
 text_at total bytes = do
   n ← size_at total bytes
@@ -89,7 +96,7 @@ text_at total bytes = do
 
 -- ---- lists
 
--- so many items, one behind the other
+-- this many items in sequence
 unfoldable pub many_at : {A : Type 0} → (List ℕ → Read A) → ℕ → List ℕ → Read (List A)
 many_at item zero bytes = Ok ([], bytes)
 many_at item (suc n) bytes = do
@@ -97,7 +104,7 @@ many_at item (suc n) bytes = do
   others ← many_at item n first.1
   Ok (first.0 ∷ others.0, others.1)
 
--- items behind their number
+-- items preceded by their number
 unfoldable pub counted_at : {A : Type 0} → (List ℕ → Read A) → ℕ → List ℕ → Read (List A)
 counted_at item total bytes = do
   n ← count_at total bytes
@@ -105,6 +112,7 @@ counted_at item total bytes = do
 
 -- ---- rows and columns
 
+-- a cell of a row
 unfoldable pub cell_at : ℕ → List ℕ → Read TupleCell
 cell_at total [] = Err (Truncated total)
 cell_at total (b ∷ rest) =
@@ -116,16 +124,18 @@ cell_at total (b ∷ rest) =
     else (if b == byte "b" then Err (BinaryColumn (total - suc (length rest)))
     else Err (BadTupleTag (total - suc (length rest)) b))))
 
+-- the cells of a row
 unfoldable pub tuple_at : ℕ → List ℕ → Read Tuple
 tuple_at total bytes = do
   cells ← counted_at (cell_at total) total bytes
   Ok (record { cells = cells.0 }, cells.1)
 
--- a row behind its `N`
+-- a row tagged `N`
 unfoldable pub new_at : ℕ → List ℕ → Read Tuple
 new_at total [] = Err (Truncated total)
 new_at total (b ∷ rest) = if b == byte "N" then tuple_at total rest else Err (BadNewTag (total - suc (length rest)) b)
 
+-- a column of a Relation
 unfoldable pub column_at : ℕ → List ℕ → Read RelationColumn
 column_at total bytes = do
   flags ← byte_at total bytes
@@ -134,8 +144,9 @@ column_at total bytes = do
   modifier ← signed_at w32 total oid.1
   Ok (record { flags = flags.0; name = name.0; oid = oid.0; modifier = modifier.0 }, modifier.1)
 
--- ---- messages, behind their tags
+-- ---- messages, after their tags
 
+-- a Begin message
 unfoldable pub begin_at : ℕ → List ℕ → Read Message
 begin_at total bytes = do
   lsn ← number_at w64 total bytes
@@ -143,6 +154,7 @@ begin_at total bytes = do
   xid ← number_at w32 total time.1
   Ok (Begin (record { 0 = lsn.0 }) time.0 xid.0, xid.1)
 
+-- a Commit message
 unfoldable pub commit_at : ℕ → List ℕ → Read Message
 commit_at total bytes = do
   flags ← byte_at total bytes
@@ -151,11 +163,13 @@ commit_at total bytes = do
   time ← signed_at w64 total end_lsn.1
   Ok (Commit flags.0 (record { 0 = lsn.0 }) (record { 0 = end_lsn.0 }) time.0, time.1)
 
+-- a replica identity
 unfoldable pub identity_at : ℕ → List ℕ → Read ℕ
 identity_at total bytes = do
   b ← byte_at total bytes
   if is_identity b.0 then Ok b else Err (BadIdentity b.0)
 
+-- a Relation message
 unfoldable pub relation_at : ℕ → List ℕ → Read Message
 relation_at total bytes = do
   oid ← number_at w32 total bytes
@@ -165,18 +179,21 @@ relation_at total bytes = do
   columns ← counted_at (column_at total) total identity.1
   Ok (Relation oid.0 namespace.0 name.0 identity.0 columns.0, columns.1)
 
+-- an Insert message
 unfoldable pub insert_at : ℕ → List ℕ → Read Message
 insert_at total bytes = do
   oid ← number_at w32 total bytes
   row ← new_at total oid.1
   Ok (Insert oid.0 row.0, row.1)
 
+-- an Origin message
 unfoldable pub origin_at : ℕ → List ℕ → Read Message
 origin_at total bytes = do
   lsn ← number_at w64 total bytes
   name ← string_at total lsn.1
   Ok (Origin (record { 0 = lsn.0 }) name.0, name.1)
 
+-- a Type message
 unfoldable pub type_name_at : ℕ → List ℕ → Read Message
 type_name_at total bytes = do
   oid ← number_at w32 total bytes
@@ -184,6 +201,7 @@ type_name_at total bytes = do
   name ← string_at total namespace.1
   Ok (TypeName oid.0 namespace.0 name.0, name.1)
 
+-- an old key, tagged `K`, or an old row, tagged `O`
 unfoldable pub old_at : ℕ → List ℕ → Read OldTuple
 old_at total [] = Err (Truncated total)
 old_at total (b ∷ rest) =
@@ -195,7 +213,7 @@ old_at total (b ∷ rest) =
       Ok (Whole t.0, t.1))
     else Err (BadNewTag (total - suc (length rest)) b))
 
--- what stands before the `N` of an Update
+-- what precedes the `N` of an Update
 unfoldable pub before_at : ℕ → List ℕ → Read (Option OldTuple)
 before_at total [] = Err (Truncated total)
 before_at total (b ∷ rest) =
@@ -204,6 +222,7 @@ before_at total (b ∷ rest) =
       old ← old_at total (b ∷ rest)
       Ok (Some old.0, old.1))
 
+-- an Update message
 unfoldable pub update_at : ℕ → List ℕ → Read Message
 update_at total bytes = do
   oid ← number_at w32 total bytes
@@ -211,12 +230,14 @@ update_at total bytes = do
   row ← new_at total before.1
   Ok (Update oid.0 before.0 row.0, row.1)
 
+-- a Delete message
 unfoldable pub delete_at : ℕ → List ℕ → Read Message
 delete_at total bytes = do
   oid ← number_at w32 total bytes
   before ← old_at total oid.1
   Ok (Delete oid.0 before.0, before.1)
 
+-- a Truncate message
 unfoldable pub truncate_at : ℕ → List ℕ → Read Message
 truncate_at total bytes = do
   n ← size_at total bytes
@@ -224,11 +245,13 @@ truncate_at total bytes = do
   oids ← many_at (number_at w32 total) n.0 options.1
   Ok (Truncate options.0 oids.0, oids.1)
 
+-- the content of a Message, preceded by its length
 unfoldable pub content_at : ℕ → List ℕ → Read (List ℕ)
 content_at total bytes = do
   n ← size_at total bytes
   if nat_lt (length n.1) n.0 then Err (Truncated total) else Ok (take n.0 n.1, drop n.0 n.1)
 
+-- a logical decoding message, of kind Message
 unfoldable pub logical_at : ℕ → List ℕ → Read Message
 logical_at total bytes = do
   flags ← byte_at total bytes
@@ -255,10 +278,11 @@ message_at total (b ∷ rest) =
     else (if b == byte "M" then logical_at total rest
     else Err (UnknownTag b))))))))))
 
--- nothing is left
+-- the result of reading, given that no bytes are left
 unfoldable pub ended : {X : Type 0} → ℕ → X × List ℕ → Result X MsgError
 ended total x = if length x.1 == 0 then Ok x.0 else Err (TrailingBytes (total - length x.1))
 
+-- a whole message within the length limit
 unfoldable pub whole : List ℕ → Result Message MsgError
 whole bytes =
     if nat_lt 16777216 (length bytes) then Err (TooLong (length bytes))

@@ -1,4 +1,4 @@
-//! From bytes to messages.
+//! Decoding of messages.
 
 ghost use Rattle.std.specs.Prelude.{◌≡◌, ◌⊎◌, length, IfOk, IfErr};
 ghost use Rattle.dbl_pgmsg.specs.declared.messages.Message.{Message};
@@ -14,7 +14,7 @@ use crate::reading::place;
 use crate::{Message, MsgError};
 use std::alloc::Global;
 
-/// The most bytes of a message.
+/// The maximum length of a message in bytes.
 pub const LIMIT: usize = 16_777_216;
 
 #[tactic(auto, unfolding(crate::specs::Reading::message_at))]
@@ -54,16 +54,13 @@ fn read_whole(alloc: Global, bytes: &[u8]) -> Result<Message, MsgError>
     Ok(message)
 }
 
-/// The message that the bytes spell, or their first fault ("Logical Replication Message Formats", protocol version 1).
+/// Decodes the message that the bytes encode, or returns their first fault ("Logical Replication
+/// Message Formats", protocol version 1).
 pub fn decode(alloc: Global, bytes: &[u8]) -> Result<Message, MsgError>
-    // What is read is spelled so, each byte of it.
     ensures read { IfOk result (λ message. Spells bytes.now message) }
-    // What is spelled so is read, unless memory runs out.
     ensures spelled { (message : Message) → Spells bytes.now message → (result ≡ Ok message) ⊎
         (result ≡ Err MsgError.Memory) }
-    // Every other error is the fault of the bytes.
     ensures refused { IfErr result (λ error. (error ≡ MsgError.Memory) ⊎ IsFault bytes.now error) }
-    // The fault of the bytes is told, unless memory runs out before it.
     ensures faulty { (error : MsgError) → IsFault bytes.now error → (result ≡ Err error) ⊎
         (result ≡ Err MsgError.Memory) }
 {

@@ -1,4 +1,5 @@
-//! Which messages have a spelling. Nothing is written: `room` is the number of bytes that a spelling may still take.
+//! Which messages can be encoded, checked without writing; `room` is the number of bytes that the
+//! encoding may still take.
 
 ghost use Rattle.std.specs.Prelude.{◌≡◌, ◌<◌, ◌≤◌, ◌↔◌, ◌+◌, ◌*◌, ◌^◌, List, IsTrue, length, flat_map};
 ghost use Rattle.std.specs.List.{AllByRecursion};
@@ -14,10 +15,10 @@ use crate::{Message, OldTuple, RelationColumn, Tuple, TupleCell};
 use dbl_base::{Lsn, Text};
 use memchr::memchr;
 
-/// One above the greatest length or number of items of 32 bits.
+/// The bound on a 32-bit length or number of items.
 const ITEMS: usize = 1 << 31;
 
-/// A text that a zero byte ends.
+/// A zero-terminated text.
 #[tactic(auto, unfolding(crate::specs::Grammar::string))]
 fn string_room(room: usize, text: &Text) -> Option<usize>
     ensures { Leaves room (length (string text.now)) (IsString text.now) result }
@@ -76,7 +77,7 @@ fn tuple_room(room: usize, row: &Tuple) -> Option<usize>
     cells_room(left, cells)
 }
 
-/// A row behind its tag.
+/// A row and its tag.
 fn row_room(room: usize, row: &Tuple) -> Option<usize>
     ensures { Leaves room (1 + length (tuple row.now)) (FitsTuple row.now) result }
 {
@@ -272,7 +273,7 @@ fn table_room(
     }
 }
 
-/// What the message leaves of the room.
+/// The room left after the message.
 pub fn message_room(room: usize, message: &Message) -> Option<usize>
     ensures { Leaves room (length (spelling message.now)) (FitsFields message.now) result }
 {
@@ -311,15 +312,16 @@ pub fn message_room(room: usize, message: &Message) -> Option<usize>
 }
 
 impl Message {
-    /// Whether some bytes spell the message: no text for which a String stands has a zero byte, the replica identity is one
-    /// of the four, there are at most 1,600 columns or cells, and the bytes are at most 16,777,216. No memory is taken.
+    /// Whether the message can be encoded: its zero-terminated texts contain no zero byte, the
+    /// replica identity is one of the four, it has at most 1,600 columns or cells, and the encoding
+    /// at most 16,777,216 bytes.
     pub fn fits(&self) -> bool
         ensures { IsTrue result ↔ Fits self.now }
     {
         message_room(LIMIT, self).is_some()
     }
 
-    /// How many bytes spell the message, where it fits. No memory is taken.
+    /// The length of the message's encoding, if it can be encoded.
     pub fn length(&self) -> Option<usize>
         ensures { SomeIff result (Fits self.now) (length (spelling self.now)) }
     {

@@ -1,4 +1,4 @@
-//! Readers of the kinds of message, each behind its tag.
+//! Readers of the kinds of message, each after its tag.
 
 ghost use Rattle.std.specs.Prelude.{◌≡◌, length};
 ghost use Rattle.std.specs.Int.{w32};
@@ -13,6 +13,7 @@ use crate::{Message, MsgError};
 use dbl_base::{Lsn, Seq};
 use std::alloc::Global;
 
+/// Reads the fields of a Begin message.
 #[tactic(auto, unfolding(crate::specs::Reading::begin_at))]
 pub fn read_begin(total: usize, bytes: &[u8]) -> Result<(Message, &[u8]), MsgError>
     ensures { Gives (λ x. (x.0, x.1.now)) result (begin_at total bytes.now) }
@@ -30,6 +31,7 @@ pub fn read_begin(total: usize, bytes: &[u8]) -> Result<(Message, &[u8]), MsgErr
     ))
 }
 
+/// Reads the fields of a Commit message.
 #[tactic(auto, unfolding(crate::specs::Reading::commit_at))]
 pub fn read_commit(total: usize, bytes: &[u8]) -> Result<(Message, &[u8]), MsgError>
     ensures { Gives (λ x. (x.0, x.1.now)) result (commit_at total bytes.now) }
@@ -60,6 +62,7 @@ fn read_identity(total: usize, bytes: &[u8]) -> Result<(u8, &[u8]), MsgError>
     }
 }
 
+/// Reads the fields of a Relation message.
 #[tactic(auto, unfolding(crate::specs::Reading::relation_at))]
 pub fn read_relation(
     alloc: Global,
@@ -85,6 +88,7 @@ pub fn read_relation(
     ))
 }
 
+/// Reads the fields of an Insert message.
 #[tactic(auto, unfolding(crate::specs::Reading::insert_at))]
 pub fn read_insert(alloc: Global, total: usize, bytes: &[u8]) -> Result<(Message, &[u8]), MsgError>
     ensures { Gives (λ x. (x.0, x.1.now)) result (insert_at total bytes.now) }
@@ -94,6 +98,7 @@ pub fn read_insert(alloc: Global, total: usize, bytes: &[u8]) -> Result<(Message
     Ok((Message::Insert { oid, row }, rest))
 }
 
+/// Reads the fields of an Origin message.
 #[tactic(auto, unfolding(crate::specs::Reading::origin_at))]
 pub fn read_origin(alloc: Global, total: usize, bytes: &[u8]) -> Result<(Message, &[u8]), MsgError>
     ensures { Gives (λ x. (x.0, x.1.now)) result (origin_at total bytes.now) }
@@ -109,6 +114,7 @@ pub fn read_origin(alloc: Global, total: usize, bytes: &[u8]) -> Result<(Message
     ))
 }
 
+/// Reads the fields of a Type message.
 #[tactic(auto, unfolding(crate::specs::Reading::type_name_at))]
 pub fn read_type_name(
     alloc: Global,
@@ -130,6 +136,7 @@ pub fn read_type_name(
     ))
 }
 
+/// Reads the fields of an Update message.
 #[tactic(auto, unfolding(crate::specs::Reading::update_at))]
 pub fn read_update(alloc: Global, total: usize, bytes: &[u8]) -> Result<(Message, &[u8]), MsgError>
     ensures { Gives (λ x. (x.0, x.1.now)) result (update_at total bytes.now) }
@@ -140,6 +147,7 @@ pub fn read_update(alloc: Global, total: usize, bytes: &[u8]) -> Result<(Message
     Ok((Message::Update { oid, before, row }, rest))
 }
 
+/// Reads the fields of a Delete message.
 #[tactic(auto, unfolding(crate::specs::Reading::delete_at))]
 pub fn read_delete(alloc: Global, total: usize, bytes: &[u8]) -> Result<(Message, &[u8]), MsgError>
     ensures { Gives (λ x. (x.0, x.1.now)) result (delete_at total bytes.now) }
@@ -149,7 +157,7 @@ pub fn read_delete(alloc: Global, total: usize, bytes: &[u8]) -> Result<(Message
     Ok((Message::Delete { oid, before }, rest))
 }
 
-// Each OID has four bytes, so a false count wants no more memory than the message has.
+// Each OID has four bytes, so a wrong count takes no more memory than the message has bytes.
 fn read_oids(
     alloc: Global,
     total: usize,
@@ -169,6 +177,7 @@ fn read_oids(
     Ok((oids, rest))
 }
 
+/// Reads the fields of a Truncate message.
 #[tactic(auto, unfolding(crate::specs::Reading::truncate_at))]
 pub fn read_truncate(
     alloc: Global,
@@ -189,6 +198,7 @@ pub fn read_truncate(
     ))
 }
 
+/// Reads the fields of a logical decoding message, of kind Message.
 #[tactic(auto, unfolding(crate::specs::Reading::logical_at))]
 pub fn read_logical(alloc: Global, total: usize, bytes: &[u8]) -> Result<(Message, &[u8]), MsgError>
     ensures { Gives (λ x. (x.0, x.1.now)) result (logical_at total bytes.now) }

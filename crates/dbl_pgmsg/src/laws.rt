@@ -1,4 +1,4 @@
-//! Laws of the grammar and of the faults. The functions do nothing: their contracts are the laws.
+//! Theorems about the grammar and its faults; the functions have empty bodies.
 
 ghost use Rattle.std.specs.Prelude.{◌≡◌, ◌≢◌, ◌⊎◌, ◌↔◌, ◌≤◌, ◌++◌, ℕ, List, [], length};
 ghost use Rattle.dbl_pgmsg.specs.declared.error.MsgError.{MsgError};
@@ -6,19 +6,19 @@ ghost use Rattle.dbl_pgmsg.specs.declared.messages.Message.{Message};
 ghost use Rattle.dbl_pgmsg.specs.Grammar.{spelling, Fits, FitsFields, Spells, message_limit};
 ghost use Rattle.dbl_pgmsg.specs.Faults.{AreBytes, IsFault, Trails};
 
-/// A message has one spelling at most.
+/// A message has at most one encoding.
 pub fn one_spelling()
     ensures { (first second : List ℕ) (message : Message) → Spells first message →
         Spells second message → first ≡ second }
 {}
 
-/// Bytes spell one message at most.
+/// Bytes encode at most one message.
 pub fn one_message()
     ensures { (bytes : List ℕ) (first second : Message) → Spells bytes first → Spells bytes second →
         first ≡ second }
 {}
 
-/// Bytes spell a message or have a fault, and never both, and they have one fault at most.
+/// Bytes either encode a message or have a fault, never both, and the fault is unique.
 pub fn spelled_or_faulty()
     ensures one_of { (bytes : List ℕ) → AreBytes bytes →
         ((message : Message) × Spells bytes message) ⊎ ((error : MsgError) × IsFault bytes error) }
@@ -28,8 +28,8 @@ pub fn spelled_or_faulty()
         IsFault bytes second → first ≡ second }
 {}
 
-/// Bytes that are truncated are so at their end, and those with which the spelling of a message begins, but for its end, are
-/// truncated. So also where the message is longer than a message may be, as long as the bytes aren't.
+/// Truncation is reported at the end of the bytes, and every proper prefix of an encoding within
+/// the length limit is truncated.
 pub fn truncated_bytes()
     ensures place { (bytes : List ℕ) (at : ℕ) → IsFault bytes (MsgError.Truncated at) →
         at ≡ length bytes }
@@ -38,13 +38,15 @@ pub fn truncated_bytes()
         rest ≢ [] → IsFault bytes (MsgError.Truncated (length bytes)) }
 {}
 
-/// Bytes trail exactly where a spelling is a beginning of them, but not all. Their place is that spelling's length.
+/// Bytes have trailing bytes if and only if a proper prefix of them is an encoding; the offset is
+/// that encoding's length.
 pub fn trailing_bytes()
     ensures { (bytes : List ℕ) (at : ℕ) → IsFault bytes (MsgError.TrailingBytes at) ↔
         (length bytes ≤ message_limit) × Trails bytes (MsgError.TrailingBytes at) }
 {}
 
-/// What fits is what some bytes spell, and its spelling is read as nothing else: what was encoded is decoded again.
+/// A message can be encoded if and only if some bytes encode it, and its encoding is decoded as
+/// that message.
 pub fn round_trip()
     ensures spelled { (message : Message) → Fits message ↔
         ((bytes : List ℕ) × Spells bytes message) }

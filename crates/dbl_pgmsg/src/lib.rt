@@ -1,4 +1,5 @@
-//! The messages of PostgreSQL's logical replication protocol (pgoutput, protocol version 1), and their bytes.
+//! The messages of PostgreSQL's logical replication protocol (pgoutput, protocol version 1), and
+//! their bytes.
 #![tactic(auto)]
 
 mod decoding;

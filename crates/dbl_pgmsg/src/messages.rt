@@ -1,16 +1,16 @@
 use dbl_base::{Bytes, Lsn, Seq, Text};
 
-/// A message of the stream, as "Logical Replication Message Formats" of the PostgreSQL manual has it. Times are
+/// A message of the stream, as in PostgreSQL's "Logical Replication Message Formats". Times are
 /// microseconds since 2000-01-01 UTC.
 #[derive(Debug, Drop)]
 pub enum Message {
-    /// A transaction begins. `lsn` is that of its commit record.
+    /// The start of a transaction; `lsn` is that of its commit record.
     Begin {
         lsn: Lsn,
         time: i64,
         xid: u32,
     },
-    /// A transaction ends. `lsn` is that of its commit record, and `end_lsn` lies behind it.
+    /// The end of a transaction; `lsn` is that of its commit record, and `end_lsn` is past it.
     Commit {
         flags: u8,
         lsn: Lsn,
@@ -27,8 +27,8 @@ pub enum Message {
         namespace: Text,
         name: Text,
     },
-    /// The columns of a table. An empty `namespace` means `pg_catalog`. `identity` is the replica identity: `d` the primary
-    /// key, `n` nothing, `f` all columns, `i` an index.
+    /// The columns of a table. An empty `namespace` means `pg_catalog`. `identity` is the replica
+    /// identity: `d` the primary key, `n` nothing, `f` all columns, `i` an index.
     Relation {
         oid: u32,
         namespace: Text,
@@ -40,7 +40,7 @@ pub enum Message {
         oid: u32,
         row: Tuple,
     },
-    /// `before` is the old key or the old row, where it was sent.
+    /// A changed row; `before` is the old key or the old row, if sent.
     Update {
         oid: u32,
         before: Option<OldTuple>,
@@ -50,12 +50,12 @@ pub enum Message {
         oid: u32,
         before: OldTuple,
     },
-    /// Of `options` 1 is CASCADE and 2 RESTART IDENTITY.
+    /// A truncation of tables; in `options` 1 is CASCADE and 2 RESTART IDENTITY.
     Truncate {
         options: u8,
         oids: Seq<u32>,
     },
-    /// The kind Message: what `pg_logical_emit_message` wrote.
+    /// The kind Message, written by `pg_logical_emit_message`.
     Logical {
         flags: u8,
         lsn: Lsn,
@@ -64,8 +64,8 @@ pub enum Message {
     },
 }
 
-/// A column of a Relation. The bit of value 1 in `flags` marks a column of the replica identity. `oid` is that of the
-/// column's type.
+/// A column of a Relation. Bit 0 of `flags` marks a column of the replica identity; `oid` is that
+/// of the column's type.
 #[derive(Debug, Drop)]
 pub struct RelationColumn {
     pub flags: u8,
@@ -74,16 +74,16 @@ pub struct RelationColumn {
     pub modifier: i32,
 }
 
-/// The cells of a row, one for each column of its Relation.
+/// The cells of a row, one per column of its Relation.
 #[derive(Debug, Drop)]
 pub struct Tuple {
     pub cells: Seq<TupleCell>,
 }
 
-/// What was sent of the row before a change.
+/// The part of the row before a change that was sent.
 #[derive(Debug, Drop)]
 pub enum OldTuple {
-    /// `K`: the columns of the replica identity. The others are null.
+    /// `K`: the columns of the replica identity; the others are null.
     Key(Tuple),
     /// `O`: the whole row.
     Whole(Tuple),
@@ -93,7 +93,7 @@ pub enum OldTuple {
 #[derive(Debug, Drop)]
 pub enum TupleCell {
     Null,
-    /// A value that is stored out of line and didn't change, and wasn't sent.
+    /// An unchanged value that is stored out of line (TOAST) and wasn't sent.
     Unchanged,
     /// The value as text.
     Text(Text),

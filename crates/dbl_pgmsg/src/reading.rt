@@ -1,5 +1,5 @@
-//! Readers of the fields. Each takes the number of all bytes of the message and what is left of them, so that a fault has
-//! its place.
+//! Readers of the fields. Each takes the total length of the message and the bytes left, which
+//! locate a fault.
 
 ghost use Rattle.std.specs.Prelude.{◌≡◌, ◌-◌, length, option_map};
 ghost use Rattle.std.specs.Int.{w16, w32, w64};
@@ -11,16 +11,17 @@ use dbl_base::{Bytes, Text};
 use memchr::memchr;
 use std::alloc::Global;
 
-/// The most columns that a table of PostgreSQL has.
+/// The maximum number of columns of a PostgreSQL table.
 pub const COLUMNS: u16 = 1600;
 
-/// The place of the first of the bytes that are left.
+/// The offset of the first of the bytes left.
 pub fn place(total: usize, bytes: &[u8]) -> u64
     ensures { result ≡ total - length bytes.now }
 {
     total.saturating_sub(bytes.len()) as u64
 }
 
+/// Reads a byte.
 #[tactic(auto, unfolding(crate::specs::Reading::byte_at))]
 pub fn int8(total: usize, bytes: &[u8]) -> Result<(u8, &[u8]), MsgError>
     ensures { Gives (λ x. (x.0, x.1.now)) result (byte_at total bytes.now) }
@@ -31,6 +32,7 @@ pub fn int8(total: usize, bytes: &[u8]) -> Result<(u8, &[u8]), MsgError>
     }
 }
 
+/// Reads a big-endian 16-bit number.
 #[tactic(auto, unfolding(crate::specs::Reading::number_at))]
 pub fn int16(total: usize, bytes: &[u8]) -> Result<(u16, &[u8]), MsgError>
     ensures { Gives (λ x. (x.0, x.1.now)) result (number_at w16 total bytes.now) }
@@ -42,6 +44,7 @@ pub fn int16(total: usize, bytes: &[u8]) -> Result<(u16, &[u8]), MsgError>
     Ok((u16::from_be_bytes([front[0], front[1]]), rest))
 }
 
+/// Reads a big-endian 32-bit number.
 #[tactic(auto, unfolding(crate::specs::Reading::number_at))]
 pub fn int32(total: usize, bytes: &[u8]) -> Result<(u32, &[u8]), MsgError>
     ensures { Gives (λ x. (x.0, x.1.now)) result (number_at w32 total bytes.now) }
@@ -54,6 +57,7 @@ pub fn int32(total: usize, bytes: &[u8]) -> Result<(u32, &[u8]), MsgError>
     Ok((number, rest))
 }
 
+/// Reads a big-endian 64-bit number.
 #[tactic(auto, unfolding(crate::specs::Reading::number_at))]
 pub fn int64(total: usize, bytes: &[u8]) -> Result<(u64, &[u8]), MsgError>
     ensures { Gives (λ x. (x.0, x.1.now)) result (number_at w64 total bytes.now) }
@@ -68,6 +72,7 @@ pub fn int64(total: usize, bytes: &[u8]) -> Result<(u64, &[u8]), MsgError>
     Ok((number, rest))
 }
 
+/// Reads a signed 32-bit number in two's complement.
 #[tactic(auto, unfolding(crate::specs::Reading::signed_at))]
 pub fn signed32(total: usize, bytes: &[u8]) -> Result<(i32, &[u8]), MsgError>
     ensures { Gives (λ x. (x.0, x.1.now)) result (signed_at w32 total bytes.now) }
@@ -76,6 +81,7 @@ pub fn signed32(total: usize, bytes: &[u8]) -> Result<(i32, &[u8]), MsgError>
     Ok((number.cast_signed(), rest))
 }
 
+/// Reads a signed 64-bit number in two's complement.
 #[tactic(auto, unfolding(crate::specs::Reading::signed_at))]
 pub fn signed64(total: usize, bytes: &[u8]) -> Result<(i64, &[u8]), MsgError>
     ensures { Gives (λ x. (x.0, x.1.now)) result (signed_at w64 total bytes.now) }
@@ -84,7 +90,7 @@ pub fn signed64(total: usize, bytes: &[u8]) -> Result<(i64, &[u8]), MsgError>
     Ok((number.cast_signed(), rest))
 }
 
-/// The length of a text or of a content, or the number of the relations of a Truncate.
+/// Reads the length of a text or a content, or the number of relations of a Truncate.
 #[tactic(auto, unfolding(crate::specs::Reading::size_at))]
 pub fn size(total: usize, bytes: &[u8]) -> Result<(u32, &[u8]), MsgError>
     ensures { Gives (λ x. (x.0, x.1.now)) result (size_at total bytes.now) }
@@ -98,7 +104,7 @@ pub fn size(total: usize, bytes: &[u8]) -> Result<(u32, &[u8]), MsgError>
     Ok((size, rest))
 }
 
-/// The number of columns of a row or a relation.
+/// Reads the number of columns of a row or a relation.
 #[tactic(auto, unfolding(crate::specs::Reading::count_at))]
 pub fn count(total: usize, bytes: &[u8]) -> Result<(u16, &[u8]), MsgError>
     ensures { Gives (λ x. (x.0, x.1.now)) result (count_at total bytes.now) }
@@ -127,7 +133,7 @@ fn utf8(alloc: Global, at: u64, bytes: &[u8]) -> Result<Text, MsgError>
     Ok(Text::of(alloc, text)?)
 }
 
-/// The bytes before the first zero byte, and those behind it.
+/// The bytes before the first zero byte, and those after it.
 fn split_at_zero(bytes: &[u8]) -> Option<(&[u8], &[u8])>
     ensures { option_map (λ x. (x.0.now, x.1.now)) result ≡ before_zero bytes.now }
 {
@@ -135,7 +141,7 @@ fn split_at_zero(bytes: &[u8]) -> Option<(&[u8], &[u8])>
     Some((&bytes[..end], &bytes[end + 1..]))
 }
 
-/// A text that a zero byte ends.
+/// Reads a zero-terminated text.
 #[tactic(auto, unfolding(crate::specs::Reading::string_at, crate::specs::Reading::string_in))]
 pub fn string(alloc: Global, total: usize, bytes: &[u8]) -> Result<(Text, &[u8]), MsgError>
     ensures { Gives (λ x. (x.0, x.1.now)) result (string_at total bytes.now) }
@@ -147,7 +153,7 @@ pub fn string(alloc: Global, total: usize, bytes: &[u8]) -> Result<(Text, &[u8])
     Ok((text, rest))
 }
 
-/// A text behind its length.
+/// Reads a text preceded by its length.
 #[tactic(auto, unfolding(crate::specs::Reading::text_at))]
 pub fn text(alloc: Global, total: usize, bytes: &[u8]) -> Result<(Text, &[u8]), MsgError>
     ensures { Gives (λ x. (x.0, x.1.now)) result (text_at total bytes.now) }
@@ -162,7 +168,7 @@ pub fn text(alloc: Global, total: usize, bytes: &[u8]) -> Result<(Text, &[u8]), 
     Ok((text, after))
 }
 
-/// The content of a Message, behind its length.
+/// Reads the content of a Message, preceded by its length.
 #[tactic(auto, unfolding(crate::specs::Reading::content_at))]
 pub fn content(alloc: Global, total: usize, bytes: &[u8]) -> Result<(Bytes, &[u8]), MsgError>
     ensures { Gives (λ x. (x.0, x.1.now)) result (content_at total bytes.now) }

@@ -8,7 +8,7 @@ use crate::{MsgError, OldTuple, RelationColumn, Tuple, TupleCell};
 use dbl_base::Seq;
 use std::alloc::Global;
 
-/// The fewest bytes that a column of a Relation has.
+/// The minimum length of a Relation's column in bytes.
 const COLUMN_BYTES: usize = 10;
 
 #[tactic(auto, unfolding(crate::specs::Reading::cell_at))]
@@ -33,7 +33,8 @@ fn read_cell(alloc: Global, total: usize, bytes: &[u8]) -> Result<(TupleCell, &[
     }
 }
 
-// Each cell has a byte at least, so a false count wants no more memory than the message has.
+// Each cell has at least one byte, so a wrong count takes no more memory than the message has
+// bytes.
 fn read_cells(
     alloc: Global,
     total: usize,
@@ -66,7 +67,7 @@ fn read_tuple(alloc: Global, total: usize, bytes: &[u8]) -> Result<(Tuple, &[u8]
     ))
 }
 
-/// The new row of a change, behind its `N`.
+/// Reads the new row of a change, tagged `N`.
 #[tactic(auto, unfolding(crate::specs::Reading::new_at))]
 pub fn read_new(alloc: Global, total: usize, bytes: &[u8]) -> Result<(Tuple, &[u8]), MsgError>
     ensures { Gives (λ x. (x.0, x.1.now)) result (new_at total bytes.now) }
@@ -81,7 +82,7 @@ pub fn read_new(alloc: Global, total: usize, bytes: &[u8]) -> Result<(Tuple, &[u
     }
 }
 
-/// The old key, behind its `K`, or the old row, behind its `O`.
+/// Reads the old key, tagged `K`, or the old row, tagged `O`.
 #[tactic(auto, unfolding(crate::specs::Reading::old_at))]
 pub fn read_old(alloc: Global, total: usize, bytes: &[u8]) -> Result<(OldTuple, &[u8]), MsgError>
     ensures { Gives (λ x. (x.0, x.1.now)) result (old_at total bytes.now) }
@@ -103,7 +104,7 @@ pub fn read_old(alloc: Global, total: usize, bytes: &[u8]) -> Result<(OldTuple, 
     }
 }
 
-/// What stands before the `N` of an Update.
+/// Reads what precedes the `N` of an Update.
 #[tactic(auto, unfolding(crate::specs::Reading::before_at))]
 pub fn read_before(
     alloc: Global,
@@ -163,7 +164,7 @@ fn read_each_column(
     Ok((columns, rest))
 }
 
-/// The columns of a Relation, behind their number.
+/// Reads the columns of a Relation, preceded by their number.
 #[tactic(auto, unfolding(crate::specs::Reading::counted_at))]
 pub fn read_columns(
     alloc: Global,

@@ -1,4 +1,4 @@
-//! Writers of the fields. Each appends to what was written before.
+//! Writers of the fields. Each appends to the buffer.
 
 ghost use Rattle.std.specs.Prelude.{◌≡◌, ◌≤◌, ◌++◌, List, length, flat_map, OnOk, OnErr};
 ghost use Rattle.std.specs.List.{AllByRecursion};
@@ -10,7 +10,8 @@ use crate::{OldTuple, RelationColumn, Tuple, TupleCell};
 use dbl_base::Text;
 use std::alloc::AllocError;
 
-#[tactic(auto, using(crate::proofs::Fronts::begins_same, crate::proofs::Fronts::begins_behind), unfolding(crate::specs::Grammar::int16))]
+/// Appends a big-endian 16-bit number.
+#[tactic(auto, using(crate::proofs::Fronts::begins_same, crate::proofs::Fronts::begins_batch), unfolding(crate::specs::Grammar::int16))]
 pub fn int16(out: &mut Vec<u8>, number: u16) -> Result<(), AllocError>
     ensures written { OnOk result (Appends out.old.items (int16 number) out.new.items) }
     ensures kept { OnErr result (Begins out.old.items out.new.items) }
@@ -18,7 +19,8 @@ pub fn int16(out: &mut Vec<u8>, number: u16) -> Result<(), AllocError>
     out.extend_from_slice(&number.to_be_bytes())
 }
 
-#[tactic(auto, using(crate::proofs::Fronts::begins_same, crate::proofs::Fronts::begins_behind), unfolding(crate::specs::Grammar::int32))]
+/// Appends a big-endian 32-bit number.
+#[tactic(auto, using(crate::proofs::Fronts::begins_same, crate::proofs::Fronts::begins_batch), unfolding(crate::specs::Grammar::int32))]
 pub fn int32(out: &mut Vec<u8>, number: u32) -> Result<(), AllocError>
     ensures written { OnOk result (Appends out.old.items (int32 number) out.new.items) }
     ensures kept { OnErr result (Begins out.old.items out.new.items) }
@@ -26,7 +28,8 @@ pub fn int32(out: &mut Vec<u8>, number: u32) -> Result<(), AllocError>
     out.extend_from_slice(&number.to_be_bytes())
 }
 
-#[tactic(auto, using(crate::proofs::Fronts::begins_same, crate::proofs::Fronts::begins_behind), unfolding(crate::specs::Grammar::int64))]
+/// Appends a big-endian 64-bit number.
+#[tactic(auto, using(crate::proofs::Fronts::begins_same, crate::proofs::Fronts::begins_batch), unfolding(crate::specs::Grammar::int64))]
 pub fn int64(out: &mut Vec<u8>, number: u64) -> Result<(), AllocError>
     ensures written { OnOk result (Appends out.old.items (int64 number) out.new.items) }
     ensures kept { OnErr result (Begins out.old.items out.new.items) }
@@ -34,7 +37,8 @@ pub fn int64(out: &mut Vec<u8>, number: u64) -> Result<(), AllocError>
     out.extend_from_slice(&number.to_be_bytes())
 }
 
-#[tactic(auto, using(crate::proofs::Fronts::begins_same, crate::proofs::Fronts::begins_behind))]
+/// Appends a signed 32-bit number in two's complement.
+#[tactic(auto, using(crate::proofs::Fronts::begins_same, crate::proofs::Fronts::begins_batch))]
 pub fn signed32(out: &mut Vec<u8>, number: &i32) -> Result<(), AllocError>
     ensures written { OnOk result (Appends out.old.items (signed32 number.now) out.new.items) }
     ensures kept { OnErr result (Begins out.old.items out.new.items) }
@@ -42,7 +46,8 @@ pub fn signed32(out: &mut Vec<u8>, number: &i32) -> Result<(), AllocError>
     int32(out, number.cast_unsigned())
 }
 
-#[tactic(auto, using(crate::proofs::Fronts::begins_same, crate::proofs::Fronts::begins_behind))]
+/// Appends a signed 64-bit number in two's complement.
+#[tactic(auto, using(crate::proofs::Fronts::begins_same, crate::proofs::Fronts::begins_batch))]
 pub fn signed64(out: &mut Vec<u8>, number: &i64) -> Result<(), AllocError>
     ensures written { OnOk result (Appends out.old.items (signed64 number.now) out.new.items) }
     ensures kept { OnErr result (Begins out.old.items out.new.items) }
@@ -50,8 +55,8 @@ pub fn signed64(out: &mut Vec<u8>, number: &i64) -> Result<(), AllocError>
     int64(out, number.cast_unsigned())
 }
 
-/// A text, and the zero byte that ends it.
-#[tactic(auto, using(crate::proofs::Fronts::begins_same, crate::proofs::Fronts::begins_behind), unfolding(crate::specs::Grammar::string))]
+/// Appends a zero-terminated text.
+#[tactic(auto, using(crate::proofs::Fronts::begins_same, crate::proofs::Fronts::begins_batch), unfolding(crate::specs::Grammar::string))]
 pub fn string(out: &mut Vec<u8>, text: &Text) -> Result<(), AllocError>
     ensures written { OnOk result (Appends out.old.items (string text.now) out.new.items) }
     ensures kept { OnErr result (Begins out.old.items out.new.items) }
@@ -61,7 +66,7 @@ pub fn string(out: &mut Vec<u8>, text: &Text) -> Result<(), AllocError>
     Ok(())
 }
 
-#[tactic(auto, using(crate::proofs::Fronts::begins_same, crate::proofs::Fronts::begins_behind), unfolding(crate::specs::Grammar::cell))]
+#[tactic(auto, using(crate::proofs::Fronts::begins_same, crate::proofs::Fronts::begins_batch), unfolding(crate::specs::Grammar::cell))]
 fn write_cell(out: &mut Vec<u8>, item: &TupleCell) -> Result<(), AllocError>
     requires { FitsCell item.now }
     ensures written { OnOk result (Appends out.old.items (cell item.now) out.new.items) }
@@ -79,7 +84,7 @@ fn write_cell(out: &mut Vec<u8>, item: &TupleCell) -> Result<(), AllocError>
     }
 }
 
-#[tactic(auto, using(crate::proofs::Fronts::begins_same, crate::proofs::Fronts::begins_behind))]
+#[tactic(auto, using(crate::proofs::Fronts::begins_same, crate::proofs::Fronts::begins_batch))]
 fn write_cells(out: &mut Vec<u8>, cells: &[TupleCell]) -> Result<(), AllocError>
     requires { AllByRecursion FitsCell cells.now }
     ensures written { OnOk result (Appends out.old.items (flat_map cell cells.now) out.new.items) }
@@ -91,7 +96,8 @@ fn write_cells(out: &mut Vec<u8>, cells: &[TupleCell]) -> Result<(), AllocError>
     Ok(())
 }
 
-#[tactic(auto, using(crate::proofs::Fronts::begins_same, crate::proofs::Fronts::begins_behind), unfolding(crate::specs::Grammar::tuple))]
+/// Appends the cells of a row, preceded by their number.
+#[tactic(auto, using(crate::proofs::Fronts::begins_same, crate::proofs::Fronts::begins_batch), unfolding(crate::specs::Grammar::tuple))]
 pub fn write_tuple(out: &mut Vec<u8>, row: &Tuple) -> Result<(), AllocError>
     requires { FitsTuple row.now }
     ensures written { OnOk result (Appends out.old.items (tuple row.now) out.new.items) }
@@ -102,7 +108,8 @@ pub fn write_tuple(out: &mut Vec<u8>, row: &Tuple) -> Result<(), AllocError>
     write_cells(out, cells)
 }
 
-#[tactic(auto, using(crate::proofs::Fronts::begins_same, crate::proofs::Fronts::begins_behind), unfolding(crate::specs::Grammar::old_tuple))]
+/// Appends the old key or the old row, with its tag.
+#[tactic(auto, using(crate::proofs::Fronts::begins_same, crate::proofs::Fronts::begins_batch), unfolding(crate::specs::Grammar::old_tuple))]
 pub fn write_old(out: &mut Vec<u8>, old: &OldTuple) -> Result<(), AllocError>
     requires { FitsOld old.now }
     ensures written { OnOk result (Appends out.old.items (old_tuple old.now) out.new.items) }
@@ -120,7 +127,8 @@ pub fn write_old(out: &mut Vec<u8>, old: &OldTuple) -> Result<(), AllocError>
     }
 }
 
-#[tactic(auto, using(crate::proofs::Fronts::begins_same, crate::proofs::Fronts::begins_behind))]
+/// Appends the old key or row of an Update, if it has one.
+#[tactic(auto, using(crate::proofs::Fronts::begins_same, crate::proofs::Fronts::begins_batch))]
 pub fn write_before(out: &mut Vec<u8>, before: &Option<OldTuple>) -> Result<(), AllocError>
     requires { FitsOptional before.now }
     ensures written { OnOk result
@@ -133,7 +141,7 @@ pub fn write_before(out: &mut Vec<u8>, before: &Option<OldTuple>) -> Result<(), 
     }
 }
 
-#[tactic(auto, using(crate::proofs::Fronts::begins_same, crate::proofs::Fronts::begins_behind), unfolding(crate::specs::Grammar::column))]
+#[tactic(auto, using(crate::proofs::Fronts::begins_same, crate::proofs::Fronts::begins_batch), unfolding(crate::specs::Grammar::column))]
 fn write_column(out: &mut Vec<u8>, item: &RelationColumn) -> Result<(), AllocError>
     ensures written { OnOk result (Appends out.old.items (column item.now) out.new.items) }
     ensures kept { OnErr result (Begins out.old.items out.new.items) }
@@ -144,7 +152,8 @@ fn write_column(out: &mut Vec<u8>, item: &RelationColumn) -> Result<(), AllocErr
     signed32(out, &item.modifier)
 }
 
-#[tactic(auto, using(crate::proofs::Fronts::begins_same, crate::proofs::Fronts::begins_behind))]
+/// Appends the columns of a Relation.
+#[tactic(auto, using(crate::proofs::Fronts::begins_same, crate::proofs::Fronts::begins_batch))]
 pub fn write_columns(out: &mut Vec<u8>, columns: &[RelationColumn]) -> Result<(), AllocError>
     ensures written { OnOk result
         (Appends out.old.items (flat_map column columns.now) out.new.items) }
@@ -156,7 +165,8 @@ pub fn write_columns(out: &mut Vec<u8>, columns: &[RelationColumn]) -> Result<()
     Ok(())
 }
 
-#[tactic(auto, using(crate::proofs::Fronts::begins_same, crate::proofs::Fronts::begins_behind))]
+/// Appends the OIDs of a Truncate.
+#[tactic(auto, using(crate::proofs::Fronts::begins_same, crate::proofs::Fronts::begins_batch))]
 pub fn write_oids(out: &mut Vec<u8>, oids: &[u32]) -> Result<(), AllocError>
     ensures written { OnOk result (Appends out.old.items (flat_map int32 oids.now) out.new.items) }
     ensures kept { OnErr result (Begins out.old.items out.new.items) }

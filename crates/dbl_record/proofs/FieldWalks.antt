@@ -6,7 +6,7 @@ use Rattle.std.proofs.lemmas.Bool.{cases_lt, lt-ltb, le-ltb}
 use Rattle.std.proofs.lemmas.List.{take_at, drop_at, take-append-drop, length-append, length-take, length-drop}
 use Rattle.dbl_record.specs.declared.error.RecordError.TheVariants.{BadRecord}
 use Rattle.dbl_record.specs.GroupReading.{Read, ◌>>=◌, number_at, truth_at, utf8_of, text_at, optional_at, place_at, pair_at, record_at, many_at, group_at}
-use Rattle.dbl_record.specs.GroupFaults.{Field, Number, Truth, Presence, Length, Characters, Count, width, behind, behind_byte, behind_text, times, record_fields, IsWhole, DiffersAt, ends, wrong, later}
+use Rattle.dbl_record.specs.GroupFaults.{Field, Number, Truth, Presence, Length, Characters, Count, width, fields_after, fields_after_byte, fields_after_text, times, record_fields, IsWhole, DiffersAt, ends, wrong, later}
 
 -- ---- a field is whole in one way at most, and cut in none
 
@@ -22,16 +22,16 @@ not_cut field content rest bytes whole lt = omega (arith, lt, whole.wide, ap (λ
 -- ---- the place at a first field
 
 abbrev Behind : ℕ → ℕ → Field → List Field → List ℕ → List ℕ → Type 0
-Behind place at field others content rest = ((behind field content ≡ None) × (place ≡ at)) ⊎ ((more : List Field) × (behind field content ≡ Some more) × DiffersAt place (at + width field) (more ++ others) rest)
+Behind place at field others content rest = ((fields_after field content ≡ None) × (place ≡ at)) ⊎ ((more : List Field) × (fields_after field content ≡ Some more) × DiffersAt place (at + width field) (more ++ others) rest)
 
 first_whole : (place at : ℕ) (field : Field) (others : List Field) (bytes content rest : List ℕ) → IsWhole field content rest bytes → DiffersAt place at (field ∷ others) bytes → Behind place at field others content rest
 first_whole place at field others bytes content rest whole (ends lt e) = absurd (not_cut field content rest bytes whole lt)
 first_whole place at field others bytes content rest whole (wrong content' rest' whole' e is) =
     let same = one_whole field content' rest' content rest bytes whole' whole in
-    inl (subst (λ (c : List ℕ). behind field c ≡ None) same.0 e, is)
+    inl (subst (λ (c : List ℕ). fields_after field c ≡ None) same.0 e, is)
 first_whole place at field others bytes content rest whole (later content' rest' more whole' e h) =
     let same = one_whole field content' rest' content rest bytes whole' whole in
-    inr (more, subst (λ (c : List ℕ). behind field c ≡ Some more) same.0 e, subst (λ (r : List ℕ). DiffersAt place (at + width field) (more ++ others) r) same.1 h)
+    inr (more, subst (λ (c : List ℕ). fields_after field c ≡ Some more) same.0 e, subst (λ (r : List ℕ). DiffersAt place (at + width field) (more ++ others) r) same.1 h)
 
 first_cut : (place at : ℕ) (field : Field) (others : List Field) (bytes : List ℕ) → length bytes < width field → DiffersAt place at (field ∷ others) bytes → place ≡ at + length bytes
 first_cut place at field others bytes lt (ends lt' e) = e
@@ -46,13 +46,13 @@ module _ (total : ℕ) where
   After others (Ok x) place = DiffersAt place (total - length x.1) others x.1
   After others (Err e) place = e ≡ BadRecord place
 
-  abbrev pub Left : {A : Type 0} → Read A → Type 0
-  Left (Ok x) = length x.1 ≤ total
-  Left (Err e) = (at : ℕ) × (e ≡ BadRecord at)
+  abbrev pub CrashState : {A : Type 0} → Read A → Type 0
+  CrashState (Ok x) = length x.1 ≤ total
+  CrashState (Err e) = (at : ℕ) × (e ≡ BadRecord at)
 
   -- Reading has passed these fields, or answers where the bytes differ from them.
   pub record Walk {A : Type 0} (fields : List Field) (bytes : List ℕ) (read : Read A) : Type 0 where
-    pub left : Left read
+    pub left : CrashState read
     pub there : (others : List Field) (place : ℕ) → DiffersAt place (total - length bytes) (fields ++ others) bytes → After others read place
     pub back : (others : List Field) (place : ℕ) → After others read place → DiffersAt place (total - length bytes) (fields ++ others) bytes
 
@@ -99,11 +99,11 @@ module _ (total : ℕ) where
   failed_is d e same = cc
 
   module _ {A : Type 0} (field : Field) (content rest bytes : List ℕ) (read : Read A) (le : length bytes ≤ total) (whole : IsWhole field content rest bytes) where
-    left_of : (b : Option (List Field)) → Agrees (total - length bytes) b rest read → Left read
+    left_of : (b : Option (List Field)) → Agrees (total - length bytes) b rest read → CrashState read
     left_of (Some more) walk = walk.left
-    left_of None is = subst Left (sym is) (total - length bytes, refl)
+    left_of None is = subst CrashState (sym is) (total - length bytes, refl)
 
-    there_of : (others : List Field) (place : ℕ) → Agrees (total - length bytes) (behind field content) rest read → Behind place (total - length bytes) field others content rest → After others read place
+    there_of : (others : List Field) (place : ℕ) → Agrees (total - length bytes) (fields_after field content) rest read → Behind place (total - length bytes) field others content rest → After others read place
     there_of others place agrees (inl e) =
         let is : Agrees (total - length bytes) None rest read = subst (λ (r : Option (List Field)). Agrees (total - length bytes) r rest read) e.0 agrees in
         subst (λ (r : Read A). After others r place) (sym is) (ap (λ (n : ℕ). BadRecord n) (sym e.1))
@@ -111,17 +111,17 @@ module _ (total : ℕ) where
         let walk : Agrees (total - length bytes) (Some h.0) rest read = subst (λ (r : Option (List Field)). Agrees (total - length bytes) r rest read) h.1 agrees in
         walk.there others place (subst (λ (at : ℕ). DiffersAt place at (h.0 ++ others) rest) (behind_at field content rest bytes le whole) h.2)
 
-    back_of : (others : List Field) (place : ℕ) (b : Option (List Field)) → behind field content ≡ b → Agrees (total - length bytes) b rest read → After others read place → DiffersAt place (total - length bytes) (field ∷ others) bytes
+    back_of : (others : List Field) (place : ℕ) (b : Option (List Field)) → fields_after field content ≡ b → Agrees (total - length bytes) b rest read → After others read place → DiffersAt place (total - length bytes) (field ∷ others) bytes
     back_of others place (Some more) e walk after = later content rest more whole e (subst (λ (at : ℕ). DiffersAt place at (more ++ others) rest) (sym (behind_at field content rest bytes le whole)) (walk.back others place after))
     back_of others place None e is after =
         let at : After {A = A} others (Err (BadRecord (total - length bytes))) place = subst (λ (r : Read A). After others r place) is after in
         wrong content rest whole e (sym (failed_is (total - length bytes) place at))
 
-    pub walk_whole : Agrees (total - length bytes) (behind field content) rest read → Walk (field ∷ []) bytes read
+    pub walk_whole : Agrees (total - length bytes) (fields_after field content) rest read → Walk (field ∷ []) bytes read
     walk_whole agrees = record {
-      left = left_of (behind field content) agrees;
+      left = left_of (fields_after field content) agrees;
       there = λ others place h. there_of others place agrees (first_whole place (total - length bytes) field others bytes content rest whole h);
-      back = λ others place after. back_of others place (behind field content) refl agrees after;
+      back = λ others place after. back_of others place (fields_after field content) refl agrees after;
     }
 
   pub walk_cut : {A : Type 0} (field : Field) (bytes : List ℕ) → length bytes ≤ total → length bytes < width field → Walk {A = A} (field ∷ []) bytes (Err (BadRecord total))
@@ -136,7 +136,7 @@ module _ (total : ℕ) where
   -- ---- numbers
 
   pub walk_number : {B : Type 0} (field : Field) (w : Width) (bytes : List ℕ) (next : ℕ × List ℕ → Read B) → width field ≡ byte_len w → length bytes ≤ total
-      → ((content rest : List ℕ) → length rest ≤ total → Agrees (total - length bytes) (behind field content) rest (next (from_be_bytes w content, rest))) → Walk (field ∷ []) bytes (number_at w total bytes >>= next)
+      → ((content rest : List ℕ) → length rest ≤ total → Agrees (total - length bytes) (fields_after field content) rest (next (from_be_bytes w content, rest))) → Walk (field ∷ []) bytes (number_at w total bytes >>= next)
   unfolding number_at
   walk_number field w bytes next is le agrees =
       elim (cases_lt (length bytes) (byte_len w)) [
@@ -163,8 +163,8 @@ module _ (total : ℕ) where
   -- ---- a byte that is 0 or 1
 
   agrees_byte : {A : Type 0} (at b : ℕ) (fields : List Field) (rest : List ℕ) (zero_read one_read : Read A) → Walk [] rest zero_read → Walk fields rest one_read
-      → Agrees at (behind_byte b fields) rest (cond (eqb b 0) zero_read (cond (eqb b 1) one_read (Err (BadRecord at))))
-  unfolding behind_byte
+      → Agrees at (fields_after_byte b fields) rest (cond (eqb b 0) zero_read (cond (eqb b 1) one_read (Err (BadRecord at))))
+  unfolding fields_after_byte
   agrees_byte at b fields rest zero_read one_read zero_walk one_walk =
       elim (eqb b 0) as (λ t. Agrees at (cond t (Some []) (cond (eqb b 1) (Some fields) None)) rest (cond t zero_read (cond (eqb b 1) one_read (Err (BadRecord at))))) [
         | true ↦ zero_walk
@@ -180,8 +180,8 @@ module _ (total : ℕ) where
 
   -- ---- texts
 
-  agrees_text : (at : ℕ) (text rest : List ℕ) → length rest ≤ total → Agrees at (behind_text text) rest (utf8_of at text >>= λ t. Ok (t, rest))
-  unfolding behind_text utf8_of
+  agrees_text : (at : ℕ) (text rest : List ℕ) → length rest ≤ total → Agrees at (fields_after_text text) rest (utf8_of at text >>= λ t. Ok (t, rest))
+  unfolding fields_after_text utf8_of
   agrees_text at text rest le = elim (is_utf8 text) as (λ b. Agrees at (cond b (Some []) None) rest (cond b (Ok text) (Err (BadRecord at)) >>= λ t. Ok (t, rest))) [ true ↦ walk_done text rest le | false ↦ refl ]
 
   characters_walk : (n : ℕ) (bytes : List ℕ) → length bytes ≤ total → Walk (Characters n ∷ []) bytes (cond (ltb (length bytes) n) (Err (BadRecord total)) (utf8_of (total - length bytes) (take n bytes) >>= λ text. Ok (text, drop n bytes)))

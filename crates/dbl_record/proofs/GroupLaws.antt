@@ -13,7 +13,7 @@ use Rattle.dbl_record.specs.Groups.{record_form, group_form, FitsRecord, FitsGro
 use Rattle.dbl_record.specs.GroupFaults.{Count, DiffersAt, trails, IsBadAt}
 use Rattle.dbl_record.specs.GroupReading.{Read, ◌>>=◌, Gives, number_at, place_at, pair_at, record_at, group_at, ended, whole}
 use Rattle.dbl_record.proofs.FieldLaws.{IsBytes, bind_ok, guard_held, chosen, ok_is, Takes, Takes-then, Reads, took, number32_reads, number64_reads, truth_reads, text_reads, optional_reads, many_again, many_takes}
-use Rattle.dbl_record.proofs.FieldWalks.{After, Left, group_walk}
+use Rattle.dbl_record.proofs.FieldWalks.{After, CrashState, group_walk}
 
 abbrev place_form : ℕ × ℕ × Bool → List ℕ
 place_form p = number64 p.0 ++ number64 p.1 ++ truth_form p.2
@@ -191,7 +191,7 @@ module _ (bytes : List ℕ) (place : ℕ) where
       subst (λ (at : ℕ). DiffersAt place at (Count ∷ []) bytes) start (walk.back [] place (ended_back (group_at (length bytes) bytes) same))
 
 -- reading answers places alone
-place_left : (bytes : List ℕ) (r : Read (List Record)) (e : RecordError) → Left (length bytes) r → (r >>= ended (length bytes)) ≡ Err e → (at : ℕ) × (e ≡ BadRecord at)
+place_left : (bytes : List ℕ) (r : Read (List Record)) (e : RecordError) → CrashState (length bytes) r → (r >>= ended (length bytes)) ≡ Err e → (at : ℕ) × (e ≡ BadRecord at)
 unfolding ended
 place_left bytes (Ok x) e left same =
     elim (chosen (eqb (length x.1) 0) _ _ _ same) [

@@ -42,7 +42,7 @@ tops_are_one records a b p q =
       | inl before ↦ absurd (All-contains (λ place. ¬ IsBefore a place) (map place_of records) b p.greatest q.taken before)
       | inr rest ↦ elim rest [
         | inl same ↦ same
-        | inr behind ↦ absurd (All-contains (λ place. ¬ IsBefore b place) (map place_of records) a q.greatest p.taken behind)
+        | inr subsequent ↦ absurd (All-contains (λ place. ¬ IsBefore b place) (map place_of records) a q.greatest p.taken subsequent)
       ]
     ]
 

@@ -1,5 +1,5 @@
--- What a consumer holds after records, row by row. Source: Debezium's PostgreSQL connector manual, "Toasted values", for
--- a cell that wasn't sent; the rest is own.
+-- A consumer's state after records, row by row. Source: Debezium's PostgreSQL connector manual, "Toasted values", for cells that weren't
+-- sent.
 use Rattle.std.specs.Prelude.{ℕ, List, [], if◌then◌else◌, Option, Some, None, unwrap_or, fold, map, Result, Ok, Err}
 use Rattle.std.specs.Str.{bytes_eq}
 use Rattle.std.specs.Map.{lookup}
@@ -14,44 +14,44 @@ use Rattle.dbl_record.specs.declared.acts.ConsumeError.{ConsumeError}
 use Rattle.dbl_record.specs.declared.reading.Line.{Line}
 use Rattle.dbl_record.specs.Acts.{Reading, reading_of, act_of}
 
--- the cells of a row by their columns, in byte order of the columns
+-- the cells of a row in a consumer's state, by column in byte order
 abbrev pub HeldCells : Type 0
 HeldCells = List (List ℕ × HeldCell)
 
--- what a row holds at a column; there may be no row
+-- the cell of a row at a column, if the row exists and has one
 abbrev pub held_at : Option HeldCells → List ℕ → Option HeldCell
 held_at None column = None
 held_at (Some cells) column = lookup (is_at (text_cmp column)) cells
 
--- a cell that wasn't sent stays as it is held, and is unknown where none is
+-- the new cell of a column: one that wasn't sent keeps its value, and is unknown if it has none
 abbrev pub held_now : Option HeldCells → List ℕ → Option (List ℕ) → HeldCell
 held_now row column (Some text) = Known text
 held_now row column None = unwrap_or (held_at row column) Unknown
 
--- the row that is held where these cells are set in the place of a row
+-- the row after these cells are set
 abbrev pub row_of : Option HeldCells → List GivenCell → HeldCells
 row_of row cells = fold (λ made cell. insert_entry text_cmp made cell.column (held_now row cell.column cell.text)) [] cells
 
--- what an act leaves of the row at a key text of its topic
+-- the row at a key text after an effect on its topic
 abbrev pub row_after_act : Act → List ℕ → Option HeldCells → Option HeldCells
 row_after_act Nothing key row = row
 row_after_act (Set text cells) key row = if bytes_eq text key then Some (row_of row cells) else row
 row_after_act (Remove text) key row = if bytes_eq text key then None else row
 row_after_act Wipe key row = None
 
--- a record that is refused changes nothing
+-- the row after a record's effect; a refused record changes nothing
 abbrev pub row_after_result : Result Act ConsumeError → List ℕ → Option HeldCells → Option HeldCells
 row_after_result (Ok done) key row = row_after_act done key row
 row_after_result (Err error) key row = row
 
--- what a record leaves of the row at a topic and a key text
+-- the row at a topic and a key text after one more record
 abbrev pub row_after : List ℕ → List ℕ → List ℕ → Option HeldCells → Reading → Option HeldCells
 row_after placeholder topic key row reading = if bytes_eq reading.topic topic then row_after_result (act_of placeholder reading) key row else row
 
--- The row that the consumer of these records holds at a topic and a key text, if it holds one there.
+-- The row at a topic and a key text in the state of the consumer of these records, if there is one.
 abbrev pub consumer_of : List ℕ → List Reading → List ℕ → List ℕ → Option HeldCells
 consumer_of placeholder readings topic key = fold (row_after placeholder topic key) None readings
 
--- the same of the records' texts
+-- the consumer's state for records given by their texts
 abbrev pub consumer : List ℕ → List Line → List ℕ → List ℕ → Option HeldCells
 consumer placeholder lines = consumer_of placeholder (map reading_of lines)

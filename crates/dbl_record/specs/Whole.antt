@@ -1,4 +1,4 @@
--- JSON data that is read back from its compact text.
+-- JSON data that is parsed back from its compact text.
 use Rattle.std.specs.Prelude.{◌≡◌, ◌≤◌, ℕ, ◌^◌, ◌<◌, pos, negsuc, List, ⊤, Some}
 use Rattle.std.specs.Ordering.{nat_cmp}
 use Rattle.std.specs.declared.cmp.Ordering.TheVariants.{Less}
@@ -7,19 +7,19 @@ use Rattle.serde_json.specs.Data.{Num, unsigned, negative, float, Data, null, bo
 use Rattle.serde_json.specs.Read.{read}
 use Rattle.serde_json.specs.Written.{compact_text}
 
--- an integer that 64 bits hold, with a sign or without
+-- the number is a signed or unsigned 64-bit integer
 abbrev pub IsInteger : Num → Type 0
 IsInteger (unsigned n) = n < 2 ^ 64
 IsInteger (negative (pos n)) = ⊥
 IsInteger (negative (negsuc n)) = n < 2 ^ 63
 IsInteger (float x) = ⊥
 
--- in byte order the name stands before each name of the members
+-- the name precedes each name of the members in byte order
 abbrev pub IsBelow : List ℕ → Members → Type 0
 IsBelow name no_members = ⊤
 IsBelow name (member other d ms) = (slice_cmp nat_cmp name other ≡ Less) × IsBelow name ms
 
--- its numbers are such integers, and the names of each object are in strict byte order
+-- the data is well-formed: its numbers are 64-bit integers, and the names of each object are in strict byte order
 abbrev mutual
   pub IsWhole : Data → Type 0
   IsWhole null = ⊤
@@ -37,10 +37,10 @@ abbrev mutual
   MembersAreWhole no_members = ⊤
   MembersAreWhole (member name d ms) = IsWhole d × IsBelow name ms × MembersAreWhole ms
 
--- whole data is read back from its compact text, where it nests no deeper than 127, which is what serde_json reads
+-- well-formed data at most 127 levels deep, the limit of serde_json, is parsed back from its compact text
 abbrev pub ReadsBack : Type 0
 ReadsBack = (d : Data) → IsWhole d → depth d ≤ 127 → read (compact_text d) ≡ Some d
 
--- a text is the compact text of one such data at most
+-- a text is the compact text of at most one well-formed data
 abbrev pub TextsTellData : Type 0
 TextsTellData = (d e : Data) → IsWhole d → IsWhole e → depth d ≤ 127 → depth e ≤ 127 → compact_text d ≡ compact_text e → d ≡ e

@@ -2,24 +2,24 @@ use dbl_base::{Seq, Text};
 use std::alloc::{AllocError, AllocFailed};
 use thiserror::Error;
 
-/// What a consumer holds of a cell.
+/// A cell of a row in a consumer's state.
 #[derive(Debug, Drop, PartialEq, Eq)]
 pub enum HeldCell {
     /// The compact JSON text of its value.
     Known(Text),
-    /// The cell wasn't sent, and none was held.
+    /// The cell wasn't sent, and no earlier value is known.
     Unknown,
 }
 
-/// A cell of an event's row, and its compact JSON text. None where its value wasn't sent: it is the placeholder of
-/// unavailable values.
+/// A cell of an event's row, with its compact JSON text, or none if the value is the placeholder of
+/// values that weren't sent.
 #[derive(Debug, Drop, PartialEq, Eq)]
 pub struct GivenCell {
     pub column: Text,
     pub text: Option<Text>,
 }
 
-/// What an event tells of. A create, a read of a snapshot and an update put a row.
+/// The kind of a change event. A create, a snapshot read and an update all put a row.
 #[derive(Clone, Copy, Debug, Drop, PartialEq, Eq)]
 pub enum Operation {
     Put,
@@ -28,14 +28,14 @@ pub enum Operation {
     Message,
 }
 
-/// What a record does to the rows of its topic.
+/// The effect of a record on the rows of its topic.
 #[derive(Debug, Drop, PartialEq, Eq)]
 pub enum Act {
     Nothing,
-    /// The row of the key has these cells, in byte order of their columns.
+    /// The row of the key is set to these cells, in byte order of their columns.
     Set { key: Text, cells: Seq<GivenCell> },
     Remove { key: Text },
-    /// All rows of the topic are gone.
+    /// All rows of the topic are removed.
     Wipe,
 }
 
@@ -51,18 +51,17 @@ pub enum ConsumeError {
     /// The `op` is none of `c`, `r`, `u`, `d`, `t` and `m`.
     #[error("unknown op")]
     UnknownOp,
-    /// The key isn't an object, or one of its members is an array, an object or a number that isn't an integer of 64
-    /// bits.
+    /// The key isn't an object, or one of its members is an array, an object or a number that isn't
+    /// a 64-bit integer.
     #[error("no key")]
     NoKey,
     /// `after` isn't an object.
     #[error("bad after")]
     BadAfter,
-    /// The first column in byte order whose cell no consumer holds: here the cell is a number that isn't an integer of
-    /// 64 bits.
+    /// The first unsupported cell in byte order of columns is a number that isn't a 64-bit integer.
     #[error("float cell {column}")]
     FloatCell { column: Text },
-    /// Here it is an array or an object.
+    /// The first unsupported cell in byte order of columns is an array or an object.
     #[error("nested cell {column}")]
     NestedCell { column: Text },
     #[error("out of memory")]

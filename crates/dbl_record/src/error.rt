@@ -1,11 +1,11 @@
 use std::alloc::{AllocError, AllocFailed};
 use thiserror::Error;
 
-/// Why a record isn't read or written. Writing answers `Memory` alone.
+/// Why a record can't be read or written. Writing fails only with `Memory`.
 #[derive(Clone, Copy, Debug, Drop, PartialEq, Eq, Error)]
 pub enum RecordError {
-    /// Of a line: it isn't a JSON object with a string `topic`; the place is 0. Of bytes: they aren't the bytes form of a
-    /// group; the place is the first at which they differ from every such form, or their length where they end too soon.
+    /// A line isn't a JSON object with a string `topic`, and `at` is 0; or bytes aren't an encoded
+    /// group, and `at` is the first offset at which they differ from every encoding.
     #[error("bad record at {at}")]
     BadRecord { at: u64 },
     #[error("out of memory")]

@@ -1,5 +1,5 @@
-//! Fields of stored forms. Writers append to what was written before. Readers take the number of all bytes and what is left
-//! of them, so that a fault has its place.
+//! Fields of the stored formats. Writers append to the buffer; readers take the total length and
+//! the bytes left, which locate a fault.
 
 ghost use Rattle.std.specs.Prelude.{◌≡◌, ◌≢◌, ◌-◌, length, Err, OnOk};
 ghost use Rattle.std.specs.Int.{w32, w64};
@@ -11,7 +11,7 @@ use crate::RecordError;
 use dbl_base::Text;
 use std::alloc::{AllocError, Global};
 
-/// Four bytes, the highest first.
+/// Appends four bytes, big-endian.
 #[tactic(auto, unfolding(crate::specs::Fields::number32))]
 pub fn append_number32(out: &mut Vec<u8>, number: u32) -> Result<(), AllocError>
     ensures { OnOk result (Extends out.old.items (number32 number) out.new.items) }
@@ -19,7 +19,7 @@ pub fn append_number32(out: &mut Vec<u8>, number: u32) -> Result<(), AllocError>
     out.extend_from_slice(&number.to_be_bytes())
 }
 
-/// Eight bytes, the highest first.
+/// Appends eight bytes, big-endian.
 #[tactic(auto, unfolding(crate::specs::Fields::number64))]
 pub fn append_number64(out: &mut Vec<u8>, number: u64) -> Result<(), AllocError>
     ensures { OnOk result (Extends out.old.items (number64 number) out.new.items) }
@@ -27,7 +27,7 @@ pub fn append_number64(out: &mut Vec<u8>, number: u64) -> Result<(), AllocError>
     out.extend_from_slice(&number.to_be_bytes())
 }
 
-/// A byte, 1 or 0.
+/// Appends a byte, 1 or 0.
 pub fn append_truth(out: &mut Vec<u8>, truth: bool) -> Result<(), AllocError>
     ensures { OnOk result (Extends out.old.items (truth_form truth) out.new.items) }
 {
@@ -38,7 +38,7 @@ pub fn append_truth(out: &mut Vec<u8>, truth: bool) -> Result<(), AllocError>
     }
 }
 
-/// A text behind its length in four bytes.
+/// Appends a text, preceded by its length in four bytes.
 #[tactic(auto, unfolding(crate::specs::Fields::text_form))]
 pub fn append_text(out: &mut Vec<u8>, text: &Text) -> Result<(), AllocError>
     requires { IsShort text.now }
@@ -50,7 +50,7 @@ pub fn append_text(out: &mut Vec<u8>, text: &Text) -> Result<(), AllocError>
     out.extend_from_slice(text.as_bytes())
 }
 
-/// A byte 0, or 1 and the text.
+/// Appends a byte 0, or 1 and the text.
 #[tactic(auto, unfolding(crate::specs::Fields::optional_form))]
 pub fn append_optional(out: &mut Vec<u8>, text: &Option<Text>) -> Result<(), AllocError>
     requires { IsShortOrAbsent text.now }
@@ -66,14 +66,14 @@ pub fn append_optional(out: &mut Vec<u8>, text: &Option<Text>) -> Result<(), All
     }
 }
 
-/// The place of the first of the bytes that are left.
+/// The offset of the first of the bytes left.
 pub fn place(total: usize, bytes: &[u8]) -> u64
     ensures { result ≡ total - length bytes.now }
 {
     total.saturating_sub(bytes.len()) as u64
 }
 
-/// Four bytes, the highest first. Takes no memory.
+/// Reads four bytes, big-endian; takes no memory.
 #[tactic(auto, unfolding(crate::specs::GroupReading::number_at))]
 pub fn read_number32(total: usize, bytes: &[u8]) -> Result<(u32, &[u8]), RecordError>
     ensures read { Gives (λ x. (x.0, x.1.now)) result (number_at w32 total bytes.now) }
@@ -87,7 +87,7 @@ pub fn read_number32(total: usize, bytes: &[u8]) -> Result<(u32, &[u8]), RecordE
     Ok((number, rest))
 }
 
-/// Eight bytes, the highest first. Takes no memory.
+/// Reads eight bytes, big-endian; takes no memory.
 #[tactic(auto, unfolding(crate::specs::GroupReading::number_at))]
 pub fn read_number64(total: usize, bytes: &[u8]) -> Result<(u64, &[u8]), RecordError>
     ensures read { Gives (λ x. (x.0, x.1.now)) result (number_at w64 total bytes.now) }
@@ -103,7 +103,7 @@ pub fn read_number64(total: usize, bytes: &[u8]) -> Result<(u64, &[u8]), RecordE
     Ok((number, rest))
 }
 
-/// A byte, 1 or 0. Takes no memory.
+/// Reads a byte, 1 or 0; takes no memory.
 #[tactic(auto, unfolding(crate::specs::GroupReading::truth_at))]
 pub fn read_truth(total: usize, bytes: &[u8]) -> Result<(bool, &[u8]), RecordError>
     ensures read { Gives (λ x. (x.0, x.1.now)) result (truth_at total bytes.now) }
@@ -129,7 +129,7 @@ fn utf8(alloc: Global, at: u64, bytes: &[u8]) -> Result<Text, RecordError>
     Ok(Text::of(alloc, text)?)
 }
 
-/// A text behind its length.
+/// Reads a text preceded by its length.
 #[tactic(auto, unfolding(crate::specs::GroupReading::text_at))]
 pub fn read_text(alloc: Global, total: usize, bytes: &[u8]) -> Result<(Text, &[u8]), RecordError>
     ensures { Gives (λ x. (x.0, x.1.now)) result (text_at total bytes.now) }
@@ -144,7 +144,7 @@ pub fn read_text(alloc: Global, total: usize, bytes: &[u8]) -> Result<(Text, &[u
     Ok((text, after))
 }
 
-/// A text that may be absent.
+/// Reads an optional text.
 #[tactic(auto, unfolding(crate::specs::GroupReading::optional_at))]
 pub fn read_optional(
     alloc: Global,

@@ -1,4 +1,4 @@
-//! Groups of records as bytes, as a topic log keeps them.
+//! Groups of records as bytes, the entries of a topic log.
 
 ghost use Rattle.std.specs.Prelude.{◌≡◌, ◌≢◌, ◌⊎◌, ◌-◌, ◌^◌, ℕ, List, length, min, Ok, Err, OnOk, OnErr, IfOk, IfErr, MatchResult};
 ghost use Rattle.std.specs.List.{flat_map, AllByRecursion};
@@ -16,7 +16,7 @@ use crate::{Record, RecordError};
 use dbl_base::{Bytes, Text};
 use std::alloc::{AllocError, Global};
 
-/// The fewest bytes that a record has: two numbers, five bytes, and the length of its topic.
+/// The minimum length of an encoded record: two numbers, five bytes, and the length of its topic.
 const RECORD_BYTES: usize = 25;
 
 fn text_length(text: &Text) -> u64
@@ -34,7 +34,7 @@ fn optional_length(text: &Option<Text>) -> u64
     }
 }
 
-/// How many bytes a record has in the bytes form of a group, where that is below 2^64; else 2^64 - 1. Takes no memory.
+/// The length of a record within an encoded group, saturating at 2^64 - 1.
 pub fn record_length(item: &Record) -> u64
     ensures { result ≡ min (length (record_form item.now)) (2 ^ 64 - 1) }
 {
@@ -46,8 +46,8 @@ pub fn record_length(item: &Record) -> u64
     texts.saturating_add(17)
 }
 
-/// How many bytes the bytes form of a group has, where that is below 2^64; else 2^64 - 1. Also of a group that has no bytes
-/// form, because a text of it has 2^32 bytes or more. Takes no memory.
+/// The length of an encoded group, saturating at 2^64 - 1, also if a text of 2^32 bytes or more
+/// makes the group impossible to encode.
 pub fn group_length(group: &[Record]) -> u64
     ensures { result ≡ min (length (group_form group.now)) (2 ^ 64 - 1) }
 {
@@ -86,7 +86,7 @@ fn append_records(out: &mut Vec<u8>, group: &[Record]) -> Result<(), AllocError>
     Ok(())
 }
 
-/// Appends the bytes form of a group to a buffer.
+/// Appends an encoded group to a buffer.
 #[tactic(auto, unfolding(crate::specs::Groups::group_form))]
 pub fn append_group(out: &mut Vec<u8>, group: &[Record]) -> Result<(), RecordError>
     requires { HasForm group.now }
@@ -99,7 +99,7 @@ pub fn append_group(out: &mut Vec<u8>, group: &[Record]) -> Result<(), RecordErr
     Ok(())
 }
 
-/// The bytes form of a group of fewer than 2^32 records, each text of which is shorter than 2^32 bytes.
+/// Encodes a group of fewer than 2^32 records whose texts are each shorter than 2^32 bytes.
 pub fn write_group(alloc: Global, group: &Vec<Record>) -> Result<Bytes, RecordError>
     requires { HasForm group.now.items }
     ensures written { IfOk result (λ bytes. IsGroup bytes group.now.items) }
@@ -154,7 +154,7 @@ fn read_record(alloc: Global, total: usize, bytes: &[u8]) -> Result<(Record, &[u
     Ok((item, rest))
 }
 
-// A false count wants no more memory than the bytes do.
+// A wrong count takes no more memory than the bytes do.
 fn read_records(
     alloc: Global,
     total: usize,
@@ -188,17 +188,13 @@ fn read_whole(alloc: Global, bytes: &[u8]) -> Result<Vec<Record>, RecordError>
     Ok(records)
 }
 
-/// The group of which the bytes are the bytes form, or the first place at which they differ from every such form.
+/// Decodes a group, or returns the first offset at which the bytes differ from every encoding.
 pub fn read_group(alloc: Global, bytes: &[u8]) -> Result<Vec<Record>, RecordError>
-    // What is read is a group of this form, and each byte belongs to it.
     ensures read { IfOk result (λ group. IsGroup bytes.now group.items) }
-    // A group of this form is read, unless memory runs out.
     ensures written { (group : List Record) → IsGroup bytes.now group →
         MatchResult result (λ read. read.items ≡ group) (λ error. error ≡ RecordError.Memory) }
-    // Every other error is the first place at which the bytes differ.
     ensures refused { IfErr result (λ error. (error ≡ RecordError.Memory) ⊎
         ((at : ℕ) × (error ≡ RecordError.BadRecord at) × IsBadAt bytes.now at)) }
-    // Where the bytes differ it is told, unless memory runs out before it.
     ensures bad { (at : ℕ) → IsBadAt bytes.now at → (result ≡ Err (RecordError.BadRecord at)) ⊎
         (result ≡ Err RecordError.Memory) }
 {

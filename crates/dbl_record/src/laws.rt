@@ -9,47 +9,47 @@ ghost use Rattle.dbl_record.specs.Groups.{HasForm, IsGroup, group_form};
 ghost use Rattle.dbl_record.specs.declared.record.Record.{Record};
 ghost use Rattle.dbl_record.specs.Reading.{LinesReadOnce, LinesTellRecords, RecordsTellData};
 
-/// Data is read back from its compact text.
+/// Data is parsed back from its compact text.
 pub fn compact_texts_read_back()
     ensures { ReadsBack }
 {}
 
-/// Data that have the same compact text are the same.
+/// Data with equal compact texts are equal.
 pub fn texts_tell_data()
     ensures { TextsTellData }
 {}
 
-/// A record's line is read back as its topic, key and value.
+/// A record's line is parsed as its topic, key and value.
 pub fn lines_read_back()
     ensures { LinesReadBack }
 {}
 
-/// A record that is read from a line is the one that the line tells.
+/// A line is read as exactly the record that it encodes.
 pub fn lines_tell_records()
     ensures { LinesTellRecords }
 {}
 
-/// From a line whose numbers are integers of 64 bits one record is read at most.
+/// A line whose numbers are 64-bit integers is read as at most one record.
 pub fn lines_read_once()
     ensures { LinesReadOnce }
 {}
 
-/// A record's texts tell the data that they were made of.
+/// A record's texts are parsed as the data that they were printed from.
 pub fn records_tell_data()
     ensures { RecordsTellData }
 {}
 
-/// Records have one greatest place at most.
+/// Records have at most one greatest log position.
 pub fn tops_are_one()
     ensures { TopsAreOne }
 {}
 
-/// Records have a greatest place, unless there are none.
+/// A nonempty list of records has a greatest log position.
 pub fn tops_stand()
     ensures { TopsStand }
 {}
 
-/// Bytes are the form of one group at most, and a group has one form at most.
+/// Bytes are the encoding of at most one group, and a group has at most one encoding.
 pub fn groups_are_read_once()
     ensures one_group { (bytes : List ℕ) (first second : List Record) → IsGroup bytes first →
         IsGroup bytes second → first ≡ second }
@@ -57,8 +57,8 @@ pub fn groups_are_read_once()
         IsGroup second group → first ≡ second }
 {}
 
-/// Bytes are the form of a group or differ from every such form, never both, and they have one first place at which they
-/// differ.
+/// Bytes either encode a group or differ from every encoding, never both, and the first offset at
+/// which they differ is unique.
 pub fn groups_or_faults()
     ensures one_of { (bytes : List ℕ) → AllByRecursion (λ b. b < 2 ^ 8) bytes →
         ((group : List Record) × IsGroup bytes group) ⊎ ((at : ℕ) × IsBadAt bytes at) }
@@ -68,13 +68,13 @@ pub fn groups_or_faults()
         IsBadAt bytes second → first ≡ second }
 {}
 
-/// A group has a bytes form where that has fewer than 2^32 bytes.
+/// A group can be encoded if the encoding has fewer than 2^32 bytes.
 pub fn short_groups_have_a_form()
     ensures { (group : List Record) → length (group_form group) < 2 ^ 32 → HasForm group }
 {}
 
-/// The groups of records, joined, give the records, and a sink takes each of them. Records are cut where their positions part,
-/// and a group of which some first records are left is a group of what is left.
+/// The batches of records, joined, are the records, and a sink accepts each of them; records of
+/// different positions are batched separately, and tearing a batch doesn't change those before it.
 pub fn cuts_join()
     ensures joined { CutsJoin }
     ensures handfuls { CutsAreHandfuls }

@@ -1,4 +1,4 @@
-//! Records of a topic, and their forms.
+//! Records of a topic, and their encodings.
 #![tactic(auto)]
 
 mod acts;

@@ -5,12 +5,12 @@ ghost use Rattle.serde_json.specs.View.{view};
 use dbl_base::Text;
 use serde_json::Value;
 
-/// A record's line that was parsed.
+/// A parsed record line.
 #[derive(Drop)]
 pub struct ParsedLine {
     pub(crate) topic: Text,
     pub(crate) whole: Value,
-    // What stands for a member that is absent.
+    // The value of an absent member.
     pub(crate) absent: Value,
     ghost no_value: { is_some (as_null (view absent)) ≡ true },
 }

@@ -11,8 +11,8 @@ use dbl_base::Text;
 use serde_json::Value;
 use std::alloc::{AllocError, Global};
 
-/// A record as its consumer reads it: a topic, and the JSON texts of the key and the value. A missing key or value is
-/// `null`.
+/// A record as a consumer reads it: a topic, and the JSON texts of the key and the value, `null` if
+/// absent.
 #[derive(Debug, Drop, PartialEq, Eq)]
 pub struct Line {
     pub topic: Text,
@@ -22,7 +22,6 @@ pub struct Line {
 
 const BAD_RECORD: RecordError = RecordError::BadRecord { at: 0 };
 
-// A text as JSON.
 #[tactic(auto, unfolding(crate::specs::Acts::json_in))]
 fn value_of(alloc: Global, text: &str) -> Result<Value, RecordError>
     ensures ok { IfOk result (λ value. json_in text.now ≡ Some (view value)) }
@@ -49,7 +48,7 @@ fn topic_of(alloc: Global, whole: &Value) -> Result<Option<Text>, AllocError>
     }
 }
 
-// A member, or what stands for an absent one.
+// The member, or the default if it is absent.
 fn part_of<'v>(whole: &'v Value, name: &str, absent: &'v Value) -> &'v Value
     requires { view absent.now ≡ null }
     ensures { view result.now ≡ part_in name.now (view whole.now) }
@@ -82,20 +81,21 @@ fn line_with(alloc: Global, topic: Text, whole: &Value) -> Result<Line, AllocErr
 }
 
 impl ParsedLine {
+    /// The record's topic.
     pub fn topic(&self) -> &Text
         ensures { result.now ≡ (parsed_as self.now).topic }
     {
         &self.topic
     }
 
-    /// `null` where the line has no key.
+    /// The record's key, `null` if the line has none.
     pub fn key(&self) -> &Value
         ensures { Some (view result.now) ≡ (parsed_as self.now).key }
     {
         part_of(&self.whole, "key", &self.absent)
     }
 
-    /// `null` where the line has no value.
+    /// The record's value, `null` if the line has none.
     pub fn value(&self) -> &Value
         ensures { Some (view result.now) ≡ (parsed_as self.now).value }
     {
@@ -103,7 +103,7 @@ impl ParsedLine {
     }
 }
 
-/// Parses a record's line. Members other than `topic`, `key` and `value` are passed over.
+/// Parses a record's line; members other than `topic`, `key` and `value` are ignored.
 pub fn parse_line(alloc: Global, text: &str) -> Result<ParsedLine, RecordError>
     ensures ok { IfOk result (λ parsed. reading_in text.now ≡ Some (parsed_as parsed)) }
     ensures bad { IfErr result
@@ -123,8 +123,8 @@ pub fn parse_line(alloc: Global, text: &str) -> Result<ParsedLine, RecordError>
     }
 }
 
-/// The topic, the key and the value of a record's line, as texts. The key and the value are compact texts where every
-/// number in them is an integer of 64 bits.
+/// Reads the topic, the key and the value of a record's line as texts. The texts are compact if
+/// their numbers are 64-bit integers.
 pub fn read_line(alloc: Global, text: &Text) -> Result<Line, RecordError>
     ensures ok { IfOk result (IsReadFrom text.now) }
     ensures bad { IfErr result

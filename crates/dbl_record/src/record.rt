@@ -3,23 +3,23 @@ ghost use Rattle.std.specs.Prelude.{◌≡◌, IfOk};
 use dbl_base::Text;
 use std::alloc::{AllocError, Global};
 
-/// A record of a topic: a change event, a tombstone or a progress record. `key`, `value`, `newkey` and `oldkey` are
-/// meant as compact JSON texts; the type itself lets any text stand there.
+/// A record of a topic: a change event, a tombstone or a progress record. Keys and values are
+/// compact JSON texts, but the type allows any text.
 #[derive(Debug, Drop, PartialEq, Eq)]
 pub struct Record {
     pub topic: Text,
     pub key: Option<Text>,
-    /// None in a tombstone.
+    /// The change event; none in a tombstone.
     pub value: Option<Text>,
-    /// The LSN of the commit.
+    /// The commit's LSN.
     pub position: u64,
-    /// The record's number among those of its commit, from 0.
+    /// The index of the record within its commit, from 0.
     pub ordinal: u64,
-    /// Whether it is the last of its commit.
+    /// Whether the record is the last of its commit.
     pub last: bool,
-    /// Of a delete that a moved key makes: the key that the row has now.
+    /// The row's new key, in a delete that results from a key update.
     pub newkey: Option<Text>,
-    /// Of a create that a moved key makes: the key that the row had.
+    /// The row's old key, in a create that results from a key update.
     pub oldkey: Option<Text>,
 }
 
@@ -33,7 +33,7 @@ fn copy_of(alloc: Global, text: &Option<Text>) -> Result<Option<Text>, AllocErro
 }
 
 impl Record {
-    /// An equal record.
+    /// Copies the record.
     pub fn copy(&self, alloc: Global) -> Result<Record, AllocError>
         ensures { IfOk result (λ item. item ≡ self.now) }
     {

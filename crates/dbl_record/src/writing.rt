@@ -28,7 +28,7 @@ fn append_truth(out: &mut Vec<u8>, truth: bool) -> Result<(), AllocError>
     }
 }
 
-/// A name with its punctuation, and a number.
+/// Appends a name with its punctuation, and a number.
 fn append_number(out: &mut Vec<u8>, name: &str, number: u64) -> Result<(), AllocError>
     ensures { OnOk result (Appends out.old.items out.new.items (name.now ++ decimal number)) }
 {
@@ -46,7 +46,7 @@ fn append_or_null(out: &mut Vec<u8>, text: &Option<Text>) -> Result<(), AllocErr
     }
 }
 
-/// A header that holds a key, where there is one, with the comma behind it. `name` is quoted and has its colon.
+/// Appends a header with a key and a comma, if there is a key. `name` is quoted and has its colon.
 fn append_key_header(out: &mut Vec<u8>, name: &str, key: &Option<Text>) -> Result<(), AllocError>
     ensures { OnOk result (Appends out.old.items out.new.items (key_piece name.now key.now)) }
 {
@@ -89,7 +89,7 @@ fn append_head(out: &mut Vec<u8>, item: &Record) -> Result<(), AllocError>
     append(out, ",\"topic\":")
 }
 
-/// Appends a text as a JSON string to a buffer that is handed back.
+/// Appends a text as a JSON string; takes the buffer and returns it.
 pub fn append_quoted(out: Vec<u8>, text: &str) -> Result<Vec<u8>, AllocError>
     ensures { IfOk result (λ done. Appends out.items done.items (quoted text.now)) }
 {
@@ -106,7 +106,7 @@ fn append_tail(out: &mut Vec<u8>, item: &Record) -> Result<(), AllocError>
     append(out, "}")
 }
 
-/// Appends a record's line form, without its newline, to a buffer that is handed back.
+/// Appends a record's line, without its newline; takes the buffer and returns it.
 pub fn append_line(mut out: Vec<u8>, item: &Record) -> Result<Vec<u8>, RecordError>
     ensures line { IfOk result (λ done. done.items ≡ out.items ++ line_of item.now) }
     ensures utf8 { OnOk result (IsUtf8 (line_of item.now)) }
@@ -118,7 +118,7 @@ pub fn append_line(mut out: Vec<u8>, item: &Record) -> Result<Vec<u8>, RecordErr
     Ok(quoted)
 }
 
-/// A record's line form, without its newline.
+/// Prints a record's line, without its newline.
 pub fn line(alloc: Global, item: &Record) -> Result<Text, RecordError>
     ensures line { IfOk result (λ text. text ≡ line_of item.now) }
     ensures memory { IfErr result (λ error. error ≡ Memory) }

@@ -2,7 +2,7 @@
 use Rattle.std.proofs.Common.{◌≡◌, ◌∙◌, ℕ, ◌<◌, ◌≤◌, ◌==◌, Bool, true, false, cond, nat_le, ◌⊎◌, List, [], ◌∷◌, ◌++◌, Option, Some, None, option_map, option_and_then, length, map, filter, refl, ap, sym, arith, inl, inr}
 use Rattle.std.proofs.lemmas.List.{map-append, length-map}
 use Rattle.std.proofs.lemmas.Bool.{false_from_ne_true, le-leb, ne_eqb, leb-true}
-use Rattle.dbl_table.specs.declared.table.RawColumn.{RawColumn}
+use Rattle.dbl_model_table.specs.declared.table.RawColumn.{RawColumn}
 use Rattle.dbl_script.specs.declared.columns.ColumnWord.{ColumnWord}
 use Rattle.dbl_script.specs.declared.fault.Fault.{Fault}
 use Rattle.dbl_script.specs.declared.fault.Fault.TheVariants.{Memory}

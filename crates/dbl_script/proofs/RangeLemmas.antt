@@ -8,9 +8,9 @@ use Rattle.std.specs.Str.Parse.{digits_value}
 use Rattle.std.proofs.lemmas.Bool.{ltb-true, leb-true}
 use Rattle.std.proofs.lemmas.Str.{IsUtf8-from_is_utf8}
 use Rattle.dbl_base.specs.Lines.{is_passed_over}
-use Rattle.dbl_table.specs.declared.table.TableName.{TableName}
+use Rattle.dbl_model_table.specs.declared.table.TableName.{TableName}
 use Rattle.dbl_script.specs.declared.columns.ColumnWord.{ColumnWord}
-use Rattle.dbl_table.specs.declared.named_cell.NamedCell.{NamedCell}
+use Rattle.dbl_model_table.specs.declared.named_cell.NamedCell.{NamedCell}
 use Rattle.dbl_script.specs.declared.script.Step.{Step}
 use Rattle.dbl_script.specs.declared.script.Step.TheVariants.{Begin, Commit, Rollback, Insert, Update, Delete, Truncate, Tick}
 use Rattle.dbl_script.specs.declared.line.Line.{Line}
@@ -19,7 +19,7 @@ use Rattle.dbl_script.specs.Words.{cut_at, words_of}
 use Rattle.dbl_script.specs.Reads.{◌>>=◌, all_of, some_of}
 use Rattle.dbl_script.specs.Texts.{utf8_text, name_of, names_of, table_name_of, is_column_byte, column_name_of, is_session_byte, session_of, number_of, measured_oid_of, listed_oid_of, oid_of}
 use Rattle.dbl_script.specs.Columns.{column_with, typed_column, named_column, column_of, columns_in, key_in, columns_of}
-use Rattle.dbl_script.specs.Grammar.{identity_of, toast_of, table_in, row_in, alone, insert_in, before_set, behind_set, update_in, delete_in, truncate_in, verb_in, step_in, worded, line_at, cells_of}
+use Rattle.dbl_script.specs.Grammar.{identity_of, toast_of, table_in, row_in, alone, insert_in, before_set, words_after_set, update_in, delete_in, truncate_in, verb_in, step_in, worded, line_at, cells_of}
 use Rattle.dbl_script.specs.Scripts.{said, table_said, step_said}
 use Rattle.dbl_script.specs.Ranges.{AreTexts, IsColumnInRange, IsTableInRange, HasSession, ScriptsAreInRange}
 use Rattle.dbl_script.proofs.TextLemmas.{column_utf8, column_no_zero, digits_small}
@@ -258,7 +258,7 @@ module _ (session : List ℕ) (some : 0 < length session) where
   update_fits : (words : List (List ℕ)) → IfSome (update_in session words) HasSession
   unfolding update_in
   update_fits [] = tt
-  update_fits (name ∷ words) = update_parts (table_name_of name) (cells_of (before_set words)) (cells_of (behind_set words))
+  update_fits (name ∷ words) = update_parts (table_name_of name) (cells_of (before_set words)) (cells_of (words_after_set words))
 
   delete_parts : (table : Option TableName) (key : Option (List NamedCell)) → IfSome (do
     t ← table

@@ -7,7 +7,7 @@ use Rattle.dbl_script.specs.declared.line.Line.{Line}
 use Rattle.dbl_script.specs.declared.line.Line.TheVariants.{Passed, Table, Row, Act}
 use Rattle.dbl_script.specs.Grammar.{line_at}
 use Rattle.dbl_base.specs.Lines.{lines_of}
-use Rattle.dbl_script.specs.Scripts.{said, table_said, row_said, step_said, script_of, is_empty, follows, is_good, first_bad_behind, first_bad}
+use Rattle.dbl_script.specs.Scripts.{said, table_said, row_said, step_said, script_of, is_empty, follows, is_good, first_bad_after, first_bad}
 use Rattle.dbl_script.specs.Building.{with_line, with_said}
 
 cons_option-append : {A : Type 0} (o : Option A) (xs ys : List A) → cons_option o (xs ++ ys) ≡ cons_option o xs ++ ys
@@ -46,7 +46,7 @@ pub record IsBuilding (lines rest : List (List ℕ)) (script : Script) (number :
   pub parts : before ++ rest ≡ lines
   pub script_is : script ≡ script_of before
   pub number_is : number ≡ length before
-  pub bad : first_bad lines ≡ first_bad_behind before rest
+  pub bad : first_bad lines ≡ first_bad_after before rest
   pub count : number + length rest ≡ length lines
 
 pub building_begins : (lines : List (List ℕ)) (script : Script) → script ≡ script_of [] → IsBuilding lines lines script 0
@@ -64,7 +64,7 @@ building_more lines rest next script new number line so_far rest_is good new_is 
       parts = append_assoc so_far.before (line ∷ []) next ∙ ap (λ xs. so_far.before ++ xs) (sym rest_is) ∙ so_far.parts;
       script_is = new_is ∙ ap (λ s. with_said s (line_at (number + 1) line)) so_far.script_is ∙ ap (λ n. with_said (script_of so_far.before) (line_at (n + 1) line)) so_far.number_is ∙ sym (script_more so_far.before line);
       number_is = ap (λ n. n + 1) so_far.number_is ∙ sym (length-append so_far.before (line ∷ []));
-      bad = so_far.bad ∙ ap (first_bad_behind so_far.before) rest_is ∙ rw is refl;
+      bad = so_far.bad ∙ ap (first_bad_after so_far.before) rest_is ∙ rw is refl;
       count = let size : length rest ≡ length (line ∷ next) = ap length rest_is in let so = so_far.count in omega arith;
     }
 
@@ -72,7 +72,7 @@ pub building_bad : (lines rest next : List (List ℕ)) (script : Script) (number
     → follows script (line_at (number + 1) line) ≡ false → first_bad lines ≡ Some (number + 1)
 building_bad lines rest next script number line so_far rest_is bad =
     let is : is_good so_far.before line ≡ false = good_as lines rest next script number line false so_far bad in
-    so_far.bad ∙ ap (first_bad_behind so_far.before) rest_is ∙ rw is (ap (λ n. Some (n + 1)) (sym so_far.number_is))
+    so_far.bad ∙ ap (first_bad_after so_far.before) rest_is ∙ rw is (ap (λ n. Some (n + 1)) (sym so_far.number_is))
 
 empty_as : (lines rest : List (List ℕ)) (script : Script) (number : ℕ) (b : Bool) (so_far : IsBuilding lines rest script number) → is_empty script.tables ≡ b → is_empty (script_of so_far.before).tables ≡ b
 empty_as lines rest script number b so_far is = sym (ap (λ (s : Script). is_empty s.tables) so_far.script_is) ∙ is
@@ -82,12 +82,12 @@ pub building_ends : (lines rest : List (List ℕ)) (script : Script) (number : �
 building_ends lines rest script number so_far rest_is some =
     let is = empty_as lines rest script number false so_far some in
     let all : so_far.before ≡ lines = sym (append-nil so_far.before) ∙ ap (λ xs. so_far.before ++ xs) (sym rest_is) ∙ so_far.parts in
-    (so_far.script_is ∙ ap script_of all, so_far.bad ∙ ap (first_bad_behind so_far.before) rest_is ∙ rw is refl)
+    (so_far.script_is ∙ ap script_of all, so_far.bad ∙ ap (first_bad_after so_far.before) rest_is ∙ rw is refl)
 
 pub building_lacks : (lines rest : List (List ℕ)) (script : Script) (number : ℕ) → IsBuilding lines rest script number → rest ≡ [] → is_empty script.tables ≡ true → first_bad lines ≡ Some (number + 1)
 building_lacks lines rest script number so_far rest_is none =
     let is = empty_as lines rest script number true so_far none in
-    so_far.bad ∙ ap (first_bad_behind so_far.before) rest_is ∙ rw is (ap (λ n. Some (n + 1)) (sym so_far.number_is))
+    so_far.bad ∙ ap (first_bad_after so_far.before) rest_is ∙ rw is (ap (λ n. Some (n + 1)) (sym so_far.number_is))
 
 -- an empty text has no lines
 pub no_lines : (bytes : List ℕ) → length bytes ≡ 0 → lines_of bytes ≡ []

@@ -1,4 +1,4 @@
--- For private clauses: a script to which lines are added.
+-- For private clauses: a script while lines are added.
 use Rattle.std.specs.Prelude.{Option, Some, None, [], ◌∷◌, ◌++◌}
 use Rattle.dbl_script.specs.declared.script.Script.{Script}
 use Rattle.dbl_script.specs.declared.line.Line.{Line}
@@ -11,6 +11,7 @@ with_line before (Table table) = record before { tables = before.tables ++ table
 with_line before (Row row) = record before { rows = before.rows ++ row ∷ [] }
 with_line before (Act step) = record before { steps = before.steps ++ step ∷ [] }
 
+-- the script with one more line, if that is valid
 abbrev pub with_said : Script → Option Line → Script
 with_said before None = before
 with_said before (Some line) = with_line before line

@@ -1,15 +1,15 @@
--- What every workload keeps to that was read. Source: own.
+-- The invariants of every parsed workload.
 use Rattle.std.specs.Prelude.{◌≢◌, ◌<◌, ◌≤◌, ◌^◌, ℕ, List, length, IsUtf8}
 use Rattle.std.specs.List.{AllByRecursion}
-use Rattle.dbl_table.specs.declared.table.RawColumn.{RawColumn}
-use Rattle.dbl_table.specs.declared.table.TableName.{TableName}
+use Rattle.dbl_model_table.specs.declared.table.RawColumn.{RawColumn}
+use Rattle.dbl_model_table.specs.declared.table.TableName.{TableName}
 use Rattle.dbl_script.specs.declared.script.ScriptTable.{ScriptTable}
 use Rattle.dbl_script.specs.declared.script.Script.{Script}
 use Rattle.dbl_script.specs.declared.script.Step.{Step}
 use Rattle.dbl_script.specs.declared.script.Step.TheVariants.{Begin, Commit, Rollback, Insert, Update, Delete, Truncate, Tick}
 use Rattle.dbl_script.specs.Scripts.{script_of}
 
--- a schema's and a table's name are texts
+-- the schema and the name of the table are texts
 pub record AreTexts (table : TableName) : Type 0 where
   pub schema : IsUtf8 table.schema
   pub name : IsUtf8 table.name
@@ -20,13 +20,13 @@ pub record IsColumnInRange (column : RawColumn) : Type 0 where
   pub no_zero : AllByRecursion (λ b. b ≢ 0) column.name
   pub oid : column.oid < 2 ^ 32
 
--- a table has at most 1,600 columns ("PostgreSQL Limits")
+-- the table's names and columns are in range, and it has at most 1,600 columns ("PostgreSQL Limits")
 pub record IsTableInRange (table : ScriptTable) : Type 0 where
   pub named : AreTexts table.raw.name
   pub few : length table.raw.columns ≤ 1600
   pub columns : AllByRecursion IsColumnInRange table.raw.columns
 
--- whose session has a name
+-- the step's session, if any, has a nonempty name
 abbrev pub HasSession : Step → Type 0
 HasSession (Begin session) = 0 < length session
 HasSession (Commit session) = 0 < length session
@@ -37,6 +37,7 @@ HasSession (Delete session table key) = 0 < length session
 HasSession (Truncate session tables) = 0 < length session
 HasSession Tick = Unit {0}
 
+-- the tables and steps of the script are in range
 pub record IsInRange (script : Script) : Type 0 where
   pub tables : AllByRecursion IsTableInRange script.tables
   pub steps : AllByRecursion HasSession script.steps

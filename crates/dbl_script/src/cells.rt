@@ -2,7 +2,7 @@
 
 ghost use Rattle.std.specs.Prelude.{◌≡◌, OnOk};
 ghost use Rattle.dbl_script.specs.Reads.{Reads, Gives, all_of};
-ghost use Rattle.dbl_script.specs.Grammar.{cell_of, cells_of, before_set, behind_set, null_cell_of, value_cell_of};
+ghost use Rattle.dbl_script.specs.Grammar.{cell_of, cells_of, before_set, words_after_set, null_cell_of, value_cell_of};
 ghost use Rattle.dbl_script.specs.Words.{cut_at};
 
 use crate::NamedCell;
@@ -59,7 +59,7 @@ fn all_cells(alloc: Global, words: &mut Parts<'_>) -> Result<Vec<NamedCell>, Fau
     Ok(cells)
 }
 
-/// One or more cells, which are the words that are left.
+/// Reads the remaining words as one or more cells.
 #[tactic(auto, unfolding(crate::specs::Reads::some_of))]
 pub fn cells(alloc: Global, words: &mut Parts<'_>) -> Result<Seq<NamedCell>, Fault>
     ensures { Reads (cells_of words.old) result }
@@ -73,7 +73,7 @@ pub fn cells(alloc: Global, words: &mut Parts<'_>) -> Result<Seq<NamedCell>, Fau
 
 fn all_key_cells(alloc: Global, words: &mut Parts<'_>) -> Result<Vec<NamedCell>, Fault>
     ensures read { Gives (λ v. v.items) result (all_of cell_of (before_set words.old)) }
-    ensures left { OnOk result (words.new ≡ behind_set words.old) }
+    ensures left { OnOk result (words.new ≡ words_after_set words.old) }
 {
     let mut cells = Vec::new(alloc);
     'words: while let Some(word) = words.next_part() {
@@ -86,11 +86,11 @@ fn all_key_cells(alloc: Global, words: &mut Parts<'_>) -> Result<Vec<NamedCell>,
     Ok(cells)
 }
 
-/// One or more cells up to the word `set`, which is taken with them.
+/// Reads one or more cells up to and including the word `set`.
 #[tactic(auto, unfolding(crate::specs::Reads::some_of))]
 pub fn key_cells(alloc: Global, words: &mut Parts<'_>) -> Result<Seq<NamedCell>, Fault>
     ensures read { Reads (cells_of (before_set words.old)) result }
-    ensures left { OnOk result (words.new ≡ behind_set words.old) }
+    ensures left { OnOk result (words.new ≡ words_after_set words.old) }
 {
     let cells = all_key_cells(alloc, words)?;
     if cells.is_empty() {

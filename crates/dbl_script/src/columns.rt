@@ -12,13 +12,13 @@ use crate::fault::Fault;
 use crate::parts::{Parts, cut};
 use crate::words::{column_name, is_word, number, oid, table_name};
 use dbl_base::{Seq, Text};
-use dbl_table::{RawColumn, RawTable};
+use dbl_model_table::{RawColumn, RawTable};
 use std::alloc::{AllocError, Global};
 
-/// The most columns that a table of PostgreSQL has.
+/// The maximum number of columns of a PostgreSQL table.
 const COLUMNS: usize = 1600;
 
-/// A column, and whether it is one of the key.
+/// A column, and whether it is a key column.
 #[derive(Debug, Drop)]
 pub struct ColumnWord {
     pub column: RawColumn,
@@ -87,7 +87,8 @@ fn all_columns(alloc: Global, words: &mut Parts<'_>) -> Result<(Vec<RawColumn>, 
     Ok((columns, key))
 }
 
-/// One or more columns, which are the words that are left, and the names of those of the key.
+/// Reads the remaining words as one or more columns, and returns them with the names of the key
+/// columns.
 #[tactic(auto, unfolding(crate::specs::Reads::some_of, crate::specs::Columns::columns_of))]
 fn columns(alloc: Global, words: &mut Parts<'_>) -> Result<(Seq<RawColumn>, Seq<Text>), Fault>
     ensures { Gives (λ x. (x.0, x.1)) result (option_map split_columns (columns_of words.old)) }
@@ -125,7 +126,7 @@ fn toast(word: &[u8], size: &[u8]) -> Option<u32>
     number(size)
 }
 
-/// A table, from the words behind `table`.
+/// Reads a table from the words after `table`.
 #[tactic(auto, unfolding(crate::specs::Grammar::table_in))]
 pub fn table(alloc: Global, line: u32, words: &mut Parts<'_>) -> Result<ScriptTable, Fault>
     ensures { Reads (table_in line words.old) result }

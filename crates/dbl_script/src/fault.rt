@@ -1,6 +1,6 @@
 use std::alloc::{AllocError, AllocFailed};
 
-/// Why a line, or a part of one, isn't read.
+/// Why a line, or a part of one, can't be read.
 #[derive(Clone, Copy, Debug)]
 pub enum Fault {
     Bad,

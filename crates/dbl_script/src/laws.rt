@@ -1,9 +1,9 @@
-//! What holds of workloads, as a call without a body.
+//! Theorem about workloads; the function has an empty body.
 
 ghost use Rattle.dbl_script.specs.Ranges.{ScriptsAreInRange};
 
-/// In each script that `parse` gives the names are texts, those of columns without a zero byte; a table has at most 1,600
-/// columns, OIDs have 32 bits, and no session's name is empty.
+/// In each parsed script names are texts, column names have no zero byte, tables have at most 1,600
+/// columns, OIDs have 32 bits, and sessions have nonempty names.
 pub fn scripts_are_in_range()
     ensures { ScriptsAreInRange }
 {}

@@ -1,4 +1,5 @@
-//! The workload language: tables, initial rows and the steps of sessions, for a source that needs no server.
+//! The workload language: tables, initial rows and the steps of sessions, for a source without a
+//! server.
 #![tactic(auto)]
 
 mod cells;
@@ -13,7 +14,7 @@ mod script;
 mod steps;
 mod words;
 
-pub use dbl_table::NamedCell;
+pub use dbl_model_table::NamedCell;
 pub use error::ScriptError;
 pub use laws::scripts_are_in_range;
 pub use parsing::parse;

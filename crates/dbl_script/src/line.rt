@@ -1,4 +1,4 @@
-//! Lines, each by itself.
+//! Readers of single lines.
 
 ghost use Rattle.std.specs.Prelude.{◌≡◌};
 ghost use Rattle.dbl_script.specs.Reads.{Reads};
@@ -11,10 +11,10 @@ use crate::parts::Parts;
 use crate::steps::{alone, row, step};
 use crate::words::is_word;
 use crate::{ScriptRow, ScriptTable, Step};
-use dbl_base::passes_over;
+use dbl_base::is_blank_or_comment;
 use std::alloc::Global;
 
-/// What a line says.
+/// The content of a line.
 #[derive(Debug, Drop)]
 pub enum Line {
     Passed,
@@ -44,12 +44,12 @@ fn worded_line(alloc: Global, number: u32, bytes: &[u8]) -> Result<Line, Fault>
     }
 }
 
-/// What the line with this number says.
+/// Reads the line with this number.
 #[tactic(auto, unfolding(crate::specs::Grammar::line_at))]
 pub fn read_line(alloc: Global, number: u32, bytes: &[u8]) -> Result<Line, Fault>
     ensures { Reads (line_at number bytes.now) result }
 {
-    if passes_over(bytes) {
+    if is_blank_or_comment(bytes) {
         return Ok(Line::Passed);
     }
     worded_line(alloc, number, bytes)

@@ -3,7 +3,7 @@
 ghost use Rattle.std.specs.Prelude.{◌≡◌, ◌≢◌, ◌<◌, ◌≤◌, ◌↔◌, ◌==◌, ℕ, [], not, true, false, None, Some, Err, length, IfOk, OnOk};
 ghost use Rattle.std.specs.List.{list_any};
 ghost use Rattle.dbl_base.specs.Lines.{lines_of};
-ghost use Rattle.dbl_table.specs.Tables.{same_name};
+ghost use Rattle.dbl_model_table.specs.Tables.{same_name};
 ghost use Rattle.dbl_script.specs.Grammar.{line_at};
 ghost use Rattle.dbl_script.specs.Scripts.{may_follow, follows, script_of, first_bad};
 ghost use Rattle.dbl_script.specs.Building.{with_line, with_said};
@@ -12,14 +12,14 @@ use crate::fault::Fault;
 use crate::line::{Line, read_line};
 use crate::{Script, ScriptError, ScriptRow, ScriptTable, Step};
 use dbl_base::{Seq, next_line};
-use dbl_table::TableName;
+use dbl_model_table::TableName;
 use std::alloc::{AllocError, Global};
 use std::marker::Model;
 
-/// The most lines of a script.
+/// The maximum number of lines of a script.
 const LINES: usize = 1_000_000;
 
-/// The most tables of a script.
+/// The maximum number of tables of a script.
 const TABLES: usize = 64;
 
 /// The script of the lines so far.
@@ -120,14 +120,14 @@ fn count_lines(bytes: &[u8]) -> usize
     let mut count = 0;
     let mut rest = bytes;
     'lines: while !rest.is_empty() {
-        let (_, behind) = next_line(rest);
-        rest = behind;
+        let (_, subsequent) = next_line(rest);
+        rest = subsequent;
         count += 1;
     }
     count
 }
 
-// The script of the lines, or the number of the first bad one.
+// Builds the script of the lines, or returns the number of the first bad one.
 fn build(alloc: Global, bytes: &[u8]) -> Result<Script, ScriptError>
     requires { length (lines_of bytes.now) ≤ 1_000_000 }
     ensures ok { IfOk result (λ script. script ≡ script_of (lines_of bytes.now)) }
@@ -140,8 +140,8 @@ fn build(alloc: Global, bytes: &[u8]) -> Result<Script, ScriptError>
     let mut rest = bytes;
     let mut number = 0u32;
     'lines: while !rest.is_empty() {
-        let (line, behind) = next_line(rest);
-        rest = behind;
+        let (line, subsequent) = next_line(rest);
+        rest = subsequent;
         number += 1;
         match building.take(alloc, number, line) {
             Ok(()) => {}
@@ -155,7 +155,7 @@ fn build(alloc: Global, bytes: &[u8]) -> Result<Script, ScriptError>
     Ok(building.into_script())
 }
 
-/// The script that the bytes spell, a line each for a table, a row or a step.
+/// Parses a script, one line for each table, row or step.
 pub fn parse(alloc: Global, bytes: &[u8]) -> Result<Script, ScriptError>
     ensures script { IfOk result (λ script. script ≡ script_of (lines_of bytes.now)) }
     ensures good { OnOk result (first_bad (lines_of bytes.now) ≡ None) }

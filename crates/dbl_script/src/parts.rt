@@ -5,7 +5,7 @@ use crate::fault::Fault;
 use memchr::memchr;
 use std::marker::Model;
 
-/// The bytes before the first separator, and those behind it.
+/// The bytes before the first separator, and those after it.
 pub fn cut(separator: u8, bytes: &[u8]) -> Option<(&[u8], &[u8])>
     ensures parts { option_map (λ x. (x.0.now, x.1.now)) result ≡ cut_at separator bytes.now }
     ensures shorter { IfSome result (λ x. length x.1.now < length bytes.now) }
@@ -14,7 +14,8 @@ pub fn cut(separator: u8, bytes: &[u8]) -> Option<(&[u8], &[u8])>
     Some((&bytes[..end], &bytes[end + 1..]))
 }
 
-/// The parts of some bytes between separators that aren't taken yet. A line has its words between spaces.
+/// An iterator over the parts of bytes between separators, as over the words of a line between
+/// spaces.
 #[derive(Drop)]
 pub struct Parts<'a> {
     separator: u8,
@@ -31,6 +32,7 @@ impl<'a> Model for Parts<'a> {
 }
 
 impl<'a> Parts<'a> {
+    /// The parts of the bytes between separators.
     pub fn of(separator: u8, bytes: &'a [u8]) -> Parts<'a>
         ensures { result ≡ parts_at separator bytes.now }
     {
@@ -40,7 +42,7 @@ impl<'a> Parts<'a> {
         }
     }
 
-    /// Takes the next part.
+    /// Takes the next part, if there is one.
     pub fn next_part(&mut self) -> Option<&'a [u8]>
         ensures { MatchOption result ((self.old ≡ []) × (self.new ≡ []))
             (λ part. self.old ≡ part.now ∷ self.new) }
@@ -58,7 +60,7 @@ impl<'a> Parts<'a> {
         }
     }
 
-    /// Takes the next part, which has to be there.
+    /// Takes the next part, which must exist.
     pub fn expect_part(&mut self) -> Result<&'a [u8], Fault>
         ensures { MatchResult result (λ part. self.old ≡ part.now ∷ self.new) (λ _. self.old ≡ []) }
     {

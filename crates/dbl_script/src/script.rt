@@ -1,8 +1,8 @@
 use dbl_base::{Seq, Text};
-use dbl_table::{NamedCell, RawTable, TableName};
+use dbl_model_table::{NamedCell, RawTable, TableName};
 
-/// A table of the script's database. `full` says that its replica identity is full, else it is default; a text of at
-/// least `toast` bytes is stored out of line. `line` is the number of its line, from 1.
+/// A table of the script's database. `full` selects replica identity full instead of default, texts
+/// of at least `toast` bytes are stored out of line, and `line` is the number of its line, from 1.
 #[derive(Debug, Drop)]
 pub struct ScriptTable {
     pub raw: RawTable,
@@ -11,7 +11,7 @@ pub struct ScriptTable {
     pub line: u32,
 }
 
-/// A row that stands in the database before the first step, with the number of its line, from 1.
+/// A row of the database's initial state, with the number of its line, from 1.
 #[derive(Debug, Drop)]
 pub struct ScriptRow {
     pub table: TableName,
@@ -19,7 +19,7 @@ pub struct ScriptRow {
     pub line: u32,
 }
 
-/// What a session does, or the end of a group of steps.
+/// A statement of a session, or the end of a group of steps.
 #[derive(Debug, Drop)]
 pub enum Step {
     Begin {
@@ -54,7 +54,7 @@ pub enum Step {
     Tick,
 }
 
-/// What the lines of a workload say, in their order.
+/// The contents of a workload's lines, in order.
 #[derive(Debug, Drop)]
 pub struct Script {
     pub tables: Seq<ScriptTable>,

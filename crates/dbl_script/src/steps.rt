@@ -11,10 +11,10 @@ use crate::parts::Parts;
 use crate::words::{is_word, session, table_name};
 use crate::{ScriptRow, Step};
 use dbl_base::{Seq, Text};
-use dbl_table::TableName;
+use dbl_model_table::TableName;
 use std::alloc::Global;
 
-/// A row, from the words behind `row`.
+/// Reads a row from the words after `row`.
 #[tactic(auto, unfolding(crate::specs::Grammar::row_in))]
 pub fn row(alloc: Global, line: u32, words: &mut Parts<'_>) -> Result<ScriptRow, Fault>
     ensures { Reads (row_in line words.old) result }
@@ -25,7 +25,7 @@ pub fn row(alloc: Global, line: u32, words: &mut Parts<'_>) -> Result<ScriptRow,
     Ok(ScriptRow { table, cells, line })
 }
 
-/// The step, where no word is left.
+/// The step, if no words are left.
 pub fn alone(step: Step, words: &mut Parts<'_>) -> Result<Step, Fault>
     ensures { Reads (alone step words.old) result }
 {
@@ -127,7 +127,7 @@ fn act(alloc: Global, session: Text, verb: &[u8], words: &mut Parts<'_>) -> Resu
     }
 }
 
-/// What a session does, from its name and the words behind it.
+/// Reads a step from the session's name and the words after it.
 #[tactic(auto, unfolding(crate::specs::Grammar::step_in))]
 pub fn step(alloc: Global, first: &[u8], words: &mut Parts<'_>) -> Result<Step, Fault>
     ensures { Reads (step_in first.now words.old) result }

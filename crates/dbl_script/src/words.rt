@@ -13,11 +13,11 @@ ghost use Rattle.dbl_script.specs.Texts.{oid_of, escape_of, escapes_of, unescape
 use crate::fault::Fault;
 use crate::parts::{Parts, cut};
 use dbl_base::Text;
-use dbl_table::TableName;
+use dbl_model_table::TableName;
 use dbl_value::PgType;
 use std::alloc::Global;
 
-/// Whether a word is this one.
+/// Whether the word is this text.
 pub fn is_word(word: &[u8], text: &str) -> bool
     ensures { result ≡ bytes_eq word.now text.now }
 {
@@ -44,6 +44,7 @@ fn name(alloc: Global, bytes: &[u8]) -> Result<Text, Fault>
     utf8(alloc, bytes)
 }
 
+/// Reads a table's name, `<schema>.<table>`.
 #[tactic(auto, unfolding(crate::specs::Texts::table_name_of))]
 pub fn table_name(alloc: Global, word: &[u8]) -> Result<TableName, Fault>
     ensures { Reads (table_name_of word.now) result }
@@ -63,6 +64,7 @@ fn are_session_bytes(word: &[u8]) -> bool
         .all(|b| b.is_ascii_lowercase() || b.is_ascii_digit())
 }
 
+/// Reads a session's name.
 #[tactic(auto, unfolding(crate::specs::Texts::session_of))]
 pub fn session(alloc: Global, word: &[u8]) -> Result<Text, Fault>
     ensures { Reads (session_of word.now) result }
@@ -79,6 +81,7 @@ fn are_column_bytes(word: &[u8]) -> bool
     word.iter().all(|b| b.is_ascii_lowercase() || b.is_ascii_digit() || *b == b'_')
 }
 
+/// Reads a column's name.
 #[tactic(auto, unfolding(crate::specs::Texts::column_name_of))]
 pub fn column_name(alloc: Global, word: &[u8]) -> Result<Text, Fault>
     ensures { Reads (column_name_of word.now) result }
@@ -110,7 +113,7 @@ fn digits_value(digits: &[u8]) -> Option<u32>
     }
 }
 
-/// The number that 1 to 9 decimal digits spell.
+/// Reads a number of 1 to 9 decimal digits.
 #[tactic(auto, unfolding(crate::specs::Texts::number_of))]
 pub fn number(word: &[u8]) -> Option<u32>
     ensures { result ≡ number_of word.now }
@@ -175,7 +178,7 @@ fn listed_oid(word: &[u8]) -> Option<u32>
     }
 }
 
-/// A type's OID, by its name or written out.
+/// Reads a type's OID, by the type's name or as a number.
 #[tactic(auto, unfolding(crate::specs::Texts::oid_of))]
 pub fn oid(word: &[u8]) -> Option<u32>
     ensures { result ≡ oid_of word.now }
@@ -186,7 +189,7 @@ pub fn oid(word: &[u8]) -> Option<u32>
     listed_oid(word)
 }
 
-/// The byte that two hexadecimal digits spell, and what stands behind them.
+/// The byte of two hexadecimal digits, and the bytes after them.
 #[tactic(auto, unfolding(crate::specs::Texts::escape_of))]
 fn escape(part: &[u8]) -> Option<(u8, &[u8])>
     ensures { option_map (λ x. x.0 ∷ x.1.now) result ≡ escape_of part.now }
@@ -199,7 +202,7 @@ fn escape(part: &[u8]) -> Option<(u8, &[u8])>
     Some(((high * 16 + low) as u8, rest))
 }
 
-/// Puts the bytes of the parts, each behind a `%`, behind those of the first part.
+/// Appends the bytes of the parts, each of which follows a `%`, to those of the first part.
 fn read_escapes(parts: &mut Parts<'_>, plain: Vec<u8>) -> Result<Vec<u8>, Fault>
     ensures { Gives (λ v. v.items) result
         (option_map (λ others. plain.items ++ others) (escapes_of parts.old)) }
@@ -227,7 +230,7 @@ fn unescaped_bytes(alloc: Global, word: &[u8]) -> Result<Vec<u8>, Fault>
     read_escapes(&mut parts, plain)
 }
 
-/// The text that a word spells.
+/// Reads the text of a cell.
 #[tactic(auto, unfolding(crate::specs::Texts::text_of))]
 pub fn cell_text(alloc: Global, word: &[u8]) -> Result<Text, Fault>
     ensures { Reads (text_of word.now) result }

@@ -2,16 +2,16 @@
 use Rattle.std.proofs.Common.{◌≡◌, ◌∙◌, ◌+◌, ℕ, Bool, true, false, cond, Option, Some, None, List, [], ◌∷◌, ◌++◌, length, refl, sym, ap, arith, append_assoc, length-append}
 use Rattle.std.specs.Prelude.{IfSome, not, option_map, option_and_then, find, slice_get}
 use Rattle.std.specs.List.{position_from}
-use Rattle.dbl_table.specs.declared.table.TableName.{TableName}
-use Rattle.dbl_table.specs.declared.table.RawTable.{RawTable}
-use Rattle.dbl_table.specs.Tables.{is_watermark, same_name}
-use Rattle.dbl_history.specs.History.{entry_of}
-use Rattle.dbl_honest.specs.Told.{Answer, Told}
-use Rattle.dbl_feed.specs.declared.logged.LogTable.{LogTable}
-use Rattle.dbl_feed.specs.Relations.{catalogue}
-use Rattle.dbl_feed.specs.Histories.{history_of}
-use Rattle.dbl_feed.proofs.ThemselvesLemmas.{name_same}
-use Rattle.dbl_feed.proofs.RowTexts.{entry_named}
+use Rattle.dbl_model_table.specs.declared.table.TableName.{TableName}
+use Rattle.dbl_model_table.specs.declared.table.RawTable.{RawTable}
+use Rattle.dbl_model_table.specs.Tables.{is_watermark, same_name}
+use Rattle.dbl_source_model.specs.ModelHistory.History.{entry_of}
+use Rattle.dbl_source_model.specs.Trace.{Answer, Trace}
+use Rattle.dbl_source_log.specs.declared.logged.LogTable.{LogTable}
+use Rattle.dbl_source_log.specs.Relations.{catalogue}
+use Rattle.dbl_source_log.specs.Histories.{history_of}
+use Rattle.dbl_source_log.proofs.ThemselvesLemmas.{name_same}
+use Rattle.dbl_source_log.proofs.RowTexts.{entry_named}
 use Rattle.dbl_source.specs.Played.{entry_at}
 
 -- the catalogue shows no table of the watermarks
@@ -56,5 +56,5 @@ found_named (raw ∷ raws) name = by (same_name raw.name name) refl (found_named
     by false same rest = rest
 
 -- who tells one thing tells its answer
-pub answer_told : (told t : Told) (answer : Answer) → Some told ≡ Some t → told.answer ≡ answer → t.answer ≡ answer
-answer_told told t answer is same = let one : told ≡ t = cc in ap (λ (x : Told). x.answer) (sym one) ∙ same
+pub answer_told : (told t : Trace) (answer : Answer) → Some told ≡ Some t → told.answer ≡ answer → t.answer ≡ answer
+answer_told told t answer is same = let one : told ≡ t = cc in ap (λ (x : Trace). x.answer) (sym one) ∙ same

@@ -2,17 +2,17 @@
 use Rattle.std.proofs.Common.{◌≡◌, ◌∙◌, inl, inr, ◌≤◌, ℕ, false, List, [], map, take, refl, sym, ap, subst, arith}
 use Rattle.std.specs.Prelude.{IsTrue, is_some, Option, Some, Result, Ok, Err, IfOk, OnOk, OnErr}
 use Rattle.std.proofs.lemmas.List.{append-nil}
-use Rattle.dbl_base.specs.Streams.{Rose, raised}
+use Rattle.dbl_base.specs.Streams.{FaultCounted, incremented}
 use Rattle.dbl_pgmsg.specs.declared.messages.Message.{Message}
 use Rattle.dbl_pgmsg.specs.Grammar.{spelling}
-use Rattle.dbl_honest.specs.Standings.{Standing, Left, left_of}
-use Rattle.dbl_honest.specs.Leaves.{Leaves, LeavesSome, MayFollow}
-use Rattle.dbl_honest.specs.Told.{Answer, Tells}
-use Rattle.dbl_feed.specs.declared.place.Place.{Place}
-use Rattle.dbl_reading.specs.declared.error.SourceError.{SourceError}
-use Rattle.dbl_reading.specs.declared.error.SourceError.TheVariants.{Failed, Memory}
-use Rattle.dbl_source.specs.Played.{Played, messages_of, standing_of, told_of, before_of, past_move, called, released, with_fault}
-use Rattle.dbl_source.specs.Steps.{IsKept, AddedFirst, StandsFor, MayLeave, WasFair}
+use Rattle.dbl_source_model.specs.Standings.{SourceState, CrashState, left_of}
+use Rattle.dbl_source_model.specs.Leaves.{Leaves, LeavesSome, MayFollow}
+use Rattle.dbl_source_model.specs.Trace.{Answer, LastAnswerIs}
+use Rattle.dbl_source_log.specs.declared.place.Place.{Place}
+use Rattle.dbl_source_log.specs.declared.error.SourceError.{SourceError}
+use Rattle.dbl_source_log.specs.declared.error.SourceError.TheVariants.{Failed, Memory}
+use Rattle.dbl_source.specs.Played.{Played, played_messages, standing_of, trace_of, before_of, past_move, called, with_release, with_fault}
+use Rattle.dbl_source.specs.Steps.{KeepsPlayed, AddedFirst, HasPlayedState, MayLeavePlayed, WasFair}
 use Rattle.dbl_source.specs.Exits.{Plays}
 use Rattle.dbl_source.proofs.PlannedLemmas.{no_err}
 use Rattle.dbl_source.proofs.CallLemmas.{WentOn, went_follows, went_fair, went_read}
@@ -22,7 +22,7 @@ use Rattle.dbl_source.proofs.CallLemmas.{WentOn, went_follows, went_fair, went_r
 went_called : (old : Played) → WentOn old (called old)
 went_called old = record { more = []; log = sym (append-nil old.log); tables = refl; rows = refl; asked = refl; confirmed = refl; place = refl; last = refl; ended = refl }
 
-pub went_released : (old : Played) → WentOn old (released old)
+pub went_released : (old : Played) → WentOn old (with_release old)
 went_released old = record { more = before_of old; log = refl; tables = refl; rows = refl; asked = refl; confirmed = refl; place = refl; last = refl; ended = refl }
 
 went_added : (commits : List (List Message)) (old new : Played) → AddedFirst commits (past_move old) new → WentOn old new
@@ -43,16 +43,16 @@ went_added commits old new added = record {
 pub record Ended (old new : Played) (e : SourceError) : Type 0 where
   pub went : WentOn old new
   pub dead : new.live ≡ false
-  pub rose : e ≡ Failed → Rose old.plan.faults new.plan.faults
+  pub rose : e ≡ Failed → FaultCounted old.plan.faults new.plan.faults
 
 ended_faulty : (old mid new : Played) → WentOn old mid → mid.live ≡ false → mid.plan.faults ≡ old.plan.faults → new ≡ with_fault mid → Ended old new Failed
 ended_faulty old mid new w dead same is =
     let faulty : WentOn old (with_fault mid) = record { more = w.more; log = w.log; tables = w.tables; rows = w.rows; asked = w.asked; confirmed = w.confirmed; place = w.place; last = w.last; ended = w.ended } in
-    let one : new.plan.faults ≡ raised old.plan.faults = ap (λ (p : Played). p.plan.faults) is ∙ ap raised same in
+    let one : new.plan.faults ≡ incremented old.plan.faults = ap (λ (p : Played). p.plan.faults) is ∙ ap incremented same in
     record {
       went = subst (WentOn old) (sym is) faulty;
       dead = ap (λ (p : Played). p.live) is ∙ dead;
-      rose = λ failed. (let least : raised old.plan.faults ≤ raised old.plan.faults = omega arith in subst (λ (n : ℕ). raised old.plan.faults ≤ n) (sym one) least);
+      rose = λ failed. (let least : incremented old.plan.faults ≤ incremented old.plan.faults = omega arith in subst (λ (n : ℕ). incremented old.plan.faults ≤ n) (sym one) least);
     }
 
 pub ended : {T : Type 0} (own : ℕ) (more : Type 0) (commits : List (List Message)) (done : T → Played → Type 0) (old new : Played) (e : SourceError) → Plays own more commits done old new (Err e) → Ended old new e
@@ -65,9 +65,9 @@ ended own more commits done old new Memory p =
     }
 ended own more commits done old new Failed p = elim (p.planned.failed refl) [
   | inl full ↦ ended_faulty old (called old) new (went_called old) refl refl full.1
-  | inr behind ↦ elim behind [
-    | inl listed ↦ ended_faulty old (released old) new (went_released old) refl refl listed.2
-    | inr other ↦ ended_faulty old (released old) new (went_released old) refl refl other.3
+  | inr subsequent ↦ elim subsequent [
+    | inl listed ↦ ended_faulty old (with_release old) new (went_released old) refl refl listed.2
+    | inr other ↦ ended_faulty old (with_release old) new (went_released old) refl refl other.3
   ]
 ]
 
@@ -86,32 +86,32 @@ stays own more commits done old new (Err e) p leaves = (ended own more commits d
 
 -- the bytes of the messages that were read are the same, and whether there is a reader
 abbrev pub SameRead : Played → Played → Type 0
-SameRead old new = map spelling (messages_of new) ≡ map spelling (messages_of old)
+SameRead old new = map spelling (played_messages new) ≡ map spelling (played_messages old)
 
 abbrev pub SameReader : Played → Played → Type 0
 SameReader old new = is_some new.place ≡ is_some old.place
 
-pub record Ends (G : Standing → Type 0) (Follows : Standing → Left → Type 0) (answer : Answer) (K R : Type 0) (old new : Played) : Type 0 where
-  pub leads : (s : Standing) → StandsFor old s → G s
-  pub left : Leaves StandsFor MayLeave old new Follows
+pub record Ends (G : SourceState → Type 0) (Follows : SourceState → CrashState → Type 0) (answer : Answer) (K R : Type 0) (old new : Played) : Type 0 where
+  pub leads : (s : SourceState) → HasPlayedState old s → G s
+  pub left : Leaves HasPlayedState MayLeavePlayed old new Follows
   pub live : IsTrue new.live
   pub honest : WasFair new → WasFair old
-  pub told : Tells (Some (told_of new)) answer
+  pub told : LastAnswerIs (Some (trace_of new)) answer
   pub taken : K
   pub reading : R
 
 -- ---- whatever it answered
 
-pub record Held {T : Type 0} (G : T → Standing → Type 0) (Follows : Standing → Left → Type 0) (answer : T → Answer) (K R : T → Type 0) (old new : Played) (result : Result T SourceError) : Type 0 where
-  pub leads : (s : Standing) → StandsFor old s → IfOk result (λ x. G x s)
-  pub left : Leaves StandsFor MayLeave old new Follows
-  pub some : LeavesSome StandsFor MayLeave old new
-  pub without : result ≡ Err Memory → Leaves StandsFor MayLeave old new MayFollow
+pub record Held {T : Type 0} (G : T → SourceState → Type 0) (Follows : SourceState → CrashState → Type 0) (answer : T → Answer) (K R : T → Type 0) (old new : Played) (result : Result T SourceError) : Type 0 where
+  pub leads : (s : SourceState) → HasPlayedState old s → IfOk result (λ x. G x s)
+  pub left : Leaves HasPlayedState MayLeavePlayed old new Follows
+  pub some : LeavesSome HasPlayedState MayLeavePlayed old new
+  pub without : result ≡ Err Memory → Leaves HasPlayedState MayLeavePlayed old new MayFollow
   pub live : OnOk result (IsTrue new.live)
   pub dead : OnErr result (new.live ≡ false)
   pub honest : WasFair new → WasFair old
-  pub failed : result ≡ Err Failed → Rose old.plan.faults new.plan.faults
-  pub told : IfOk result (λ x. Tells (Some (told_of new)) (answer x))
+  pub failed : result ≡ Err Failed → FaultCounted old.plan.faults new.plan.faults
+  pub told : IfOk result (λ x. LastAnswerIs (Some (trace_of new)) (answer x))
   pub taken : IfOk result (λ x. K x)
   pub untaken : OnErr result (SameRead old new)
   pub reading : IfOk result (λ x. R x)
@@ -120,8 +120,8 @@ pub record Held {T : Type 0} (G : T → Standing → Type 0) (Follows : Standing
 one_err : (T : Type 0) (e d : SourceError) (x y : Result T SourceError) → x ≡ Err e → y ≡ Err d → x ≡ y → e ≡ d
 one_err T e d x y at there same = cc
 
-pub held : {T : Type 0} (G : T → Standing → Type 0) (Follows : Standing → Left → Type 0) (answer : T → Answer) (K R : T → Type 0) (own : ℕ) (more : Type 0) (commits : List (List Message)) (done : T → Played → Type 0) (old new : Played)
-    (result : Result T SourceError) → Plays own more commits done old new result → ((s : Standing) (l : Left) → MayFollow s l → Follows s l) → ((x : T) → IsKept old → done x new → Ends (G x) Follows (answer x) (K x) (R x) old new)
+pub held : {T : Type 0} (G : T → SourceState → Type 0) (Follows : SourceState → CrashState → Type 0) (answer : T → Answer) (K R : T → Type 0) (own : ℕ) (more : Type 0) (commits : List (List Message)) (done : T → Played → Type 0) (old new : Played)
+    (result : Result T SourceError) → Plays own more commits done old new result → ((s : SourceState) (l : CrashState) → MayFollow s l → Follows s l) → ((x : T) → KeepsPlayed old → done x new → Ends (G x) Follows (answer x) (K x) (R x) old new)
     → Held G Follows answer K R old new result
 held G Follows answer K R own more commits done old new (Ok x) p weaker ends =
     let e : Ends (G x) Follows (answer x) (K x) (R x) old new = ends x p.kept p.played in
@@ -142,7 +142,7 @@ held G Follows answer K R own more commits done old new (Ok x) p weaker ends =
     }
 held {T = T} G Follows answer K R own more commits done old new (Err e) p weaker ends =
     let d : Ended old new e = ended own more commits done old new e p in
-    let follows : Leaves StandsFor MayLeave old new MayFollow = λ s l stands may. went_follows old new s l d.went p.kept stands may in
+    let follows : Leaves HasPlayedState MayLeavePlayed old new MayFollow = λ s l stands may. went_follows old new s l d.went p.kept stands may in
     record {
       leads = λ s stands. tt;
       left = λ s l stands may. weaker s l (follows s l stands may);

@@ -14,48 +14,48 @@ use Rattle.dbl_pgmsg.specs.Grammar.{string, tuple, column, spelling, IsString, F
 use Rattle.dbl_pgmsg.specs.Grammar.{cell as spelled_cell}
 use Rattle.dbl_pgmsg.proofs.Sizes.{text_size, string_size, tuple_size, column_size}
 use Rattle.dbl_pgmsg.proofs.MessageSizes.{relation_size, insert_size}
-use Rattle.dbl_value.specs.declared.column_type.PgType.TheVariants as type
-use Rattle.dbl_value.specs.declared.value.Val.{Val}
-use Rattle.dbl_value.specs.declared.value.Val.TheVariants as val
-use Rattle.dbl_value.specs.Types.{type_of}
-use Rattle.dbl_value.specs.Values.{IsOf}
-use Rattle.dbl_table.specs.declared.row.Key.{Key}
-use Rattle.dbl_table.specs.declared.table.TableInfo.{TableInfo}
-use Rattle.dbl_table.specs.Tables.{same_name, are_distinct}
-use Rattle.dbl_table.specs.Infos.{IsInfoOf, number_of}
-use Rattle.dbl_table.specs.Keys.{same_key}
-use Rattle.dbl_table.specs.Rows.{at_key, row_after}
-use Rattle.dbl_table.specs.Rows.Effect.{Whole}
-use Rattle.dbl_table.proofs.InfoLemmas.{one_info}
-use Rattle.dbl_table.proofs.KeyLemmas.{same_key-is}
-use Rattle.dbl_table.specs.declared.table.RawRow.{RawRow}
-use Rattle.dbl_history.specs.History.{History}
-use Rattle.dbl_history.specs.Fit.{AreInfosOf}
-use Rattle.dbl_commit.specs.Stated.{row_stated, err_of, stated_in}
-use Rattle.dbl_commit.specs.Tuples.{change_of, row_of as row_read, given_cell, spelled_value}
-use Rattle.dbl_honest.specs.Stated.{MayStand}
-use Rattle.dbl_honest.specs.Selected.{rows_behind, AreFirstOf, AreAnswered}
-use Rattle.dbl_feed.specs.declared.logged.LogTable.{LogTable}
-use Rattle.dbl_feed.specs.declared.logged.Logged.{Logged}
-use Rattle.dbl_feed.specs.declared.logged.Logged.TheVariants.{Changes, Mark}
-use Rattle.dbl_feed.specs.Relations.{first_oid, relation_column, relation_message}
-use Rattle.dbl_feed.specs.Sent.{oids_of, onto_relations}
-use Rattle.dbl_feed.specs.Texts.{key_in}
-use Rattle.dbl_feed.specs.TextRows.{TextRows, no_text_rows}
-use Rattle.dbl_feed.specs.Histories.{text_rows_at, history_of}
-use Rattle.dbl_feed.specs.FitLogs.{IsFitEntry, AreFitLog}
-use Rattle.dbl_feed.specs.Fair.{IsChangeOf, HasFewFaults, IsFairLog}
-use Rattle.dbl_feed.proofs.FitLogLemmas.{fit_histories}
+use Rattle.dbl_model_table.specs.Value.declared.column_type.PgType.TheVariants as type
+use Rattle.dbl_model_table.specs.Value.declared.value.Val.{Val}
+use Rattle.dbl_model_table.specs.Value.declared.value.Val.TheVariants as val
+use Rattle.dbl_model_table.specs.Value.Types.{type_of}
+use Rattle.dbl_model_table.specs.Value.Values.{IsOf}
+use Rattle.dbl_model_table.specs.declared.row.Key.{Key}
+use Rattle.dbl_model_table.specs.declared.table.TableInfo.{TableInfo}
+use Rattle.dbl_model_table.specs.Tables.{same_name, are_distinct}
+use Rattle.dbl_model_table.specs.Infos.{IsInfoOf, number_of}
+use Rattle.dbl_model_table.specs.Keys.{same_key}
+use Rattle.dbl_model_table.specs.Rows.{at_key, row_after}
+use Rattle.dbl_model_table.specs.Rows.Effect.{Whole}
+use Rattle.dbl_model_table.proofs.InfoLemmas.{one_info}
+use Rattle.dbl_model_table.proofs.KeyLemmas.{same_key-is}
+use Rattle.dbl_model_table.specs.declared.table.RawRow.{RawRow}
+use Rattle.dbl_source_model.specs.ModelHistory.History.{History}
+use Rattle.dbl_source_model.specs.ModelHistory.Fit.{AreInfosOf}
+use Rattle.dbl_source_model.specs.ModelCommit.Stated.{row_stated, err_of, stated_in}
+use Rattle.dbl_source_model.specs.ModelCommit.Tuples.{change_of, row_of as row_read, given_cell, spelled_value}
+use Rattle.dbl_source_model.specs.Stated.{MayStand}
+use Rattle.dbl_source_model.specs.Selected.{rows_up_to, AreFirstOf, AreAnswered}
+use Rattle.dbl_source_log.specs.declared.logged.LogTable.{LogTable}
+use Rattle.dbl_source_log.specs.declared.logged.Logged.{Logged}
+use Rattle.dbl_source_log.specs.declared.logged.Logged.TheVariants.{Changes, Mark}
+use Rattle.dbl_source_log.specs.Relations.{first_oid, relation_column, relation_message}
+use Rattle.dbl_source_log.specs.Sent.{oids_of, onto_relations}
+use Rattle.dbl_source_log.specs.Texts.{key_in}
+use Rattle.dbl_source_log.specs.TextRows.{TextRows, no_text_rows}
+use Rattle.dbl_source_log.specs.Histories.{text_rows_at, history_of}
+use Rattle.dbl_source_log.specs.FitLogs.{IsFitEntry, AreFitLog}
+use Rattle.dbl_source_log.specs.Fair.{IsChangeOf, HasFewFaults, IsFairLog}
+use Rattle.dbl_source_log.proofs.FitLogLemmas.{fit_histories}
 use Rattle.dbl_source.specs.declared.asked.Asked.{Asked}
 use Rattle.dbl_source.specs.Played.{keyed_table, question_of}
 use Rattle.dbl_source.specs.Fairness.{IsAnswered}
 use Rattle.dbl_source.specs.Steps.{WasFair}
-use Rattle.dbl_source.specs.FairExample.{example_name, example_table, inserting, row_of, read_example, first_example, last_example, stale_example, FairSourcesStand}
+use Rattle.dbl_source.specs.FairExample.{example_source_name, example_raw_table, inserting, row_of, read_example, first_example, last_example, stale_example, FairSourcesStand}
 
 -- ---- the source
 
 abbrev tables : List LogTable
-tables = keyed_table example_table ∷ []
+tables = keyed_table example_raw_table ∷ []
 
 abbrev log : List Logged
 log = Mark (codes "1-1-L") ∷ Changes (inserting (codes "a")) ∷ Changes (inserting (codes "b")) ∷ []
@@ -96,15 +96,15 @@ not_empty b bs is = cc
 
 abbrev info_of : TableInfo
 info_of = record {
-  name = example_name;
+  name = example_source_name;
   columns = record { name = codes "k"; ty = type.Text } ∷ [];
   key = 0 ∷ [];
   -- the name is good, and the key is a column
   sound = λ i. true;
 }
 
-its_info : (b : Bool) (info : TableInfo) → IsSomeAnd (cond b (Some example_table) None) (λ raw. IsInfoOf raw info) → info ≡ info_of
-its_info true info is = one_info example_table info info_of is refl
+its_info : (b : Bool) (info : TableInfo) → IsSomeAnd (cond b (Some example_raw_table) None) (λ raw. IsInfoOf raw info) → info ≡ info_of
+its_info true info is = one_info example_raw_table info info_of is refl
 its_info false info is = absurd is
 
 twice : (a b : TableInfo) (infos : List TableInfo) → a ≡ info_of → b ≡ info_of → IsTrue (are_distinct same_name (map (λ (i : TableInfo). i.name) (a ∷ b ∷ infos))) → ⊥
@@ -116,15 +116,15 @@ twice a b infos first second apart =
 
 captured : (commits : List Logged) (infos : List TableInfo) → AreInfosOf (history_of tables commits) infos → (infos ≡ []) ⊎ (infos ≡ info_of ∷ [])
 captured commits [] are = inl refl
-captured commits (a ∷ []) are = inr (ap (λ (x : TableInfo). x ∷ []) (its_info (same_name example_name a.name) a are.each.0))
-captured commits (a ∷ b ∷ infos) are = absurd (twice a b infos (its_info (same_name example_name a.name) a are.each.0) (its_info (same_name example_name b.name) b are.each.1.0) are.distinct)
+captured commits (a ∷ []) are = inr (ap (λ (x : TableInfo). x ∷ []) (its_info (same_name example_source_name a.name) a are.each.0))
+captured commits (a ∷ b ∷ infos) are = absurd (twice a b infos (its_info (same_name example_source_name a.name) a are.each.0) (its_info (same_name example_source_name b.name) b are.each.1.0) are.distinct)
 
 itself : AreInfosOf history (info_of ∷ [])
 itself = record { distinct = refl; each = (refl, tt) }
 
 -- ---- its history is fit
 
-insert_fits : (rows : TextRows) (text : List ℕ) → IsUtf8 text → rows example_name (key_in example_table (Some text ∷ [])) ≡ None → IsFitEntry tables rows (Changes (inserting text))
+insert_fits : (rows : TextRows) (text : List ℕ) → IsUtf8 text → rows example_source_name (key_in example_raw_table (Some text ∷ [])) ≡ None → IsFitEntry tables rows (Changes (inserting text))
 unfolding type_of
 insert_fits rows text plain none = record {
   ranges = (omega arith, ((record { schema = plain_s; name = plain_t }, (plain, tt)), tt));
@@ -146,14 +146,14 @@ fit_log = record {
 -- ---- its log is such as a server sends
 
 abbrev columns : List RelationColumn
-columns = map (relation_column (keyed_table example_table)) example_table.columns
+columns = map (relation_column (keyed_table example_raw_table)) example_raw_table.columns
 
-relation_short : length (spelling (relation_message first_oid (keyed_table example_table))) ≤ 16777216
+relation_short : length (spelling (relation_message first_oid (keyed_table example_raw_table))) ≤ 16777216
 relation_short =
-    let whole : length (spelling (relation_message first_oid (keyed_table example_table))) ≡ 5 + (length (string (codes "s")) + length (string (codes "t"))) + (3 + length (flat_map column columns)) = relation_size first_oid (codes "s") (codes "t") 100 columns in
+    let whole : length (spelling (relation_message first_oid (keyed_table example_raw_table))) ≡ 5 + (length (string (codes "s")) + length (string (codes "t"))) + (3 + length (flat_map column columns)) = relation_size first_oid (codes "s") (codes "t") 100 columns in
     let schema : length (string (codes "s")) ≡ 2 = string_size (codes "s") in
     let name : length (string (codes "t")) ≡ 2 = string_size (codes "t") in
-    let given : RelationColumn = relation_column (keyed_table example_table) (record { name = codes "k"; oid = 25 }) in
+    let given : RelationColumn = relation_column (keyed_table example_raw_table) (record { name = codes "k"; oid = 25 }) in
     let all : length (flat_map column columns) ≡ length (column given) + 0 = length-append (column given) [] in
     let one : length (column given) ≡ 9 + length (string (codes "k")) = column_size given in
     let named : length (string (codes "k")) ≡ 2 = string_size (codes "k") in
@@ -165,7 +165,7 @@ small = omega arith
 minus_one : FitsSigned w32 (negsuc 0)
 minus_one = fits_between w32 (negsuc 0) (omega (arith, signed_arith), omega (arith, signed_arith))
 
-relation_fits : Fits (relation_message first_oid (keyed_table example_table))
+relation_fits : Fits (relation_message first_oid (keyed_table example_raw_table))
 relation_fits = record {
   fields = (
     omega arith,
@@ -230,7 +230,7 @@ one_row : (b : Bool) (cells : List Val) → (if b then Some cells else None) ≡
 one_row true cells = refl
 one_row false cells = refl
 
-first_row : AreFirstOf (info_of ∷ []) 0 info_of (rows_behind (info_of ∷ []) history 2) None 10 (row_of (codes "a") ∷ [])
+first_row : AreFirstOf (info_of ∷ []) 0 info_of (rows_up_to (info_of ∷ []) history 2) None 10 (row_of (codes "a") ∷ [])
 first_row = record {
   captured = refl;
   none_above = λ never. absurd (never tt);
@@ -238,19 +238,19 @@ first_row = record {
     keys = ((text_of_type (codes "a") plain_a, tt), tt);
     ordered = (tt, tt);
     few = omega arith;
-    right = λ key is_key behind range. one_row (same_key (keyed (codes "a")) key) (val.Text (codes "a") ∷ []);
+    right = λ key is_key subsequent range. one_row (same_key (keyed (codes "a")) key) (val.Text (codes "a") ∷ []);
   };
 }
 
 abbrev AreRows : ℕ → List RawRow → List TableInfo → Type 0
-AreRows place rows infos = IfSome (number_of infos example_name) (λ table. (info : TableInfo) × AreFirstOf infos table info (rows_behind infos history place) None 10 rows)
+AreRows place rows infos = IfSome (number_of infos example_source_name) (λ table. (info : TableInfo) × AreFirstOf infos table info (rows_up_to infos history place) None 10 rows)
 
 -- none before the first insert
-empty : AreFirstOf (info_of ∷ []) 0 info_of (rows_behind (info_of ∷ []) history 1) None 10 []
+empty : AreFirstOf (info_of ∷ []) 0 info_of (rows_up_to (info_of ∷ []) history 1) None 10 []
 empty = record {
   captured = refl;
   none_above = λ never. refl;
-  first = λ above. record { keys = tt; ordered = tt; few = omega arith; right = λ key is_key behind range. refl };
+  first = λ above. record { keys = tt; ordered = tt; few = omega arith; right = λ key is_key subsequent range. refl };
 }
 
 -- both behind the second one: no key is that of both
@@ -265,7 +265,7 @@ two_rows true false a b never = refl
 two_rows false true a b never = refl
 two_rows false false a b never = refl
 
-both_rows : AreFirstOf (info_of ∷ []) 0 info_of (rows_behind (info_of ∷ []) history 3) None 10 (row_of (codes "a") ∷ row_of (codes "b") ∷ [])
+both_rows : AreFirstOf (info_of ∷ []) 0 info_of (rows_up_to (info_of ∷ []) history 3) None 10 (row_of (codes "a") ∷ row_of (codes "b") ∷ [])
 both_rows = record {
   captured = refl;
   none_above = λ never. absurd (never tt);
@@ -273,14 +273,14 @@ both_rows = record {
     keys = ((text_of_type (codes "a") plain_a, tt), ((text_of_type (codes "b") plain_b, tt), tt));
     ordered = (tt, (refl, tt));
     few = omega arith;
-    right = λ key is_key behind range. two_rows (same_key (keyed (codes "a")) key) (same_key (keyed (codes "b")) key) (val.Text (codes "a") ∷ []) (val.Text (codes "b") ∷ []) (apart key);
+    right = λ key is_key subsequent range. two_rows (same_key (keyed (codes "a")) key) (same_key (keyed (codes "b")) key) (val.Text (codes "a") ∷ []) (val.Text (codes "b") ∷ []) (apart key);
   };
 }
 
-has_table : (rows : List RawRow) → Some example_table ≡ None → rows ≡ []
+has_table : (rows : List RawRow) → Some example_raw_table ≡ None → rows ≡ []
 has_table rows none = cc
 
-at_place : (place : ℕ) (rows : List RawRow) → 1 ≤ place → place ≤ 3 → AreFirstOf (info_of ∷ []) 0 info_of (rows_behind (info_of ∷ []) history place) None 10 rows → AreAnswered history 1 3 example_name None 10 rows
+at_place : (place : ℕ) (rows : List RawRow) → 1 ≤ place → place ≤ 3 → AreFirstOf (info_of ∷ []) 0 info_of (rows_up_to (info_of ∷ []) history place) None 10 rows → AreAnswered history 1 3 example_source_name None 10 rows
 at_place place rows low high first = record {
   absent = has_table rows;
   place = place;
@@ -292,11 +292,11 @@ at_place place rows low high first = record {
   ];
 }
 
-answered : (rows : List RawRow) (later : List (List RawRow)) → AreAnswered history 1 3 example_name None 10 rows → (n : ℕ) (question : Asked) → slice_get read_example.asked n ≡ Some question
+answered : (rows : List RawRow) (later : List (List RawRow)) → AreAnswered history 1 3 example_source_name None 10 rows → (n : ℕ) (question : Asked) → slice_get read_example.asked n ≡ Some question
     → IsAnswered tables log question (slice_index_or (rows ∷ later) n [])
 answered rows later are zero question is =
-    let found : Some (question_of example_name None 10 1 3) ≡ Some question = is in
-    let same : question_of example_name None 10 1 3 ≡ question = cc in
+    let found : Some (question_of example_source_name None 10 1 3) ≡ Some question = is in
+    let same : question_of example_source_name None 10 1 3 ≡ question = cc in
     subst (λ (q : Asked). IsAnswered tables log q rows) same are
 answered rows later are (suc n) question is = let none : None ≡ Some question = is in cc
 
@@ -326,15 +326,15 @@ was_fair_last = record {
 is_stale : WasFair stale_example → ⊥
 is_stale fair =
     let infos : List TableInfo = info_of ∷ [] in
-    let rows : AreAnswered history 3 3 example_name None 10 (row_of (codes "a") ∷ []) = fair.selects 1 (question_of example_name None 10 3 3) refl in
+    let rows : AreAnswered history 3 3 example_source_name None 10 (row_of (codes "a") ∷ []) = fair.selects 1 (question_of example_source_name None 10 3 3) refl in
     let place : rows.place ≡ 3 = omega (arith, rows.not_before, rows.not_after) in
-    let own : (info : TableInfo) × AreFirstOf infos 0 info (rows_behind infos history rows.place) None 10 (row_of (codes "a") ∷ []) = rows.are infos itself in
+    let own : (info : TableInfo) × AreFirstOf infos 0 info (rows_up_to infos history rows.place) None 10 (row_of (codes "a") ∷ []) = rows.are infos itself in
     let there : Some info_of ≡ Some own.0 = own.1.captured in
     let same : own.0 ≡ info_of = cc in
-    let its : AreFirstOf infos 0 info_of (rows_behind infos history rows.place) None 10 (row_of (codes "a") ∷ []) =
-    subst (λ (info : TableInfo). AreFirstOf infos 0 info (rows_behind infos history rows.place) None 10 (row_of (codes "a") ∷ [])) same own.1 in
-    let now : AreFirstOf infos 0 info_of (rows_behind infos history 3) None 10 (row_of (codes "a") ∷ []) =
-    subst (λ (p : ℕ). AreFirstOf infos 0 info_of (rows_behind infos history p) None 10 (row_of (codes "a") ∷ [])) place its in
+    let its : AreFirstOf infos 0 info_of (rows_up_to infos history rows.place) None 10 (row_of (codes "a") ∷ []) =
+    subst (λ (info : TableInfo). AreFirstOf infos 0 info (rows_up_to infos history rows.place) None 10 (row_of (codes "a") ∷ [])) same own.1 in
+    let now : AreFirstOf infos 0 info_of (rows_up_to infos history 3) None 10 (row_of (codes "a") ∷ []) =
+    subst (λ (p : ℕ). AreFirstOf infos 0 info_of (rows_up_to infos history p) None 10 (row_of (codes "a") ∷ [])) place its in
     let fewer : 1 < 10 = omega arith in
     let told : None ≡ Some (val.Text (codes "b") ∷ []) = (now.first tt).right (keyed (codes "b")) (text_of_type (codes "b") plain_b, tt) tt (inl fewer) in
     cc

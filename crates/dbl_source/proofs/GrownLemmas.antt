@@ -5,24 +5,24 @@ use Rattle.std.specs.Prelude.{Option, Some, slice_index_or}
 use Rattle.std.proofs.lemmas.Bool.{cases_eq}
 use Rattle.std.proofs.lemmas.List.{length-map, get_or_at, get_or_append_left}
 use Rattle.std.proofs.lemmas.Option.{IfSome_then, slice_get_within, slice_get-get_or, get_or_from_slice_get}
-use Rattle.dbl_table.specs.declared.row.Key.{Key}
-use Rattle.dbl_table.specs.declared.table.TableName.{TableName}
-use Rattle.dbl_table.specs.declared.table.RawRow.{RawRow}
-use Rattle.dbl_table.specs.declared.table.TableInfo.{TableInfo}
-use Rattle.dbl_table.specs.Infos.{number_of}
-use Rattle.dbl_table.specs.Rows.{Rows}
-use Rattle.dbl_history.specs.History.{RawCommit, History}
-use Rattle.dbl_history.specs.Fit.{AreInfosOf, IsFitHistory}
-use Rattle.dbl_honest.specs.Selected.{AreFirstOf, AreRowsAt, AreAnswered}
-use Rattle.dbl_honest.proofs.FitLemmas.{rows_front}
-use Rattle.dbl_feed.specs.declared.logged.LogTable.{LogTable}
-use Rattle.dbl_feed.specs.declared.logged.Logged.{Logged}
-use Rattle.dbl_feed.specs.declared.logged.Logged.TheVariants.{Changes, Mark}
-use Rattle.dbl_feed.specs.Relations.{catalogue}
-use Rattle.dbl_feed.specs.TextRows.{no_text_rows}
-use Rattle.dbl_feed.specs.Histories.{commits_from, text_rows_through, history_of}
-use Rattle.dbl_feed.specs.Fair.{IsFairLog}
-use Rattle.dbl_feed.proofs.LogLemmas.{history_grown, length-history}
+use Rattle.dbl_model_table.specs.declared.row.Key.{Key}
+use Rattle.dbl_model_table.specs.declared.table.TableName.{TableName}
+use Rattle.dbl_model_table.specs.declared.table.RawRow.{RawRow}
+use Rattle.dbl_model_table.specs.declared.table.TableInfo.{TableInfo}
+use Rattle.dbl_model_table.specs.Infos.{number_of}
+use Rattle.dbl_model_table.specs.Rows.{Rows}
+use Rattle.dbl_source_model.specs.ModelHistory.History.{RawCommit, History}
+use Rattle.dbl_source_model.specs.ModelHistory.Fit.{AreInfosOf, IsFitHistory}
+use Rattle.dbl_source_model.specs.Selected.{AreFirstOf, AreRowsAt, AreAnswered}
+use Rattle.dbl_source_model.proofs.FitLemmas.{rows_front}
+use Rattle.dbl_source_log.specs.declared.logged.LogTable.{LogTable}
+use Rattle.dbl_source_log.specs.declared.logged.Logged.{Logged}
+use Rattle.dbl_source_log.specs.declared.logged.Logged.TheVariants.{Changes, Mark}
+use Rattle.dbl_source_log.specs.Relations.{catalogue}
+use Rattle.dbl_source_log.specs.TextRows.{no_text_rows}
+use Rattle.dbl_source_log.specs.Histories.{commits_from, text_rows_through, history_of}
+use Rattle.dbl_source_log.specs.Fair.{IsFairLog}
+use Rattle.dbl_source_log.proofs.LogLemmas.{history_grown, length-history}
 use Rattle.dbl_source.specs.declared.asked.Asked.{Asked}
 use Rattle.dbl_source.specs.Fairness.{IsAnswered, IsFair}
 use Rattle.dbl_source.specs.Played.{question_of}

@@ -4,15 +4,15 @@ use Rattle.std.specs.Prelude.{slice_get}
 use Rattle.std.proofs.lemmas.List.{length-map}
 use Rattle.std.specs.BTreeSet.{BTreeSet}
 use Rattle.dbl_pgmsg.specs.declared.messages.Message.{Message}
-use Rattle.dbl_feed.specs.declared.logged.LogTable.{LogTable}
-use Rattle.dbl_feed.specs.declared.logged.Logged.{Logged}
-use Rattle.dbl_feed.specs.declared.logged.Logged.TheVariants.{Changes, Mark}
-use Rattle.dbl_feed.specs.declared.place.Place.{Place}
-use Rattle.dbl_feed.specs.Sent.{told_at, IsPlaceIn}
-use Rattle.dbl_feed.proofs.SentLemmas.{told_at-grown}
-use Rattle.dbl_reading.specs.Readings.{Describes}
+use Rattle.dbl_source_log.specs.declared.logged.LogTable.{LogTable}
+use Rattle.dbl_source_log.specs.declared.logged.Logged.{Logged}
+use Rattle.dbl_source_log.specs.declared.logged.Logged.TheVariants.{Changes, Mark}
+use Rattle.dbl_source_log.specs.declared.place.Place.{Place}
+use Rattle.dbl_source_log.specs.Sent.{told_at, IsPlaceIn}
+use Rattle.dbl_source_log.proofs.SentLemmas.{told_at-grown}
+use Rattle.dbl_source_log.specs.Readings.{Describes}
 use Rattle.dbl_source.specs.declared.asked.Asked.{Asked}
-use Rattle.dbl_feed.specs.Numbers.{commit_limit}
+use Rattle.dbl_source_log.specs.Numbers.{commit_limit}
 use Rattle.dbl_source.specs.Steps.{IsPlayed}
 use Rattle.dbl_source.proofs.PlayLemmas.{asked_more}
 use Rattle.dbl_source.proofs.CallLemmas.{placed_on}

@@ -1,3 +1,9 @@
+pub use Rattle.dbl_source_log.proofs.LogLemmas as SourceLogLogLemmas
+pub use Rattle.dbl_source_log.proofs.PlaceLemmas as SourceLogPlaceLemmas
+pub use Rattle.dbl_source_log.proofs.ReaderLemmas as SourceLogReaderLemmas
+pub use Rattle.dbl_source_log.proofs.SentLemmas as SourceLogSentLemmas
+pub use Rattle.dbl_source_model.proofs.GrowthLemmas as SourceModelGrowthLemmas
+pub use Rattle.dbl_source_model.proofs.ReadLemmas as SourceModelReadLemmas
 pub mod PlayLemmas
 pub mod CallLemmas
 pub mod PlannedLemmas

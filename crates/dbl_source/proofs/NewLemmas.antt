@@ -3,16 +3,16 @@ use Rattle.std.proofs.Common.{◌≡◌, ◌∷◌, List, [], map, refl, sym, ap
 use Rattle.std.specs.Prelude.{◌≢◌, IsTrue}
 use Rattle.std.specs.List.{AllByRecursion}
 use Rattle.dbl_pgmsg.specs.Grammar.{Fits}
-use Rattle.dbl_table.specs.declared.table.TableName.{TableName}
-use Rattle.dbl_table.specs.declared.table.RawTable.{RawTable}
-use Rattle.dbl_table.specs.declared.table.RawRow.{RawRow}
-use Rattle.dbl_table.specs.Tables.{same_name, are_distinct}
-use Rattle.dbl_history.specs.Ranges.{IsEntryInRange}
-use Rattle.dbl_feed.specs.declared.logged.Logged.{Logged}
-use Rattle.dbl_feed.specs.Relations.{catalogue, all_relations}
-use Rattle.dbl_feed.specs.Fair.{AreNamed}
-use Rattle.dbl_feed.specs.declared.logged.LogTable.{LogTable}
-use Rattle.dbl_feed.proofs.FitLogLemmas.{catalogue_distinct}
+use Rattle.dbl_model_table.specs.declared.table.TableName.{TableName}
+use Rattle.dbl_model_table.specs.declared.table.RawTable.{RawTable}
+use Rattle.dbl_model_table.specs.declared.table.RawRow.{RawRow}
+use Rattle.dbl_model_table.specs.Tables.{same_name, are_distinct}
+use Rattle.dbl_source_model.specs.ModelHistory.Ranges.{IsEntryInRange}
+use Rattle.dbl_source_log.specs.declared.logged.Logged.{Logged}
+use Rattle.dbl_source_log.specs.Relations.{catalogue, all_relations}
+use Rattle.dbl_source_log.specs.Fair.{AreNamed}
+use Rattle.dbl_source_log.specs.declared.logged.LogTable.{LogTable}
+use Rattle.dbl_source_log.proofs.FitLogLemmas.{catalogue_distinct}
 use Rattle.dbl_source.specs.declared.asked.Asked.{Asked}
 use Rattle.dbl_source.specs.Played.{keyed_table}
 use Rattle.dbl_source.specs.Fairness.{IsFair}

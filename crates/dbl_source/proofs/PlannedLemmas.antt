@@ -2,18 +2,18 @@
 use Rattle.std.proofs.Common.{◌≡◌, ◌∙◌, inl, inr, ℕ, List, length, ap, subst}
 use Rattle.std.specs.Prelude.{Result, Ok, Err, IsErr, IfErr, OnOk, OnErr}
 use Rattle.dbl_pgmsg.specs.declared.messages.Message.{Message}
-use Rattle.dbl_reading.specs.declared.error.SourceError.{SourceError}
-use Rattle.dbl_reading.specs.declared.error.SourceError.TheVariants.{Failed, Memory}
-use Rattle.dbl_source.specs.Played.{Played, before_of, IsListed, IsFullBy, past_move, counted, committed, released, FailsAsPlanned}
+use Rattle.dbl_source_log.specs.declared.error.SourceError.{SourceError}
+use Rattle.dbl_source_log.specs.declared.error.SourceError.TheVariants.{Failed, Memory}
+use Rattle.dbl_source.specs.Played.{Played, before_of, IsPlannedToFail, IsFullBy, past_move, with_counted_call, committed, with_release, FailsAsPlanned}
 use Rattle.dbl_source.specs.Steps.{HasFailed}
 
 -- behind what other clients commit before the call
-pub released_so : (old mid new : Played) (before : List (List Message)) → mid ≡ past_move old → before ≡ before_of old → new ≡ committed before (counted mid) → new ≡ released old
+pub released_so : (old mid new : Played) (before : List (List Message)) → mid ≡ past_move old → before ≡ before_of old → new ≡ committed before (with_counted_call mid) → new ≡ with_release old
 released_so old mid new before past items is =
-    is ∙ ap (λ (b : List (List Message)). committed b (counted mid)) items ∙ ap (λ (m : Played). committed (before_of old) (counted m)) past
+    is ∙ ap (λ (b : List (List Message)). committed b (with_counted_call mid)) items ∙ ap (λ (m : Played). committed (before_of old) (with_counted_call m)) past
 
 pub planned_after : {T : Type 0} (old mid new : Played) (before : List (List Message)) (own : ℕ) (result : Result T SourceError) → mid ≡ past_move old → before ≡ before_of old → (IsFullBy (length before) own mid → result ≡ Err Failed)
-    → (IsListed mid → IsErr result) → (result ≡ Err Failed → HasFailed before own mid new) → FailsAsPlanned own ⊥ old new result
+    → (IsPlannedToFail mid → IsErr result) → (result ≡ Err Failed → HasFailed before own mid new) → FailsAsPlanned own ⊥ old new result
 planned_after old mid new before own result past is full listed failed =
     let fails : result ≡ Err Failed → HasFailed (before_of old) own (past_move old) new =
     subst (λ (b : List (List Message)). result ≡ Err Failed → HasFailed b own (past_move old) new) is
@@ -22,9 +22,9 @@ planned_after old mid new before own result past is full listed failed =
       full =
           subst (λ (b : List (List Message)). IsFullBy (length b) own old → result ≡ Err Failed) is
           (subst (λ (m : Played). IsFullBy (length before) own m → result ≡ Err Failed) past full);
-      listed = subst (λ (m : Played). IsListed m → IsErr result) past listed;
+      listed = subst (λ (m : Played). IsPlannedToFail m → IsErr result) past listed;
       also = λ never. absurd never;
-      failed = λ told. elim (fails told) [ inl none ↦ inl none | inr behind ↦ inr (inl behind) ];
+      failed = λ told. elim (fails told) [ inl none ↦ inl none | inr subsequent ↦ inr (inl subsequent) ];
     }
 
 pub no_err : {T : Type 0} (x : T) (e : SourceError) → Ok x ≡ Err e → ⊥

@@ -7,31 +7,31 @@ use Rattle.std.proofs.lemmas.List.Elements.{filter-append}
 use Rattle.std.proofs.lemmas.Option.{slice_get_within, slice_get_past, slice_get-get_or, get_or_from_slice_get}
 use Rattle.dbl_base.specs.declared.lsn.Lsn.{Lsn}
 use Rattle.dbl_pgmsg.specs.declared.messages.Message.{Message}
-use Rattle.dbl_table.specs.declared.table.RawRow.{RawRow}
-use Rattle.dbl_history.specs.History.{RawCommit, History}
-use Rattle.dbl_honest.specs.Standings.{Reading, Standing}
-use Rattle.dbl_honest.specs.Growth.{Grows}
-use Rattle.dbl_honest.specs.Selected.{AreAnswered, Selects}
-use Rattle.dbl_honest.specs.Calls.{Moved, IsMarked, head_behind, head_of, IsHead, IsBegun, IsGone, HasReadAll}
-use Rattle.dbl_feed.specs.declared.logged.LogTable.{LogTable}
-use Rattle.dbl_feed.specs.declared.logged.Logged.{Logged}
-use Rattle.dbl_feed.specs.declared.logged.Logged.TheVariants.{Changes, Mark}
-use Rattle.dbl_feed.specs.declared.place.Place.{Place}
-use Rattle.dbl_feed.specs.Numbers.{lsn_of, commits_upto}
-use Rattle.dbl_feed.specs.TextRows.{TextRows, no_text_rows}
-use Rattle.dbl_commit.specs.Stated.{commits_of}
-use Rattle.dbl_honest.specs.Stated.{commits_after}
-use Rattle.dbl_feed.specs.Fair.{IsFairLog}
-use Rattle.dbl_feed.specs.Sent.{told_from, sent_after, index_of, told_at, IsPlaceIn}
-use Rattle.dbl_feed.specs.Histories.{text_rows_at, commits_from, history_of}
-use Rattle.dbl_feed.proofs.LogLemmas.{log_grows, log_marks, is_rising, length-history}
-use Rattle.dbl_feed.proofs.SentLemmas.{told_at-grown, none_left, reads_what_is_sent}
-use Rattle.dbl_feed.proofs.ReaderLemmas.{reads_all}
-use Rattle.dbl_feed.proofs.PlaceLemmas.{told_waiting}
-use Rattle.dbl_feed.proofs.FairLemmas.{fair_log_front, fit_log_front, answered_log_front}
+use Rattle.dbl_model_table.specs.declared.table.RawRow.{RawRow}
+use Rattle.dbl_source_model.specs.ModelHistory.History.{RawCommit, History}
+use Rattle.dbl_source_model.specs.Standings.{Reading, SourceState}
+use Rattle.dbl_source_model.specs.Growth.{Grows}
+use Rattle.dbl_source_model.specs.Selected.{AreAnswered, Selects}
+use Rattle.dbl_source_model.specs.Calls.{Moved, IsMarked, head_after, head_of, IsHead, IsBegun, IsGone, HasReadAll}
+use Rattle.dbl_source_log.specs.declared.logged.LogTable.{LogTable}
+use Rattle.dbl_source_log.specs.declared.logged.Logged.{Logged}
+use Rattle.dbl_source_log.specs.declared.logged.Logged.TheVariants.{Changes, Mark}
+use Rattle.dbl_source_log.specs.declared.place.Place.{Place}
+use Rattle.dbl_source_log.specs.Numbers.{lsn_of, commits_upto}
+use Rattle.dbl_source_log.specs.TextRows.{TextRows, no_text_rows}
+use Rattle.dbl_source_model.specs.ModelCommit.Stated.{commits_of}
+use Rattle.dbl_source_model.specs.Stated.{commits_after}
+use Rattle.dbl_source_log.specs.Fair.{IsFairLog}
+use Rattle.dbl_source_log.specs.Sent.{told_from, sent_after, index_of, told_at, IsPlaceIn}
+use Rattle.dbl_source_log.specs.Histories.{text_rows_at, commits_from, history_of}
+use Rattle.dbl_source_log.proofs.LogLemmas.{log_grows, log_marks, is_rising, length-history}
+use Rattle.dbl_source_log.proofs.SentLemmas.{told_at-grown, none_left, reads_what_is_sent}
+use Rattle.dbl_source_log.proofs.ReaderLemmas.{reads_all}
+use Rattle.dbl_source_log.proofs.PlaceLemmas.{told_waiting}
+use Rattle.dbl_source_log.proofs.FairLemmas.{fair_log_front, fit_log_front, answered_log_front}
 use Rattle.dbl_source.specs.declared.asked.Asked.{Asked}
 use Rattle.dbl_source.specs.Fairness.{IsFair}
-use Rattle.dbl_source.specs.Played.{reading_at, standing_at}
+use Rattle.dbl_source.specs.Played.{reading_at, played_state}
 
 -- the reader, where there is one, is at a place of the log
 abbrev pub IsAtPlace : List Logged → Option Place → Type 0
@@ -43,23 +43,23 @@ module _ (tables : List LogTable) (log : List Logged) (confirmed : Lsn) where
   reading_stays more (Some p) at = ap (λ (ms : List Message). let r : Reading = record { after = p.after; messages = ms } in Some r) (told_at-grown tables log more p (at p refl))
 
   -- other clients committed
-  pub moved : (more : List (List Message)) (place : Option Place) → IsAtPlace log place → Moved (standing_at tables log confirmed place) (standing_at tables (log ++ map Changes more) confirmed place)
+  pub moved : (more : List (List Message)) (place : Option Place) → IsAtPlace log place → Moved (played_state tables log confirmed place) (played_state tables (log ++ map Changes more) confirmed place)
   moved more place at = record { grows = log_grows tables log more; confirmed = refl; reading = reading_stays (map Changes more) place at }
 
   -- a mark was written
-  pub marked_at : (value : List ℕ) (place : Option Place) → IsAtPlace log place → IsMarked value (standing_at tables log confirmed place) (standing_at tables (log ++ Mark value ∷ []) confirmed place)
+  pub marked_at : (value : List ℕ) (place : Option Place) → IsAtPlace log place → IsMarked value (played_state tables log confirmed place) (played_state tables (log ++ Mark value ∷ []) confirmed place)
   marked_at value place at = record { marks = log_marks tables value log; confirmed = refl; reading = reading_stays (Mark value ∷ []) place at }
 
   -- nothing was committed
   pub grows_not : Grows (history_of tables log) (history_of tables log)
   grows_not = record { tables = refl; others = []; commits = sym (append-nil (history_of tables log).commits); are_others = tt; rising = is_rising tables log }
 
-  pub begun_behind : (after : Lsn) (place : Option Place) → IsBegun after (standing_at tables log confirmed place) (standing_at tables log confirmed (Some (record { after = after; commits = 0; begun = false; change = 0; table = 0 })))
-  begun_behind after place =
+  pub begun_after : (after : Lsn) (place : Option Place) → IsBegun after (played_state tables log confirmed place) (played_state tables log confirmed (Some (record { after = after; commits = 0; begun = false; change = 0; table = 0 })))
+  begun_after after place =
       let p : Place = record { after = after; commits = 0; begun = false; change = 0; table = 0 } in
       record { grows = grows_not; confirmed = refl; reading = ap (λ (ms : List Message). let r : Reading = record { after = after; messages = ms } in Some r) (told_waiting tables log p refl) }
 
-  pub gone_behind : (after : Lsn) (place : Option Place) → after.0 < confirmed.0 → IsGone after confirmed (standing_at tables log confirmed place) (standing_at tables log confirmed None)
+  pub gone_behind : (after : Lsn) (place : Option Place) → after.0 < confirmed.0 → IsGone after confirmed (played_state tables log confirmed place) (played_state tables log confirmed None)
   gone_behind after place lt = record { grows = grows_not; confirmed = refl; reading = refl; later = lt; dropped = omega arith }
 
   -- ---- all was read
@@ -74,7 +74,7 @@ module _ (tables : List LogTable) (log : List Logged) (confirmed : Lsn) where
       )
 
   -- a reader at the end of a fair log has read all that stood when the log was shorter
-  pub read_all : (s : Standing) (place : Place) → Grows s.history (history_of tables log) → IsFairLog tables log → IsPlaceIn log place → length log ≤ index_of place → HasReadAll s (standing_at tables log confirmed (Some place))
+  pub read_all : (s : SourceState) (place : Place) → Grows s.history (history_of tables log) → IsFairLog tables log → IsPlaceIn log place → length log ≤ index_of place → HasReadAll s (played_state tables log confirmed (Some place))
   read_all s place grows fair placed ends = record {
     each = λ reading is infos captured accepted. (
         let same : reading_at tables log place ≡ reading = cc in
@@ -102,16 +102,16 @@ module _ (tables : List LogTable) (log : List Logged) (confirmed : Lsn) where
   pub none_next : (place : Place) → length log ≤ index_of place → slice_get (sent_after tables place.after log) (length (told_at tables log place)) ≡ None
   none_next place ends =
       let first : ℕ = commits_upto place.after in
-      let behind : List Logged = drop first log in
-      let long : length behind ≤ place.commits = omega (arith, length-drop first log, ends) in
-      let told : told_at tables log place ≡ told_from tables (first + 1) behind [] =
-      none_left tables place log (told_from tables (first + 1) (take place.commits behind) []) long ∙ ap (λ (l : List Logged). told_from tables (first + 1) l []) (take_all place.commits behind long) in
-      let same : length (sent_after tables place.after log) ≡ length (told_at tables log place) = length-reverse (told_from tables (first + 1) behind []) ∙ sym (ap length told) in
+      let subsequent : List Logged = drop first log in
+      let long : length subsequent ≤ place.commits = omega (arith, length-drop first log, ends) in
+      let told : told_at tables log place ≡ told_from tables (first + 1) subsequent [] =
+      none_left tables place log (told_from tables (first + 1) (take place.commits subsequent) []) long ∙ ap (λ (l : List Logged). told_from tables (first + 1) l []) (take_all place.commits subsequent long) in
+      let same : length (sent_after tables place.after log) ≡ length (told_at tables log place) = length-reverse (told_from tables (first + 1) subsequent []) ∙ sym (ap length told) in
       slice_get_past (sent_after tables place.after log) (length (told_at tables log place)) (omega (arith, same))
 
   -- ---- the head
 
-  head_from : (rows : TextRows) (k : ℕ) (entries : List Logged) → head_behind (lsn_of k) (commits_from tables rows (k + 1) entries) ≡ lsn_of (k + length entries)
+  head_from : (rows : TextRows) (k : ℕ) (entries : List Logged) → head_after (lsn_of k) (commits_from tables rows (k + 1) entries) ≡ lsn_of (k + length entries)
   head_from rows k [] = let same : k ≡ k + length {A = Logged} [] = omega arith in ap lsn_of same
   head_from rows k (entry ∷ entries) =
       let same : (k + 1) + length entries ≡ k + length (entry ∷ entries) = omega arith in
@@ -120,7 +120,7 @@ module _ (tables : List LogTable) (log : List Logged) (confirmed : Lsn) where
   pub head_is : head_of (history_of tables log).commits ≡ lsn_of (length log)
   head_is = let same : 0 + length log ≡ length log = omega arith in head_from no_text_rows 0 log ∙ ap lsn_of same
 
-  pub is_head : (s : Standing) (place : Option Place) → Grows s.history (history_of tables log) → length s.history.commits ≤ length log → IsHead (lsn_of (length log)) s (standing_at tables log confirmed place)
+  pub is_head : (s : SourceState) (place : Option Place) → Grows s.history (history_of tables log) → length s.history.commits ≤ length log → IsHead (lsn_of (length log)) s (played_state tables log confirmed place)
   is_head s place grows le = record {
     place = length (history_of tables log).commits;
     not_before = omega (arith, le, length-history tables log);

@@ -3,13 +3,13 @@ use Rattle.std.proofs.Common.{◌≡◌, ◌<◌, ◌≤◌, Bool, false, List, 
 use Rattle.std.specs.Prelude.{if◌then◌else◌, is_some, option_map, unwrap_or}
 use Rattle.std.proofs.lemmas.Bool.{lt-ltb, le-ltb}
 use Rattle.dbl_base.specs.declared.lsn.Lsn.{Lsn}
-use Rattle.dbl_honest.specs.declared.started.Started.{Started}
-use Rattle.dbl_honest.specs.declared.started.Started.TheVariants.{Ready, Gone}
-use Rattle.dbl_honest.specs.Told.{is_ready}
-use Rattle.dbl_feed.specs.declared.logged.LogTable.{LogTable}
-use Rattle.dbl_feed.specs.declared.logged.Logged.{Logged}
-use Rattle.dbl_feed.specs.Sent.{told_at}
-use Rattle.dbl_feed.proofs.PlaceLemmas.{told_waiting}
+use Rattle.dbl_source_model.specs.declared.started.Started.{Started}
+use Rattle.dbl_source_model.specs.declared.started.Started.TheVariants.{Ready, Gone}
+use Rattle.dbl_source_model.specs.Trace.{is_ready}
+use Rattle.dbl_source_log.specs.declared.logged.LogTable.{LogTable}
+use Rattle.dbl_source_log.specs.declared.logged.Logged.{Logged}
+use Rattle.dbl_source_log.specs.Sent.{told_at}
+use Rattle.dbl_source_log.proofs.PlaceLemmas.{told_waiting}
 use Rattle.dbl_source.specs.Played.{Played, started_at, place_of}
 
 pub started_gone : (after : Lsn) (s : Played) → after.0 < s.confirmed.0 → started_at after s ≡ Gone s.confirmed

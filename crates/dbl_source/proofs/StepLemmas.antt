@@ -5,15 +5,15 @@ use Rattle.std.specs.BTreeSet.{BTreeSet}
 use Rattle.std.proofs.lemmas.Option.{slice_get-get_or}
 use Rattle.dbl_pgmsg.specs.declared.messages.Message.{Message}
 use Rattle.dbl_pgmsg.specs.Grammar.{Fits}
-use Rattle.dbl_feed.specs.declared.logged.LogTable.{LogTable}
-use Rattle.dbl_feed.specs.declared.logged.Logged.{Logged}
-use Rattle.dbl_feed.specs.declared.place.Place.{Place}
-use Rattle.dbl_feed.specs.Sent.{index_of, told_at, IsPlaceIn}
+use Rattle.dbl_source_log.specs.declared.logged.LogTable.{LogTable}
+use Rattle.dbl_source_log.specs.declared.logged.Logged.{Logged}
+use Rattle.dbl_source_log.specs.declared.place.Place.{Place}
+use Rattle.dbl_source_log.specs.Sent.{index_of, told_at, IsPlaceIn}
 use Rattle.dbl_source.specs.declared.asked.Asked.{Asked}
-use Rattle.dbl_reading.specs.declared.error.SourceError.{SourceError}
-use Rattle.dbl_reading.specs.declared.error.SourceError.TheVariants.{Failed, Memory}
-use Rattle.dbl_reading.specs.declared.reading.Step.{Step}
-use Rattle.dbl_reading.specs.Readings.{Describes, IsNext, HasUnfit, Steps}
+use Rattle.dbl_source_log.specs.declared.error.SourceError.{SourceError}
+use Rattle.dbl_source_log.specs.declared.error.SourceError.TheVariants.{Failed, Memory}
+use Rattle.dbl_source_log.specs.declared.reading.Step.{Step}
+use Rattle.dbl_source_log.specs.Readings.{Describes, IsNext, HasUnfit, Steps}
 use Rattle.dbl_source.specs.Played.{Played, with_fault}
 use Rattle.dbl_source.specs.Steps.{IsUnfit, IsPlayed, FailsToRead}
 use Rattle.dbl_source.proofs.PlayLemmas.{next_sent}

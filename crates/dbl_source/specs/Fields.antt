@@ -4,7 +4,7 @@ use Rattle.std.specs.Vec.Iter.{into_iter_items}
 use Rattle.dbl_source.specs.declared.scripted.ScriptedSource.TheInside.{Inside}
 use Rattle.dbl_source.specs.Played.{Played}
 
--- what is played by a source with these fields
+-- The played state of a source with these fields.
 abbrev pub played_of : Inside → Played
 played_of i = record {
   tables = i.tables.items;

@@ -1,57 +1,54 @@
--- What it comes to that a script is honest.
+-- Theorems about fair scripts.
 use Rattle.std.specs.Prelude.{◌≡◌, ◌+◌, ◌<◌, ◌≤◌, ℕ, Option, Some, List, length, map, slice_get}
 use Rattle.std.specs.List.{AllByRecursion}
 use Rattle.std.specs.Str.{IsUtf8}
 use Rattle.dbl_pgmsg.specs.declared.messages.Message.{Message}
 use Rattle.dbl_pgmsg.specs.Grammar.{Fits}
-use Rattle.dbl_table.specs.declared.row.Key.{Key}
-use Rattle.dbl_table.specs.declared.table.TableName.{TableName}
-use Rattle.dbl_table.specs.declared.table.RawTable.{RawTable}
-use Rattle.dbl_table.specs.declared.table.RawRow.{RawRow}
-use Rattle.dbl_history.specs.Ranges.{IsEntryInRange}
-use Rattle.dbl_history.specs.Fit.{IsFitHistory}
-use Rattle.dbl_feed.specs.Relations.{catalogue, all_relations}
-use Rattle.dbl_feed.specs.Histories.{history_of}
-use Rattle.dbl_feed.specs.Fair.{AreNamed, IsFairLog}
+use Rattle.dbl_model_table.specs.declared.row.Key.{Key}
+use Rattle.dbl_model_table.specs.declared.table.TableName.{TableName}
+use Rattle.dbl_model_table.specs.declared.table.RawTable.{RawTable}
+use Rattle.dbl_model_table.specs.declared.table.RawRow.{RawRow}
+use Rattle.dbl_source_model.specs.ModelHistory.Ranges.{IsEntryInRange}
+use Rattle.dbl_source_model.specs.ModelHistory.Fit.{IsFitHistory}
+use Rattle.dbl_source_log.specs.Relations.{catalogue, all_relations}
+use Rattle.dbl_source_log.specs.Histories.{history_of}
+use Rattle.dbl_source_log.specs.Fair.{AreNamed, IsFairLog}
 use Rattle.dbl_source.specs.declared.asked.Asked.{Asked}
 use Rattle.dbl_source.specs.declared.moves.Move.{Move}
-use Rattle.dbl_feed.specs.Numbers.{commit_limit}
+use Rattle.dbl_source_log.specs.Numbers.{commit_limit}
 use Rattle.dbl_source.specs.Fairness.{IsAnswered}
 use Rattle.dbl_source.specs.Played.{Played, keyed_table, new_played, committed, with_mark, next_rows, question_of, with_select}
 use Rattle.dbl_source.specs.Steps.{WasFair, AddedFirst}
 
--- A source that has been asked nothing was honest so far, whatever its script will bring, where its tables can be told apart and have
--- Relations with a spelling.
+-- A source before its first call was fair so far, for any script, if its tables have distinct names and Relations with an encoding.
 abbrev pub NewSourcesAreFair : Type 0
 NewSourcesAreFair = (raws : List RawTable) (moves : List Move) (rows : List (List RawRow)) (fails : List ℕ) → AllByRecursion IsEntryInRange (catalogue (map keyed_table raws)) → AreNamed (map keyed_table raws)
     → AllByRecursion Fits (all_relations (map keyed_table raws)) → WasFair (new_played raws moves rows fails)
 
--- each select so far returned when there were no more commits than now; so it is in every source that was made (SelectsHaveReturned)
+-- Whether each select so far returned when there were no more commits than now, as it has in every source that was made
+-- (SelectsHaveReturned).
 abbrev pub HaveReturned : Played → Type 0
 HaveReturned s = (n : ℕ) (question : Asked) → slice_get s.asked n ≡ Some question → question.upto ≤ length s.log
 
--- Where memory ran out: a source that would be honest with all the commits that a call was to add is honest with the first ones
--- of them, as long as each select so far returned before them.
+-- If memory runs out in a call, a source that all its commits would keep fair is fair with the first ones, if each select returned before
+-- them.
 abbrev pub FirstCommitsAreFair : Type 0
 FirstCommitsAreFair = (commits : List (List Message)) (old new : Played) → HaveReturned old → AddedFirst commits old new → WasFair (committed commits old) → WasFair new
 
--- A mark is no fault of a script: a source that was honest so far is so behind its own mark. So what keeps the log fair is asked of
--- other clients' commits alone.
+-- A watermark keeps a source fair.
 abbrev pub MarksKeepFair : Type 0
 MarksKeepFair = (value : List ℕ) (s : Played) → IsUtf8 value → length s.log + 1 < commit_limit → HaveReturned s → WasFair s → WasFair (with_mark value s)
 
--- What other clients commit keeps a source honest that was so, where its history stays fit and what was committed is such as a server
--- sends: the rows that its selects answered stay right.
+-- Other clients' commits keep a source fair if its history stays valid and they are such as a server sends.
 abbrev pub CommitsKeepFair : Type 0
 CommitsKeepFair = (commits : List (List Message)) (s : Played) → HaveReturned s → IsFitHistory (history_of s.tables (committed commits s).log) → IsFairLog s.tables (committed commits s).log → WasFair s → WasFair (committed commits s)
 
--- So does a select, where its rows besides are those of one position between its call and its return.
+-- A select keeps a source fair if its rows also are those of one position between its call and its return.
 abbrev pub SelectsKeepFair : Type 0
 SelectsKeepFair = (table : TableName) (above : Option Key) (limit from : ℕ) (inside : List (List Message)) (s : Played) → HaveReturned s → IsFitHistory (history_of s.tables (committed inside s).log) → IsFairLog s.tables (committed inside s).log
     → IsAnswered s.tables (committed inside s).log (question_of table above limit from (length s.log + length inside)) (next_rows s) → WasFair s → WasFair (with_select table above limit from inside s)
 
--- Each select so far has returned, of a source that has been asked nothing, and of one to which other clients' commits, a mark or a
--- select was added; no other call adds to its log or to its questions.
+-- Each select has returned in a source before its first call, and after adding other clients' commits, a watermark or a select.
 pub record SelectsHaveReturned : Type 0 where
   pub first : (raws : List RawTable) (moves : List Move) (rows : List (List RawRow)) (fails : List ℕ) → HaveReturned (new_played raws moves rows fails)
   pub commits : (commits : List (List Message)) (s : Played) → HaveReturned s → HaveReturned (committed commits s)

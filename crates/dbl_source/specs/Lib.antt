@@ -1,3 +1,7 @@
+pub use Rattle.dbl_source_log.specs as SourceLog
+pub use Rattle.dbl_source_model.specs as SourceModel
+pub use Rattle.dbl_source_model.specs.ModelCommit
+pub use Rattle.dbl_source_model.specs.ModelHistory
 pub mod Moves
 pub mod Played
 pub mod Fairness

@@ -1,36 +1,35 @@
--- A source that is played from a script: what it is, what it stands for, and what each call makes of it.
+-- A source that is played from a script: its fields, its state as a source, and the effect of each call.
 use Rattle.std.specs.Prelude.{◌≡◌, ◌⊎◌, ℕ, ◌+◌, ◌≤◌, nat_lt, max, Bool, true, false, if◌then◌else◌, Contains, Option, Some, None, option_map, option_and_then, unwrap_or, Result, Err, IsErr, slice_get, slice_index_or, List, [], ◌∷◌, ◌++◌, length, map, drop}
 use Rattle.dbl_base.specs.declared.lsn.Lsn.{Lsn}
-use Rattle.dbl_base.specs.Streams.{raised}
+use Rattle.dbl_base.specs.Streams.{incremented}
 use Rattle.dbl_base.specs.Memory.{Plan, new_plan}
 use Rattle.dbl_pgmsg.specs.declared.messages.Message.{Message}
 use Rattle.dbl_pgmsg.specs.Grammar.{spelling}
-use Rattle.dbl_table.specs.declared.row.Key.{Key}
-use Rattle.dbl_table.specs.declared.table.TableName.{TableName}
-use Rattle.dbl_table.specs.declared.table.RawTable.{RawTable}
-use Rattle.dbl_table.specs.declared.table.RawRow.{RawRow}
-use Rattle.dbl_honest.specs.declared.started.Started.{Started}
-use Rattle.dbl_honest.specs.declared.started.Started.TheVariants.{Ready, Gone}
-use Rattle.dbl_honest.specs.Standings.{Reading, Standing}
-use Rattle.dbl_honest.specs.Told.{Answer, Described, Head, Began, Read, Selected, Done, Told}
-use Rattle.dbl_feed.specs.declared.logged.LogTable.{LogTable}
-use Rattle.dbl_feed.specs.declared.logged.Logged.{Logged}
-use Rattle.dbl_feed.specs.declared.logged.Logged.TheVariants.{Changes, Mark}
-use Rattle.dbl_feed.specs.declared.place.Place.{Place}
-use Rattle.dbl_feed.specs.Numbers.{lsn_of}
-use Rattle.dbl_feed.specs.Sent.{told_at}
-use Rattle.dbl_feed.specs.Histories.{history_of}
+use Rattle.dbl_model_table.specs.declared.row.Key.{Key}
+use Rattle.dbl_model_table.specs.declared.table.TableName.{TableName}
+use Rattle.dbl_model_table.specs.declared.table.RawTable.{RawTable}
+use Rattle.dbl_model_table.specs.declared.table.RawRow.{RawRow}
+use Rattle.dbl_source_model.specs.declared.started.Started.{Started}
+use Rattle.dbl_source_model.specs.declared.started.Started.TheVariants.{Ready, Gone}
+use Rattle.dbl_source_model.specs.Standings.{Reading, SourceState}
+use Rattle.dbl_source_model.specs.Trace.{Answer, Described, Head, Began, Read, Selected, Done, Trace}
+use Rattle.dbl_source_log.specs.declared.logged.LogTable.{LogTable}
+use Rattle.dbl_source_log.specs.declared.logged.Logged.{Logged}
+use Rattle.dbl_source_log.specs.declared.logged.Logged.TheVariants.{Changes, Mark}
+use Rattle.dbl_source_log.specs.declared.place.Place.{Place}
+use Rattle.dbl_source_log.specs.Numbers.{lsn_of}
+use Rattle.dbl_source_log.specs.Sent.{told_at}
+use Rattle.dbl_source_log.specs.Histories.{history_of}
 use Rattle.dbl_source.specs.declared.asked.Asked.{Asked}
 use Rattle.dbl_source.specs.declared.asked.Last.{Last}
 use Rattle.dbl_source.specs.declared.asked.Last.TheVariants as answers
 use Rattle.dbl_source.specs.declared.moves.Move.{Move}
-use Rattle.dbl_reading.specs.declared.error.SourceError.{SourceError}
-use Rattle.dbl_reading.specs.declared.error.SourceError.TheVariants.{Failed}
-use Rattle.dbl_feed.specs.Numbers.{commit_limit}
+use Rattle.dbl_source_log.specs.declared.error.SourceError.{SourceError}
+use Rattle.dbl_source_log.specs.declared.error.SourceError.TheVariants.{Failed}
+use Rattle.dbl_source_log.specs.Numbers.{commit_limit}
 
--- The script's tables, what is left of its moves, its rows for each select; the selects so far; the log that was committed, up to
--- where it was confirmed, and where its reader is; which calls are to fail; what was answered last; whether the last read
--- since the last start answered that nothing is left; whether it can be used.
+-- A played source: the script's tables, remaining moves and rows; the selects so far; the log, confirmed position and reader; the planned
+-- failures; the last answer; and whether the last read found the end and the source can be used.
 pub record Played : Type 0 where
   pub tables : List LogTable
   pub moves : List Move
@@ -44,11 +43,11 @@ pub record Played : Type 0 where
   pub ended : Bool
   pub live : Bool
 
--- a table whose replica identity is its primary key
+-- A table whose replica identity is its primary key.
 abbrev pub keyed_table : RawTable → LogTable
 keyed_table raw = record { raw = raw; full = false }
 
--- before the first call
+-- The state before the first call.
 abbrev pub new_played : List RawTable → List Move → List (List RawRow) → List ℕ → Played
 new_played tables moves rows fails = record {
   tables = map keyed_table tables;
@@ -64,126 +63,137 @@ new_played tables moves rows fails = record {
   live = true;
 }
 
--- ---- what it stands for
+-- ---- its state as a source
 
+-- The messages read by a reader at this position.
 abbrev pub reading_at : List LogTable → List Logged → Place → Reading
 reading_at tables log place = record { after = place.after; messages = told_at tables log place }
 
-abbrev pub standing_at : List LogTable → List Logged → Lsn → Option Place → Standing
-standing_at tables log confirmed place = record { history = history_of tables log; confirmed = confirmed; reading = option_map (reading_at tables log) place }
+-- The state of a source with this log, confirmed position and reader.
+abbrev pub played_state : List LogTable → List Logged → Lsn → Option Place → SourceState
+played_state tables log confirmed place = record { history = history_of tables log; confirmed = confirmed; reading = option_map (reading_at tables log) place }
 
-abbrev pub standing_of : Played → Standing
-standing_of s = standing_at s.tables s.log s.confirmed s.place
+-- The state as a source.
+abbrev pub standing_of : Played → SourceState
+standing_of s = played_state s.tables s.log s.confirmed s.place
 
--- the messages of the last start's reader; none where there is no reader
-abbrev pub messages_of : Played → List Message
-messages_of s = unwrap_or (option_map (told_at s.tables s.log) s.place) []
+-- The messages read since the last start, none if no reading is in progress.
+abbrev pub played_messages : Played → List Message
+played_messages s = unwrap_or (option_map (told_at s.tables s.log) s.place) []
 
--- ---- what it tells
+-- ---- its reports
 
+-- The entry of the table at an index.
 abbrev pub entry_at : List LogTable → Option ℕ → Option RawTable
 entry_at tables place = option_map (λ table. table.raw) (option_and_then (slice_get tables) place)
 
+-- The last answer as the source reports it.
 abbrev pub answer_of : Played → Last → Answer
 answer_of s (answers.Described place) = Described (entry_at s.tables place)
 answer_of s (answers.Head lsn) = Head lsn
 answer_of s (answers.Began started) = Began started
 answer_of s answers.Nothing = Read None
-answer_of s answers.Message = Read (slice_get (map spelling (messages_of s)) 0)
+answer_of s answers.Message = Read (slice_get (map spelling (played_messages s)) 0)
 answer_of s (answers.Rows number) = Selected (slice_index_or s.rows number [])
 answer_of s answers.Done = Done
 
-abbrev pub told_of : Played → Told
-told_of s = record { answer = answer_of s s.last; read = map spelling (messages_of s) }
+-- The last answer and the bytes of the messages read, as the source reports them.
+abbrev pub trace_of : Played → Trace
+trace_of s = record { answer = answer_of s s.last; read = map spelling (played_messages s) }
 
--- ---- what a call makes of it
+-- ---- the effect of a call
 
--- what other clients commit before the next call, and inside of it; nothing behind the script's moves
+-- The commits of other clients before the next call, none after the script's moves.
 abbrev pub before_of : Played → List (List Message)
 before_of s = unwrap_or (option_map (λ move. move.before) (slice_get s.moves 0)) []
 
+-- The commits of other clients inside of the next call, none after the script's moves.
 abbrev pub inside_of : Played → List (List Message)
 inside_of s = unwrap_or (option_map (λ move. move.inside) (slice_get s.moves 0)) []
 
--- the next call is one that is to fail
-abbrev pub IsListed : Played → Type 0
-IsListed s = Contains s.plan.planned (raised s.plan.calls)
+-- Whether the next call is planned to fail.
+abbrev pub IsPlannedToFail : Played → Type 0
+IsPlannedToFail s = Contains s.plan.planned (incremented s.plan.calls)
 
--- With so many commits before a call, and so many of its own, the history would have 2^40 commits. A call that is to fail has none
--- of its own.
+-- Whether the history would reach 2^40 commits with those before a call and of its own. A call that is planned to fail has none of its own.
 abbrev pub IsFullBy : ℕ → ℕ → Played → Type 0
-IsFullBy before own s = (commit_limit ≤ length s.log + before) ⊎ ((¬ IsListed s) × (commit_limit ≤ length s.log + before + own))
+IsFullBy before own s = (commit_limit ≤ length s.log + before) ⊎ ((¬ IsPlannedToFail s) × (commit_limit ≤ length s.log + before + own))
 
--- so it is with what other clients commit before the next call
+-- Whether the history would reach 2^40 commits with those of other clients before the next call.
 abbrev pub IsFull : ℕ → Played → Type 0
 IsFull own s = IsFullBy (length (before_of s)) own s
 
--- a move is past, and the source can't be used until it answers
+-- The state after a move is used up; the source can't be used until it answers.
 abbrev pub past_move : Played → Played
 past_move s = record s { moves = drop 1 s.moves; live = false }
 
--- a call is counted
-abbrev pub counted : Played → Played
-counted s = record s { plan = record s.plan { calls = raised s.plan.calls } }
+-- The state after a call is counted.
+abbrev pub with_counted_call : Played → Played
+with_counted_call s = record s { plan = record s.plan { calls = incremented s.plan.calls } }
 
--- other clients' commits stand in the log
+-- The state after other clients' commits.
 abbrev pub committed : List (List Message) → Played → Played
 committed commits s = record s { log = s.log ++ map Changes commits }
 
--- a call began
+-- The state after a call begins.
 abbrev pub called : Played → Played
-called s = counted (past_move s)
+called s = with_counted_call (past_move s)
 
--- and what other clients commit before it was committed
-abbrev pub released : Played → Played
-released s = committed (before_of s) (called s)
+-- The state after a call begins and other clients' commits before it.
+abbrev pub with_release : Played → Played
+with_release s = committed (before_of s) (called s)
 
--- a call that fails counts one fault
+-- The state after a call that fails counts a fault.
 abbrev pub with_fault : Played → Played
-with_fault s = record s { plan = record s.plan { faults = raised s.plan.faults } }
+with_fault s = record s { plan = record s.plan { faults = incremented s.plan.faults } }
 
--- A call with so many commits of its own fails exactly where it has to: with nothing committed where there is no room, and else
--- behind the commits before it, where it is to fail and where it has more that it can't do. Then it has no effect of its own.
+-- Whether a call fails exactly if it has to: with nothing committed if the history is full, otherwise after the commits before it, as
+-- planned or for the further reason `more`.
 pub record FailsAsPlanned {T : Type 0} (own : ℕ) (more : Type 0) (old new : Played) (result : Result T SourceError) : Type 0 where
   pub full : IsFull own old → result ≡ Err Failed
-  pub listed : IsListed old → IsErr result
+  pub listed : IsPlannedToFail old → IsErr result
   pub also : more → IsErr result
   pub failed : result ≡ Err Failed
-      → (IsFull own old × (new ≡ with_fault (called old))) ⊎ (IsListed old × (¬ IsFull own old) × (new ≡ with_fault (released old))) ⊎ (more × (¬ IsListed old) × (¬ IsFull own old) × (new ≡ with_fault (released old)))
+      → (IsFull own old × (new ≡ with_fault (called old))) ⊎ (IsPlannedToFail old × (¬ IsFull own old) × (new ≡ with_fault (with_release old))) ⊎ (more × (¬ IsPlannedToFail old) × (¬ IsFull own old) × (new ≡ with_fault (with_release old)))
 
--- it answered
+-- The state after an answer.
 abbrev pub with_answer : Last → Played → Played
 with_answer what s = record s { last = what; live = true }
 
--- the mark stands in the log
+-- The state after a watermark is written.
 abbrev pub with_mark : List ℕ → Played → Played
 with_mark value s = with_answer answers.Done (record s { log = s.log ++ Mark value ∷ [] })
 
+-- The state after a position is confirmed.
 abbrev pub with_confirmed : Lsn → Played → Played
 with_confirmed upto s = with_answer answers.Done (record s { confirmed = record { 0 = max s.confirmed.0 upto.0 } })
 
--- what a start answers: the log is gone exactly below the confirmed position
+-- The answer of a start: the log is gone if and only if it is below the confirmed position.
 abbrev pub started_at : Lsn → Played → Started
 started_at after s = if nat_lt after.0 s.confirmed.0 then Gone s.confirmed else Ready
 
+-- The reader's position after a start.
 abbrev pub place_of : Lsn → Started → Option Place
 place_of after Ready = Some (record { after = after; commits = 0; begun = false; change = 0; table = 0 })
 place_of after (Gone first) = None
 
+-- The state after a start.
 abbrev pub with_start : Lsn → Played → Played
 with_start after s = with_answer (answers.Began (started_at after s)) (record s { place = place_of after (started_at after s); ended = false })
 
+-- The state after the head is answered.
 abbrev pub with_head : Played → Played
 with_head s = with_answer (answers.Head (lsn_of (length s.log))) s
 
--- the rows of the next select; none behind the script's
+-- The rows of the next select, none after the script's end.
 abbrev pub next_rows : Played → List RawRow
 next_rows s = slice_index_or s.rows (length s.asked) []
 
+-- The arguments of a select, and the numbers of commits at its call and at its return.
 abbrev pub question_of : TableName → Option Key → ℕ → ℕ → ℕ → Asked
 question_of table above limit from upto = record { table = table; above = above; limit = limit; from = from; upto = upto }
 
--- a select that began with `from` commits: its rows were taken, and then other clients committed
+-- The state after a select that began with `from` commits: its rows were taken, and then other clients committed.
 abbrev pub with_select : TableName → Option Key → ℕ → ℕ → List (List Message) → Played → Played
 with_select table above limit from inside s =
     with_answer (answers.Rows (length s.asked))

@@ -2,11 +2,11 @@ ghost use Rattle.std.specs.Prelude.{◌≡◌, [], map, option_copied, IfOk, sli
 ghost use Rattle.dbl_source.specs.Played.{question_of};
 
 use dbl_base::Lsn;
-use dbl_honest::Started;
-use dbl_table::{Key, RawRow, TableName};
+use dbl_model_table::{Key, RawRow, TableName};
+use dbl_source_model::Started;
 use std::alloc::{AllocError, Global};
 
-// What a select asked for, and how many commits there were at its call and at its return.
+// The arguments of a select, and the numbers of commits at its call and at its return.
 #[derive(Debug, Drop)]
 pub(crate) struct Asked {
     pub table: TableName,
@@ -16,8 +16,8 @@ pub(crate) struct Asked {
     pub upto: usize,
 }
 
-// What was answered last: an entry by the place of its table, a message as the newest that was read, rows by their place in the
-// script.
+// The last answer: an entry by its table's index, a message as the newest one read, rows by their
+// index in the script.
 #[derive(Clone, Copy, Debug, PartialEq, Eq)]
 pub(crate) enum Last {
     Described(Option<usize>),
@@ -29,7 +29,7 @@ pub(crate) enum Last {
     Done,
 }
 
-/// The rows with this number in the script, and none behind them.
+/// The rows with this number in the script, none after its end.
 pub(crate) fn rows_at(
     alloc: Global,
     rows: &Vec<Vec<RawRow>>,
@@ -56,7 +56,7 @@ fn key_of(alloc: Global, above: Option<&Key>) -> Result<Option<Key>, AllocError>
     }
 }
 
-/// A question that a select asked.
+/// The arguments of a select as a record.
 pub(crate) fn question(
     alloc: Global,
     table: &TableName,

@@ -2,13 +2,13 @@
 
 ghost use Rattle.std.specs.Prelude.{◌≡◌, [], map, IfOk};
 ghost use Rattle.std.specs.List.{position_from};
-ghost use Rattle.dbl_table.specs.Tables.{same_name};
-ghost use Rattle.dbl_history.specs.History.{entry_of};
-ghost use Rattle.dbl_feed.specs.Histories.{history_of};
+ghost use Rattle.dbl_model_table.specs.Tables.{same_name};
+ghost use Rattle.dbl_source_model.specs.ModelHistory.History.{entry_of};
+ghost use Rattle.dbl_source_log.specs.Histories.{history_of};
 ghost use Rattle.dbl_source.specs.Played.{keyed_table, entry_at};
 
-use dbl_feed::LogTable;
-use dbl_table::{RawTable, TableName};
+use dbl_model_table::{RawTable, TableName};
+use dbl_source_log::LogTable;
 use std::alloc::{AllocError, Global};
 
 /// The tables of a log, whose replica identity is their primary key.
@@ -31,7 +31,7 @@ fn place_named(tables: &[LogTable], name: &TableName) -> Option<usize>
     tables.iter().position(|table| table.raw.name == *name)
 }
 
-/// The place of the table of this name. The table of the watermarks is none of the catalogue's.
+/// The index of the table of this name. The watermark table isn't in the catalogue.
 pub(crate) fn place_of(tables: &[LogTable], name: &TableName) -> Option<usize>
     ensures { entry_at tables.now result ≡ entry_of (history_of tables.now []) name.now }
 {
@@ -41,7 +41,7 @@ pub(crate) fn place_of(tables: &[LogTable], name: &TableName) -> Option<usize>
     place_named(tables, name)
 }
 
-/// The catalogue's entry of the table at this place.
+/// The catalogue's entry of the table at this index.
 pub(crate) fn entry_at(
     alloc: Global,
     tables: &[LogTable],

@@ -1,4 +1,4 @@
-//! When a played source is honest. The functions do nothing: their contracts are the laws.
+//! Theorems about when a played source conforms, as contracts of empty functions.
 
 ghost use Rattle.std.specs.Prelude.{◌↔◌};
 ghost use Rattle.dbl_source.specs.Played.{Played};
@@ -9,43 +9,44 @@ ghost use Rattle.dbl_source.specs.FairExample.{FairSourcesStand};
 
 use crate::{ScriptedSource, Source};
 
-/// A played source is honest exactly where its script was fair so far.
+/// A played source conforms if and only if its script was fair so far.
 pub fn fair_scripts_are_honest()
     ensures { (source : Played) → ⟦<ScriptedSource as Source>⟧.honest source ↔ WasFair source }
 {}
 
-/// A played source that has been asked nothing was honest so far.
+/// A played source before its first call was fair so far.
 pub fn new_sources_are_fair()
     ensures { NewSourcesAreFair }
 {}
 
-/// A played source that would be honest with all the commits of a call is so with the first ones, where memory runs out.
+/// If memory runs out in a call, a source that all its commits would keep fair is fair with the
+/// first ones.
 pub fn first_commits_are_fair()
     ensures { FirstCommitsAreFair }
 {}
 
-/// A mark keeps a played source honest: its history stays fit, and the rows that selects answered stay right.
+/// A watermark keeps a played source fair.
 pub fn marks_keep_fair()
     ensures { MarksKeepFair }
 {}
 
-/// Other clients' commits keep a played source honest, where its history stays fit and they are such as a server sends.
+/// Other clients' commits that are such as a server sends keep a valid source fair.
 pub fn commits_keep_fair()
     ensures { CommitsKeepFair }
 {}
 
-/// So does a select, where its rows besides are those of one position between its call and its return.
+/// A select whose rows are of one position keeps a played source fair.
 pub fn selects_keep_fair()
     ensures { SelectsKeepFair }
 {}
 
-/// In a source that was made each select has returned, as these laws ask: it is so at first, and what is added leaves it so.
+/// Each select of a played source has returned.
 pub fn selects_have_returned()
     ensures { SelectsHaveReturned }
 {}
 
-/// Played sources behind other clients' commits, a mark, a select and all reads were honest so far, whichever position of the select
-/// its rows are of; and one behind another select, whose rows are of an earlier position, wasn't.
+/// A played source is fair for each position of its select, and isn't with rows of an earlier
+/// position.
 pub fn fair_sources_stand()
     ensures { FairSourcesStand }
 {}

@@ -1,4 +1,5 @@
-//! Sources of changes: what a connector asks of a database, and a source that plays other clients' commits from a script.
+//! Sources of changes: what a connector requires of a database, and a source that plays other
+//! clients' commits from a script.
 #![tactic(auto)]
 
 mod asked;
@@ -9,8 +10,8 @@ mod playing;
 mod scripted;
 mod source;
 
-pub use dbl_honest::Started;
-pub use dbl_reading::{SourceError, Step, next_step, remember};
+pub use dbl_source_log::{SourceError, Step, next_step, remember};
+pub use dbl_source_model::Started;
 pub use laws::{
     commits_keep_fair, fair_scripts_are_honest, fair_sources_stand, first_commits_are_fair,
     marks_keep_fair, new_sources_are_fair, selects_have_returned, selects_keep_fair,

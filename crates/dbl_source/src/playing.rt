@@ -1,40 +1,39 @@
-//! How a source plays its script: what a call begins with, what it does and what it answers. How each function ends is told by
-//! the state that it leads to; what a source promises of its calls is told of those of the trait.
+//! How a source plays its script: the begin of a call, its effect and its answer. The contracts of
+//! these functions name the resulting state.
 
 ghost use Rattle.std.specs.Prelude.{◌≡◌, ◌+◌, ◌≤◌, ◌<◌, ◌++◌, ◌∷◌, [], false, length, max, Option, option_copied, Err};
 ghost use Rattle.std.specs.Prelude.{IsErr, IfOk, IfErr, OnOk, OnErr};
-ghost use Rattle.dbl_history.specs.History.{entry_of};
-ghost use Rattle.dbl_feed.specs.declared.logged.Logged.TheVariants.{Mark};
-ghost use Rattle.dbl_feed.specs.Histories.{history_of};
-ghost use Rattle.dbl_feed.specs.Numbers.{lsn_of, commit_limit};
-ghost use Rattle.dbl_reading.specs.declared.error.SourceError.TheVariants.{Failed, Memory};
-ghost use Rattle.dbl_source.specs.Exits.{Plays, AnswersEntry, AnswersHead, AnswersStart, HasRead, AnswersRead, AnswersRows};
+ghost use Rattle.dbl_source_model.specs.ModelHistory.History.{entry_of};
+ghost use Rattle.dbl_source_log.specs.declared.logged.Logged.TheVariants.{Mark};
+ghost use Rattle.dbl_source_log.specs.Histories.{history_of};
+ghost use Rattle.dbl_source_log.specs.Numbers.{lsn_of, commit_limit};
+ghost use Rattle.dbl_source_log.specs.declared.error.SourceError.TheVariants.{Failed, Memory};
+ghost use Rattle.dbl_source.specs.Exits.{Plays, AnswersPlayedEntry, AnswersPlayedHead, AnswersPlayedStart, HasReadNext, AnswersRead, AnswersPlayedRows};
 ghost use Rattle.dbl_source.specs.Moves.{HasRoom};
-ghost use Rattle.dbl_source.specs.Played.{entry_at, before_of, inside_of, IsListed, IsFullBy, past_move, counted};
-ghost use Rattle.dbl_source.specs.Played.{committed, released, with_fault, FailsAsPlanned, with_answer, with_mark};
+ghost use Rattle.dbl_source.specs.Played.{entry_at, before_of, inside_of, IsPlannedToFail, IsFullBy, past_move, with_counted_call};
+ghost use Rattle.dbl_source.specs.Played.{committed, with_release, with_fault, FailsAsPlanned, with_answer, with_mark};
 ghost use Rattle.dbl_source.specs.Played.{with_confirmed, started_at, place_of, next_rows, question_of};
-ghost use Rattle.dbl_source.specs.Steps.{IsKept, IsBehind, AddedFirst, HasFailed, IsUnfit, ReadsOn, IsReadBy, FailsToRead};
+ghost use Rattle.dbl_source.specs.Steps.{KeepsPlayed, HasPlayed, AddedFirst, HasFailed, IsUnfit, ReadsNextMessage, IsReadBy, FailsToRead};
 
 use crate::asked::{Last, question, rows_at};
 use crate::catalogue::{entry_at, place_of};
 use crate::moves::{Move, append, has_room, no_move};
 use crate::{ScriptedSource, SourceError};
 use dbl_base::{Bytes, Lsn, Seq, Text};
-use dbl_feed::{Logged, Place, commits_upto, lsn_of};
-use dbl_honest::Started;
+use dbl_model_table::{Key, RawRow, RawTable, TableName};
 use dbl_pgmsg::Message;
-use dbl_reading::{Step, next_step, remember};
-use dbl_table::{Key, RawRow, RawTable, TableName};
+use dbl_source_log::{Logged, Place, Step, commits_upto, lsn_of, next_step, remember};
+use dbl_source_model::Started;
 
 impl ScriptedSource {
-    // ---- a call begins and ends
+    // ---- begin and end of a call
 
-    // What other clients commit at the next call. The source can't be used until it answers.
+    // The commits of other clients at the next call. The source can't be used until it answers.
     fn next_move(&mut self) -> Move
         ensures before { result.before ≡ before_of self.old }
         ensures inside { result.inside ≡ inside_of self.old }
         ensures past { self.new ≡ past_move self.old }
-        ensures was { IsKept self.old }
+        ensures was { KeepsPlayed self.old }
     {
         self.live = false;
         match self.moves.next() {
@@ -43,11 +42,11 @@ impl ScriptedSource {
         }
     }
 
-    // Other clients commit. Beside a mark, this alone makes the log grow.
+    // Appends other clients' commits. Besides a watermark, only this makes the log grow.
     fn commit(&mut self, commits: Vec<Seq<Message>>) -> Result<(), SourceError>
         requires { length self.old.log + length commits.items < commit_limit }
         ensures ok { OnOk result (self.new ≡ committed commits.items self.old) }
-        ensures err { OnErr result (IsBehind commits.items self.old.log self.new.log) }
+        ensures err { OnErr result (HasPlayed commits.items self.old.log self.new.log) }
         ensures kept { OnErr result (self.new ≡ record self.old { log = self.new.log }) }
         ensures memory { IfErr result (λ e. e ≡ Memory) }
     {
@@ -55,12 +54,13 @@ impl ScriptedSource {
         Ok(())
     }
 
-    // The call is counted, and the commits before it stand in the log; or it fails, as planned or for want of room.
+    // Counts the call and appends the commits before it to the log; or fails, as planned or if the
+    // history is full.
     fn begin(&mut self, before: Vec<Seq<Message>>, own: usize) -> Result<(), SourceError>
-        ensures ok { OnOk result (self.new ≡ committed before.items (counted self.old)) }
+        ensures ok { OnOk result (self.new ≡ committed before.items (with_counted_call self.old)) }
         ensures room { OnOk result (HasRoom (length self.old.log) (length before.items) own) }
         ensures full { IsFullBy (length before.items) own self.old → result ≡ Err Failed }
-        ensures listed { IsListed self.old → IsErr result }
+        ensures listed { IsPlannedToFail self.old → IsErr result }
         ensures failed { result ≡ Err Failed → HasFailed before.items own self.old self.new }
         ensures memory { result ≡ Err Memory → AddedFirst before.items self.old self.new }
         ensures later { self.old.plan.faults ≤ self.new.plan.faults }
@@ -81,12 +81,12 @@ impl ScriptedSource {
         }
     }
 
-    // A call begins that adds so many commits of its own to the log.
+    // Begins a call that adds this number of commits of its own to the log.
     fn release(&mut self, own: usize) -> Result<(), SourceError>
-        ensures ok { OnOk result (self.new ≡ released self.old) }
+        ensures ok { OnOk result (self.new ≡ with_release self.old) }
         ensures room { OnOk result
             (HasRoom (length self.old.log) (length (before_of self.old)) own) }
-        ensures was { IsKept self.old }
+        ensures was { KeepsPlayed self.old }
         ensures planned { FailsAsPlanned own ⊥ self.old self.new result }
         ensures memory { result ≡ Err Memory
             → AddedFirst (before_of self.old) (past_move self.old) self.new }
@@ -96,17 +96,17 @@ impl ScriptedSource {
         self.begin(before.into_items(), own)
     }
 
-    // A select begins. Its rows are the script's, and its places in the log are counted, so that they are taken as well behind the
-    // commits that come inside of it.
+    // Begins a select, which takes its rows from the script. Positions are numbers of commits, so
+    // that rows may also be of positions after the commits inside of it.
     fn release_around(&mut self) -> Result<(), SourceError>
         ensures ok { OnOk result
-            (self.new ≡ committed (inside_of self.old) (released self.old)) }
-        ensures was { IsKept self.old }
+            (self.new ≡ committed (inside_of self.old) (with_release self.old)) }
+        ensures was { KeepsPlayed self.old }
         ensures planned { FailsAsPlanned (length (inside_of self.old)) ⊥
             self.old self.new result }
         ensures memory { result ≡ Err Memory
             → AddedFirst (before_of self.old ++ inside_of self.old) (past_move self.old) self.new }
-        ensures listed { IsListed self.old → result ≡ Err Memory
+        ensures listed { IsPlannedToFail self.old → result ≡ Err Memory
             → AddedFirst (before_of self.old) (past_move self.old) self.new }
         ensures later { self.old.plan.faults ≤ self.new.plan.faults }
     {
@@ -116,7 +116,7 @@ impl ScriptedSource {
         self.commit(inside)
     }
 
-    // It answered.
+    // Records the answer.
     fn answer(&mut self, last: Last)
         ensures { self.new ≡ with_answer last self.old }
     {
@@ -124,7 +124,7 @@ impl ScriptedSource {
         self.live = true;
     }
 
-    // It answered a read, with a message or at the end.
+    // Records the answer of a read: a message, or the end.
     fn answer_read(&mut self, last: Last, ended: bool)
         ensures { self.new ≡ with_answer last (record self.old { ended = ended }) }
     {
@@ -133,7 +133,7 @@ impl ScriptedSource {
         self.live = true;
     }
 
-    // ---- what it does
+    // ---- effects
 
     fn find(&self, name: &TableName) -> Option<usize>
         ensures { entry_at self.now.tables result
@@ -155,7 +155,7 @@ impl ScriptedSource {
         lsn_of(self.log.len() as u64)
     }
 
-    // The log is gone exactly below the confirmed position. Takes no memory.
+    // The log is gone if and only if it is below the confirmed position. Takes no memory.
     fn begin_reading(&mut self, after: Lsn) -> Started
         ensures told { result ≡ started_at after self.old }
         ensures place { self.new ≡
@@ -179,9 +179,9 @@ impl ScriptedSource {
         Started::Ready
     }
 
-    // The message was read, and the reader stands behind it.
+    // Records that the message was read, and moves the reader after it.
     fn advance(&mut self, next: Step) -> Result<Bytes, SourceError>
-        requires { ReadsOn self.old next }
+        requires { ReadsNextMessage self.old next }
         ensures ok { IfOk result (λ bytes. IsReadBy self.old self.new bytes) }
         ensures err { IfErr result (λ e. (e ≡ Memory) × (self.new ≡ self.old)) }
         ensures later { self.old.plan.faults ≤ self.new.plan.faults }
@@ -196,7 +196,7 @@ impl ScriptedSource {
         Ok(bytes)
     }
 
-    // A message that has no spelling counts a fault.
+    // Counts a fault if the message has no encoding.
     fn note_unread(&mut self, error: SourceError) -> SourceError
         ensures same { result ≡ error }
         ensures failed { error ≡ Failed → self.new ≡ with_fault self.old }
@@ -209,9 +209,9 @@ impl ScriptedSource {
         }
     }
 
-    // What is read next, where there is something.
+    // The bytes of the next message, if there is one.
     fn next_bytes(&mut self) -> Result<Option<Bytes>, SourceError>
-        ensures read { IfOk result (λ read. HasRead self.old self.new read) }
+        ensures read { IfOk result (λ read. HasReadNext self.old self.new read) }
         ensures err { IfErr result (FailsToRead self.old self.new) }
         ensures later { self.old.plan.faults ≤ self.new.plan.faults }
     {
@@ -236,7 +236,7 @@ impl ScriptedSource {
         }
     }
 
-    // How many commits there are.
+    // The number of commits.
     fn count(&self) -> usize
         ensures { result ≡ length self.now.log }
     {
@@ -250,7 +250,7 @@ impl ScriptedSource {
         self.asked.len()
     }
 
-    // The rows of the script for the next select.
+    // The script's rows for the next select.
     fn copy_rows(&self) -> Result<Vec<RawRow>, SourceError>
         ensures ok { IfOk result (λ rows. rows.items ≡ next_rows self.now) }
         ensures err { IfErr result (λ e. e ≡ Memory) }
@@ -258,7 +258,7 @@ impl ScriptedSource {
         Ok(rows_at(self.alloc, &self.rows, self.asked.len())?)
     }
 
-    // The question is kept. The select returns now, so that its last place is the log's end.
+    // Records the arguments. The select returns now, so that its last position is the log's end.
     fn ask(
         &mut self,
         table: &TableName,
@@ -278,7 +278,7 @@ impl ScriptedSource {
         Ok(())
     }
 
-    // A commit of its own.
+    // Appends the watermark as a commit of its own.
     fn write_mark(&mut self, value: &Text) -> Result<(), SourceError>
         requires { length self.old.log + 1 < commit_limit }
         ensures ok { OnOk result
@@ -291,7 +291,7 @@ impl ScriptedSource {
         Ok(())
     }
 
-    // What is confirmed stays so.
+    // A confirmed position stays confirmed.
     fn raise(&mut self, upto: Lsn)
         ensures { self.new ≡ record self.old {
           confirmed = record { 0 = max self.old.confirmed.0 upto.0 };
@@ -306,7 +306,7 @@ impl ScriptedSource {
         &mut self,
         name: &TableName,
     ) -> Result<Option<RawTable>, SourceError>
-        ensures { Plays 0 ⊥ (before_of self.old) (AnswersEntry name.now self.old)
+        ensures { Plays 0 ⊥ (before_of self.old) (AnswersPlayedEntry name.now self.old)
             self.old self.new result }
     {
         self.release(0)?;
@@ -317,7 +317,7 @@ impl ScriptedSource {
     }
 
     pub(crate) fn play_head(&mut self) -> Result<Lsn, SourceError>
-        ensures { Plays 0 ⊥ (before_of self.old) (AnswersHead self.old) self.old self.new result }
+        ensures { Plays 0 ⊥ (before_of self.old) (AnswersPlayedHead self.old) self.old self.new result }
     {
         self.release(0)?;
         let lsn = self.last_lsn();
@@ -326,7 +326,7 @@ impl ScriptedSource {
     }
 
     pub(crate) fn play_start(&mut self, after: Lsn) -> Result<Started, SourceError>
-        ensures { Plays 0 ⊥ (before_of self.old) (AnswersStart after self.old)
+        ensures { Plays 0 ⊥ (before_of self.old) (AnswersPlayedStart after self.old)
             self.old self.new result }
     {
         self.release(0)?;
@@ -336,7 +336,7 @@ impl ScriptedSource {
     }
 
     pub(crate) fn play_read(&mut self) -> Result<Option<Bytes>, SourceError>
-        ensures { Plays 0 (IsUnfit (released self.old)) (before_of self.old) (AnswersRead self.old)
+        ensures { Plays 0 (IsUnfit (with_release self.old)) (before_of self.old) (AnswersRead self.old)
             self.old self.new result }
     {
         self.release(0)?;
@@ -360,9 +360,9 @@ impl ScriptedSource {
     ) -> Result<Vec<RawRow>, SourceError>
         ensures plays { Plays (length (inside_of self.old)) ⊥
             (before_of self.old ++ inside_of self.old)
-            (λ rows. AnswersRows table.now (option_copied above.entry) limit self.old rows.items)
+            (λ rows. AnswersPlayedRows table.now (option_copied above.entry) limit self.old rows.items)
             self.old self.new result }
-        ensures listed { IsListed self.old → result ≡ Err Memory
+        ensures listed { IsPlannedToFail self.old → result ≡ Err Memory
             → AddedFirst (before_of self.old) (past_move self.old) self.new }
     {
         let from = self.count();
@@ -376,7 +376,7 @@ impl ScriptedSource {
 
     pub(crate) fn play_mark(&mut self, value: &Text) -> Result<(), SourceError>
         ensures { Plays 1 ⊥ (before_of self.old) (λ done new. new ≡ with_mark value.now
-            (released self.old)) self.old self.new result }
+            (with_release self.old)) self.old self.new result }
     {
         self.release(1)?;
         self.write_mark(value)?;
@@ -386,7 +386,7 @@ impl ScriptedSource {
 
     pub(crate) fn play_confirm(&mut self, upto: Lsn) -> Result<(), SourceError>
         ensures { Plays 0 ⊥ (before_of self.old) (λ done new. new ≡ with_confirmed upto
-            (released self.old)) self.old self.new result }
+            (with_release self.old)) self.old self.new result }
     {
         self.release(0)?;
         self.raise(upto);

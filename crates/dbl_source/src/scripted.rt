@@ -2,42 +2,43 @@ ghost use Rattle.std.specs.Prelude.{◌≡◌, ◌≢◌, ◌+◌, ◌≤◌, �
 ghost use Rattle.std.specs.Prelude.{is_some, is_none, option_copied, Err, IsTrue, IfSome, IfOk, IfErr, OnOk, OnErr};
 ghost use Rattle.std.specs.Prelude.{MatchOption};
 ghost use Rattle.std.specs.List.{AllByRecursion};
-ghost use Rattle.dbl_base.specs.Streams.{HasCause};
+ghost use Rattle.dbl_base.specs.Streams.{FailsOnlyIfCounted};
 ghost use Rattle.dbl_pgmsg.specs.declared.messages.Message.{Message};
 ghost use Rattle.dbl_pgmsg.specs.Grammar.{Fits, Spells};
-ghost use Rattle.dbl_table.specs.Tables.{same_name, are_distinct};
-ghost use Rattle.dbl_history.specs.Ranges.{IsEntryInRange};
-ghost use Rattle.dbl_honest.specs.Standings.{Standing, Stood, Leads};
-ghost use Rattle.dbl_honest.specs.Answered.{IsDescribed, IsHeaded, IsSelected};
-ghost use Rattle.dbl_honest.specs.Calls.{Moved, IsMarked, Starts, Took, HasReadAll, IsConfirmed};
-ghost use Rattle.dbl_honest.specs.Leaves.{Leaves, LeavesSome, MayFollow, MayFollowMark, MayFollowConfirm};
-ghost use Rattle.dbl_honest.specs.Told.{Described, Head, Began, Read, Selected, Done, IsTakenBy, IsTakenAnew, Tells, is_ready};
-ghost use Rattle.dbl_feed.specs.Relations.{catalogue, all_relations, oid_limit};
+ghost use Rattle.dbl_model_table.specs.Tables.{same_name, are_distinct};
+ghost use Rattle.dbl_source_model.specs.ModelHistory.Ranges.{IsEntryInRange};
+ghost use Rattle.dbl_source_model.specs.Standings.{SourceState, HasState, MovesTo};
+ghost use Rattle.dbl_source_model.specs.Answered.{IsDescribed, IsHeaded, IsSelectAnswer};
+ghost use Rattle.dbl_source_model.specs.Calls.{Moved, IsMarked, Starts, HasReadOneMore, HasReadAll, IsConfirmed};
+ghost use Rattle.dbl_source_model.specs.Leaves.{Leaves, LeavesSome, MayFollow, MayFollowMark, MayFollowConfirm};
+ghost use Rattle.dbl_source_model.specs.Trace.{Described, Head, Began, Read, Selected, Done, IsTakenBy, IsTakenAnew, LastAnswerIs, is_ready};
+ghost use Rattle.dbl_source_log.specs.Relations.{catalogue, all_relations, oid_limit};
 ghost use Rattle.dbl_source.specs.declared.asked.Last.TheVariants as answers;
-ghost use Rattle.dbl_reading.specs.declared.error.SourceError.TheVariants.{Failed, Memory};
-ghost use Rattle.dbl_source.specs.Played.{keyed_table, new_played, told_of, before_of, inside_of, IsListed, past_move};
-ghost use Rattle.dbl_source.specs.Played.{released, FailsAsPlanned, with_answer, with_mark, with_confirmed, started_at};
+ghost use Rattle.dbl_source_log.specs.declared.error.SourceError.TheVariants.{Failed, Memory};
+ghost use Rattle.dbl_source.specs.Played.{keyed_table, new_played, trace_of, before_of, inside_of, IsPlannedToFail, past_move};
+ghost use Rattle.dbl_source.specs.Played.{with_release, FailsAsPlanned, with_answer, with_mark, with_confirmed, started_at};
 ghost use Rattle.dbl_source.specs.Played.{with_start, with_head, next_rows, with_select};
-ghost use Rattle.dbl_source.specs.Steps.{AddedFirst, StandsFor, MayLeave, WasFair, IsUnfit, IsAtEnd};
+ghost use Rattle.dbl_source.specs.Steps.{AddedFirst, HasPlayedState, MayLeavePlayed, WasFair, IsUnfit, IsAtEnd};
 
 use crate::asked::{Asked, Last};
 use crate::catalogue::keyed_tables;
 use crate::moves::Move;
 use crate::{Source, SourceError};
 use dbl_base::{Bytes, FaultPlan, Lsn, Text};
-use dbl_feed::{LogTable, Logged, Place};
-use dbl_honest::Started;
-use dbl_table::{Key, RawRow, RawTable, TableName};
+use dbl_model_table::{Key, RawRow, RawTable, TableName};
+use dbl_source_log::{LogTable, Logged, Place};
+use dbl_source_model::Started;
 use std::alloc::Global;
 use std::collections::BTreeSet;
 use std::marker::Model;
 use std::vec::IntoIter;
 
-/// A source that goes by a script: other clients' commits before each call, and inside of each `select` between the rows that it
-/// takes and its return; rows for each `select`; and the calls that fail. Commits that a script has inside of another call are left
-/// out: it has them before that call, or before the next one.
+/// A source that plays a script: other clients' commits before each call, and inside of each
+/// `select` between the rows that it takes and its return; rows for each `select`; and the calls
+/// that fail. Commits inside of another call can be scripted before that call or before the next
+/// one.
 ///
-/// It is honest where the script was fair so far: `fair_scripts_are_honest`.
+/// It conforms if the script was fair so far: `fair_scripts_are_honest`.
 #[derive(Drop)]
 pub struct ScriptedSource {
     pub(crate) alloc: Global,
@@ -72,15 +73,18 @@ impl Model for ScriptedSource {
 }
 
 impl ScriptedSource {
-    /// A source with these tables, whose replica identity is their primary key, and no commit. Call number n, from 1, goes by the
-    /// n-th move, and fails where n is among `fails`; the n-th `select` answers the n-th rows. Calls behind the last move commit
-    /// nothing, and behind the last rows there are none.
+    /// A source with these tables, whose replica identity is their primary key, and no commit. Call
+    /// number n, from 1, plays the n-th move, and fails if n is among `fails`; the n-th `select`
+    /// returns the n-th rows. Calls after the last move commit nothing, and after the last rows a
+    /// `select` returns none.
     ///
-    /// The messages of a move are sent as they are: they name table number n, from 0, by the OID 16384 + n. Any others are sent
-    /// too, but then the source isn't honest. Commit number n, from 1, has the LSN 256 n; a mark is an update of the table of the
-    /// watermarks, whose OID is 16383.
+    /// The messages of a move are sent as they are: they name table number n, from 0, by the OID
+    /// 16384 + n. Any others are sent too, but then the source doesn't conform. Commit number n,
+    /// from 1, has the LSN 256 n; a watermark is an update of the watermark table, whose OID is
+    /// 16383.
     ///
-    /// It is honest so far where the Relation of each table has a spelling. (Each text of a table is UTF-8, by its type.)
+    /// The source conforms so far if the Relation of each table has an encoding. (Each text of a
+    /// table is UTF-8, by its type.)
     pub fn make(
         alloc: Global,
         tables: Vec<RawTable>,
@@ -119,19 +123,19 @@ impl ScriptedSource {
 
 impl Source for ScriptedSource {
     ghost use Rattle.std.specs.Prelude.{◌≡◌, IsTrue, Some, is_some};
-    ghost use Rattle.dbl_source.specs.Played.{Played, told_of};
-    ghost use Rattle.dbl_source.specs.Steps.{StandsFor, MayLeave, WasFair};
+    ghost use Rattle.dbl_source.specs.Played.{Played, trace_of};
+    ghost use Rattle.dbl_source.specs.Steps.{HasPlayedState, MayLeavePlayed, WasFair};
     ghost use Rattle.dbl_source.specs.ScriptLaws.{one_standing, only_left, may_leave_so, reads_so, rising_so, fit_so, right_so};
 
-    ghost stands = { StandsFor };
+    ghost stands = { HasPlayedState };
 
     ghost honest = { WasFair };
 
-    ghost may_leave = { MayLeave };
+    ghost may_leave = { MayLeavePlayed };
 
     ghost comes_of = { λ old new. Unit {0} };
 
-    ghost told = { λ s. Some (told_of s) };
+    ghost told = { λ s. Some (trace_of s) };
 
     ghost is_live = { λ s. s.live };
 
@@ -161,67 +165,66 @@ impl Source for ScriptedSource {
 
     ghost comes_on = { λ first second third before after. tt };
 
-    // Of each call: what it promises as a call of any source, and what it makes of the script. It fails exactly as planned, but that
-    // memory may run out: then first ones of the commits that it was to add stand, and nothing else was made of it. Where it
-    // answers, all of the source is told.
+    // Each call has the guarantees of any source's, and states its effect on the script. It fails
+    // exactly as planned, or if memory runs out, after adding some first ones of its commits.
 
     fn describe(&mut self, name: &TableName) -> Result<Option<RawTable>, SourceError>
         requires { IsTrue self.old.live }
-        ensures described { Leads StandsFor self.old self.new result (IsDescribed name.now) }
+        ensures described { MovesTo HasPlayedState self.old self.new result (IsDescribed name.now) }
         ensures named { IfOk result (λ entry. IfSome entry (λ raw. raw.name ≡ name.now)) }
-        ensures left { Leaves StandsFor MayLeave self.old self.new MayFollow }
-        ensures some { LeavesSome StandsFor MayLeave self.old self.new }
-        ensures told { IfOk result (λ entry. Tells (Some (told_of self.new)) (Described entry)) }
-        ensures taken { IsTakenBy [] (Some (told_of self.old)) (Some (told_of self.new)) }
+        ensures left { Leaves HasPlayedState MayLeavePlayed self.old self.new MayFollow }
+        ensures some { LeavesSome HasPlayedState MayLeavePlayed self.old self.new }
+        ensures told { IfOk result (λ entry. LastAnswerIs (Some (trace_of self.new)) (Described entry)) }
+        ensures taken { IsTakenBy [] (Some (trace_of self.old)) (Some (trace_of self.new)) }
         ensures reading { is_some self.new.place ≡ is_some self.old.place }
         ensures ended { self.new.ended ≡ self.old.ended }
         ensures live { OnOk result (IsTrue self.new.live) }
         ensures dead { OnErr result (self.new.live ≡ false) }
         ensures honest { WasFair self.new → WasFair self.old }
         ensures comes { Unit {0} }
-        ensures cause { HasCause (result ≡ Err Failed) self.old.plan.faults self.new.plan.faults }
+        ensures cause { FailsOnlyIfCounted (result ≡ Err Failed) self.old.plan.faults self.new.plan.faults }
         ensures planned { FailsAsPlanned 0 ⊥ self.old self.new result }
         ensures memory { result ≡ Err Memory
             → AddedFirst (before_of self.old) (past_move self.old) self.new }
         ensures played { OnOk result ((place : Option ℕ)
-            × (self.new ≡ with_answer (answers.Described place) (released self.old))) }
+            × (self.new ≡ with_answer (answers.Described place) (with_release self.old))) }
     {
         self.play_describe(name)
     }
 
     fn head(&mut self) -> Result<Lsn, SourceError>
         requires { IsTrue self.old.live }
-        ensures headed { Leads StandsFor self.old self.new result IsHeaded }
-        ensures left { Leaves StandsFor MayLeave self.old self.new MayFollow }
-        ensures some { LeavesSome StandsFor MayLeave self.old self.new }
-        ensures told { IfOk result (λ lsn. Tells (Some (told_of self.new)) (Head lsn)) }
-        ensures taken { IsTakenBy [] (Some (told_of self.old)) (Some (told_of self.new)) }
+        ensures headed { MovesTo HasPlayedState self.old self.new result IsHeaded }
+        ensures left { Leaves HasPlayedState MayLeavePlayed self.old self.new MayFollow }
+        ensures some { LeavesSome HasPlayedState MayLeavePlayed self.old self.new }
+        ensures told { IfOk result (λ lsn. LastAnswerIs (Some (trace_of self.new)) (Head lsn)) }
+        ensures taken { IsTakenBy [] (Some (trace_of self.old)) (Some (trace_of self.new)) }
         ensures reading { is_some self.new.place ≡ is_some self.old.place }
         ensures ended { self.new.ended ≡ self.old.ended }
         ensures live { OnOk result (IsTrue self.new.live) }
         ensures dead { OnErr result (self.new.live ≡ false) }
         ensures honest { WasFair self.new → WasFair self.old }
         ensures comes { Unit {0} }
-        ensures cause { HasCause (result ≡ Err Failed) self.old.plan.faults self.new.plan.faults }
+        ensures cause { FailsOnlyIfCounted (result ≡ Err Failed) self.old.plan.faults self.new.plan.faults }
         ensures planned { FailsAsPlanned 0 ⊥ self.old self.new result }
         ensures memory { result ≡ Err Memory
             → AddedFirst (before_of self.old) (past_move self.old) self.new }
-        ensures played { OnOk result (self.new ≡ with_head (released self.old)) }
+        ensures played { OnOk result (self.new ≡ with_head (with_release self.old)) }
     {
         self.play_head()
     }
 
-    // The log is gone exactly below the confirmed position.
+    // The log is gone if and only if it is below the confirmed position.
     fn start(&mut self, after: Lsn) -> Result<Started, SourceError>
         requires { IsTrue self.old.live }
-        ensures started { Leads StandsFor self.old self.new result (Starts after) }
-        ensures left { Leaves StandsFor MayLeave self.old self.new MayFollow }
-        ensures some { LeavesSome StandsFor MayLeave self.old self.new }
-        ensures told { IfOk result (λ started. Tells (Some (told_of self.new)) (Began started)) }
+        ensures started { MovesTo HasPlayedState self.old self.new result (Starts after) }
+        ensures left { Leaves HasPlayedState MayLeavePlayed self.old self.new MayFollow }
+        ensures some { LeavesSome HasPlayedState MayLeavePlayed self.old self.new }
+        ensures told { IfOk result (λ started. LastAnswerIs (Some (trace_of self.new)) (Began started)) }
         ensures taken { OnOk result
-            (IsTakenAnew (Some (told_of self.old)) (Some (told_of self.new))) }
+            (IsTakenAnew (Some (trace_of self.old)) (Some (trace_of self.new))) }
         ensures untaken { OnErr result
-            (IsTakenBy [] (Some (told_of self.old)) (Some (told_of self.new))) }
+            (IsTakenBy [] (Some (trace_of self.old)) (Some (trace_of self.new))) }
         ensures reading { IfOk result (λ started. is_some self.new.place ≡ is_ready started) }
         ensures unread { OnErr result (is_some self.new.place ≡ is_some self.old.place) }
         ensures unended { OnOk result (self.new.ended ≡ false) }
@@ -230,31 +233,31 @@ impl Source for ScriptedSource {
         ensures dead { OnErr result (self.new.live ≡ false) }
         ensures honest { WasFair self.new → WasFair self.old }
         ensures comes { Unit {0} }
-        ensures cause { HasCause (result ≡ Err Failed) self.old.plan.faults self.new.plan.faults }
+        ensures cause { FailsOnlyIfCounted (result ≡ Err Failed) self.old.plan.faults self.new.plan.faults }
         ensures planned { FailsAsPlanned 0 ⊥ self.old self.new result }
         ensures memory { result ≡ Err Memory
             → AddedFirst (before_of self.old) (past_move self.old) self.new }
         ensures played { IfOk result (λ answer. (answer ≡ started_at after self.old)
-            × (self.new ≡ with_start after (released self.old))) }
+            × (self.new ≡ with_start after (with_release self.old))) }
     {
         self.play_start(after)
     }
 
-    // It also fails where the next message has no spelling.
+    // A read also fails if the next message has no encoding.
     fn read(&mut self) -> Result<Option<Bytes>, SourceError>
         requires live { IsTrue self.old.live }
         requires reading { IsTrue (is_some self.old.place) }
-        ensures took { (s : Standing) → StandsFor self.old s → IfOk result (λ read. MatchOption read
-            (Stood StandsFor self.new (λ t. Moved s t × (WasFair self.new → HasReadAll s t)))
-            (λ bytes. (m : Message) × Spells bytes m × Stood StandsFor self.new (Took m s))) }
-        ensures left { Leaves StandsFor MayLeave self.old self.new MayFollow }
-        ensures some { LeavesSome StandsFor MayLeave self.old self.new }
-        ensures told { IfOk result (λ read. Tells (Some (told_of self.new)) (Read read)) }
+        ensures took { (s : SourceState) → HasPlayedState self.old s → IfOk result (λ read. MatchOption read
+            (HasState HasPlayedState self.new (λ t. Moved s t × (WasFair self.new → HasReadAll s t)))
+            (λ bytes. (m : Message) × Spells bytes m × HasState HasPlayedState self.new (HasReadOneMore m s))) }
+        ensures left { Leaves HasPlayedState MayLeavePlayed self.old self.new MayFollow }
+        ensures some { LeavesSome HasPlayedState MayLeavePlayed self.old self.new }
+        ensures told { IfOk result (λ read. LastAnswerIs (Some (trace_of self.new)) (Read read)) }
         ensures taken { IfOk result (λ read. MatchOption read
-            (IsTakenBy [] (Some (told_of self.old)) (Some (told_of self.new)))
-            (λ bytes. IsTakenBy (bytes ∷ []) (Some (told_of self.old)) (Some (told_of self.new)))) }
+            (IsTakenBy [] (Some (trace_of self.old)) (Some (trace_of self.new)))
+            (λ bytes. IsTakenBy (bytes ∷ []) (Some (trace_of self.old)) (Some (trace_of self.new)))) }
         ensures untaken { OnErr result
-            (IsTakenBy [] (Some (told_of self.old)) (Some (told_of self.new))) }
+            (IsTakenBy [] (Some (trace_of self.old)) (Some (trace_of self.new))) }
         ensures reading { is_some self.new.place ≡ is_some self.old.place }
         ensures ended { IfOk result (λ read. self.new.ended ≡ is_none read) }
         ensures still { OnErr result (self.new.ended ≡ self.old.ended) }
@@ -262,13 +265,13 @@ impl Source for ScriptedSource {
         ensures dead { OnErr result (self.new.live ≡ false) }
         ensures honest { WasFair self.new → WasFair self.old }
         ensures comes { Unit {0} }
-        ensures cause { HasCause (result ≡ Err Failed) self.old.plan.faults self.new.plan.faults }
-        ensures planned { FailsAsPlanned 0 (IsUnfit (released self.old)) self.old self.new result }
+        ensures cause { FailsOnlyIfCounted (result ≡ Err Failed) self.old.plan.faults self.new.plan.faults }
+        ensures planned { FailsAsPlanned 0 (IsUnfit (with_release self.old)) self.old self.new result }
         ensures memory { result ≡ Err Memory
             → AddedFirst (before_of self.old) (past_move self.old) self.new }
         ensures played { IfOk result (λ read. (place : Place) × (what : Last)
             × (self.new ≡ with_answer what
-            (record (released self.old) { place = Some place; ended = is_none read }))) }
+            (record (with_release self.old) { place = Some place; ended = is_none read }))) }
         ensures ends { IfOk result (λ read. (read ≡ None) → (place : Place)
             → self.new.place ≡ Some place → IsAtEnd self.new.log place) }
     {
@@ -283,27 +286,27 @@ impl Source for ScriptedSource {
     ) -> Result<Vec<RawRow>, SourceError>
         requires live { IsTrue self.old.live }
         requires positive { 1 ≤ limit }
-        ensures selected { Leads StandsFor self.old self.new result (λ rows.
-            IsSelected (WasFair self.new) table.now (option_copied above.entry) limit rows.items) }
-        ensures left { Leaves StandsFor MayLeave self.old self.new MayFollow }
-        ensures some { LeavesSome StandsFor MayLeave self.old self.new }
-        ensures told { IfOk result (λ rows. Tells (Some (told_of self.new)) (Selected rows.items)) }
-        ensures taken { IsTakenBy [] (Some (told_of self.old)) (Some (told_of self.new)) }
+        ensures selected { MovesTo HasPlayedState self.old self.new result (λ rows.
+            IsSelectAnswer (WasFair self.new) table.now (option_copied above.entry) limit rows.items) }
+        ensures left { Leaves HasPlayedState MayLeavePlayed self.old self.new MayFollow }
+        ensures some { LeavesSome HasPlayedState MayLeavePlayed self.old self.new }
+        ensures told { IfOk result (λ rows. LastAnswerIs (Some (trace_of self.new)) (Selected rows.items)) }
+        ensures taken { IsTakenBy [] (Some (trace_of self.old)) (Some (trace_of self.new)) }
         ensures reading { is_some self.new.place ≡ is_some self.old.place }
         ensures ended { self.new.ended ≡ self.old.ended }
         ensures live { OnOk result (IsTrue self.new.live) }
         ensures dead { OnErr result (self.new.live ≡ false) }
         ensures honest { WasFair self.new → WasFair self.old }
         ensures comes { Unit {0} }
-        ensures cause { HasCause (result ≡ Err Failed) self.old.plan.faults self.new.plan.faults }
+        ensures cause { FailsOnlyIfCounted (result ≡ Err Failed) self.old.plan.faults self.new.plan.faults }
         ensures planned { FailsAsPlanned (length (inside_of self.old)) ⊥ self.old self.new result }
         ensures memory { result ≡ Err Memory
             → AddedFirst (before_of self.old ++ inside_of self.old) (past_move self.old) self.new }
-        ensures listed { IsListed self.old → result ≡ Err Memory
+        ensures listed { IsPlannedToFail self.old → result ≡ Err Memory
             → AddedFirst (before_of self.old) (past_move self.old) self.new }
         ensures played { IfOk result (λ rows. (rows.items ≡ next_rows self.old)
             × (self.new ≡ with_select table.now (option_copied above.entry) limit
-            (length self.old.log) (inside_of self.old) (released self.old))) }
+            (length self.old.log) (inside_of self.old) (with_release self.old))) }
     {
         self.play_select(table, above, limit)
     }
@@ -311,48 +314,48 @@ impl Source for ScriptedSource {
     fn mark(&mut self, value: &Text) -> Result<(), SourceError>
         requires live { IsTrue self.old.live }
         requires short { length value.now ≤ 64 }
-        ensures marked { Leads StandsFor self.old self.new result (λ done. IsMarked value.now) }
-        ensures left { Leaves StandsFor MayLeave self.old self.new (MayFollowMark value.now) }
-        ensures some { LeavesSome StandsFor MayLeave self.old self.new }
+        ensures marked { MovesTo HasPlayedState self.old self.new result (λ done. IsMarked value.now) }
+        ensures left { Leaves HasPlayedState MayLeavePlayed self.old self.new (MayFollowMark value.now) }
+        ensures some { LeavesSome HasPlayedState MayLeavePlayed self.old self.new }
         ensures unmarked { result ≡ Err Memory
-            → Leaves StandsFor MayLeave self.old self.new MayFollow }
-        ensures told { OnOk result (Tells (Some (told_of self.new)) Done) }
-        ensures taken { IsTakenBy [] (Some (told_of self.old)) (Some (told_of self.new)) }
+            → Leaves HasPlayedState MayLeavePlayed self.old self.new MayFollow }
+        ensures told { OnOk result (LastAnswerIs (Some (trace_of self.new)) Done) }
+        ensures taken { IsTakenBy [] (Some (trace_of self.old)) (Some (trace_of self.new)) }
         ensures reading { is_some self.new.place ≡ is_some self.old.place }
         ensures ended { self.new.ended ≡ self.old.ended }
         ensures live { OnOk result (IsTrue self.new.live) }
         ensures dead { OnErr result (self.new.live ≡ false) }
         ensures honest { WasFair self.new → WasFair self.old }
         ensures comes { Unit {0} }
-        ensures cause { HasCause (result ≡ Err Failed) self.old.plan.faults self.new.plan.faults }
+        ensures cause { FailsOnlyIfCounted (result ≡ Err Failed) self.old.plan.faults self.new.plan.faults }
         ensures planned { FailsAsPlanned 1 ⊥ self.old self.new result }
         ensures memory { result ≡ Err Memory
             → AddedFirst (before_of self.old) (past_move self.old) self.new }
-        ensures played { OnOk result (self.new ≡ with_mark value.now (released self.old)) }
+        ensures played { OnOk result (self.new ≡ with_mark value.now (with_release self.old)) }
     {
         self.play_mark(value)
     }
 
     fn confirm(&mut self, upto: Lsn) -> Result<(), SourceError>
         requires { IsTrue self.old.live }
-        ensures confirmed { Leads StandsFor self.old self.new result (λ done. IsConfirmed upto) }
-        ensures left { Leaves StandsFor MayLeave self.old self.new (MayFollowConfirm upto) }
-        ensures some { LeavesSome StandsFor MayLeave self.old self.new }
+        ensures confirmed { MovesTo HasPlayedState self.old self.new result (λ done. IsConfirmed upto) }
+        ensures left { Leaves HasPlayedState MayLeavePlayed self.old self.new (MayFollowConfirm upto) }
+        ensures some { LeavesSome HasPlayedState MayLeavePlayed self.old self.new }
         ensures unconfirmed { result ≡ Err Memory
-            → Leaves StandsFor MayLeave self.old self.new MayFollow }
-        ensures told { OnOk result (Tells (Some (told_of self.new)) Done) }
-        ensures taken { IsTakenBy [] (Some (told_of self.old)) (Some (told_of self.new)) }
+            → Leaves HasPlayedState MayLeavePlayed self.old self.new MayFollow }
+        ensures told { OnOk result (LastAnswerIs (Some (trace_of self.new)) Done) }
+        ensures taken { IsTakenBy [] (Some (trace_of self.old)) (Some (trace_of self.new)) }
         ensures reading { is_some self.new.place ≡ is_some self.old.place }
         ensures ended { self.new.ended ≡ self.old.ended }
         ensures live { OnOk result (IsTrue self.new.live) }
         ensures dead { OnErr result (self.new.live ≡ false) }
         ensures honest { WasFair self.new → WasFair self.old }
         ensures comes { Unit {0} }
-        ensures cause { HasCause (result ≡ Err Failed) self.old.plan.faults self.new.plan.faults }
+        ensures cause { FailsOnlyIfCounted (result ≡ Err Failed) self.old.plan.faults self.new.plan.faults }
         ensures planned { FailsAsPlanned 0 ⊥ self.old self.new result }
         ensures memory { result ≡ Err Memory
             → AddedFirst (before_of self.old) (past_move self.old) self.new }
-        ensures played { OnOk result (self.new ≡ with_confirmed upto (released self.old)) }
+        ensures played { OnOk result (self.new ≡ with_confirmed upto (with_release self.old)) }
     {
         self.play_confirm(upto)
     }

@@ -4,19 +4,19 @@ use Rattle.std.specs.Prelude.{◌&&◌, ◌||◌, nat_eq, nat_lt, if◌then◌el
 use Rattle.std.specs.List.{AllByRecursion, list_any, cons_option}
 use Rattle.std.proofs.lemmas.Bool.Decides.{Decides-eqb, nat_tests}
 use Rattle.std.proofs.lemmas.Option.{slice_get-map}
-use Rattle.dbl_table.specs.declared.row.Key.{Key}
-use Rattle.dbl_table.specs.declared.table.TableName.{TableName}
-use Rattle.dbl_table.specs.Tables.{same_name, are_distinct}
-use Rattle.dbl_history.specs.History.{RawChange, name_of}
-use Rattle.dbl_history.specs.History.RawChange.{Clear}
-use Rattle.dbl_feed.specs.declared.logged.LogTable.{LogTable}
-use Rattle.dbl_feed.specs.Relations.{first_oid, table_at}
-use Rattle.dbl_feed.specs.TextRows.{TextRows, table_named, text_row_in, text_rows_after, text_rows_behind}
-use Rattle.dbl_feed.proofs.ThemselvesLemmas.{name_same, name_itself}
-use Rattle.dbl_serial.specs.declared.demo_table.DemoTable.{DemoTable}
-use Rattle.dbl_serial.specs.Locks.{names_key_in, locks, is_of}
-use Rattle.dbl_serial.specs.Sending.{log_table, log_tables}
-use Rattle.dbl_rows.specs.declared.rows.Rows.{Rows}
+use Rattle.dbl_model_table.specs.declared.row.Key.{Key}
+use Rattle.dbl_model_table.specs.declared.table.TableName.{TableName}
+use Rattle.dbl_model_table.specs.Tables.{same_name, are_distinct}
+use Rattle.dbl_model_history.specs.History.{RawChange, name_of}
+use Rattle.dbl_model_history.specs.History.RawChange.{Clear}
+use Rattle.dbl_tables_rows.specs.SourceLog.declared.logged.LogTable.{LogTable}
+use Rattle.dbl_tables_rows.specs.SourceLog.Relations.{first_oid, table_at}
+use Rattle.dbl_tables_rows.specs.SourceLog.TextRows.{TextRows, log_table_named, text_row_in, text_rows_after, text_rows_with}
+use Rattle.dbl_tables_rows.proofs.SourceLogThemselvesLemmas.{name_same, name_itself}
+use Rattle.dbl_tables_rows.specs.declared.demo_table.DemoTable.{DemoTable}
+use Rattle.dbl_tables_rows.specs.Locks.{names_key_in, locks, is_of}
+use Rattle.dbl_tables_rows.specs.Sending.{log_table, log_tables}
+use Rattle.dbl_tables_rows.specs.declared.rows.Rows.{Rows}
 use Rattle.dbl_tables.proofs.DoStands.{names_of_tables, apart_at}
 
 -- changes that clear tables
@@ -25,14 +25,14 @@ AreClears cs = AllByRecursion (λ (c : RawChange). c ≡ Clear (name_of c)) cs
 
 -- ---- what they lock and leave
 
-module _ (tables : List LogTable) (name : TableName) (t : LogTable) (there : table_named tables name ≡ Some t) (key : Key) where
+module _ (tables : List LogTable) (name : TableName) (t : LogTable) (there : log_table_named tables name ≡ Some t) (key : Key) where
   clear_locks : (c : RawChange) → c ≡ Clear (name_of c) → locks tables name key c ≡ is_of name c
   clear_locks c clears = by (same_name (name_of c) name) refl
     where
-      by : (b : Bool) → same_name (name_of c) name ≡ b → (b && names_key_in (table_named tables (name_of c)) key c) ≡ b
+      by : (b : Bool) → same_name (name_of c) name ≡ b → (b && names_key_in (log_table_named tables (name_of c)) key c) ≡ b
       by false other = refl
       by true same =
-          ap (λ (n : TableName). names_key_in (table_named tables n) key c) (name_same (name_of c) name same)
+          ap (λ (n : TableName). names_key_in (log_table_named tables n) key c) (name_same (name_of c) name same)
           ∙ (ap (λ (o : Option LogTable). names_key_in o key c) there
           ∙ ap (names_key_in (Some t) key) clears)
 
@@ -46,14 +46,14 @@ module _ (tables : List LogTable) (name : TableName) (t : LogTable) (there : tab
   one_left : (c : RawChange) (rows : TextRows) → c ≡ Clear (name_of c) → text_rows_after tables c rows name key ≡ (if is_of name c then None else rows name key)
   one_left c rows clears = by (same_name (name_of c) name)
     where
-      cleared : text_row_in (table_named tables name) c (rows name) key ≡ None
+      cleared : text_row_in (log_table_named tables name) c (rows name) key ≡ None
       cleared = ap (λ (o : Option LogTable). text_row_in o c (rows name) key) there ∙ ap (λ (x : RawChange). text_row_in (Some t) x (rows name) key) clears
 
-      by : (b : Bool) → (if b then text_row_in (table_named tables name) c (rows name) key else rows name key) ≡ (if b then None else rows name key)
+      by : (b : Bool) → (if b then text_row_in (log_table_named tables name) c (rows name) key else rows name key) ≡ (if b then None else rows name key)
       by true = cleared
       by false = refl
 
-  none_left : (cs : List RawChange) (rows : TextRows) → AreClears cs → rows name key ≡ None → text_rows_behind tables cs rows name key ≡ None
+  none_left : (cs : List RawChange) (rows : TextRows) → AreClears cs → rows name key ≡ None → text_rows_with tables cs rows name key ≡ None
   none_left [] rows clears none = none
   none_left (c ∷ cs) rows clears none = none_left cs (text_rows_after tables c rows) clears.1 (one_left c rows clears.0 ∙ by (is_of name c))
     where
@@ -62,11 +62,11 @@ module _ (tables : List LogTable) (name : TableName) (t : LogTable) (there : tab
       by false = none
 
   -- and leave no row there
-  pub all_cleared : (cs : List RawChange) (rows : TextRows) → AreClears cs → list_any (is_of name) cs ≡ true → text_rows_behind tables cs rows name key ≡ None
+  pub all_cleared : (cs : List RawChange) (rows : TextRows) → AreClears cs → list_any (is_of name) cs ≡ true → text_rows_with tables cs rows name key ≡ None
   all_cleared [] rows clears some = cc
   all_cleared (c ∷ cs) rows clears some = by (λ more. all_cleared cs (text_rows_after tables c rows) clears.1 more) (is_of name c) refl some
     where
-      by : (list_any (is_of name) cs ≡ true → text_rows_behind tables cs (text_rows_after tables c rows) name key ≡ None) → (b : Bool) → is_of name c ≡ b → (b || list_any (is_of name) cs) ≡ true → text_rows_behind tables (c ∷ cs) rows name key ≡ None
+      by : (list_any (is_of name) cs ≡ true → text_rows_with tables cs (text_rows_after tables c rows) name key ≡ None) → (b : Bool) → is_of name c ≡ b → (b || list_any (is_of name) cs) ≡ true → text_rows_with tables (c ∷ cs) rows name key ≡ None
       by later true own told = none_left cs (text_rows_after tables c rows) clears.1 (one_left c rows clears.0 ∙ ap (λ (b : Bool). if b then None else rows name key) own)
       by later false other told = later told
 

@@ -6,45 +6,45 @@ use Rattle.std.specs.BTreeSet.{contains}
 use Rattle.std.proofs.lemmas.Bool.Decides.{Decides-eqb}
 use Rattle.std.proofs.lemmas.Option.{slice_get-map}
 use Rattle.dbl_base.specs.Texts.{text_cmp}
-use Rattle.dbl_table.specs.declared.row.Key.{Key}
-use Rattle.dbl_table.specs.declared.table.RawTable.{RawTable}
-use Rattle.dbl_table.specs.declared.table.TableName.{TableName}
-use Rattle.dbl_table.specs.Keys.{same_key}
-use Rattle.dbl_table.specs.Tables.{same_name}
-use Rattle.dbl_table.proofs.KeyLemmas.{same_key-itself}
-use Rattle.dbl_table.proofs.Lists.{same_text, text_itself, or_false, or_right}
-use Rattle.dbl_history.specs.History.{RawChange, name_of}
-use Rattle.dbl_history.specs.History.RawChange.{Insert, Update, Delete, Clear}
-use Rattle.dbl_feed.specs.declared.logged.LogTable.{LogTable}
-use Rattle.dbl_feed.specs.Relations.{first_oid}
-use Rattle.dbl_feed.specs.TextRows.{table_named}
-use Rattle.dbl_feed.specs.Texts.{key_from, key_in, given_text}
-use Rattle.dbl_feed.proofs.ThemselvesLemmas.{name_same}
-use Rattle.dbl_serial.specs.declared.demo_table.DemoTable.{DemoTable}
-use Rattle.dbl_serial.specs.declared.error.StepError.{StepError}
-use Rattle.dbl_serial.specs.declared.error.StepError.TheVariants as errors
-use Rattle.dbl_serial.specs.Acts.{Accepted, is_open, messages_by}
-use Rattle.dbl_serial.specs.Acts.Accepted.{Did}
-use Rattle.dbl_serial.specs.Locks.{names_key, names_key_in, is_of, locks, holds_key, holds_some, table_holder}
-use Rattle.dbl_serial.specs.Refusals.{◌>>=◌, refuse_if, some_or, refuse_by}
-use Rattle.dbl_serial.specs.Seen.{changes_by}
-use Rattle.dbl_serial.specs.Sending.{log_table, log_tables, truncate_message, is_too_long}
-use Rattle.dbl_serial.specs.Steps.{Found, found, oids_found, truncate_judged}
-use Rattle.dbl_isolation.specs.Reachable.{IsOrderly}
-use Rattle.dbl_isolation.proofs.MessageLemmas.{found_there}
-use Rattle.dbl_isolation.proofs.SeenLemmas.{named_there, names_distinct}
-use Rattle.dbl_rows.specs.declared.rows.Cleared.{Cleared}
-use Rattle.dbl_rows.specs.declared.rows.Rows.{Rows}
-use Rattle.dbl_rows.specs.Holders.{other_than, lesser_if, IsFirstOf, IsFirstHolder}
-use Rattle.dbl_rows.specs.Views.{owner_in, is_owner, is_holder_in}
-use Rattle.dbl_rows.proofs.LeastLemmas.{first_one, first_same, first_of_both, owner_first}
-use Rattle.dbl_changes.specs.Behind.{found_at, AreRows}
+use Rattle.dbl_model_table.specs.declared.row.Key.{Key}
+use Rattle.dbl_model_table.specs.declared.table.RawTable.{RawTable}
+use Rattle.dbl_model_table.specs.declared.table.TableName.{TableName}
+use Rattle.dbl_model_table.specs.Keys.{same_key}
+use Rattle.dbl_model_table.specs.Tables.{same_name}
+use Rattle.dbl_model_table.proofs.KeyLemmas.{same_key-itself}
+use Rattle.dbl_model_table.proofs.Lists.{same_text, text_itself, or_false, or_right}
+use Rattle.dbl_model_history.specs.History.{RawChange, name_of}
+use Rattle.dbl_model_history.specs.History.RawChange.{Insert, Update, Delete, Clear}
+use Rattle.dbl_tables_rows.specs.SourceLog.declared.logged.LogTable.{LogTable}
+use Rattle.dbl_tables_rows.specs.SourceLog.Relations.{first_oid}
+use Rattle.dbl_tables_rows.specs.SourceLog.TextRows.{log_table_named}
+use Rattle.dbl_tables_rows.specs.SourceLog.Texts.{key_from, key_in, given_text}
+use Rattle.dbl_tables_rows.proofs.SourceLogThemselvesLemmas.{name_same}
+use Rattle.dbl_tables_rows.specs.declared.demo_table.DemoTable.{DemoTable}
+use Rattle.dbl_tables_rows.specs.declared.error.StepError.{StepError}
+use Rattle.dbl_tables_rows.specs.declared.error.StepError.TheVariants as errors
+use Rattle.dbl_tables_rows.specs.Acts.{Accepted, is_open, messages_by}
+use Rattle.dbl_tables_rows.specs.Acts.Accepted.{Did}
+use Rattle.dbl_tables_rows.specs.Locks.{names_key, names_key_in, is_of, locks, holds_key, holds_some, table_holder}
+use Rattle.dbl_tables_rows.specs.Refusals.{◌>>=◌, refuse_step_if, some_or_refuse, refuse_by}
+use Rattle.dbl_tables_rows.specs.Seen.{changes_by}
+use Rattle.dbl_tables_rows.specs.Sending.{log_table, log_tables, truncate_message, is_too_long}
+use Rattle.dbl_tables_rows.specs.Steps.{FoundTable, found, oids_found, truncate_judged}
+use Rattle.dbl_tables_changes.specs.TablesLaws.Reachable.{IsOrderly}
+use Rattle.dbl_tables_changes.proofs.TablesLawsMessageLemmas.{found_there}
+use Rattle.dbl_tables_changes.proofs.TablesLawsSeenLemmas.{named_there, names_distinct}
+use Rattle.dbl_tables_rows.specs.declared.rows.Cleared.{Cleared}
+use Rattle.dbl_tables_rows.specs.declared.rows.Rows.{Rows}
+use Rattle.dbl_tables_rows.specs.Holders.{other_than, lesser_if, IsFirstPassing, IsFirstHolder}
+use Rattle.dbl_tables_rows.specs.Views.{owner_in, is_owner, is_holder_in}
+use Rattle.dbl_tables_rows.proofs.LeastLemmas.{first_one, first_same, first_of_both, owner_first}
+use Rattle.dbl_tables_changes.specs.AcceptedSteps.{found_at, AreRows}
 use Rattle.dbl_tables.specs.Stands.{Stands}
 use Rattle.dbl_tables.specs.Truncates.{place_in, is_missing, IsHolderAt, FindsFirst}
 use Rattle.dbl_tables.specs.declared.tables.Tables.{Tables}
-use Rattle.dbl_changes.proofs.HolderLemmas.{first_is, some_open}
+use Rattle.dbl_tables_changes.proofs.HolderLemmas.{first_is, some_open}
 use Rattle.dbl_tables.proofs.StoreLemmas.{found_none, found_here_at}
-use Rattle.dbl_changes.proofs.VerdictLemmas.{refused, let_on, stopped_by, stopped_by_none}
+use Rattle.dbl_tables_changes.proofs.VerdictLemmas.{refused, let_on, stopped_by, stopped_by_none}
 
 -- ---- lists
 
@@ -67,8 +67,8 @@ any_push p (y ∷ xs) x = ap (λ (b : Bool). p y || b) (any_push p xs x) ∙ by 
 
 -- ---- the first so far
 
-pub first_so_far : (s : List ℕ) (holds : ℕ → List ℕ → Bool) (places : List ℕ) (place : ℕ) (first own : Option (List ℕ)) → IsFirstOf (λ t. not (bytes_eq t s) && list_any (λ p. holds p t) places) first → IsFirstOf (λ t. not (bytes_eq t s) && holds place t) own
-    → IsFirstOf (λ t. not (bytes_eq t s) && list_any (λ p. holds p t) (places ++ place ∷ [])) (lesser_if first own)
+pub first_so_far : (s : List ℕ) (holds : ℕ → List ℕ → Bool) (places : List ℕ) (place : ℕ) (first own : Option (List ℕ)) → IsFirstPassing (λ t. not (bytes_eq t s) && list_any (λ p. holds p t) places) first → IsFirstPassing (λ t. not (bytes_eq t s) && holds place t) own
+    → IsFirstPassing (λ t. not (bytes_eq t s) && list_any (λ p. holds p t) (places ++ place ∷ [])) (lesser_if first own)
 first_so_far s holds places place first own so_far here =
     first_same (λ t. (not (bytes_eq t s) && list_any (λ p. holds p t) places) || (not (bytes_eq t s) && holds place t)) (λ t. not (bytes_eq t s) && list_any (λ p. holds p t) (places ++ place ∷ [])) (lesser_if first own)
     (λ t. joined (not (bytes_eq t s)) (list_any (λ p. holds p t) places) (holds place t) ∙ ap (λ (b : Bool). not (bytes_eq t s) && b) (sym (any_push (λ p. holds p t) places place)))
@@ -78,7 +78,7 @@ first_so_far s holds places place first own so_far here =
     joined true a b = refl
     joined false a b = refl
 
-pub first_of_none : (s : List ℕ) (holds : ℕ → List ℕ → Bool) → IsFirstOf (λ t. not (bytes_eq t s) && list_any (λ p. holds p t) []) None
+pub first_of_none : (s : List ℕ) (holds : ℕ → List ℕ → Bool) → IsFirstPassing (λ t. not (bytes_eq t s) && list_any (λ p. holds p t) []) None
 first_of_none s holds = λ t. by (bytes_eq t s)
   where
     by : (b : Bool) → (not b && false) ≡ false
@@ -93,7 +93,7 @@ names_some raw (Update name from old cells) = (key_in raw (map given_text cells)
 names_some raw (Delete name from old) = (key_from raw from, same_key-itself (key_from raw from))
 names_some raw (Clear name) = ((let k : Key = record { cells = [] } in k), refl)
 
-some_key : (tables : List LogTable) (name : TableName) (t : LogTable) (cs : List RawChange) → table_named tables name ≡ Some t → list_any (is_of name) cs ≡ true → (key : Key) × (list_any (locks tables name key) cs ≡ true)
+some_key : (tables : List LogTable) (name : TableName) (t : LogTable) (cs : List RawChange) → log_table_named tables name ≡ Some t → list_any (is_of name) cs ≡ true → (key : Key) × (list_any (locks tables name key) cs ≡ true)
 some_key tables name t [] there some = cc
 some_key tables name t (c ∷ cs) there some = by (is_of name c) refl some (λ later. some_key tables name t cs there later)
   where
@@ -102,8 +102,8 @@ some_key tables name t (c ∷ cs) there some = by (is_of name c) refl some (λ l
         let at = names_some t.raw c in (
           at.0,
           ap (λ (b : Bool). b || list_any (locks tables name at.0) cs)
-              (ap (λ (b : Bool). b && names_key_in (table_named tables (name_of c)) at.0 c) own
-              ∙ (ap (λ (n : TableName). names_key_in (table_named tables n) at.0 c) (name_same (name_of c) name own) ∙ (ap (λ (o : Option LogTable). names_key_in o at.0 c) there ∙ at.1))),
+              (ap (λ (b : Bool). b && names_key_in (log_table_named tables (name_of c)) at.0 c) own
+              ∙ (ap (λ (n : TableName). names_key_in (log_table_named tables n) at.0 c) (name_same (name_of c) name own) ∙ (ap (λ (o : Option LogTable). names_key_in o at.0 c) there ∙ at.1))),
         )
     by false other told later =
         let at = later told in
@@ -111,7 +111,7 @@ some_key tables name t (c ∷ cs) there some = by (is_of name c) refl some (λ l
 
 -- ---- a table's own answer
 
-module _ (tables : List DemoTable) (past : List Accepted) (s : List ℕ) (orderly : IsOrderly tables past) (at : Found) (rows : Rows) (are : AreRows tables past at rows) (named : table_named (log_tables tables) at.table.info.name ≡ Some (log_table at.table)) where
+module _ (tables : List DemoTable) (past : List Accepted) (s : List ℕ) (orderly : IsOrderly tables past) (at : FoundTable) (rows : Rows) (are : AreRows tables past at rows) (named : log_table_named (log_tables tables) at.table.info.name ≡ Some (log_table at.table)) where
   -- where a session truncates, nobody else holds anything
   alone_there : (c : Cleared) → rows.cleared ≡ Some c → (t : List ℕ) → bytes_eq c.by t ≡ holds_some (log_tables tables) past at.table.info.name t
   alone_there c is t = by (holds_some (log_tables tables) past at.table.info.name t) refl
@@ -129,12 +129,12 @@ module _ (tables : List DemoTable) (past : List Accepted) (s : List ℕ) (orderl
           ap (bytes_eq c.by) (sym e) ∙ (text_itself c.by ∙ sym some)
       by false none = (or_false (bytes_eq c.by t) (contains text_cmp rows.holders t) (there ∙ none)).0 ∙ sym none
 
-  pub own_first : (o : Option Cleared) → rows.cleared ≡ o → (first : Option (List ℕ)) → IsFirstHolder s o rows.holders first → IsFirstOf (λ t. not (bytes_eq t s) && holds_some (log_tables tables) past at.table.info.name t) first
+  pub own_first : (o : Option Cleared) → rows.cleared ≡ o → (first : Option (List ℕ)) → IsFirstHolder s o rows.holders first → IsFirstPassing (λ t. not (bytes_eq t s) && holds_some (log_tables tables) past at.table.info.name t) first
   own_first None is first told =
       first_same (λ t. not (bytes_eq t s) && contains text_cmp rows.holders t) (λ t. not (bytes_eq t s) && holds_some (log_tables tables) past at.table.info.name t) first
       (λ t. ap (λ (b : Bool). not (bytes_eq t s) && b) (sym (ap (λ (o : Option Cleared). is_holder_in o rows.holders t) is) ∙ are.holders t)) told
   own_first (Some c) is first told =
-      subst (IsFirstOf (λ t. not (bytes_eq t s) && holds_some (log_tables tables) past at.table.info.name t)) (sym told)
+      subst (IsFirstPassing (λ t. not (bytes_eq t s) && holds_some (log_tables tables) past at.table.info.name t)) (sym told)
       (first_same (λ t. not (bytes_eq t s) && bytes_eq c.by t) (λ t. not (bytes_eq t s) && holds_some (log_tables tables) past at.table.info.name t) (other_than s (Some c.by))
       (λ t. ap (λ (b : Bool). not (bytes_eq t s) && b) (alone_there c is t)) (owner_first s (Some c.by)))
 
@@ -149,7 +149,7 @@ module _ (tables : List DemoTable) (past : List Accepted) (s : List ℕ) (store 
   abbrev pub held_at : ℕ → List ℕ → Bool
   held_at place t = holds_at (slice_get store.tables.items place) t
 
-  pub named_at_place : (place : ℕ) (rows : Rows) → slice_get store.tables.items place ≡ Some rows → table_named (log_tables tables) rows.table.info.name ≡ Some (log_table rows.table)
+  pub named_at_place : (place : ℕ) (rows : Rows) → slice_get store.tables.items place ≡ Some rows → log_table_named (log_tables tables) rows.table.info.name ≡ Some (log_table rows.table)
   named_at_place place rows there =
       named_there (log_tables tables) place (log_table rows.table) (names_distinct tables past st.can st.standing.orderly)
       (slice_get-map log_table tables place
@@ -157,11 +157,11 @@ module _ (tables : List DemoTable) (past : List Accepted) (s : List ℕ) (store 
       ∙ (ap (option_map log_table) (slice_get-map (λ (r : Rows). r.table) store.tables.items place)
       ∙ ap (λ (o : Option Rows). option_map log_table (option_map (λ (r : Rows). r.table) o)) there)))
 
-  pub place_first : (place : ℕ) (own : Option (List ℕ)) → IsHolderAt s (slice_get store.tables.items place) own → IsFirstOf (λ t. not (bytes_eq t s) && held_at place t) own
+  pub place_first : (place : ℕ) (own : Option (List ℕ)) → IsHolderAt s (slice_get store.tables.items place) own → IsFirstPassing (λ t. not (bytes_eq t s) && held_at place t) own
   place_first place own told = by (slice_get store.tables.items place) refl told
     where
-      by : (o : Option Rows) → slice_get store.tables.items place ≡ o → IsHolderAt s o own → IsFirstOf (λ t. not (bytes_eq t s) && holds_at o t) own
-      by None none is = subst (IsFirstOf (λ t. not (bytes_eq t s) && false)) (sym is) (λ t. never (bytes_eq t s))
+      by : (o : Option Rows) → slice_get store.tables.items place ≡ o → IsHolderAt s o own → IsFirstPassing (λ t. not (bytes_eq t s) && holds_at o t) own
+      by None none is = subst (IsFirstPassing (λ t. not (bytes_eq t s) && false)) (sym is) (λ t. never (bytes_eq t s))
         where
           never : (b : Bool) → (not b && false) ≡ false
           never true = refl
@@ -172,7 +172,7 @@ module _ (tables : List DemoTable) (past : List Accepted) (s : List ℕ) (store 
   pub at_name : (name : TableName) (place : ℕ) → place_in store.tables.items name ≡ Some place → (rows : Rows) × (slice_get store.tables.items place ≡ Some rows) × (found tables name ≡ Some (found_at place rows.table)) × (same_name rows.table.info.name name ≡ true)
   at_name name place is =
       let h = found_here_at tables past s store st store.tables.items first_oid 0 place name is in
-      let e : place ≡ h.behind = h.place_is ∙ none_more h.behind in
+      let e : place ≡ h.subsequent = h.place_is ∙ none_more h.subsequent in
       let there : found tables name ≡ Some (found_at place h.rows.table) = ap (λ (l : List DemoTable). found l name) (sym st.tables_are) ∙ (h.is ∙ ap (λ (n : ℕ). Some (found_at n h.rows.table)) (sym e)) in
       let at = found_there first_oid tables name (found_at place h.rows.table) there in
       (h.rows, ap (slice_get store.tables.items) e ∙ h.there, there, at.named)
@@ -215,23 +215,23 @@ module _ (tables : List DemoTable) (past : List Accepted) (s : List ℕ) (store 
   oids_are (n ∷ names) [] all = absurd all
   oids_are (n ∷ names) (p ∷ places) all =
       let a = at_name n p all.0 in
-      ap (λ (o : Option Found). some_or o errors.UnknownTable >>= (λ at. oids_found tables names >>= (λ oids. Ok (at.oid ∷ oids)))) a.2
+      ap (λ (o : Option FoundTable). some_or_refuse o errors.UnknownTable >>= (λ at. oids_found tables names >>= (λ oids. Ok (at.oid ∷ oids)))) a.2
       ∙ ap (λ (r : Result (List ℕ) StepError). r >>= (λ oids. Ok ((first_oid + p) ∷ oids))) (oids_are names places all.1)
 
   pub oids_missing : (names : List TableName) → is_missing store.tables.items names ≡ true → oids_found tables names ≡ Err errors.UnknownTable
   oids_missing [] missing = cc
   oids_missing (n ∷ names) missing = by (place_in store.tables.items n) refl missing (λ later. oids_missing names later)
     where
-      rest : Found → Result (List ℕ) StepError
+      rest : FoundTable → Result (List ℕ) StepError
       rest at = oids_found tables names >>= (λ oids. Ok (at.oid ∷ oids))
 
       by : (o : Option ℕ) → place_in store.tables.items n ≡ o → (is_none o || is_missing store.tables.items names) ≡ true → (is_missing store.tables.items names ≡ true → oids_found tables names ≡ Err errors.UnknownTable) → oids_found tables (n ∷ names) ≡ Err errors.UnknownTable
       by None none told later =
-          ap (λ (o : Option Found). some_or o errors.UnknownTable >>= (λ at. oids_found tables names >>= (λ oids. Ok (at.oid ∷ oids))))
+          ap (λ (o : Option FoundTable). some_or_refuse o errors.UnknownTable >>= (λ at. oids_found tables names >>= (λ oids. Ok (at.oid ∷ oids))))
           (ap (λ (l : List DemoTable). found l n) (sym st.tables_are) ∙ found_none tables past s store st store.tables.items 0 first_oid n none)
       by (Some p) is told later =
           let a = at_name n p is in
-          ap (λ (o : Option Found). some_or o errors.UnknownTable >>= (λ at. oids_found tables names >>= (λ oids. Ok (at.oid ∷ oids)))) a.2
+          ap (λ (o : Option FoundTable). some_or_refuse o errors.UnknownTable >>= (λ at. oids_found tables names >>= (λ oids. Ok (at.oid ∷ oids)))) a.2
           ∙ ap (λ (r : Result (List ℕ) StepError). r >>= (λ oids. Ok ((first_oid + p) ∷ oids))) (later told)
 
   -- ---- chains
@@ -241,7 +241,7 @@ module _ (tables : List DemoTable) (past : List Accepted) (s : List ℕ) (store 
     last_truncate oids = refuse_by (table_holder (log_tables tables) past s names) >>= λ w. Ok (Did s (truncate_message oids))
 
     abbrev long_truncate : List ℕ → Result Accepted StepError
-    long_truncate oids = refuse_if (is_too_long (messages_by s past) (truncate_message oids)) errors.BadRow >>= λ v. last_truncate oids
+    long_truncate oids = refuse_step_if (is_too_long (messages_by s past) (truncate_message oids)) errors.BadRow >>= λ v. last_truncate oids
 
     abbrev open_truncate : Result Accepted StepError
     open_truncate = oids_found tables names >>= long_truncate
@@ -279,7 +279,7 @@ module _ (tables : List DemoTable) (past : List Accepted) (s : List ℕ) (store 
           -- nobody else holds anything of a table that is named
           pub truncate_free : first ≡ None → (p : ℕ) (rows : Rows) → slice_get store.tables.items p ≡ Some rows → list_any (nat_eq p) places ≡ true → (t : List ℕ) → bytes_eq s t ≡ false → holds_some (log_tables tables) past rows.table.info.name t ≡ false
           truncate_free none p rows there among t other =
-              let nobody : IsFirstOf (λ x. not (bytes_eq x s) && list_any (λ place. held_at place x) places) None = subst (IsFirstOf (λ x. not (bytes_eq x s) && list_any (λ place. held_at place x) places)) none (finds held_at place_first) in
+              let nobody : IsFirstPassing (λ x. not (bytes_eq x s) && list_any (λ place. held_at place x) places) None = subst (IsFirstPassing (λ x. not (bytes_eq x s) && list_any (λ place. held_at place x) places)) none (finds held_at place_first) in
               sym (ap (λ (o : Option Rows). holds_at o t) there) ∙ one places among (alone (bytes_eq t s) (list_any (λ place. held_at place t) places) (turned (bytes_eq t s) refl) (nobody t))
             where
               turned : (b : Bool) → bytes_eq t s ≡ b → b ≡ false

@@ -7,39 +7,39 @@ use Rattle.std.proofs.lemmas.Bool.Decides.{Decides-eqb}
 use Rattle.dbl_base.specs.Texts.{text_cmp}
 use Rattle.dbl_pgmsg.specs.declared.messages.Message.{Message}
 use Rattle.dbl_pgmsg.specs.Grammar.{Fits}
-use Rattle.dbl_table.specs.declared.row.Key.{Key}
-use Rattle.dbl_table.specs.declared.table.TableName.{TableName}
-use Rattle.dbl_table.specs.Keys.{same_key}
-use Rattle.dbl_table.specs.Tables.{same_name, are_distinct}
-use Rattle.dbl_table.proofs.InfoLemmas.{not_true}
-use Rattle.dbl_table.proofs.KeyLemmas.{same_key-is}
-use Rattle.dbl_table.proofs.Lists.{bool_case, same_text, text_itself, and_left, and_right, or_false}
-use Rattle.dbl_feed.proofs.ThemselvesLemmas.{name_same, name_itself}
-use Rattle.dbl_serial.specs.declared.demo_table.DemoTable.{DemoTable}
-use Rattle.dbl_serial.specs.Acts.{Accepted, messages_by}
-use Rattle.dbl_serial.specs.Acts.Accepted.{Did}
-use Rattle.dbl_serial.specs.Sending.{entry_size}
-use Rattle.dbl_serial.specs.Steps.{Step, judged}
-use Rattle.dbl_isolation.specs.Reachable.{IsReachable}
-use Rattle.dbl_isolation.proofs.AcceptedLemmas.{stands_on}
-use Rattle.dbl_serial.proofs.RestLemmas.{all_push}
-use Rattle.dbl_rows.specs.declared.slots.Held.{Held}
-use Rattle.dbl_changes.specs.declared.planned.Write.{Write}
-use Rattle.dbl_changes.specs.declared.planned.Planned.{Planned}
-use Rattle.dbl_rows.specs.declared.rows.Cleared.{Cleared}
-use Rattle.dbl_rows.specs.declared.rows.Rows.{Rows}
-use Rattle.dbl_rows.specs.declared.held.HeldKey.{HeldKey}
-use Rattle.dbl_changes.specs.declared.sessions.Session.{Session}
+use Rattle.dbl_model_table.specs.declared.row.Key.{Key}
+use Rattle.dbl_model_table.specs.declared.table.TableName.{TableName}
+use Rattle.dbl_model_table.specs.Keys.{same_key}
+use Rattle.dbl_model_table.specs.Tables.{same_name, are_distinct}
+use Rattle.dbl_model_table.proofs.InfoLemmas.{not_true}
+use Rattle.dbl_model_table.proofs.KeyLemmas.{same_key-is}
+use Rattle.dbl_model_table.proofs.Lists.{bool_case, same_text, text_itself, and_left, and_right, or_false}
+use Rattle.dbl_tables_rows.proofs.SourceLogThemselvesLemmas.{name_same, name_itself}
+use Rattle.dbl_tables_rows.specs.declared.demo_table.DemoTable.{DemoTable}
+use Rattle.dbl_tables_rows.specs.Acts.{Accepted, messages_by}
+use Rattle.dbl_tables_rows.specs.Acts.Accepted.{Did}
+use Rattle.dbl_tables_rows.specs.Sending.{entry_size}
+use Rattle.dbl_tables_rows.specs.Steps.{Step, judged}
+use Rattle.dbl_tables_changes.specs.TablesLaws.Reachable.{IsReachable}
+use Rattle.dbl_tables_changes.proofs.TablesLawsAcceptedLemmas.{stands_on}
+use Rattle.dbl_tables_rows.proofs.RestLemmas.{all_push}
+use Rattle.dbl_tables_rows.specs.declared.slots.Held.{Held}
+use Rattle.dbl_tables_changes.specs.declared.planned.Write.{Write}
+use Rattle.dbl_tables_changes.specs.declared.planned.Planned.{Planned}
+use Rattle.dbl_tables_rows.specs.declared.rows.Cleared.{Cleared}
+use Rattle.dbl_tables_rows.specs.declared.rows.Rows.{Rows}
+use Rattle.dbl_tables_rows.specs.declared.held.HeldKey.{HeldKey}
+use Rattle.dbl_tables_changes.specs.declared.sessions.Session.{Session}
 use Rattle.dbl_tables.specs.declared.tables.Tables.{Tables}
-use Rattle.dbl_rows.specs.Views.{held_in}
-use Rattle.dbl_changes.specs.Written.{lock_written}
-use Rattle.dbl_changes.specs.Planned.{is_written, IsPlanned}
-use Rattle.dbl_rows.specs.Listed.{is_listed}
-use Rattle.dbl_changes.specs.Behind.{IsSession, IsSessionAt, AreListed, AreListedBefore, AreRows, found_at}
+use Rattle.dbl_tables_rows.specs.Views.{held_in}
+use Rattle.dbl_tables_changes.specs.Written.{lock_written}
+use Rattle.dbl_tables_changes.specs.Planned.{is_written, IsPlanned}
+use Rattle.dbl_tables_rows.specs.Listed.{is_listed}
+use Rattle.dbl_tables_changes.specs.AcceptedSteps.{IsSession, IsSessionAt, AreListed, AreListedBefore, AreRows, found_at}
 use Rattle.dbl_tables.specs.Stands.{Stands, IsAccepted}
-use Rattle.dbl_changes.specs.Taking.{ListsMore, Takes}
+use Rattle.dbl_tables_changes.specs.Taking.{ListsMore, TakesChange}
 use Rattle.dbl_tables.proofs.StandLemmas.{moved_session}
-use Rattle.dbl_changes.proofs.DoRows.{rows_do, rows_aside}
+use Rattle.dbl_tables_changes.proofs.DoRows.{rows_do, rows_aside}
 
 -- ---- names of tables
 
@@ -113,7 +113,7 @@ before_more s place keys more (Some c) lists before = λ key. listed_more s plac
 
 module _ (tables : List DemoTable) (past : List Accepted) (s : List ℕ) (c : Step) (old new : Tables) (planned : Planned) (place : ℕ) (before after : Session) (rows changed : Rows) (st : Stands tables past old)
     (has : get text_cmp old.sessions s ≡ Some before) (there : slice_get old.tables.items place ≡ Some rows) (is_planned : IsPlanned tables past s (found_at place rows.table) (judged tables past c) planned)
-    (takes : Takes place s planned rows changed before after) (come : (name : List ℕ) → get text_cmp new.sessions name ≡ (if bytes_eq s name then Some after else get text_cmp old.sessions name))
+    (takes : TakesChange place s planned rows changed before after) (come : (name : List ℕ) → get text_cmp new.sessions name ≡ (if bytes_eq s name then Some after else get text_cmp old.sessions name))
     (here : slice_get new.tables.items place ≡ Some changed) (elsewhere : (other : ℕ) → (other ≡ place → ⊥) → slice_get new.tables.items other ≡ slice_get old.tables.items other)
     (tables_stay : map (λ (r : Rows). r.table) new.tables.items ≡ map (λ (r : Rows). r.table) old.tables.items) where
   next : IsReachable tables (Did s planned.message ∷ past)

@@ -6,29 +6,29 @@ use Rattle.std.specs.BTreeMap.{get}
 use Rattle.std.proofs.lemmas.Map.Text.{is_eq-slice_cmp}
 use Rattle.dbl_base.specs.Texts.{text_cmp}
 use Rattle.dbl_pgmsg.specs.declared.messages.Message.{Message}
-use Rattle.dbl_table.proofs.Lists.{same_text}
-use Rattle.dbl_serial.specs.declared.demo_table.DemoTable.{DemoTable}
-use Rattle.dbl_serial.specs.declared.error.StepError.TheVariants as errors
-use Rattle.dbl_serial.specs.Acts.{Accepted, is_open}
-use Rattle.dbl_serial.specs.Acts.Accepted.{Began, Committed, RolledBack}
-use Rattle.dbl_serial.specs.Sending.{entry_size, entry_limit}
-use Rattle.dbl_serial.specs.Refusals.{◌>>=◌, refuse_if}
-use Rattle.dbl_serial.specs.Steps.{begin_judged, end_judged}
-use Rattle.dbl_serial.specs.Steps.Step.{Begin, Commit, Rollback}
-use Rattle.dbl_rows.specs.declared.held.HeldKey.{HeldKey}
-use Rattle.dbl_rows.specs.declared.rows.Rows.{Rows}
-use Rattle.dbl_rows.specs.Ends.{EachChanges, IsCommitted, IsRolledBack}
-use Rattle.dbl_changes.specs.declared.sessions.Session.{Session}
+use Rattle.dbl_model_table.proofs.Lists.{same_text}
+use Rattle.dbl_tables_rows.specs.declared.demo_table.DemoTable.{DemoTable}
+use Rattle.dbl_tables_rows.specs.declared.error.StepError.TheVariants as errors
+use Rattle.dbl_tables_rows.specs.Acts.{Accepted, is_open}
+use Rattle.dbl_tables_rows.specs.Acts.Accepted.{Began, Committed, RolledBack}
+use Rattle.dbl_tables_rows.specs.Sending.{entry_size, entry_limit}
+use Rattle.dbl_tables_rows.specs.Refusals.{◌>>=◌, refuse_step_if}
+use Rattle.dbl_tables_rows.specs.Steps.{begin_judged, end_judged}
+use Rattle.dbl_tables_rows.specs.Steps.Step.{Begin, Commit, Rollback}
+use Rattle.dbl_tables_rows.specs.declared.held.HeldKey.{HeldKey}
+use Rattle.dbl_tables_rows.specs.declared.rows.Rows.{Rows}
+use Rattle.dbl_tables_rows.specs.Ends.{EachChanges, IsCommitted, IsRolledBack}
+use Rattle.dbl_tables_changes.specs.declared.sessions.Session.{Session}
 use Rattle.dbl_tables.specs.declared.tables.Tables.{Tables}
-use Rattle.dbl_changes.specs.Behind.{IsSession, IsSessionAt}
+use Rattle.dbl_tables_changes.specs.AcceptedSteps.{IsSession, IsSessionAt}
 use Rattle.dbl_tables.specs.Stands.{Stands, IsAccepted, IsGiven}
 use Rattle.dbl_tables.proofs.StandLemmas.{IsGone, stands_begins, stands_rolls_back, stands_commits}
 
 -- the judgement, by whether the session is open
 judged_at : (past : List Accepted) (s : List ℕ) (act : Accepted) (b : Bool) → is_open s past ≡ b → end_judged past s act ≡ (if b then Ok act else Err errors.NotOpen)
-judged_at past s act b is = ap (λ (o : Bool). refuse_if (not o) errors.NotOpen >>= (λ (u : Unit {0}). Ok act)) is ∙ by b
+judged_at past s act b is = ap (λ (o : Bool). refuse_step_if (not o) errors.NotOpen >>= (λ (u : Unit {0}). Ok act)) is ∙ by b
   where
-    by : (b : Bool) → (refuse_if (not b) errors.NotOpen >>= (λ (u : Unit {0}). Ok act)) ≡ (if b then Ok act else Err errors.NotOpen)
+    by : (b : Bool) → (refuse_step_if (not b) errors.NotOpen >>= (λ (u : Unit {0}). Ok act)) ≡ (if b then Ok act else Err errors.NotOpen)
     by true = refl
     by false = refl
 
@@ -102,7 +102,7 @@ module _ (tables : List DemoTable) (past : List Accepted) (s : List ℕ) (old : 
   open_by b some = is_there past s (get text_cmp old.sessions s) b some (st.sessions s)
 
   pub begun_already : is_some (get text_cmp old.sessions s) ≡ true → begin_judged past s ≡ Err errors.AlreadyOpen
-  begun_already some = ap (λ (o : Bool). refuse_if o errors.AlreadyOpen >>= (λ (u : Unit {0}). Ok (Began s))) (open_by true some)
+  begun_already some = ap (λ (o : Bool). refuse_step_if o errors.AlreadyOpen >>= (λ (u : Unit {0}). Ok (Began s))) (open_by true some)
 
   pub begins : (new : Tables) (fresh : Session) → is_some (get text_cmp old.sessions s) ≡ false → new.tables.items ≡ old.tables.items → fresh.messages.items ≡ [] → fresh.size ≡ entry_size [] → fresh.keys.items ≡ []
       → ((q : List ℕ) → get text_cmp new.sessions q ≡ cond (is_eq (text_cmp s q)) (Some fresh) (get text_cmp old.sessions q)) → IsAccepted tables past (Begin s) new
@@ -110,7 +110,7 @@ module _ (tables : List DemoTable) (past : List Accepted) (s : List ℕ) (old : 
       let closed : is_open s past ≡ false = open_by false none in
       record {
         act = Began s;
-        accepted = ap (λ (o : Bool). refuse_if o errors.AlreadyOpen >>= (λ (u : Unit {0}). Ok (Began s))) closed;
+        accepted = ap (λ (o : Bool). refuse_step_if o errors.AlreadyOpen >>= (λ (u : Unit {0}). Ok (Began s))) closed;
         stands = stands_begins tables past s old new fresh st closed same messages size keys come;
       }
     where

@@ -11,34 +11,34 @@ use Rattle.std.proofs.lemmas.Option.{slice_get_within}
 use Rattle.dbl_base.specs.Texts.{text_cmp}
 use Rattle.dbl_pgmsg.specs.declared.messages.Message.{Message}
 use Rattle.dbl_pgmsg.specs.Grammar.{Fits}
-use Rattle.dbl_table.specs.declared.table.TableName.{TableName}
-use Rattle.dbl_table.proofs.Lists.{same_text, any_here}
-use Rattle.dbl_table.proofs.PartLemmas.{split_at_one}
-use Rattle.dbl_feed.specs.RawChanges.{raw_changes}
-use Rattle.dbl_feed.specs.Relations.{first_oid}
-use Rattle.dbl_serial.specs.declared.demo_table.DemoTable.{DemoTable}
-use Rattle.dbl_serial.specs.declared.error.StepError.{StepError}
-use Rattle.dbl_serial.specs.declared.error.StepError.TheVariants as errors
-use Rattle.dbl_serial.specs.Acts.{Accepted, is_open, messages_by}
-use Rattle.dbl_serial.specs.Acts.Accepted.{Did}
-use Rattle.dbl_serial.specs.Given.{SizeGrown, IsUtf8Change}
-use Rattle.dbl_serial.specs.Seen.{seen_rows}
-use Rattle.dbl_serial.specs.Sending.{log_tables, entry_size, entry_limit, truncate_message}
-use Rattle.dbl_serial.specs.Steps.{truncate_judged}
-use Rattle.dbl_serial.specs.Steps.Step.{Truncate}
-use Rattle.dbl_rows.specs.declared.held.HeldKey.{HeldKey}
-use Rattle.dbl_rows.specs.declared.rows.Rows.{Rows}
-use Rattle.dbl_rows.specs.Changing.{IsTruncated}
-use Rattle.dbl_rows.proofs.RowLemmas.{set_same, set_other, not_place}
-use Rattle.dbl_changes.specs.declared.sessions.Session.{Session}
+use Rattle.dbl_model_table.specs.declared.table.TableName.{TableName}
+use Rattle.dbl_model_table.proofs.Lists.{same_text, any_here}
+use Rattle.dbl_model_table.proofs.PartLemmas.{split_at_one}
+use Rattle.dbl_tables_rows.specs.SourceLog.RawChanges.{raw_changes}
+use Rattle.dbl_tables_rows.specs.SourceLog.Relations.{first_oid}
+use Rattle.dbl_tables_rows.specs.declared.demo_table.DemoTable.{DemoTable}
+use Rattle.dbl_tables_rows.specs.declared.error.StepError.{StepError}
+use Rattle.dbl_tables_rows.specs.declared.error.StepError.TheVariants as errors
+use Rattle.dbl_tables_rows.specs.Acts.{Accepted, is_open, messages_by}
+use Rattle.dbl_tables_rows.specs.Acts.Accepted.{Did}
+use Rattle.dbl_tables_rows.specs.Given.{SizeGrown, IsUtf8Change}
+use Rattle.dbl_tables_rows.specs.Seen.{seen_rows}
+use Rattle.dbl_tables_rows.specs.Sending.{log_tables, entry_size, entry_limit, truncate_message}
+use Rattle.dbl_tables_rows.specs.Steps.{truncate_judged}
+use Rattle.dbl_tables_rows.specs.Steps.Step.{Truncate}
+use Rattle.dbl_tables_rows.specs.declared.held.HeldKey.{HeldKey}
+use Rattle.dbl_tables_rows.specs.declared.rows.Rows.{Rows}
+use Rattle.dbl_tables_rows.specs.Changing.{IsTruncated}
+use Rattle.dbl_tables_rows.proofs.RowLemmas.{set_same, set_other, not_place}
+use Rattle.dbl_tables_changes.specs.declared.sessions.Session.{Session}
 use Rattle.dbl_tables.specs.declared.tables.Tables.{Tables}
 use Rattle.dbl_tables.specs.declared.truncating.Cut.{Cut}
-use Rattle.dbl_changes.specs.Planned.{Blocks}
-use Rattle.dbl_changes.specs.Behind.{IsSession, IsSessionAt, AreListed, AreListedBefore}
-use Rattle.dbl_tables.specs.Stands.{Stands, IsAccepted, IsRefused}
+use Rattle.dbl_tables_changes.specs.Planned.{Blocks}
+use Rattle.dbl_tables_changes.specs.AcceptedSteps.{IsSession, IsSessionAt, AreListed, AreListedBefore}
+use Rattle.dbl_tables.specs.Stands.{Stands, IsAccepted, IsRefusedStep}
 use Rattle.dbl_tables.specs.Truncates.{place_in, is_missing, PlacesOf, TruncatesAt, FindsFirst, TruncatesOne, TruncatesAll, IsCut}
 use Rattle.dbl_tables.proofs.CutLemmas.{same_places, at_name, truncate_unknown, truncate_too_long, truncate_locked, truncate_accepted, truncate_free, all_there}
-use Rattle.dbl_changes.proofs.ExitLemmas.{unblocked}
+use Rattle.dbl_tables_changes.proofs.ExitLemmas.{unblocked}
 use Rattle.dbl_tables.proofs.StoreLemmas.{comes}
 use Rattle.dbl_tables.proofs.TruncateStands.{truncated}
 
@@ -133,8 +133,8 @@ one_same s place old new one = same_places old new each
     at_place : (o : Option Rows) → slice_get old place ≡ o → option_map (λ (r : Rows). r.table) (slice_get new place) ≡ option_map (λ (r : Rows). r.table) (slice_get old place)
     at_place None none = ap (λ (l : List Rows). option_map (λ (r : Rows). r.table) (slice_get l place)) (one.back none)
     at_place (Some was) is =
-        let behind = one.here was is in
-        ap (option_map (λ (r : Rows). r.table)) behind.1 ∙ (ap Some behind.2.table ∙ sym (ap (option_map (λ (r : Rows). r.table)) is))
+        let subsequent = one.here was is in
+        ap (option_map (λ (r : Rows). r.table)) subsequent.1 ∙ (ap Some subsequent.2.table ∙ sym (ap (option_map (λ (r : Rows). r.table)) is))
 
     each : (p : ℕ) → option_map (λ (r : Rows). r.table) (slice_get new p) ≡ option_map (λ (r : Rows). r.table) (slice_get old p)
     each p = by (nat_eq p place) refl
@@ -260,7 +260,7 @@ module _ (tables : List DemoTable) (past : List Accepted) (s : List ℕ) (store 
 
 module _ (tables : List DemoTable) (past : List Accepted) (s : List ℕ) (names : List TableName) (old new : Tables) (cut : Cut) (before after : Session) (st : Stands tables past old) (of : IsCut tables past s names old.tables.items cut)
     (has : Some before ≡ get text_cmp old.sessions s) (keys : after.keys ≡ before.keys) (updates : (q : List ℕ) → get text_cmp new.sessions q ≡ cond (is_eq (text_cmp s q)) (Some after) (get text_cmp old.sessions q)) where
-  pub cut_refused : new.tables.items ≡ old.tables.items → after.messages.items ≡ before.messages.items → after.size ≡ before.size → IsRefused tables past (Truncate s names) errors.Memory new
+  pub cut_refused : new.tables.items ≡ old.tables.items → after.messages.items ≡ before.messages.items → after.size ≡ before.size → IsRefusedStep tables past (Truncate s names) errors.Memory new
   cut_refused tables_stay messages size = record {
     why = inl refl;
     stands = stands_with tables past s old new before after st (sym has) tables_stay messages size keys (comes s (Some after) old new updates);

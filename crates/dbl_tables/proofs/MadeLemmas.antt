@@ -5,22 +5,22 @@ use Rattle.std.specs.List.{AllZip, list_any}
 use Rattle.std.specs.BTreeMap.{IsEmpty, get, is_at}
 use Rattle.std.specs.Map.{lookup}
 use Rattle.dbl_base.specs.Texts.{text_cmp}
-use Rattle.dbl_table.specs.declared.row.Key.{Key}
-use Rattle.dbl_table.specs.Keys.{key_cmp}
-use Rattle.dbl_table.specs.Tables.{column_names}
-use Rattle.dbl_table.specs.Made.{place_of}
-use Rattle.dbl_feed.specs.Texts.{Texts}
-use Rattle.dbl_serial.specs.declared.demo_table.DemoTable.{DemoTable}
-use Rattle.dbl_isolation.specs.Reachable.{AreTables}
-use Rattle.dbl_isolation.proofs.StandingLemmas.{stands_none}
-use Rattle.dbl_rows.specs.declared.slots.Held.{Held}
-use Rattle.dbl_rows.specs.declared.slots.Slot.{Slot}
-use Rattle.dbl_rows.specs.declared.rows.Cleared.{Cleared}
-use Rattle.dbl_rows.specs.declared.rows.Rows.{Rows}
-use Rattle.dbl_rows.specs.Views.{texts_of, committed_in, held_in, base_of, committed_at, owner_in, owner_at, is_owner, seen_under, seen_in, seen_at, is_holder_in, IsAlone}
-use Rattle.dbl_changes.specs.declared.sessions.Session.{Session}
+use Rattle.dbl_model_table.specs.declared.row.Key.{Key}
+use Rattle.dbl_model_table.specs.Keys.{key_cmp}
+use Rattle.dbl_model_table.specs.Tables.{column_names}
+use Rattle.dbl_model_table.specs.Made.{place_of}
+use Rattle.dbl_tables_rows.specs.SourceLog.Texts.{Texts}
+use Rattle.dbl_tables_rows.specs.declared.demo_table.DemoTable.{DemoTable}
+use Rattle.dbl_tables_changes.specs.TablesLaws.Reachable.{AreTables}
+use Rattle.dbl_tables_changes.proofs.TablesLawsStandingLemmas.{stands_none}
+use Rattle.dbl_tables_rows.specs.declared.slots.Held.{Held}
+use Rattle.dbl_tables_rows.specs.declared.slots.Slot.{Slot}
+use Rattle.dbl_tables_rows.specs.declared.rows.Cleared.{Cleared}
+use Rattle.dbl_tables_rows.specs.declared.rows.Rows.{Rows}
+use Rattle.dbl_tables_rows.specs.Views.{texts_of, committed_in, held_in, base_of, committed_at, owner_in, owner_at, is_owner, seen_under, seen_in, seen_at, is_holder_in, IsAlone}
+use Rattle.dbl_tables_changes.specs.declared.sessions.Session.{Session}
 use Rattle.dbl_tables.specs.declared.tables.Tables.{Tables}
-use Rattle.dbl_changes.specs.Behind.{IsSessionAt, IsFresh, AreRows, found_at}
+use Rattle.dbl_tables_changes.specs.AcceptedSteps.{IsSessionAt, HasNothingCommitted, AreRows, found_at}
 use Rattle.dbl_tables.specs.Stands.{IsMade, AreMade, Stands}
 
 -- ---- lists
@@ -81,7 +81,7 @@ module _ (rows : Rows) (table : DemoTable) (made : IsMade table rows) where
     sees = nothing_seen;
     holds = λ session key. ap (is_owner session) (nobody key);
     holders = λ session. ap (λ (c : Option Cleared). is_holder_in c rows.holders session) made.cleared ∙ ap (λ (l : List (List ℕ)). list_any (is_at (text_cmp session)) l) made.holders;
-    fresh = subst (λ (c : Option Cleared). IsFresh c rows.slots) (sym made.cleared) tt;
+    fresh = subst (λ (c : Option Cleared). HasNothingCommitted c rows.slots) (sym made.cleared) tt;
     alone = subst (λ (c : Option Cleared). IsAlone c rows.slots) (sym made.cleared) tt;
     wide = record {
       committed = λ key. subst (λ (o : Option Texts). IfSome o (λ row. length row ≡ length rows.table.info.columns)) (sym (no_row key)) tt;

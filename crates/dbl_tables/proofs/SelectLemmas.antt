@@ -7,17 +7,17 @@ use Rattle.std.specs.declared.cmp.Ordering.{Ordering}
 use Rattle.std.specs.declared.cmp.Ordering.TheVariants.{Less, Equal, Greater}
 use Rattle.std.specs.BTreeMap.{is_at}
 use Rattle.std.specs.Map.{lookup}
-use Rattle.dbl_table.specs.declared.row.Key.{Key}
-use Rattle.dbl_table.specs.declared.table.RawRow.{RawRow}
-use Rattle.dbl_table.specs.declared.table.RawTable.{RawTable}
-use Rattle.dbl_table.specs.Keys.{key_cmp, same_key}
-use Rattle.dbl_table.proofs.KeyLemmas.{key_total, same_key-is, same_key-itself}
-use Rattle.dbl_history.specs.KeyBounds.{IsAbove, IsUpTo}
-use Rattle.dbl_history.proofs.BoundLemmas.{not_below_itself, bounds_part, above_goes_on}
-use Rattle.dbl_feed.specs.Texts.{Texts, key_in}
-use Rattle.dbl_serial.specs.Selects.{row_shown, AreRising, last_shown, AreFirstRows}
-use Rattle.dbl_rows.specs.declared.slots.Slot.{Slot}
-use Rattle.dbl_rows.specs.Views.{texts_of}
+use Rattle.dbl_model_table.specs.declared.row.Key.{Key}
+use Rattle.dbl_model_table.specs.declared.table.RawRow.{RawRow}
+use Rattle.dbl_model_table.specs.declared.table.RawTable.{RawTable}
+use Rattle.dbl_model_table.specs.Keys.{key_cmp, same_key}
+use Rattle.dbl_model_table.proofs.KeyLemmas.{key_total, same_key-is, same_key-itself}
+use Rattle.dbl_model_history.specs.KeyBounds.{IsAbove, IsUpTo}
+use Rattle.dbl_model_history.proofs.BoundLemmas.{not_below_itself, bounds_part, above_goes_on}
+use Rattle.dbl_tables_rows.specs.SourceLog.Texts.{Texts, key_in}
+use Rattle.dbl_tables_rows.specs.Selects.{row_shown, AreRisingKeys, last_shown, AreFirstRows}
+use Rattle.dbl_tables_rows.specs.declared.slots.Slot.{Slot}
+use Rattle.dbl_tables_rows.specs.Views.{texts_of}
 
 abbrev pub Entry : Type 0
 Entry = Key × Slot
@@ -45,22 +45,22 @@ AreOwn raw es = AllByRecursion (λ (e : Entry). (row : RawRow) → e.1.committed
 
 -- nothing is at a key before the bound
 pub not_there : (bound key : Key) (es : List Entry) → AreBehind (Some bound) es → (key_cmp key bound ≡ Less) ⊎ (key ≡ bound) → row_at es key ≡ None
-not_there bound key [] behind before = refl
-not_there bound key (e ∷ es) behind before = by (key_cmp key e.0) refl (not_there e.0 key es behind.1)
+not_there bound key [] subsequent before = refl
+not_there bound key (e ∷ es) subsequent before = by (key_cmp key e.0) refl (not_there e.0 key es subsequent.1)
   where
     below : key_cmp key e.0 ≡ Less
     below = at before
       where
         at : (key_cmp key bound ≡ Less) ⊎ (key ≡ bound) → key_cmp key e.0 ≡ Less
-        at (inl less) = key_total.trans key bound e.0 less behind.0
-        at (inr same) = subst (λ (k : Key). key_cmp k e.0 ≡ Less) (sym same) behind.0
+        at (inl less) = key_total.trans key bound e.0 less subsequent.0
+        at (inr same) = subst (λ (k : Key). key_cmp k e.0 ≡ Less) (sym same) subsequent.0
 
     by : (o : Ordering) → key_cmp key e.0 ≡ o → ((key_cmp key e.0 ≡ Less) ⊎ (key ≡ e.0) → row_at es key ≡ None) → row_of (cond (is_eq (key_cmp key e.0)) (Some e.1) (lookup (is_at (key_cmp key)) es)) ≡ None
     by Less is later = ap (λ (o : Ordering). row_of (cond (is_eq o) (Some e.1) (lookup (is_at (key_cmp key)) es))) is ∙ later (inl is)
     by Equal is later = let contra : Equal ≡ Less = sym is ∙ below in cc
     by Greater is later = let contra : Greater ≡ Less = sym is ∙ below in cc
 
-none_shown : (raw : RawTable) (bound key : Key) (rows : List RawRow) → AreRising raw (Some bound) rows → key_cmp key bound ≡ Less → row_shown raw rows key ≡ None
+none_shown : (raw : RawTable) (bound key : Key) (rows : List RawRow) → AreRisingKeys raw (Some bound) rows → key_cmp key bound ≡ Less → row_shown raw rows key ≡ None
 none_shown raw bound key [] rising below = refl
 none_shown raw bound key (row ∷ rows) rising below =
     let under : key_cmp key (key_in raw row.cells) ≡ Less = key_total.trans key bound (key_in raw row.cells) below rising.0 in
@@ -72,17 +72,17 @@ none_shown raw bound key (row ∷ rows) rising below =
 
 -- a wider bound
 behind_less : (above : Option Key) (key : Key) (es : List Entry) → IsAbove above key → AreBehind (Some key) es → AreBehind above es
-behind_less above key [] is behind = tt
-behind_less above key (e ∷ es) is behind = (above_goes_on above key e.0 is behind.0, behind.1)
+behind_less above key [] is subsequent = tt
+behind_less above key (e ∷ es) is subsequent = (above_goes_on above key e.0 is subsequent.0, subsequent.1)
 
 -- ---- the first rows
 
 module _ (raw : RawTable) (at : Key → Option Texts) where
   pub first_of_slots : (es : List Entry) (above : Option Key) (limit : ℕ) → AreBehind above es → AreOwn raw es → ((key : Key) → IsAbove above key → row_at es key ≡ at key) → AreFirstRows raw at above limit (take limit (rows_of es))
-  first_of_slots [] above zero behind own same = record { ordered = tt; few = omega arith; right = λ key is_above range. same key is_above }
-  first_of_slots [] above (suc limit) behind own same = record { ordered = tt; few = omega arith; right = λ key is_above range. same key is_above }
-  first_of_slots (e ∷ es) above limit behind own same =
-      by e.1.committed refl limit (λ later_same. first_of_slots es above limit (behind_less above e.0 es behind.0 behind.1) own.1 later_same) (λ less later_same. first_of_slots es (Some e.0) less behind.1 own.1 later_same)
+  first_of_slots [] above zero subsequent own same = record { ordered = tt; few = omega arith; right = λ key is_above range. same key is_above }
+  first_of_slots [] above (suc limit) subsequent own same = record { ordered = tt; few = omega arith; right = λ key is_above range. same key is_above }
+  first_of_slots (e ∷ es) above limit subsequent own same =
+      by e.1.committed refl limit (λ later_same. first_of_slots es above limit (behind_less above e.0 es subsequent.0 subsequent.1) own.1 later_same) (λ less later_same. first_of_slots es (Some e.0) less subsequent.1 own.1 later_same)
     where
       -- behind the first slot
       later : (key : Key) → key_cmp e.0 key ≡ Less → row_at es key ≡ row_at (e ∷ es) key
@@ -100,7 +100,7 @@ module _ (raw : RawTable) (at : Key → Option Texts) where
           at_order : (o : Ordering) → key_cmp key e.0 ≡ o → row_at es key ≡ at key
           at_order Equal is =
               let k : key ≡ e.0 = same_key-is key e.0 (ap is_eq is) in
-              not_there e.0 key es behind.1 (inr k)
+              not_there e.0 key es subsequent.1 (inr k)
               ∙ (sym (ap texts_of none) ∙ (sym here ∙ (ap (row_at (e ∷ es)) (sym k) ∙ same key is_above)))
           at_order Less is = sym (ap (λ (o : Ordering). row_of (cond (is_eq o) (Some e.1) (lookup (is_at (key_cmp key)) es))) is) ∙ same key is_above
           at_order Greater is = sym (ap (λ (o : Ordering). row_of (cond (is_eq o) (Some e.1) (lookup (is_at (key_cmp key)) es))) is) ∙ same key is_above
@@ -109,7 +109,7 @@ module _ (raw : RawTable) (at : Key → Option Texts) where
       with_row row is n rest =
           let k : key_in raw row.cells ≡ e.0 = own.0 row is in
           record {
-            ordered = (subst (IsAbove above) (sym k) behind.0, subst (λ (x : Key). AreRising raw (Some x) (take n (rows_of es))) (sym k) rest.ordered);
+            ordered = (subst (IsAbove above) (sym k) subsequent.0, subst (λ (x : Key). AreRisingKeys raw (Some x) (take n (rows_of es))) (sym k) rest.ordered);
             few = (let few = rest.few in omega arith);
             right = λ key is_above range. at_order key is_above (key_cmp key e.0) refl range;
           }
@@ -136,7 +136,7 @@ module _ (raw : RawTable) (at : Key → Option Texts) where
               let turned : key_cmp e.0 key ≡ Greater = key_total.antisymm e.0 key ∙ ap ordering_reverse order in
               shown_here key false (ap (λ (y : Key). same_key y key) own_key ∙ ap is_eq turned)
               ∙ (none_shown raw e.0 key (take n (rows_of es)) rest.ordered order
-              ∙ (sym (not_there e.0 key es behind.1 (inl order)) ∙ (sym (ap (λ (o : Ordering). row_of (cond (is_eq o) (Some e.1) (lookup (is_at (key_cmp key)) es))) order) ∙ same key is_above)))
+              ∙ (sym (not_there e.0 key es subsequent.1 (inl order)) ∙ (sym (ap (λ (o : Ordering). row_of (cond (is_eq o) (Some e.1) (lookup (is_at (key_cmp key)) es))) order) ∙ same key is_above)))
 
       by : (r : Option RawRow) → e.1.committed ≡ r → (n : ℕ) → (((key : Key) → IsAbove above key → row_at es key ≡ at key) → AreFirstRows raw at above n (take n (rows_of es)))
           → ((less : ℕ) → ((key : Key) → IsAbove (Some e.0) key → row_at es key ≡ at key) → AreFirstRows raw at (Some e.0) less (take less (rows_of es))) → AreFirstRows raw at above n (take n (cons_option r (rows_of es)))
@@ -150,4 +150,4 @@ module _ (raw : RawTable) (at : Key → Option Texts) where
           never : (key : Key) → IsAbove above key → (0 < 0) ⊎ IsUpTo above key → None ≡ at key
           never key is_above (inl less) = absurd (omega arith)
           never key is_above (inr up) = absurd ((bounds_part above key).not_both is_above up)
-      by (Some row) is (suc n) pass next = with_row row is n (next n (λ key less. later key less ∙ same key (above_goes_on above e.0 key behind.0 less)))
+      by (Some row) is (suc n) pass next = with_row row is n (next n (λ key less. later key less ∙ same key (above_goes_on above e.0 key subsequent.0 less)))

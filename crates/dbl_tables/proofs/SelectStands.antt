@@ -11,32 +11,32 @@ use Rattle.std.specs.BTreeMap.Range.{range_contains, entries_between}
 use Rattle.std.specs.declared.ops.Bound.TheVariants.{Excluded, Unbounded}
 use Rattle.std.proofs.lemmas.List.{append-nil, length-append}
 use Rattle.std.specs.Map.{lookup, keys_of}
-use Rattle.dbl_table.specs.declared.row.Key.{Key}
-use Rattle.dbl_table.specs.declared.table.RawRow.{RawRow}
-use Rattle.dbl_table.specs.declared.table.RawTable.{RawTable}
-use Rattle.dbl_table.specs.declared.table.TableName.{TableName}
-use Rattle.dbl_table.specs.Infos.{catalogue_of}
-use Rattle.dbl_table.specs.Keys.{key_cmp}
-use Rattle.dbl_table.specs.Tables.{same_name}
-use Rattle.dbl_table.proofs.DerivedOrder.{derived_order}
-use Rattle.dbl_table.proofs.KeyLemmas.{same_key-is, same_key-itself}
-use Rattle.dbl_history.specs.KeyBounds.{IsAbove}
-use Rattle.dbl_history.specs.Fit.{IsKeyOf}
-use Rattle.dbl_feed.specs.declared.logged.LogTable.{LogTable}
-use Rattle.dbl_feed.specs.Relations.{first_oid}
-use Rattle.dbl_feed.specs.TextRows.{table_named}
-use Rattle.dbl_feed.specs.Texts.{Texts, key_in}
-use Rattle.dbl_serial.specs.declared.demo_table.DemoTable.{DemoTable}
-use Rattle.dbl_serial.specs.declared.error.StepError.TheVariants as errors
-use Rattle.dbl_serial.specs.Acts.{Accepted}
-use Rattle.dbl_serial.specs.Seen.{committed_rows}
-use Rattle.dbl_serial.specs.Selects.{AreFirstRows, AreShown, SelectsAt, SelectsCommitted}
-use Rattle.dbl_serial.specs.Sending.{raw_of, log_table, log_tables}
-use Rattle.dbl_serial.specs.Steps.{Found, found}
-use Rattle.dbl_rows.specs.declared.rows.Rows.{Rows}
-use Rattle.dbl_rows.specs.Views.{Slots, texts_of, base_of}
-use Rattle.dbl_rows.proofs.SlotLemmas.{derived_cmp}
-use Rattle.dbl_tables.specs.Shown.{is_behind}
+use Rattle.dbl_model_table.specs.declared.row.Key.{Key}
+use Rattle.dbl_model_table.specs.declared.table.RawRow.{RawRow}
+use Rattle.dbl_model_table.specs.declared.table.RawTable.{RawTable}
+use Rattle.dbl_model_table.specs.declared.table.TableName.{TableName}
+use Rattle.dbl_model_table.specs.Infos.{catalogue_of}
+use Rattle.dbl_model_table.specs.Keys.{key_cmp}
+use Rattle.dbl_model_table.specs.Tables.{same_name}
+use Rattle.dbl_model_table.proofs.DerivedOrder.{derived_order}
+use Rattle.dbl_model_table.proofs.KeyLemmas.{same_key-is, same_key-itself}
+use Rattle.dbl_model_history.specs.KeyBounds.{IsAbove}
+use Rattle.dbl_model_history.specs.Fit.{IsKeyOf}
+use Rattle.dbl_tables_rows.specs.SourceLog.declared.logged.LogTable.{LogTable}
+use Rattle.dbl_tables_rows.specs.SourceLog.Relations.{first_oid}
+use Rattle.dbl_tables_rows.specs.SourceLog.TextRows.{log_table_named}
+use Rattle.dbl_tables_rows.specs.SourceLog.Texts.{Texts, key_in}
+use Rattle.dbl_tables_rows.specs.declared.demo_table.DemoTable.{DemoTable}
+use Rattle.dbl_tables_rows.specs.declared.error.StepError.TheVariants as errors
+use Rattle.dbl_tables_rows.specs.Acts.{Accepted}
+use Rattle.dbl_tables_rows.specs.Seen.{committed_rows}
+use Rattle.dbl_tables_rows.specs.Selects.{AreFirstRows, AreShown, SelectsAt, SelectsCommitted}
+use Rattle.dbl_tables_rows.specs.Sending.{raw_of, log_table, log_tables}
+use Rattle.dbl_tables_rows.specs.Steps.{FoundTable, found}
+use Rattle.dbl_tables_rows.specs.declared.rows.Rows.{Rows}
+use Rattle.dbl_tables_rows.specs.Views.{Slots, texts_of, base_of}
+use Rattle.dbl_tables_rows.proofs.SlotLemmas.{derived_cmp}
+use Rattle.dbl_tables.specs.Shown.{comes_after}
 use Rattle.dbl_tables.specs.declared.tables.Tables.{Tables}
 use Rattle.dbl_tables.specs.Stands.{Stands}
 use Rattle.dbl_tables.proofs.CutLemmas.{named_at_place, at_name}
@@ -90,8 +90,8 @@ module _ (test : Key → Bool) where
 
 -- rows that are at their keys are their slots'
 own_of : (raw : RawTable) (bound : Option Key) (es : List Entry) → AreBehind bound es → ((key : Key) (row : Texts) → row_at es key ≡ Some row → key_in raw row ≡ key) → AreOwn raw es
-own_of raw bound [] behind keyed = tt
-own_of raw bound (e ∷ es) behind keyed = (here, own_of raw (Some e.0) es behind.1 later)
+own_of raw bound [] subsequent keyed = tt
+own_of raw bound (e ∷ es) subsequent keyed = (here, own_of raw (Some e.0) es subsequent.1 later)
   where
     here : (row : RawRow) → e.1.committed ≡ Some row → key_in raw row.cells ≡ e.0
     here row is = keyed e.0 row.cells (ap (λ (b : Bool). row_of (cond b (Some e.1) (lookup (is_at (key_cmp e.0)) es))) (same_key-itself e.0) ∙ ap texts_of is)
@@ -107,7 +107,7 @@ own_of raw bound (e ∷ es) behind keyed = (here, own_of raw (Some e.0) es behin
         by Greater order = keyed key row (at Greater order refl)
         by Equal order =
             let k : key ≡ e.0 = same_key-is key e.0 (ap is_eq order) in
-            let contra : None ≡ Some row = sym (not_there e.0 key es behind.1 (inr k)) ∙ is in
+            let contra : None ≡ Some row = sym (not_there e.0 key es subsequent.1 (inr k)) ∙ is in
             cc
 
 -- all slots in order
@@ -169,14 +169,14 @@ module _ (tables : List DemoTable) (past : List Accepted) (s : List ℕ) (store 
   -- a table that isn't there
   pub select_unknown : (name : TableName) (above : Option Key) (limit : ℕ) → position_from (λ rows. same_name rows.table.info.name name) 0 store.tables.items ≡ None → SelectsCommitted tables past name above limit (Err errors.UnknownTable)
   select_unknown name above limit none =
-      subst (λ (o : Option Found). SelectsAt (committed_rows (log_tables tables) past) above limit o (Err errors.UnknownTable))
+      subst (λ (o : Option FoundTable). SelectsAt (committed_rows (log_tables tables) past) above limit o (Err errors.UnknownTable))
       (sym (ap (λ (l : List DemoTable). found l name) (sym st.tables_are) ∙ found_none tables past s store st store.tables.items 0 first_oid name none)) (inr refl)
 
   -- a row that is committed is at its key
   committed_keyed : (place : ℕ) (rows : Rows) → slice_get store.tables.items place ≡ Some rows → (key : Key) (row : Texts) → committed_rows (log_tables tables) past rows.table.info.name key ≡ Some row → key_in (raw_of rows.table) row ≡ key
   committed_keyed place rows there key row is =
       let kept = st.standing.keyed rows.table.info.name key row is in
-      let own : table_named (log_tables tables) rows.table.info.name ≡ Some (log_table rows.table) = named_at_place tables past s store st place rows there in
+      let own : log_table_named (log_tables tables) rows.table.info.name ≡ Some (log_table rows.table) = named_at_place tables past s store st place rows there in
       let e : kept.table ≡ log_table rows.table = (let has = kept.there in cc) in
       ap (λ (t : LogTable). key_in t.raw row) (sym e) ∙ kept.key_is
 
@@ -186,13 +186,13 @@ module _ (tables : List DemoTable) (past : List Accepted) (s : List ℕ) (store 
     select_found rows there answer shown =
         let a = at_name tables past s store st name place at_place in
         let e : a.0 ≡ rows = (let same : Some a.0 ≡ Some rows = sym a.1 ∙ there in cc) in
-        subst (λ (o : Option Found). SelectsAt (committed_rows (log_tables tables) past) above limit o (Ok answer)) (sym a.2)
+        subst (λ (o : Option FoundTable). SelectsAt (committed_rows (log_tables tables) past) above limit o (Ok answer)) (sym a.2)
         (subst (λ (r : Rows). AreShown r.table.info (committed_rows (log_tables tables) past r.table.info.name) above limit answer) (sym e) shown)
 
     pub select_fails : SelectsCommitted tables past name above limit (Err errors.Memory)
     select_fails =
         let a = at_name tables past s store st name place at_place in
-        subst (λ (o : Option Found). SelectsAt (committed_rows (log_tables tables) past) above limit o (Err errors.Memory)) (sym a.2) refl
+        subst (λ (o : Option FoundTable). SelectsAt (committed_rows (log_tables tables) past) above limit o (Err errors.Memory)) (sym a.2) refl
 
     -- above a key that isn't of the table's
     pub select_none : (rows : Rows) → slice_get store.tables.items place ≡ Some rows → (IfSome above (IsKeyOf rows.table.info) → ⊥) → SelectsCommitted tables past name above limit (Ok [])
@@ -219,11 +219,11 @@ passes_behind bound key is = by (key_cmp bound key) refl is
     by Equal order told = cc
     by Greater order told = cc
 
-pub behind_is_above : (above : Option Key) (key : Key) → is_behind above key ≡ true → IsAbove above key
+pub behind_is_above : (above : Option Key) (key : Key) → comes_after above key ≡ true → IsAbove above key
 behind_is_above None key is = tt
 behind_is_above (Some bound) key is = passes_behind bound key is
 
-pub above_is_behind : (above : Option Key) (key : Key) → IsAbove above key → is_behind above key ≡ true
+pub above_is_behind : (above : Option Key) (key : Key) → IsAbove above key → comes_after above key ≡ true
 above_is_behind None key is = refl
 above_is_behind (Some bound) key is = ap is_lt is
 
@@ -235,8 +235,8 @@ and_yes false = refl
 same_tests : (p q : Entry → Bool) → ((e : Entry) → p e ≡ q e) → p ≡ q
 same_tests p q same = λ i e. same e i
 
-behind_test : (bound : Key) (e : Entry) → range_contains derived_cmp (Excluded bound) Unbounded e.0 ≡ is_behind (Some bound) e.0
+behind_test : (bound : Key) (e : Entry) → range_contains derived_cmp (Excluded bound) Unbounded e.0 ≡ comes_after (Some bound) e.0
 behind_test bound e = and_yes (is_lt (derived_cmp bound e.0)) ∙ ap is_lt (derived_order bound e.0)
 
-pub range_behind : (slots : Slots) (bound : Key) (range : List Entry) → range ≡ entries_between derived_cmp (Excluded bound) Unbounded slots.entries → range ≡ filter (λ (e : Entry). is_behind (Some bound) e.0) slots.entries
-range_behind slots bound range between = between ∙ ap (λ (t : Entry → Bool). filter t slots.entries) (same_tests (λ e. range_contains derived_cmp (Excluded bound) Unbounded e.0) (λ e. is_behind (Some bound) e.0) (behind_test bound))
+pub range_behind : (slots : Slots) (bound : Key) (range : List Entry) → range ≡ entries_between derived_cmp (Excluded bound) Unbounded slots.entries → range ≡ filter (λ (e : Entry). comes_after (Some bound) e.0) slots.entries
+range_behind slots bound range between = between ∙ ap (λ (t : Entry → Bool). filter t slots.entries) (same_tests (λ e. range_contains derived_cmp (Excluded bound) Unbounded e.0) (λ e. comes_after (Some bound) e.0) (behind_test bound))

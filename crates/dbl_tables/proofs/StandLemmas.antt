@@ -6,33 +6,33 @@ use Rattle.std.specs.BTreeMap.{get}
 use Rattle.dbl_base.specs.Texts.{text_cmp}
 use Rattle.dbl_pgmsg.specs.declared.messages.Message.{Message}
 use Rattle.dbl_pgmsg.specs.Grammar.{Fits}
-use Rattle.dbl_table.specs.declared.table.TableName.{TableName}
-use Rattle.dbl_table.specs.declared.row.Key.{Key}
-use Rattle.dbl_table.proofs.Lists.{same_text, text_itself}
-use Rattle.dbl_feed.specs.RawChanges.{changes_from}
-use Rattle.dbl_serial.specs.declared.demo_table.DemoTable.{DemoTable}
-use Rattle.dbl_serial.specs.Acts.{Accepted, is_open, messages_by}
-use Rattle.dbl_serial.specs.Acts.Accepted.{Began, Committed, RolledBack}
-use Rattle.dbl_serial.specs.Seen.{committed_rows}
-use Rattle.dbl_serial.specs.Locks.{locks, holds_key}
-use Rattle.dbl_serial.specs.Sending.{log_tables, entry_size}
-use Rattle.dbl_serial.specs.Steps.{Found}
-use Rattle.dbl_isolation.proofs.StandingLemmas.{stands_begins as standing_begins, stands_rolls_back as standing_rolls_back, stands_commits as standing_commits}
-use Rattle.dbl_rows.specs.declared.slots.Held.{Held}
-use Rattle.dbl_rows.specs.declared.rows.Cleared.{Cleared}
-use Rattle.dbl_rows.specs.declared.rows.Rows.{Rows}
-use Rattle.dbl_changes.specs.declared.sessions.Session.{Session}
-use Rattle.dbl_rows.specs.declared.held.HeldKey.{HeldKey}
+use Rattle.dbl_model_table.specs.declared.table.TableName.{TableName}
+use Rattle.dbl_model_table.specs.declared.row.Key.{Key}
+use Rattle.dbl_model_table.proofs.Lists.{same_text, text_itself}
+use Rattle.dbl_tables_rows.specs.SourceLog.RawChanges.{changes_from}
+use Rattle.dbl_tables_rows.specs.declared.demo_table.DemoTable.{DemoTable}
+use Rattle.dbl_tables_rows.specs.Acts.{Accepted, is_open, messages_by}
+use Rattle.dbl_tables_rows.specs.Acts.Accepted.{Began, Committed, RolledBack}
+use Rattle.dbl_tables_rows.specs.Seen.{committed_rows}
+use Rattle.dbl_tables_rows.specs.Locks.{locks, holds_key}
+use Rattle.dbl_tables_rows.specs.Sending.{log_tables, entry_size}
+use Rattle.dbl_tables_rows.specs.Steps.{FoundTable}
+use Rattle.dbl_tables_changes.proofs.TablesLawsStandingLemmas.{stands_begins as standing_begins, stands_rolls_back as standing_rolls_back, stands_commits as standing_commits}
+use Rattle.dbl_tables_rows.specs.declared.slots.Held.{Held}
+use Rattle.dbl_tables_rows.specs.declared.rows.Cleared.{Cleared}
+use Rattle.dbl_tables_rows.specs.declared.rows.Rows.{Rows}
+use Rattle.dbl_tables_changes.specs.declared.sessions.Session.{Session}
+use Rattle.dbl_tables_rows.specs.declared.held.HeldKey.{HeldKey}
 use Rattle.dbl_tables.specs.declared.tables.Tables.{Tables}
-use Rattle.dbl_rows.specs.Views.{Slots, held_in, owner_in, owner_at, is_owner, IsAlone}
-use Rattle.dbl_rows.specs.Changing.{given_up, cleared_left, restored}
-use Rattle.dbl_rows.specs.Ends.{IsRolledBack, IsCommitted, IsChangedTo, EachChanges}
-use Rattle.dbl_rows.specs.Listed.{is_listed}
-use Rattle.dbl_changes.specs.Behind.{IsSessionAt, AreListed, AreListedBefore, AreRows, found_at}
+use Rattle.dbl_tables_rows.specs.Views.{Slots, held_in, owner_in, owner_at, is_owner, IsAlone}
+use Rattle.dbl_tables_rows.specs.Changing.{given_up, cleared_left, restored}
+use Rattle.dbl_tables_rows.specs.Ends.{IsRolledBack, IsCommitted, IsChangedTo, EachChanges}
+use Rattle.dbl_tables_rows.specs.Listed.{is_listed}
+use Rattle.dbl_tables_changes.specs.AcceptedSteps.{IsSessionAt, AreListed, AreListedBefore, AreRows, found_at}
 use Rattle.dbl_tables.specs.Stands.{Stands}
-use Rattle.dbl_changes.proofs.OwnerLemmas.{owner_of, left_of}
-use Rattle.dbl_changes.proofs.EndRows.{rows_begin, rows_roll_back}
-use Rattle.dbl_changes.proofs.CommitRows.{rows_commit}
+use Rattle.dbl_tables_changes.proofs.OwnerLemmas.{owner_of, left_of}
+use Rattle.dbl_tables_changes.proofs.EndRows.{rows_begin, rows_roll_back}
+use Rattle.dbl_tables_changes.proofs.CommitRows.{rows_commit}
 
 -- ---- tables, one by one
 
@@ -133,12 +133,12 @@ module _ (tables : List DemoTable) (past : List Accepted) (s : List ℕ) (old ne
     standing = standing_rolls_back tables past st.standing s;
     tables_are = each_map (λ place o n. IsRolledBack place session.keys.items s o n) (λ place o n change. change.left.table) old.tables.items new.tables.items each ∙ st.tables_are;
     sessions = rolled_sessions;
-    rows = λ place rows there. behind place rows (came_of (λ place o n. IsRolledBack place session.keys.items s o n) old.tables.items new.tables.items place rows each there);
+    rows = λ place rows there. subsequent place rows (came_of (λ place o n. IsRolledBack place session.keys.items s o n) old.tables.items new.tables.items place rows each there);
     listed = λ name x place rows has there. lists name x place rows (still name x has) (came_of (λ place o n. IsRolledBack place session.keys.items s o n) old.tables.items new.tables.items place rows each there);
   }
     where
-      behind : (place : ℕ) (rows : Rows) → CameOf (λ place o n. IsRolledBack place session.keys.items s o n) old.tables.items place rows → AreRows tables (RolledBack s ∷ past) (found_at place rows.table) rows
-      behind place rows came =
+      subsequent : (place : ℕ) (rows : Rows) → CameOf (λ place o n. IsRolledBack place session.keys.items s o n) old.tables.items place rows → AreRows tables (RolledBack s ∷ past) (found_at place rows.table) rows
+      subsequent place rows came =
           let own = st.listed s session place came.before found came.there in
           subst (λ (t : DemoTable). AreRows tables (RolledBack s ∷ past) (found_at place t) rows) (sym came.changed.left.table)
           (rows_roll_back tables past s (found_at place came.before.table) place session.keys.items came.before rows (st.rows place came.before came.there) came.changed own.0 own.1)
@@ -157,12 +157,12 @@ module _ (tables : List DemoTable) (past : List Accepted) (s : List ℕ) (old ne
     standing = standing_commits tables past st.standing s st.can;
     tables_are = each_map (λ place o n. IsCommitted place session.keys.items s o n) (λ place o n change. change.left.table) old.tables.items new.tables.items each ∙ st.tables_are;
     sessions = ended_sessions;
-    rows = λ place rows there. behind place rows (came_of (λ place o n. IsCommitted place session.keys.items s o n) old.tables.items new.tables.items place rows each there);
+    rows = λ place rows there. subsequent place rows (came_of (λ place o n. IsCommitted place session.keys.items s o n) old.tables.items new.tables.items place rows each there);
     listed = λ name x place rows has there. lists name x place rows (still name x has) (came_of (λ place o n. IsCommitted place session.keys.items s o n) old.tables.items new.tables.items place rows each there);
   }
     where
-      behind : (place : ℕ) (rows : Rows) → CameOf (λ place o n. IsCommitted place session.keys.items s o n) old.tables.items place rows → AreRows tables (Committed s ∷ past) (found_at place rows.table) rows
-      behind place rows came =
+      subsequent : (place : ℕ) (rows : Rows) → CameOf (λ place o n. IsCommitted place session.keys.items s o n) old.tables.items place rows → AreRows tables (Committed s ∷ past) (found_at place rows.table) rows
+      subsequent place rows came =
           let own = st.listed s session place came.before found came.there in
           subst (λ (t : DemoTable). AreRows tables (Committed s ∷ past) (found_at place t) rows) (sym came.changed.left.table)
           (rows_commit tables past s (found_at place came.before.table) st.can st.standing.orderly place session.keys.items came.before rows (st.rows place came.before came.there) came.changed own.0)
@@ -182,7 +182,7 @@ IsOwnerNot s None = Unit {0}
 IsOwnerNot s (Some owner) = owner ≡ s → ⊥
 
 -- nobody has a lock of a session that isn't open
-no_lock : (tables : List DemoTable) (past : List Accepted) (s : List ℕ) (at : Found) (rows : Rows) → AreRows tables past at rows → (key : Key) → holds_key (log_tables tables) past at.table.info.name key s ≡ false → IsOwnerNot s (owner_at rows key)
+no_lock : (tables : List DemoTable) (past : List Accepted) (s : List ℕ) (at : FoundTable) (rows : Rows) → AreRows tables past at rows → (key : Key) → holds_key (log_tables tables) past at.table.info.name key s ≡ false → IsOwnerNot s (owner_at rows key)
 no_lock tables past s at rows are key none = is_not (owner_at rows key) (are.holds s key ∙ none)
   where
     is_not : (o : Option (List ℕ)) → is_owner s o ≡ false → IsOwnerNot s o

@@ -10,27 +10,27 @@ use Rattle.std.proofs.lemmas.Bool.Decides.{nat_tests}
 use Rattle.std.proofs.lemmas.Map.Text.{is_eq-slice_cmp}
 use Rattle.std.proofs.lemmas.Option.{slice_get_past, slice_get_read, slice_get_within}
 use Rattle.dbl_base.specs.Texts.{text_cmp}
-use Rattle.dbl_table.specs.declared.table.TableName.{TableName}
-use Rattle.dbl_table.specs.Tables.{same_name}
-use Rattle.dbl_feed.specs.Relations.{first_oid}
-use Rattle.dbl_feed.proofs.ThemselvesLemmas.{name_same}
-use Rattle.dbl_serial.specs.declared.demo_table.DemoTable.{DemoTable}
-use Rattle.dbl_serial.specs.declared.error.StepError.{StepError}
-use Rattle.dbl_serial.specs.declared.error.StepError.TheVariants as errors
-use Rattle.dbl_serial.specs.Acts.{Accepted, is_open}
-use Rattle.dbl_serial.specs.Refusals.{◌>>=◌, refuse_if, some_or}
-use Rattle.dbl_serial.specs.Steps.{Step, Found, found_from, found, table_judged, judged}
-use Rattle.dbl_isolation.proofs.JudgedLemmas.{table_named_so}
-use Rattle.dbl_isolation.proofs.MessageLemmas.{found_there}
-use Rattle.dbl_rows.specs.declared.rows.Rows.{Rows}
-use Rattle.dbl_rows.proofs.RowLemmas.{set_same, set_other}
-use Rattle.dbl_changes.specs.declared.planned.Planned.{Planned}
-use Rattle.dbl_changes.specs.declared.sessions.Session.{Session}
+use Rattle.dbl_model_table.specs.declared.table.TableName.{TableName}
+use Rattle.dbl_model_table.specs.Tables.{same_name}
+use Rattle.dbl_tables_rows.specs.SourceLog.Relations.{first_oid}
+use Rattle.dbl_tables_rows.proofs.SourceLogThemselvesLemmas.{name_same}
+use Rattle.dbl_tables_rows.specs.declared.demo_table.DemoTable.{DemoTable}
+use Rattle.dbl_tables_rows.specs.declared.error.StepError.{StepError}
+use Rattle.dbl_tables_rows.specs.declared.error.StepError.TheVariants as errors
+use Rattle.dbl_tables_rows.specs.Acts.{Accepted, is_open}
+use Rattle.dbl_tables_rows.specs.Refusals.{◌>>=◌, refuse_step_if, some_or_refuse}
+use Rattle.dbl_tables_rows.specs.Steps.{Step, FoundTable, found_from, found, table_judged, judged}
+use Rattle.dbl_tables_changes.proofs.TablesLawsJudgedLemmas.{table_named_so}
+use Rattle.dbl_tables_changes.proofs.TablesLawsMessageLemmas.{found_there}
+use Rattle.dbl_tables_rows.specs.declared.rows.Rows.{Rows}
+use Rattle.dbl_tables_rows.proofs.RowLemmas.{set_same, set_other}
+use Rattle.dbl_tables_changes.specs.declared.planned.Planned.{Planned}
+use Rattle.dbl_tables_changes.specs.declared.sessions.Session.{Session}
 use Rattle.dbl_tables.specs.declared.tables.Tables.{Tables}
-use Rattle.dbl_changes.specs.Planned.{found_here, IsPlanned, IsAsked}
-use Rattle.dbl_changes.specs.Behind.{IsSessionAt, found_at}
-use Rattle.dbl_tables.specs.Stands.{Stands, IsAccepted, IsRefused}
-use Rattle.dbl_changes.specs.Taking.{Takes, IsUntaken}
+use Rattle.dbl_tables_changes.specs.Planned.{found_here, IsPlanned, IsAskedOfTable}
+use Rattle.dbl_tables_changes.specs.AcceptedSteps.{IsSessionAt, found_at}
+use Rattle.dbl_tables.specs.Stands.{Stands, IsAccepted, IsRefusedStep}
+use Rattle.dbl_tables_changes.specs.Taking.{TakesChange, IsUntaken}
 use Rattle.dbl_tables.specs.Places.{PlacesFor, IsPlannedAt}
 use Rattle.dbl_tables.proofs.DoStands.{taken}
 use Rattle.dbl_tables.proofs.UntakenLemmas.{stands_untaken}
@@ -67,10 +67,10 @@ module _ (tables : List DemoTable) (past : List Accepted) (s : List ℕ) (t : Ta
 
   -- it isn't open
   pub closed_table : (name : TableName) → is_open s past ≡ false → table_judged tables past s name ≡ Err errors.NotOpen
-  closed_table name closed = ap (λ (b : Bool). refuse_if (not b) errors.NotOpen >>= (λ (u : Unit {0}). some_or (found tables name) errors.UnknownTable)) closed
+  closed_table name closed = ap (λ (b : Bool). refuse_step_if (not b) errors.NotOpen >>= (λ (u : Unit {0}). some_or_refuse (found tables name) errors.UnknownTable)) closed
 
-  open_table : (name : TableName) → is_open s past ≡ true → table_judged tables past s name ≡ some_or (found tables name) errors.UnknownTable
-  open_table name opened = ap (λ (b : Bool). refuse_if (not b) errors.NotOpen >>= (λ (u : Unit {0}). some_or (found tables name) errors.UnknownTable)) opened
+  open_table : (name : TableName) → is_open s past ≡ true → table_judged tables past s name ≡ some_or_refuse (found tables name) errors.UnknownTable
+  open_table name opened = ap (λ (b : Bool). refuse_step_if (not b) errors.NotOpen >>= (λ (u : Unit {0}). some_or_refuse (found tables name) errors.UnknownTable)) opened
 
   -- the place of a name is that of the table that is found
   pub found_none : (ts : List Rows) (i oid : ℕ) (name : TableName) → position_from (λ rows. same_name rows.table.info.name name) i ts ≡ None → found_from oid (map (λ (r : Rows). r.table) ts) name ≡ None
@@ -79,22 +79,22 @@ module _ (tables : List DemoTable) (past : List Accepted) (s : List ℕ) (t : Ta
     where
       by : (b : Bool) → same_name r.table.info.name name ≡ b → (if b then Some i else position_from (λ (x : Rows). same_name x.table.info.name name) (i + 1) ts) ≡ None
           → (position_from (λ (x : Rows). same_name x.table.info.name name) (i + 1) ts ≡ None → found_from (oid + 1) (map (λ (x : Rows). x.table) ts) name ≡ None)
-          → (if b then Some (let f : Found = record { oid = oid; table = r.table } in f) else found_from (oid + 1) (map (λ (x : Rows). x.table) ts) name) ≡ None
+          → (if b then Some (let f : FoundTable = record { oid = oid; table = r.table } in f) else found_from (oid + 1) (map (λ (x : Rows). x.table) ts) name) ≡ None
       by true is none later = cc
       by false is none later = later none
 
   pub unknown_table : (name : TableName) → is_open s past ≡ true → position_from (λ rows. same_name rows.table.info.name name) 0 t.tables.items ≡ None → table_judged tables past s name ≡ Err errors.UnknownTable
   unknown_table name opened none =
-      open_table name opened ∙ ap (λ (o : Option Found). some_or o errors.UnknownTable)
+      open_table name opened ∙ ap (λ (o : Option FoundTable). some_or_refuse o errors.UnknownTable)
       (ap (λ (l : List DemoTable). found l name) (sym st.tables_are) ∙ found_none t.tables.items 0 first_oid name none)
 
   -- and where there is one
   pub record IsHere (ts : List Rows) (oid i place : ℕ) (name : TableName) : Type 0 where
     pub rows : Rows
-    pub behind : ℕ
-    pub place_is : place ≡ i + behind
-    pub there : slice_get ts behind ≡ Some rows
-    pub is : found_from oid (map (λ (r : Rows). r.table) ts) name ≡ Some (record { oid = oid + behind; table = rows.table })
+    pub subsequent : ℕ
+    pub place_is : place ≡ i + subsequent
+    pub there : slice_get ts subsequent ≡ Some rows
+    pub is : found_from oid (map (λ (r : Rows). r.table) ts) name ≡ Some (record { oid = oid + subsequent; table = rows.table })
 
   pub found_here_at : (ts : List Rows) (oid i place : ℕ) (name : TableName) → position_from (λ rows. same_name rows.table.info.name name) i ts ≡ Some place → IsHere ts oid i place name
   found_here_at [] oid i place name is = cc
@@ -112,21 +112,21 @@ module _ (tables : List DemoTable) (past : List Accepted) (s : List ℕ) (t : Ta
           let e : i ≡ place = cc in
           record {
             rows = r;
-            behind = 0;
+            subsequent = 0;
             place_is = sym e ∙ nothing_more i;
             there = refl;
-            is = ap (λ (b : Bool). if b then Some (let f : Found = record { oid = oid; table = r.table } in f) else found_from (oid + 1) (map (λ (x : Rows). x.table) ts) name) same
-                ∙ ap (λ (n : ℕ). Some (let f : Found = record { oid = n; table = r.table } in f)) (nothing_more oid);
+            is = ap (λ (b : Bool). if b then Some (let f : FoundTable = record { oid = oid; table = r.table } in f) else found_from (oid + 1) (map (λ (x : Rows). x.table) ts) name) same
+                ∙ ap (λ (n : ℕ). Some (let f : FoundTable = record { oid = n; table = r.table } in f)) (nothing_more oid);
           }
       by false other told later =
           let h = later told in
           record {
             rows = h.rows;
-            behind = suc h.behind;
-            place_is = h.place_is ∙ one_more i h.behind;
+            subsequent = suc h.subsequent;
+            place_is = h.place_is ∙ one_more i h.subsequent;
             there = h.there;
-            is = ap (λ (b : Bool). if b then Some (let f : Found = record { oid = oid; table = r.table } in f) else found_from (oid + 1) (map (λ (x : Rows). x.table) ts) name) other
-                ∙ (h.is ∙ ap (λ (n : ℕ). Some (let f : Found = record { oid = n; table = h.rows.table } in f)) (one_more oid h.behind));
+            is = ap (λ (b : Bool). if b then Some (let f : FoundTable = record { oid = oid; table = r.table } in f) else found_from (oid + 1) (map (λ (x : Rows). x.table) ts) name) other
+                ∙ (h.is ∙ ap (λ (n : ℕ). Some (let f : FoundTable = record { oid = n; table = h.rows.table } in f)) (one_more oid h.subsequent));
           }
 
   -- the table at the place is the one that the step is judged at
@@ -138,11 +138,11 @@ module _ (tables : List DemoTable) (past : List Accepted) (s : List ℕ) (t : Ta
   pub had_table : (name : TableName) (place : ℕ) → is_open s past ≡ true → position_from (λ rows. same_name rows.table.info.name name) 0 t.tables.items ≡ Some place → IsHad name place
   had_table name place opened at =
       let h = found_here_at t.tables.items first_oid 0 place name at in
-      let e : place ≡ h.behind = h.place_is ∙ zero_more h.behind in
+      let e : place ≡ h.subsequent = h.place_is ∙ zero_more h.subsequent in
       record {
         rows = h.rows;
         there = ap (slice_get t.tables.items) e ∙ h.there;
-        is = open_table name opened ∙ ap (λ (o : Option Found). some_or o errors.UnknownTable)
+        is = open_table name opened ∙ ap (λ (o : Option FoundTable). some_or_refuse o errors.UnknownTable)
             (ap (λ (l : List DemoTable). found l name) (sym st.tables_are) ∙ (h.is ∙ ap (λ (n : ℕ). Some (found_at n h.rows.table)) (sym e)));
       }
     where
@@ -151,7 +151,7 @@ module _ (tables : List DemoTable) (past : List Accepted) (s : List ℕ) (t : Ta
 
   -- what a plan is asked of
   pub asked_of : (name : TableName) (place : ℕ) (rows : Rows) (session : Session) → table_judged tables past s name ≡ Ok (found_at place rows.table) → slice_get t.tables.items place ≡ Some rows → Some session ≡ get text_cmp t.sessions s
-      → IsAsked tables past s (found_at place rows.table) rows session
+      → IsAskedOfTable tables past s (found_at place rows.table) rows session
   asked_of name place rows session is there has =
       let named = table_named_so tables past s name (found_at place rows.table) is in
       let own : same_name rows.table.info.name name ≡ true = (let at = found_there first_oid tables name (found_at place rows.table) named.there in at.named) in
@@ -177,23 +177,23 @@ got_none ts slice place same past =
     subst (λ (l : List Rows). slice_get l place ≡ None) same (slice_get_past slice place more)
 
 -- what a place says of the verdict on a name
-pub record IsJudgedAt (r : Result Found StepError) (ts : List Rows) (place : ℕ) : Type 0 where
+pub record IsJudgedAt (r : Result FoundTable StepError) (ts : List Rows) (place : ℕ) : Type 0 where
   pub rows : Rows
   pub there : slice_get ts place ≡ Some rows
   pub is : r ≡ Ok (found_at place rows.table)
 
-pub placed : (r : Result Found StepError) (ts : List Rows) (place : ℕ) → PlacesFor r ts (Ok place) → IsJudgedAt r ts place
+pub placed : (r : Result FoundTable StepError) (ts : List Rows) (place : ℕ) → PlacesFor r ts (Ok place) → IsJudgedAt r ts place
 placed (Ok at) ts place of = record { rows = of.rows; there = of.there; is = ap Ok of.is }
 placed (Err e) ts place of = absurd of
 
-pub not_placed : (r : Result Found StepError) (ts : List Rows) (e : StepError) → PlacesFor r ts (Err e) → r ≡ Err e
+pub not_placed : (r : Result FoundTable StepError) (ts : List Rows) (e : StepError) → PlacesFor r ts (Err e) → r ≡ Err e
 not_placed (Ok at) ts e of = absurd of
 not_placed (Err x) ts e of = ap (λ (y : StepError). Err y) (sym of)
 
-module _ (tables : List DemoTable) (past : List Accepted) (s : List ℕ) (t : Tables) (st : Stands tables past t) (name : TableName) (call : Step) (f : Found → Result Accepted StepError) (judges : judged tables past call ≡ (table_judged tables past s name >>= f)) where
+module _ (tables : List DemoTable) (past : List Accepted) (s : List ℕ) (t : Tables) (st : Stands tables past t) (name : TableName) (call : Step) (f : FoundTable → Result Accepted StepError) (judges : judged tables past call ≡ (table_judged tables past s name >>= f)) where
   -- the session isn't open, or the table isn't there
-  pub step_refused : (e : StepError) → PlacesFor (table_judged tables past s name) t.tables.items (Err e) → IsRefused tables past call e t
-  step_refused e of = record { why = inr (judges ∙ ap (λ (r : Result Found StepError). r >>= f) (not_placed (table_judged tables past s name) t.tables.items e of)); stands = st }
+  pub step_refused : (e : StepError) → PlacesFor (table_judged tables past s name) t.tables.items (Err e) → IsRefusedStep tables past call e t
+  step_refused e of = record { why = inr (judges ∙ ap (λ (r : Result FoundTable StepError). r >>= f) (not_placed (table_judged tables past s name) t.tables.items e of)); stands = st }
 
   module _ (place : ℕ) (of : PlacesFor (table_judged tables past s name) t.tables.items (Ok place)) where
     its_place : IsJudgedAt (table_judged tables past s name) t.tables.items place
@@ -221,20 +221,20 @@ module _ (tables : List DemoTable) (past : List Accepted) (s : List ℕ) (t : Ta
       at_rows =
           let h = its_place in
           let e : h.rows ≡ rows = (let both : Some h.rows ≡ Some rows = sym h.there ∙ there in cc) in
-          h.is ∙ (ap (λ (r : Rows). Ok (found_at place r.table)) e ∙ ap (λ (n : ℕ). Ok (let at : Found = record { oid = n; table = rows.table } in at)) (sym oid_is))
+          h.is ∙ (ap (λ (r : Rows). Ok (found_at place r.table)) e ∙ ap (λ (n : ℕ). Ok (let at : FoundTable = record { oid = n; table = rows.table } in at)) (sym oid_is))
 
       here_is : found_here oid rows ≡ found_at place rows.table
-      here_is = ap (λ (n : ℕ). let at : Found = record { oid = n; table = rows.table } in at) oid_is
+      here_is = ap (λ (n : ℕ). let at : FoundTable = record { oid = n; table = rows.table } in at) oid_is
 
       judged_here : judged tables past call ≡ f (found_here oid rows)
-      judged_here = judges ∙ ap (λ (r : Result Found StepError). r >>= f) at_rows
+      judged_here = judges ∙ ap (λ (r : Result FoundTable StepError). r >>= f) at_rows
 
-      pub asked_here : (session : Session) → Some session ≡ get text_cmp t.sessions s → IsAsked tables past s (found_here oid rows) rows session
+      pub asked_here : (session : Session) → Some session ≡ get text_cmp t.sessions s → IsAskedOfTable tables past s (found_here oid rows) rows session
       asked_here session has =
-          subst (λ (at : Found). IsAsked tables past s at rows session) (sym here_is)
-          (asked_of tables past s t st name place rows session (at_rows ∙ ap (λ (at : Found). Ok at) here_is) there has)
+          subst (λ (at : FoundTable). IsAskedOfTable tables past s at rows session) (sym here_is)
+          (asked_of tables past s t st name place rows session (at_rows ∙ ap (λ (at : FoundTable). Ok at) here_is) there has)
 
-      pub plan_refused : (e : StepError) → (e ≡ errors.Memory) ⊎ (f (found_here oid rows) ≡ Err e) → IsRefused tables past call e t
+      pub plan_refused : (e : StepError) → (e ≡ errors.Memory) ⊎ (f (found_here oid rows) ≡ Err e) → IsRefusedStep tables past call e t
       plan_refused e (inl mem) = record { why = inl mem; stands = st }
       plan_refused e (inr is) = record { why = inr (judged_here ∙ is); stands = st }
 
@@ -263,13 +263,13 @@ module _ (tables : List DemoTable) (past : List Accepted) (s : List ℕ) (c : St
   its_plan : IsPlanned tables past s (found_at place rows.table) (judged tables past c) planned
   its_plan =
       let e : at.there.rows ≡ rows = (let both : Some at.there.rows ≡ Some rows = sym at.there.there ∙ there in cc) in
-      subst (λ (f : Found). IsPlanned tables past s f (judged tables past c) planned) (at.there.is ∙ ap (λ (r : Rows). found_at place r.table) e) at.planned_is
+      subst (λ (f : FoundTable). IsPlanned tables past s f (judged tables past c) planned) (at.there.is ∙ ap (λ (r : Rows). found_at place r.table) e) at.planned_is
 
-  pub take_accepted : Takes place s planned rows changed before after → IsAccepted tables past c new
+  pub take_accepted : TakesChange place s planned rows changed before after → IsAccepted tables past c new
   take_accepted takes =
       taken tables past s c old new planned place before after rows changed st (sym has) there its_plan takes (comes s (Some after) old new updates) here elsewhere (tables_stay takes.table.table)
 
-  pub take_refused : IsUntaken rows changed before after → IsRefused tables past c errors.Memory new
+  pub take_refused : IsUntaken rows changed before after → IsRefusedStep tables past c errors.Memory new
   take_refused untaken = record {
     why = inl refl;
     stands = stands_untaken tables past s old new place before after rows changed st (sym has) there untaken (comes s (Some after) old new updates) here elsewhere (tables_stay untaken.table.table);

@@ -8,42 +8,42 @@ use Rattle.std.proofs.lemmas.Option.{slice_get-map}
 use Rattle.dbl_base.specs.Texts.{text_cmp}
 use Rattle.dbl_pgmsg.specs.declared.messages.Message.{Message}
 use Rattle.dbl_pgmsg.specs.Grammar.{Fits}
-use Rattle.dbl_table.specs.declared.row.Key.{Key}
-use Rattle.dbl_table.specs.Keys.{key_cmp}
-use Rattle.dbl_table.specs.Tables.{same_name, are_distinct}
-use Rattle.dbl_table.proofs.Lists.{same_text, text_itself}
-use Rattle.dbl_history.specs.History.{RawChange}
-use Rattle.dbl_feed.specs.RawChanges.{raw_changes}
-use Rattle.dbl_feed.specs.TextRows.{table_named, text_rows_behind}
-use Rattle.dbl_serial.specs.declared.demo_table.DemoTable.{DemoTable}
-use Rattle.dbl_serial.specs.Acts.{Accepted, messages_by}
-use Rattle.dbl_serial.specs.Acts.Accepted.{Did}
-use Rattle.dbl_serial.specs.Locks.{locks, is_of, holds_some}
-use Rattle.dbl_isolation.specs.Reachable.{IsReachable}
-use Rattle.dbl_serial.specs.Seen.{seen_rows}
-use Rattle.dbl_serial.specs.Sending.{log_table, log_tables, entry_size}
-use Rattle.dbl_serial.specs.Steps.{Step, judged}
-use Rattle.dbl_isolation.proofs.AcceptedLemmas.{stands_on}
-use Rattle.dbl_serial.proofs.RestLemmas.{all_push}
-use Rattle.dbl_isolation.proofs.SeenLemmas.{named_there, names_distinct}
-use Rattle.dbl_rows.specs.declared.rows.Cleared.{Cleared}
-use Rattle.dbl_rows.specs.declared.rows.Rows.{Rows}
-use Rattle.dbl_rows.specs.declared.held.HeldKey.{HeldKey}
-use Rattle.dbl_changes.specs.declared.sessions.Session.{Session}
-use Rattle.dbl_rows.specs.declared.slots.Held.{Held}
-use Rattle.dbl_rows.specs.declared.slots.Slot.{Slot}
+use Rattle.dbl_model_table.specs.declared.row.Key.{Key}
+use Rattle.dbl_model_table.specs.Keys.{key_cmp}
+use Rattle.dbl_model_table.specs.Tables.{same_name, are_distinct}
+use Rattle.dbl_model_table.proofs.Lists.{same_text, text_itself}
+use Rattle.dbl_model_history.specs.History.{RawChange}
+use Rattle.dbl_tables_rows.specs.SourceLog.RawChanges.{raw_changes}
+use Rattle.dbl_tables_rows.specs.SourceLog.TextRows.{log_table_named, text_rows_with}
+use Rattle.dbl_tables_rows.specs.declared.demo_table.DemoTable.{DemoTable}
+use Rattle.dbl_tables_rows.specs.Acts.{Accepted, messages_by}
+use Rattle.dbl_tables_rows.specs.Acts.Accepted.{Did}
+use Rattle.dbl_tables_rows.specs.Locks.{locks, is_of, holds_some}
+use Rattle.dbl_tables_changes.specs.TablesLaws.Reachable.{IsReachable}
+use Rattle.dbl_tables_rows.specs.Seen.{seen_rows}
+use Rattle.dbl_tables_rows.specs.Sending.{log_table, log_tables, entry_size}
+use Rattle.dbl_tables_rows.specs.Steps.{Step, judged}
+use Rattle.dbl_tables_changes.proofs.TablesLawsAcceptedLemmas.{stands_on}
+use Rattle.dbl_tables_rows.proofs.RestLemmas.{all_push}
+use Rattle.dbl_tables_changes.proofs.TablesLawsSeenLemmas.{named_there, names_distinct}
+use Rattle.dbl_tables_rows.specs.declared.rows.Cleared.{Cleared}
+use Rattle.dbl_tables_rows.specs.declared.rows.Rows.{Rows}
+use Rattle.dbl_tables_rows.specs.declared.held.HeldKey.{HeldKey}
+use Rattle.dbl_tables_changes.specs.declared.sessions.Session.{Session}
+use Rattle.dbl_tables_rows.specs.declared.slots.Held.{Held}
+use Rattle.dbl_tables_rows.specs.declared.slots.Slot.{Slot}
 use Rattle.dbl_tables.specs.declared.tables.Tables.{Tables}
-use Rattle.dbl_rows.specs.Changing.{cleared_by}
-use Rattle.dbl_rows.specs.Listed.{is_listed}
-use Rattle.dbl_changes.specs.Behind.{IsSession, IsSessionAt, AreListed, AreListedBefore, AreRows, found_at}
+use Rattle.dbl_tables_rows.specs.Changing.{cleared_by}
+use Rattle.dbl_tables_rows.specs.Listed.{is_listed}
+use Rattle.dbl_tables_changes.specs.AcceptedSteps.{IsSession, IsSessionAt, AreListed, AreListedBefore, AreRows, found_at}
 use Rattle.dbl_tables.specs.Stands.{Stands, IsAccepted}
 use Rattle.dbl_tables.specs.Truncates.{TruncatesAll}
-use Rattle.dbl_rows.specs.Views.{Slots}
+use Rattle.dbl_tables_rows.specs.Views.{Slots}
 use Rattle.dbl_tables.proofs.ClearLemmas.{clears_at, are_clears, cleared_at, all_locked, all_cleared}
-use Rattle.dbl_changes.proofs.DoRows.{rows_aside}
+use Rattle.dbl_tables_changes.proofs.DoRows.{rows_aside}
 use Rattle.dbl_tables.proofs.DoStands.{names_of_tables}
 use Rattle.dbl_tables.proofs.StandLemmas.{moved_session}
-use Rattle.dbl_changes.proofs.TruncateRows.{rows_truncated}
+use Rattle.dbl_tables_changes.proofs.TruncateRows.{rows_truncated}
 use Rattle.dbl_tables.proofs.TruncateTables.{IsTouched, all_left}
 
 -- slots without entries have none at a key
@@ -69,7 +69,7 @@ module _ (tables : List DemoTable) (past : List Accepted) (s : List ℕ) (c : St
   -- ---- tables
 
   module _ (p : ℕ) (was : Rows) (there : slice_get old.tables.items p ≡ Some was) where
-    named : table_named (log_tables tables) was.table.info.name ≡ Some (log_table was.table)
+    named : log_table_named (log_tables tables) was.table.info.name ≡ Some (log_table was.table)
     named = named_there (log_tables tables) p (log_table was.table) (names_distinct tables past st.can st.standing.orderly)
         (slice_get-map log_table tables p
         ∙ (ap (λ (l : List DemoTable). option_map log_table (slice_get l p)) (sym st.tables_are)
@@ -85,16 +85,16 @@ module _ (tables : List DemoTable) (past : List Accepted) (s : List ℕ) (c : St
         ∙ (all_locked (log_tables tables) was.table.info.name (log_table was.table) named key cleared_all (are_clears tables old.tables.items st.tables_are distinct places)
         ∙ cleared_at tables old.tables.items st.tables_are distinct p was there places all_there)
 
-    behind : list_any (nat_eq p) places ≡ true → (key : Key) → text_rows_behind (log_tables tables) (raw_changes (log_tables tables) (seen_rows (log_tables tables) past s) m) (seen_rows (log_tables tables) past s) was.table.info.name key ≡ None
-    behind here key =
-        ap (λ (cs : List RawChange). text_rows_behind (log_tables tables) cs (seen_rows (log_tables tables) past s) was.table.info.name key) changes
+    subsequent : list_any (nat_eq p) places ≡ true → (key : Key) → text_rows_with (log_tables tables) (raw_changes (log_tables tables) (seen_rows (log_tables tables) past s) m) (seen_rows (log_tables tables) past s) was.table.info.name key ≡ None
+    subsequent here key =
+        ap (λ (cs : List RawChange). text_rows_with (log_tables tables) cs (seen_rows (log_tables tables) past s) was.table.info.name key) changes
         ∙ all_cleared (log_tables tables) was.table.info.name (log_table was.table) named key cleared_all (seen_rows (log_tables tables) past s) (are_clears tables old.tables.items st.tables_are distinct places)
         (cleared_at tables old.tables.items st.tables_are distinct p was there places all_there ∙ here)
 
     touched_rows : (b : Bool) → list_any (nat_eq p) places ≡ b → (r : Rows) → IsTouched s b was r → AreRows tables (Did s m ∷ past) (found_at p r.table) r
     touched_rows true here r cut =
         subst (λ (t : DemoTable). AreRows tables (Did s m ∷ past) (found_at p t) r) (sym cut.table)
-        (rows_truncated tables past s m st.standing (found_at p was.table) was r (st.rows p was there) (free p was there here) (λ key. locked key ∙ here) (of_it ∙ here) (behind here)
+        (rows_truncated tables past s m st.standing (found_at p was.table) was r (st.rows p was there) (free p was there here) (λ key. locked key ∙ here) (of_it ∙ here) (subsequent here)
         cut.table cut.places cut.cleared cut.holders (none_there r.slots cut.slots))
     touched_rows false aside r same =
         subst (λ (x : Rows). AreRows tables (Did s m ∷ past) (found_at p x.table) x) (sym same)

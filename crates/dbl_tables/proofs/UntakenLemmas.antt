@@ -6,29 +6,29 @@ use Rattle.std.specs.BTreeMap.{BTreeMap, get}
 use Rattle.std.proofs.lemmas.Bool.Decides.{Decides-eqb}
 use Rattle.dbl_base.specs.Texts.{text_cmp}
 use Rattle.dbl_pgmsg.specs.Grammar.{Fits}
-use Rattle.dbl_table.specs.declared.row.Key.{Key}
-use Rattle.dbl_table.proofs.Lists.{same_text}
-use Rattle.dbl_feed.specs.Texts.{Texts}
-use Rattle.dbl_serial.specs.declared.demo_table.DemoTable.{DemoTable}
-use Rattle.dbl_serial.specs.Acts.{Accepted}
-use Rattle.dbl_serial.specs.Steps.{Found}
-use Rattle.dbl_rows.specs.declared.slots.Held.{Held}
-use Rattle.dbl_rows.specs.declared.rows.Cleared.{Cleared}
-use Rattle.dbl_rows.specs.declared.rows.Rows.{Rows}
-use Rattle.dbl_changes.specs.declared.sessions.Session.{Session}
+use Rattle.dbl_model_table.specs.declared.row.Key.{Key}
+use Rattle.dbl_model_table.proofs.Lists.{same_text}
+use Rattle.dbl_tables_rows.specs.SourceLog.Texts.{Texts}
+use Rattle.dbl_tables_rows.specs.declared.demo_table.DemoTable.{DemoTable}
+use Rattle.dbl_tables_rows.specs.Acts.{Accepted}
+use Rattle.dbl_tables_rows.specs.Steps.{FoundTable}
+use Rattle.dbl_tables_rows.specs.declared.slots.Held.{Held}
+use Rattle.dbl_tables_rows.specs.declared.rows.Cleared.{Cleared}
+use Rattle.dbl_tables_rows.specs.declared.rows.Rows.{Rows}
+use Rattle.dbl_tables_changes.specs.declared.sessions.Session.{Session}
 use Rattle.dbl_tables.specs.declared.tables.Tables.{Tables}
-use Rattle.dbl_rows.specs.Views.{committed_in, held_in, base_of, committed_at, owner_in, owner_at, is_owner, seen_under, seen_in, seen_at, is_holder_in, is_holder, IsAlone}
-use Rattle.dbl_rows.specs.Changing.{IsInvisible}
-use Rattle.dbl_rows.specs.Listed.{is_listed}
-use Rattle.dbl_changes.specs.Behind.{IsSession, IsSessionAt, AreListed, AreListedBefore, IsFresh, AreRows, found_at}
+use Rattle.dbl_tables_rows.specs.Views.{committed_in, held_in, base_of, committed_at, owner_in, owner_at, is_owner, seen_under, seen_in, seen_at, is_holder_in, is_holder, IsAlone}
+use Rattle.dbl_tables_rows.specs.Changing.{IsInvisible}
+use Rattle.dbl_tables_rows.specs.Listed.{is_listed}
+use Rattle.dbl_tables_changes.specs.AcceptedSteps.{IsSession, IsSessionAt, AreListed, AreListedBefore, HasNothingCommitted, AreRows, found_at}
 use Rattle.dbl_tables.specs.Stands.{Stands}
-use Rattle.dbl_changes.specs.Taking.{IsSameTable, HoldsAsBefore, IsUntaken}
-use Rattle.dbl_changes.proofs.OwnerLemmas.{owner_of}
+use Rattle.dbl_tables_changes.specs.Taking.{IsSameTable, HoldsAsBefore, IsUntaken}
+use Rattle.dbl_tables_changes.proofs.OwnerLemmas.{owner_of}
 use Rattle.dbl_tables.proofs.DoStands.{listed_more, before_more}
 
 -- ---- a table of which nothing is seen anew
 
-module _ (tables : List DemoTable) (past : List Accepted) (at : Found) (old new : Rows) (are : AreRows tables past at old) (table : IsSameTable old new) (slots : IsInvisible old.slots new.slots) (holders : HoldsAsBefore old new) where
+module _ (tables : List DemoTable) (past : List Accepted) (at : FoundTable) (old new : Rows) (are : AreRows tables past at old) (table : IsSameTable old new) (slots : IsInvisible old.slots new.slots) (holders : HoldsAsBefore old new) where
   committed_same : (key : Key) → committed_at new key ≡ committed_at old key
   committed_same key = ap (λ (c : Option Cleared). committed_in (base_of c new.slots) key) table.cleared ∙ by old.cleared
     where
@@ -64,7 +64,7 @@ module _ (tables : List DemoTable) (past : List Accepted) (at : Found) (old new 
   widened None fine = tt
   widened (Some x) fine = fine ∙ sym columns_same
 
-  fresh_same : (c : Option Cleared) → IsFresh c old.slots → IsFresh c new.slots
+  fresh_same : (c : Option Cleared) → HasNothingCommitted c old.slots → HasNothingCommitted c new.slots
   fresh_same None fresh = tt
   fresh_same (Some c) fresh = λ key. slots.committed key ∙ fresh key
 
@@ -80,7 +80,7 @@ module _ (tables : List DemoTable) (past : List Accepted) (at : Found) (old new 
     sees = λ t key. seen_same t key ∙ are.sees t key;
     holds = λ t key. owner_same t key ∙ are.holds t key;
     holders = λ t. holder_same t ∙ are.holders t;
-    fresh = subst (λ (c : Option Cleared). IsFresh c new.slots) (sym table.cleared) (fresh_same old.cleared are.fresh);
+    fresh = subst (λ (c : Option Cleared). HasNothingCommitted c new.slots) (sym table.cleared) (fresh_same old.cleared are.fresh);
     alone = subst (λ (c : Option Cleared). IsAlone c new.slots) (sym table.cleared) (alone_same old.cleared are.alone);
     wide = record {
       committed = λ key. subst (λ (r : Option Texts). IfSome r (λ x. length x ≡ length new.table.info.columns)) (sym (committed_same key)) (widened (committed_at old key) (are.wide.committed key));

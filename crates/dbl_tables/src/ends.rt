@@ -1,24 +1,22 @@
-//! How sessions end: with their changes committed, or without them. Neither takes memory, so
-//! neither stops halfway.
+//! How sessions end: with their changes committed, or without them.
 
 ghost use Rattle.std.specs.Prelude.{List, IfOk};
-ghost use Rattle.dbl_serial.specs.declared.demo_table.DemoTable.{DemoTable};
-ghost use Rattle.dbl_serial.specs.Acts.{Accepted};
-ghost use Rattle.dbl_serial.specs.Steps.Step.{Commit, Rollback};
-ghost use Rattle.dbl_tables.specs.Stands.{Stands, Ends, IsGiven};
+ghost use Rattle.dbl_tables_rows.specs.declared.demo_table.DemoTable.{DemoTable};
+ghost use Rattle.dbl_tables_rows.specs.Acts.{Accepted};
+ghost use Rattle.dbl_tables_rows.specs.Steps.Step.{Commit, Rollback};
+ghost use Rattle.dbl_tables.specs.Stands.{Stands, EndsSession, IsGiven};
 
 use crate::tables::Tables;
 use dbl_base::{Seq, Text};
 use dbl_pgmsg::Message;
-use dbl_rows::{commit_tables, roll_back_tables};
-use dbl_serial::StepError;
+use dbl_tables_rows::{StepError, commit_tables, roll_back_tables};
 
 impl Tables {
-    /// The session's changes are committed, all at once, and its locks are given up. Its change
-    /// messages are given, in order. Takes no memory.
+    /// Commits the session's changes, releases its locks, and returns the change messages in order.
+    /// Takes no memory.
     pub fn commit(&mut self, session: &Text) -> Result<Seq<Message>, StepError>
         ensures ends { (tables : List DemoTable) (past : List Accepted) →
-            Stands tables past self.old → Ends tables past (Commit session.now) self.new result }
+            Stands tables past self.old → EndsSession tables past (Commit session.now) self.new result }
         ensures given { (tables : List DemoTable) (past : List Accepted) →
             Stands tables past self.old → IfOk result (IsGiven past session.now) }
     {
@@ -29,10 +27,10 @@ impl Tables {
         Ok(Seq::make(ended.messages))
     }
 
-    /// The session's changes and locks are given up. Takes no memory.
+    /// Discards the session's changes, and releases its locks. Takes no memory.
     pub fn rollback(&mut self, session: &Text) -> Result<(), StepError>
         ensures { (tables : List DemoTable) (past : List Accepted) → Stands tables past self.old →
-            Ends tables past (Rollback session.now) self.new result }
+            EndsSession tables past (Rollback session.now) self.new result }
     {
         let Some(ended) = self.sessions.remove(session) else {
             return Err(StepError::NotOpen);

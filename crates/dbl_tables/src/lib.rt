@@ -1,6 +1,5 @@
-//! A small transactional store of rows: sessions that begin, change rows under locks, commit and
-//! roll back. What it commits is their serial run. It is the source against which captures are
-//! judged.
+//! A small transactional store of rows: what its sessions commit is their serial run. Captures are
+//! compared with this source.
 #![tactic(auto)]
 
 mod ends;
@@ -9,5 +8,5 @@ mod steps;
 mod tables;
 mod truncating;
 
-pub use dbl_serial::{DemoTable, StepError};
+pub use dbl_tables_rows::{DemoTable, StepError};
 pub use tables::Tables;

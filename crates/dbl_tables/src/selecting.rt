@@ -1,28 +1,26 @@
-//! Selects: committed rows in key order, whoever is changing them.
+//! Selects: committed rows in key order, whichever sessions are changing them.
 
 ghost use Rattle.std.specs.Prelude.{◌≡◌, ◌++◌, ◌↔◌, List, Some, None, IfOk, IfSome, IsTrue, OnOk, option_copied};
 ghost use Rattle.std.specs.Prelude.{option_to_list, filter_map, take, length, nat_le};
 ghost use Rattle.std.specs.BTreeMap.{IsOrdered};
-ghost use Rattle.dbl_table.specs.Keys.{key_cmp};
-ghost use Rattle.dbl_history.specs.Fit.{IsKeyOf};
-ghost use Rattle.dbl_serial.specs.declared.demo_table.DemoTable.{DemoTable};
-ghost use Rattle.dbl_serial.specs.Acts.{Accepted};
-ghost use Rattle.dbl_serial.specs.Selects.{SelectsCommitted};
-ghost use Rattle.dbl_rows.specs.Views.{base_of};
-ghost use Rattle.dbl_tables.specs.Shown.{rows_behind};
+ghost use Rattle.dbl_model_table.specs.Keys.{key_cmp};
+ghost use Rattle.dbl_model_history.specs.Fit.{IsKeyOf};
+ghost use Rattle.dbl_tables_rows.specs.declared.demo_table.DemoTable.{DemoTable};
+ghost use Rattle.dbl_tables_rows.specs.Acts.{Accepted};
+ghost use Rattle.dbl_tables_rows.specs.Selects.{SelectsCommitted};
+ghost use Rattle.dbl_tables_rows.specs.Views.{base_of};
+ghost use Rattle.dbl_tables.specs.Shown.{rows_after_key};
 ghost use Rattle.dbl_tables.specs.Stands.{Stands};
 
 use crate::tables::{Tables, place_of};
 use dbl_base::Seq;
-use dbl_history::key_fits;
-use dbl_rows::{Rows, Slot, Slots};
-use dbl_serial::StepError;
-use dbl_table::{Key, RawRow, TableInfo, TableName};
+use dbl_model_history::key_fits;
+use dbl_model_table::{Key, RawRow, TableInfo, TableName};
+use dbl_tables_rows::{Rows, Slot, Slots, StepError};
 use std::alloc::{AllocError, Global};
 use std::collections::btree_map::Range;
 use std::ops::Bound;
 
-// Adds the committed row of a slot.
 fn push_committed(alloc: Global, rows: &mut Vec<RawRow>, slot: &Slot) -> Result<(), AllocError>
     ensures { OnOk result (rows.new.items ≡ rows.old.items ++ option_to_list slot.now.committed) }
 {
@@ -33,7 +31,6 @@ fn push_committed(alloc: Global, rows: &mut Vec<RawRow>, slot: &Slot) -> Result<
     Ok(())
 }
 
-// Whether there are as many rows as are asked for.
 fn are_enough(rows: &Vec<RawRow>, limit: u32) -> bool
     ensures { result ≡ nat_le limit (length rows.now.items) }
 {
@@ -60,7 +57,7 @@ fn first_rows(
 }
 
 fn all_rows(alloc: Global, slots: &Slots, limit: u32) -> Result<Vec<RawRow>, AllocError>
-    ensures rows { IfOk result (λ rows. rows.items ≡ rows_behind slots.now None limit) }
+    ensures rows { IfOk result (λ rows. rows.items ≡ rows_after_key slots.now None limit) }
     ensures ordered { IsOrdered key_cmp slots.now }
 {
     first_rows(alloc, slots.range(..), limit)
@@ -72,7 +69,7 @@ fn rows_above(
     key: &Key,
     limit: u32,
 ) -> Result<Vec<RawRow>, AllocError>
-    ensures rows { IfOk result (λ rows. rows.items ≡ rows_behind slots.now (Some key.now) limit) }
+    ensures rows { IfOk result (λ rows. rows.items ≡ rows_after_key slots.now (Some key.now) limit) }
     ensures ordered { IsOrdered key_cmp slots.now }
 {
     first_rows(
@@ -82,15 +79,15 @@ fn rows_above(
     )
 }
 
-// The first rows of a table's slots above a key, all from the first on where there is no key.
-fn rows_behind(
+// The first rows of a table's slots above a key, or the first of all if there is no key.
+fn rows_after_key(
     alloc: Global,
     slots: &Slots,
     above: Option<&Key>,
     limit: u32,
 ) -> Result<Vec<RawRow>, AllocError>
     ensures rows { IfOk result (λ rows. rows.items ≡
-        rows_behind slots.now (option_copied above.entry) limit) }
+        rows_after_key slots.now (option_copied above.entry) limit) }
     ensures ordered { IsOrdered key_cmp slots.now }
 {
     match above {
@@ -99,7 +96,7 @@ fn rows_behind(
     }
 }
 
-// Whether rows can be above it: it is a key of the table's, or there is no key.
+// Whether rows can be above the bound: it is a key of the table's, or there is none.
 fn is_bound_of(info: &TableInfo, above: Option<&Key>) -> bool
     ensures { IsTrue result ↔ IfSome (option_copied above.entry) (IsKeyOf info.now) }
 {
@@ -109,7 +106,6 @@ fn is_bound_of(info: &TableInfo, above: Option<&Key>) -> bool
     }
 }
 
-// The slots of what is committed.
 fn base(rows: &Rows) -> &Slots
     ensures { result.now ≡ base_of rows.now.cleared rows.now.slots }
 {
@@ -120,8 +116,8 @@ fn base(rows: &Rows) -> &Slots
 }
 
 impl Tables {
-    /// The first committed rows of a table above a key, in key order; all from the first on where
-    /// there is no key. No row is above a key that isn't of the table's key types.
+    /// The first committed rows of a table above a key, in key order, or the first of all if there
+    /// is no key. No row is above a key of other types than the table's.
     pub fn select(
         &self,
         table: &TableName,
@@ -140,6 +136,6 @@ impl Tables {
         if !is_bound_of(&rows.table.info, above) {
             return Ok(Seq::make(Vec::new(self.alloc)));
         }
-        Ok(Seq::make(rows_behind(self.alloc, base(rows), above, limit)?))
+        Ok(Seq::make(rows_after_key(self.alloc, base(rows), above, limit)?))
     }
 }

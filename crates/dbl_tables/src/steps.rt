@@ -1,21 +1,20 @@
-//! Steps of sessions: each is judged and planned whole, and then taken.
+//! Steps of sessions: each is judged and planned whole, and then applied.
 
 ghost use Rattle.std.specs.Prelude.{List};
-ghost use Rattle.dbl_serial.specs.declared.demo_table.DemoTable.{DemoTable};
-ghost use Rattle.dbl_serial.specs.Acts.{Accepted};
-ghost use Rattle.dbl_serial.specs.Steps.{Step, table_judged};
-ghost use Rattle.dbl_serial.specs.Steps.Step.{Insert, Update, Delete};
-ghost use Rattle.dbl_tables.specs.Stands.{Stands, Answers};
+ghost use Rattle.dbl_tables_rows.specs.declared.demo_table.DemoTable.{DemoTable};
+ghost use Rattle.dbl_tables_rows.specs.Acts.{Accepted};
+ghost use Rattle.dbl_tables_rows.specs.Steps.{Step, table_judged};
+ghost use Rattle.dbl_tables_rows.specs.Steps.Step.{Insert, Update, Delete};
+ghost use Rattle.dbl_tables.specs.Stands.{Stands, AnswersStep};
 ghost use Rattle.dbl_tables.specs.Places.{PlacesFor, IsPlannedAt};
 
 use crate::tables::{Tables, oid_of, place_of};
 use dbl_base::Text;
-use dbl_changes::{Planned, plan_delete, plan_insert, plan_update, take};
-use dbl_serial::StepError;
-use dbl_table::{NamedCell, TableName};
+use dbl_model_table::{NamedCell, TableName};
+use dbl_tables_changes::{Planned, plan_delete, plan_insert, plan_update, take};
+use dbl_tables_rows::StepError;
 
 impl Tables {
-    // The place of the table that an open session names.
     fn place_for(&self, session: &Text, table: &TableName) -> Result<usize, StepError>
         ensures { (tables : List DemoTable) (past : List Accepted) → Stands tables past self.now →
             PlacesFor (table_judged tables past session.now table.now) self.now.tables.items
@@ -33,7 +32,7 @@ impl Tables {
     fn take_at(&mut self, session: &Text, place: usize, planned: Planned) -> Result<(), StepError>
         ensures { (tables : List DemoTable) (past : List Accepted) (call : Step) →
             Stands tables past self.old → IsPlannedAt tables past call session.now place
-            self.old.tables.items planned → Answers tables past call self.new result }
+            self.old.tables.items planned → AnswersStep tables past call self.new result }
     {
         let alloc = self.alloc;
         let Some(state) = self.sessions.get_mut(session) else {
@@ -46,7 +45,7 @@ impl Tables {
         Ok(())
     }
 
-    /// A session inserts a row. A column that isn't named is null.
+    /// Inserts a row for a session. A column that isn't named is null.
     pub fn insert(
         &mut self,
         session: &Text,
@@ -54,7 +53,7 @@ impl Tables {
         cells: &Vec<NamedCell>,
     ) -> Result<(), StepError>
         ensures { (tables : List DemoTable) (past : List Accepted) → Stands tables past self.old →
-            Answers tables past (Insert session.now table.now cells.now.items) self.new result }
+            AnswersStep tables past (Insert session.now table.now cells.now.items) self.new result }
     {
         let place = self.place_for(session, table)?;
         let Some(state) = self.sessions.get(session) else {
@@ -68,7 +67,7 @@ impl Tables {
         self.take_at(session, place, planned)
     }
 
-    /// A session updates the row at a key: the cells of `set` take the place of the row's.
+    /// Updates the row with a key for a session: the cells of `set` replace the row's.
     pub fn update(
         &mut self,
         session: &Text,
@@ -77,7 +76,7 @@ impl Tables {
         set: &Vec<NamedCell>,
     ) -> Result<(), StepError>
         ensures { (tables : List DemoTable) (past : List Accepted) → Stands tables past self.old →
-            Answers tables past (Update session.now table.now key.now.items set.now.items) self.new
+            AnswersStep tables past (Update session.now table.now key.now.items set.now.items) self.new
             result }
     {
         let place = self.place_for(session, table)?;
@@ -100,7 +99,7 @@ impl Tables {
         self.take_at(session, place, planned)
     }
 
-    /// A session deletes the row at a key.
+    /// Deletes the row with a key for a session.
     pub fn delete(
         &mut self,
         session: &Text,
@@ -108,7 +107,7 @@ impl Tables {
         key: &Vec<NamedCell>,
     ) -> Result<(), StepError>
         ensures { (tables : List DemoTable) (past : List Accepted) → Stands tables past self.old →
-            Answers tables past (Delete session.now table.now key.now.items) self.new result }
+            AnswersStep tables past (Delete session.now table.now key.now.items) self.new result }
     {
         let place = self.place_for(session, table)?;
         let Some(state) = self.sessions.get(session) else {

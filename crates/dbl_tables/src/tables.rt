@@ -2,26 +2,25 @@
 
 ghost use Rattle.std.specs.Prelude.{◌≡◌, ◌≤◌, ◌<◌, ◌+◌, [], List, IsTrue, IfOk, IfErr, length, map};
 ghost use Rattle.std.specs.List.{position_from};
-ghost use Rattle.dbl_table.specs.Tables.{same_name, are_distinct};
-ghost use Rattle.dbl_feed.specs.Relations.{first_oid, oid_limit};
-ghost use Rattle.dbl_serial.specs.declared.demo_table.DemoTable.{DemoTable};
-ghost use Rattle.dbl_serial.specs.Acts.{Accepted};
-ghost use Rattle.dbl_serial.specs.Steps.Step.{Begin};
-ghost use Rattle.dbl_tables.specs.Stands.{AreMade, Stands, Answers};
+ghost use Rattle.dbl_model_table.specs.Tables.{same_name, are_distinct};
+ghost use Rattle.dbl_tables_rows.specs.SourceLog.Relations.{first_oid, oid_limit};
+ghost use Rattle.dbl_tables_rows.specs.declared.demo_table.DemoTable.{DemoTable};
+ghost use Rattle.dbl_tables_rows.specs.Acts.{Accepted};
+ghost use Rattle.dbl_tables_rows.specs.Steps.Step.{Begin};
+ghost use Rattle.dbl_tables.specs.Stands.{AreMade, Stands, AnswersStep};
 
 use dbl_base::Text;
-use dbl_changes::Session;
-use dbl_rows::{Rows, make_rows};
-use dbl_serial::{DemoTable, StepError};
-use dbl_table::TableName;
+use dbl_model_table::TableName;
+use dbl_tables_changes::Session;
+use dbl_tables_rows::{DemoTable, Rows, StepError, make_rows};
 use std::alloc::Global;
 use std::collections::BTreeMap;
 
 /// The OID of the first table.
 const FIRST_OID: u32 = 16384;
 
-/// A small transactional store of rows. Sessions begin, change rows, commit and roll back; a change
-/// locks its keys, and a truncate its tables, until the session ends.
+/// A small transactional store of rows: a change locks its keys, and a truncate its tables, until
+/// the session ends.
 #[derive(Drop)]
 pub struct Tables {
     pub(crate) alloc: Global,
@@ -29,7 +28,7 @@ pub struct Tables {
     pub(crate) sessions: BTreeMap<Text, Session>,
 }
 
-/// The place of the table of a name.
+/// The index of the table of a name.
 pub fn place_of(tables: &Vec<Rows>, name: &TableName) -> Option<usize>
     ensures { result ≡ position_from (λ rows. same_name rows.table.info.name name.now) 0
         tables.now.items }
@@ -37,7 +36,7 @@ pub fn place_of(tables: &Vec<Rows>, name: &TableName) -> Option<usize>
     tables.iter().position(|rows| rows.table.info.name == *name)
 }
 
-/// The OID of the table at a place.
+/// The OID of the table at an index.
 pub fn oid_of(place: usize) -> u32
     ensures { place < oid_limit → result ≡ first_oid + place }
 {
@@ -74,10 +73,10 @@ impl Tables {
         })
     }
 
-    /// A session begins.
+    /// Begins a session.
     pub fn begin(&mut self, session: &Text) -> Result<(), StepError>
         ensures { (tables : List DemoTable) (past : List Accepted) → Stands tables past self.old →
-            Answers tables past (Begin session.now) self.new result }
+            AnswersStep tables past (Begin session.now) self.new result }
     {
         if self.sessions.contains_key(session) {
             return Err(StepError::AlreadyOpen);

@@ -1,23 +1,22 @@
-//! Truncates: the tables that are named, and nothing else, are looked at. No row is.
+//! Truncates, which look at the named tables only, and at no row.
 
 ghost use Rattle.std.specs.Prelude.{◌≡◌, ◌≤◌, ℕ, List, IfOk, option_copied, replicate, vec_len, length, slice_get};
-ghost use Rattle.dbl_serial.specs.declared.demo_table.DemoTable.{DemoTable};
-ghost use Rattle.dbl_serial.specs.Acts.{Accepted};
-ghost use Rattle.dbl_serial.specs.Steps.Step.{Truncate};
-ghost use Rattle.dbl_tables.specs.Stands.{Stands, Answers};
-ghost use Rattle.dbl_table.specs.declared.table.TableName.{TableName};
+ghost use Rattle.dbl_tables_rows.specs.declared.demo_table.DemoTable.{DemoTable};
+ghost use Rattle.dbl_tables_rows.specs.Acts.{Accepted};
+ghost use Rattle.dbl_tables_rows.specs.Steps.Step.{Truncate};
+ghost use Rattle.dbl_tables.specs.Stands.{Stands, AnswersStep};
+ghost use Rattle.dbl_model_table.specs.declared.table.TableName.{TableName};
 ghost use Rattle.dbl_tables.specs.Truncates.{PlacesOf, IsHolderAt, FindsFirst, TruncatesOne, TruncatesAll, TruncatesAt, IsCut, Cuts};
 
 use crate::tables::{Tables, oid_of, place_of};
 use dbl_base::{Seq, Text};
-use dbl_changes::pass;
+use dbl_model_table::TableName;
 use dbl_pgmsg::Message;
-use dbl_rows::{Rows, lesser, table_holder, truncate};
-use dbl_serial::{StepError, grown_size};
-use dbl_table::TableName;
+use dbl_tables_changes::pass;
+use dbl_tables_rows::{Rows, StepError, grown_size, lesser, table_holder, truncate};
 use std::alloc::{AllocError, Global};
 
-// The places of tables, where all are there.
+// The indices of tables, or a refusal if one doesn't exist.
 fn places_of(
     alloc: Global,
     tables: &Vec<Rows>,
@@ -57,7 +56,6 @@ fn holder_at<'a>(tables: &'a Vec<Rows>, place: usize, session: &Text) -> Option<
     }
 }
 
-// Who is in the way of a truncate of the tables at some places.
 fn holder_of<'a>(tables: &'a Vec<Rows>, places: &[usize], session: &Text) -> Option<&'a Text>
     ensures { FindsFirst session.now tables.now.items places.now (option_copied result) }
 {
@@ -87,7 +85,7 @@ fn truncate_at(alloc: Global, tables: &mut Vec<Rows>, place: usize, name: Text)
     }
 }
 
-// Truncates each table once for each place, by a name for each. Takes no memory.
+// Truncates each table once for each index, by a name for each. Takes no memory.
 fn truncate_all(alloc: Global, tables: &mut Vec<Rows>, places: &[usize], mut names: Vec<Text>)
     ensures { (session : List ℕ) → names.items ≡ replicate (length places.now) session →
         TruncatesAll session places.now tables.old.items tables.new.items }
@@ -100,8 +98,8 @@ fn truncate_all(alloc: Global, tables: &mut Vec<Rows>, places: &[usize], mut nam
     }
 }
 
-/// A truncate, before the store takes it: its message, the size of the entry with it, its tables by
-/// their places, and the session's name for each.
+/// A planned truncate: its message, the size of the entry with it, the indices of its tables, and
+/// the session's name for each.
 #[derive(Debug, Drop)]
 pub struct Cut {
     pub message: Message,
@@ -141,7 +139,7 @@ impl Tables {
     fn cut(&mut self, session: &Text, cut: Cut) -> Result<(), StepError>
         ensures { (all : List DemoTable) (past : List Accepted) (names : List TableName) →
             Stands all past self.old → IsCut all past session.now names self.old.tables.items cut →
-            Answers all past (Truncate session.now names) self.new result }
+            AnswersStep all past (Truncate session.now names) self.new result }
     {
         let Cut {
             message,
@@ -159,11 +157,11 @@ impl Tables {
         Ok(())
     }
 
-    /// A session truncates tables, all of them or none.
+    /// Truncates tables for a session, all of them or none.
     pub fn truncate(&mut self, session: &Text, tables: &Vec<TableName>) -> Result<(), StepError>
         requires { 1 ≤ vec_len tables.now }
         ensures { (all : List DemoTable) (past : List Accepted) → Stands all past self.old →
-            Answers all past (Truncate session.now tables.now.items) self.new result }
+            AnswersStep all past (Truncate session.now tables.now.items) self.new result }
     {
         let cut = self.plan_truncate(session, tables.as_slice())?;
         self.cut(session, cut)

@@ -157,18 +157,18 @@ sign_behind [] rest sign is h = rw is refl
 sign_behind (c ∷ front) rest sign is h = let parts = and_parts (no_sign c) (list_all no_sign front) h in rw (parts.0, sign_behind front rest sign is parts.1) (omega arith)
 
 -- the first sign stands behind bytes that are none
-pub place_behind : (front rest : List ℕ) (sign : ℕ) → is_sign sign ≡ true → list_all no_sign front ≡ true → position is_sign (front ++ sign ∷ rest) ≡ Some (length front)
-place_behind front rest sign is h =
+pub place_after : (front rest : List ℕ) (sign : ℕ) → is_sign sign ≡ true → list_all no_sign front ≡ true → position is_sign (front ++ sign ∷ rest) ≡ Some (length front)
+place_after front rest sign is h =
     let longer : length front < length (front ++ sign ∷ rest) = omega (arith, length-append front (sign ∷ rest)) in
     rw (sign_behind front rest sign is h, lt-ltb (length front) (length (front ++ sign ∷ rest)) longer) refl
 
 -- a date, a space and a clock are 19 bytes
 record IsNineteen (date : List ℕ) : Type 0 where
-  behind : (seconds : ℕ) (fraction rest : List ℕ) → drop 19 (date ++ codes " " ++ (seconds_text seconds ++ fraction) ++ rest) ≡ fraction ++ rest
+  subsequent : (seconds : ℕ) (fraction rest : List ℕ) → drop 19 (date ++ codes " " ++ (seconds_text seconds ++ fraction) ++ rest) ≡ fraction ++ rest
   long : (seconds : ℕ) (fraction : List ℕ) → length (date ++ codes " " ++ (seconds_text seconds ++ fraction)) ≡ 19 + length fraction
 
 parts_nineteen : (year month day : ℕ) → IsNineteen (date_parts_text year month day)
-parts_nineteen year month day = record { behind = λ seconds fraction rest. refl; long = λ seconds fraction. omega arith }
+parts_nineteen year month day = record { subsequent = λ seconds fraction rest. refl; long = λ seconds fraction. omega arith }
 
 date_nineteen : (number : ℤ) → IsNamed number → IsNineteen (date_text number)
 date_nineteen number named = subst IsNineteen (sym (date_text-parts _ _ _ named.is) ∙ ap date_text named.number_is) (parts_nineteen named.year named.month named.day)
@@ -187,7 +187,7 @@ sign_of-text z h =
     let nineteen = date_nineteen (day_of_stamp z) named in
     let fraction = fraction_text (clock_of_stamp z % 1000000) in
     let seconds = clock_of_stamp z / 1000000 in (
-      ap (position is_sign) (nineteen.behind seconds fraction (codes "+00")) ∙ place_behind fraction (codes "00") 43 refl (fraction_no_sign (clock_of_stamp z % 1000000) (omega arith)),
+      ap (position is_sign) (nineteen.subsequent seconds fraction (codes "+00")) ∙ place_after fraction (codes "00") 43 refl (fraction_no_sign (clock_of_stamp z % 1000000) (omega arith)),
       nineteen.long seconds fraction,
     )
 

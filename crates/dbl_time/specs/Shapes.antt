@@ -1,32 +1,31 @@
--- Texts of a fixed shape, and the numbers at places in them.
+-- Texts of a fixed shape, and the numbers in them.
 use Rattle.std.specs.Prelude.{ℕ, ◌+◌, ◌-◌, ◌*◌, ◌/◌, ◌%◌, ◌==◌, ◌&&◌, ◌||◌, nat_le, Bool, true, false, if◌then◌else◌, List, [], ◌∷◌, slice_index}
 use Rattle.std.specs.Char.{is_ascii_digit}
 
--- a digit, or a letter from `a` to `f`
+-- a lower-case hexadecimal digit
 abbrev pub is_lower_hex : ℕ → Bool
 is_lower_hex c = is_ascii_digit c || (nat_le 97 c && nat_le c 102)
 
--- whether a byte may stand where a shape has this one: `9` stands for each decimal digit, `x` for each hexadecimal digit in
--- lower case, and another byte for itself
+-- the byte matches a byte of a shape: `9` matches a decimal digit, `x` a lower-case hexadecimal digit, and any other byte itself
 abbrev pub stands_for : ℕ → ℕ → Bool
 stands_for place byte = if place == 57 then is_ascii_digit byte else (if place == 120 then is_lower_hex byte else (byte == place))
 
--- whether a text has a shape, byte for byte
+-- the text matches the shape, byte for byte
 unfoldable pub has_shape : List ℕ → List ℕ → Bool
 has_shape [] [] = true
 has_shape [] (byte ∷ text) = false
 has_shape (place ∷ shape) [] = false
 has_shape (place ∷ shape) (byte ∷ text) = stands_for place byte && has_shape shape text
 
--- the value of the digit at a place
+-- the value of the digit at an index
 abbrev pub digit_at : List ℕ → ℕ → ℕ
 digit_at text place = slice_index text place - 48
 
--- the number that the two digits from a place on write
+-- the value of the two digits from an index on
 abbrev pub two_at : List ℕ → ℕ → ℕ
 two_at text place = 10 * digit_at text place + digit_at text (place + 1)
 
--- the number that the four digits from a place on write
+-- the value of the four digits from an index on
 abbrev pub four_at : List ℕ → ℕ → ℕ
 four_at text place = 100 * two_at text place + two_at text (place + 2)
 

@@ -13,10 +13,11 @@ use std::alloc::AllocError;
 
 const DAY_MICROS: u64 = 86_400_000_000;
 
-/// The values of a fraction's six digits, in microseconds.
+/// The values in microseconds of a fraction's six digits.
 const DIGIT_UNITS: [u32; 6] = [100_000, 10_000, 1_000, 100, 10, 1];
 
-/// The seconds of so many hours, minutes and seconds, where the hours aren't above the limit, nor the others above 59.
+/// The seconds in a number of hours, minutes and seconds, if the hours are within the limit and the
+/// others below 60.
 #[tactic(auto, unfolding(crate::specs::Clocks::clock_seconds))]
 pub fn seconds_within(limit: u32, hours: u32, minutes: u32, seconds: u32) -> Option<u32>
     requires { limit < 24 }
@@ -35,7 +36,7 @@ pub fn seconds_within(limit: u32, hours: u32, minutes: u32, seconds: u32) -> Opt
     Some(3600 * hours + 60 * minutes + seconds)
 }
 
-/// The seconds from midnight to a text `HH:MM:SS`.
+/// The seconds since midnight of a text `HH:MM:SS`.
 #[tactic(auto, unfolding(crate::specs::Clocks::seconds_of))]
 fn seconds(text: &[u8]) -> Option<u32>
     ensures value { result ≡ seconds_of text.now }
@@ -75,7 +76,7 @@ fn fraction_value(text: &[u8]) -> u32
         + digit(text, 6)
 }
 
-/// The microseconds of the fraction of a second, where it is missing none.
+/// The microseconds of a fraction of a second; 0 if it is absent.
 #[tactic(auto, unfolding(crate::specs::Clocks::fraction_of))]
 fn fraction(text: &[u8]) -> Option<u32>
     ensures value { result ≡ fraction_of text.now }
@@ -102,7 +103,7 @@ fn joined_clock(seconds: Option<u32>, micros: Option<u32>) -> Option<u64>
     }
 }
 
-/// The microseconds from midnight to a text that is a time before 24:00:00.
+/// The microseconds since midnight of a text that is a time before 24:00:00.
 pub fn clock(text: &[u8]) -> Option<u64>
     ensures value { result ≡ clock_of text.now }
     ensures bound { IfSome result (λ n. n < 90000000000) }
@@ -113,8 +114,8 @@ pub fn clock(text: &[u8]) -> Option<u64>
     )
 }
 
-/// The microseconds from midnight to a text `HH:MM:SS`, perhaps with a point and 1 to 6 digits, or `24:00:00`; none of another
-/// text. PostgreSQL's manual, "Date/Time Types".
+/// Parses a time, `HH:MM:SS` with an optional fraction of 1 to 6 digits, or `24:00:00`, as
+/// microseconds since midnight. PostgreSQL's manual, "Date/Time Types".
 pub fn parse_time(text: &[u8]) -> Option<u64>
     ensures value { result ≡ time_of text.now }
     ensures bound { IfSome result (λ n. n < 90000000000) }
@@ -126,7 +127,7 @@ pub fn parse_time(text: &[u8]) -> Option<u64>
     }
 }
 
-/// Appends the shortest fraction, none for 0.
+/// Appends the shortest fraction, nothing for 0.
 fn push_fraction(text: &mut String, micros: u32) -> Result<(), AllocError>
     requires { micros < 1000000 }
     ensures { OnOk result (string_bytes text.new ≡ string_bytes text.old ++ fraction_text micros) }
@@ -158,7 +159,8 @@ pub fn push_seconds(text: &mut String, seconds: u32) -> Result<(), AllocError>
     push_two(text, seconds % 60)
 }
 
-/// Appends a time of the day, or its end, in microseconds from midnight: `HH:MM:SS` and the shortest fraction (ISO 8601).
+/// Appends a time of day, or 24:00:00, in microseconds since midnight: `HH:MM:SS` and the shortest
+/// fraction (ISO 8601).
 pub fn push_time(text: &mut String, micros: u64) -> Result<(), AllocError>
     requires { micros ≤ day_micros }
     ensures { OnOk result (string_bytes text.new ≡ string_bytes text.old ++ clock_text micros) }

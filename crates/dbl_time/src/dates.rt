@@ -7,7 +7,7 @@ use crate::shapes::{four, is_shaped, push_four, push_two, two};
 use jiff_core::civil::Date;
 use std::alloc::AllocError;
 
-/// The number of a day, 0 for 1970-01-01, if the calendar has it in a year from 1 to 9999.
+/// The days since 1970-01-01 of a date, if the calendar has it in a year from 1 to 9999.
 fn day_number(year: u32, month: u32, day: u32) -> Option<i32>
     ensures value { result ≡ number_of_day year month day }
     ensures bound { IfSome result (λ n. IsEpochDay n) }
@@ -21,8 +21,8 @@ fn day_number(year: u32, month: u32, day: u32) -> Option<i32>
     }
 }
 
-/// The day that a text `YYYY-MM-DD` names, in days since 1970-01-01; none where the calendar has no such day in the years 1
-/// to 9999. PostgreSQL's manual, "Date/Time Types", the style ISO.
+/// Parses a date `YYYY-MM-DD` of the years 1 to 9999 as days since 1970-01-01. PostgreSQL's manual,
+/// "Date/Time Types", the style ISO.
 #[tactic(auto, unfolding(crate::specs::Dates::day_of))]
 pub fn parse_date(text: &[u8]) -> Option<i32>
     ensures value { result ≡ day_of text.now }

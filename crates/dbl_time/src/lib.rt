@@ -1,4 +1,5 @@
-//! Dates, times of a day, timestamps and instants: read from the texts that PostgreSQL sends, and printed.
+//! Dates, times of day, timestamps and instants: parsed from the texts that PostgreSQL sends, and
+//! printed.
 #![tactic(auto)]
 
 mod clocks;

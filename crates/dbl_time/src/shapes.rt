@@ -6,7 +6,7 @@ ghost use Rattle.dbl_time.specs.Shapes.{is_lower_hex, stands_for, has_shape, dig
 
 use std::alloc::AllocError;
 
-/// Whether a byte is a hexadecimal digit, `0` to `9` or `a` to `f`.
+/// Whether a byte is a lower-case hexadecimal digit, `0` to `9` or `a` to `f`.
 pub fn is_lower_hex_digit(byte: u8) -> bool
     ensures { result ≡ is_lower_hex byte }
 {
@@ -30,8 +30,8 @@ pub fn are_digits(bytes: &[u8]) -> bool
     bytes.iter().all(|byte| byte.is_ascii_digit())
 }
 
-/// Whether a text has a shape, byte for byte: `9` in the shape stands for each decimal digit, `x` for each hexadecimal digit in
-/// lower case, and another byte for itself.
+/// Whether a text matches a shape, byte for byte: `9` matches a decimal digit, `x` a lower-case
+/// hexadecimal digit, and any other byte itself.
 pub fn is_shaped(shape: &[u8], text: &[u8]) -> bool
     ensures { result ≡ has_shape shape.now text.now }
 {
@@ -46,14 +46,14 @@ pub fn is_shaped(shape: &[u8], text: &[u8]) -> bool
     true
 }
 
-/// The byte at a place; 0 past the end.
+/// The byte at an index; 0 past the end.
 pub fn byte_at(text: &[u8], place: usize) -> u8
     ensures { result ≡ slice_index text.now place }
 {
     if place < text.len() { text[place] } else { 0 }
 }
 
-/// The bytes before a place.
+/// The bytes before an index.
 pub fn bytes_before(text: &[u8], place: usize) -> &[u8]
     ensures { result.now ≡ take place text.now }
 {
@@ -64,7 +64,7 @@ pub fn bytes_before(text: &[u8], place: usize) -> &[u8]
     }
 }
 
-/// The bytes from a place on.
+/// The bytes from an index on.
 pub fn bytes_from(text: &[u8], place: usize) -> &[u8]
     ensures { result.now ≡ drop place text.now }
 {
@@ -75,7 +75,7 @@ pub fn bytes_from(text: &[u8], place: usize) -> &[u8]
     }
 }
 
-/// The value of the digit at a place; 0 past the end.
+/// The value of the digit at an index; 0 past the end.
 pub fn digit(text: &[u8], place: usize) -> u32
     ensures value { result ≡ digit_at text.now place }
     ensures bound { result < 208 }
@@ -83,7 +83,7 @@ pub fn digit(text: &[u8], place: usize) -> u32
     (byte_at(text, place) as u32).saturating_sub(48)
 }
 
-/// The number that the two digits from a place on write.
+/// The value of the two digits from an index on.
 pub fn two(text: &[u8], place: usize) -> u32
     requires { place < 100 }
     ensures value { result ≡ two_at text.now place }
@@ -92,7 +92,7 @@ pub fn two(text: &[u8], place: usize) -> u32
     10 * digit(text, place) + digit(text, place + 1)
 }
 
-/// The number that the four digits from a place on write.
+/// The value of the four digits from an index on.
 pub fn four(text: &[u8], place: usize) -> u32
     requires { place < 90 }
     ensures value { result ≡ four_at text.now place }

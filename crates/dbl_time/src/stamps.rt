@@ -30,8 +30,8 @@ fn joined_stamp(day: Option<i32>, clock: Option<u64>) -> Option<i64>
     }
 }
 
-/// The microseconds since 1970-01-01 00:00:00 of a text that is a date, one space and a time before 24:00:00; none of another
-/// text. PostgreSQL's manual, "Date/Time Types".
+/// Parses a timestamp, a date, one space and a time before 24:00:00, as microseconds since
+/// 1970-01-01 00:00:00. PostgreSQL's manual, "Date/Time Types".
 pub fn parse_timestamp(text: &[u8]) -> Option<i64>
     ensures value { result ≡ stamp_of text.now }
     ensures bound { IfSome result (λ z. IsWithin moment_room z) }
@@ -59,7 +59,7 @@ fn is_shaped_as_offset(text: &[u8]) -> bool
     is_shaped(b"99", text) || is_shaped(b"99:99", text) || is_shaped(b"99:99:99", text)
 }
 
-/// The seconds of an offset without its sign.
+/// The seconds of an offset, without its sign.
 #[tactic(auto, unfolding(crate::specs::Stamps::offset_size))]
 fn size_of_offset(text: &[u8]) -> Option<u32>
     ensures value { result ≡ offset_size text.now }
@@ -103,7 +103,7 @@ fn joined_instant(moment: Option<i64>, offset: Option<i32>) -> Option<i64>
     }
 }
 
-/// The place of the offset's sign behind the first 19 bytes, which are date and time.
+/// The index of the offset's sign after the first 19 bytes, which are date and time.
 #[tactic(auto, unfolding(crate::specs::Stamps::sign_place))]
 fn place_of_sign(text: &[u8]) -> Option<usize>
     ensures value { result ≡ sign_place text.now }
@@ -114,8 +114,8 @@ fn place_of_sign(text: &[u8]) -> Option<usize>
         .position(|byte| is_plus_or_minus(*byte))
 }
 
-/// The instant, in microseconds since 1970-01-01 00:00:00 UTC and in whatever year it lies, of a text that is a timestamp and
-/// an offset `+HH`, `+HH:MM` or `+HH:MM:SS`, or the same with `-`. PostgreSQL's manual, "Date/Time Types".
+/// Parses a timestamp with an offset, `+` or `-` and `HH`, `HH:MM` or `HH:MM:SS`, as microseconds
+/// since 1970-01-01 00:00:00 UTC, in any year. PostgreSQL's manual, "Date/Time Types".
 pub fn parse_instant(text: &[u8]) -> Option<i64>
     ensures { result ≡ instant_of text.now }
 {
@@ -128,14 +128,14 @@ pub fn parse_instant(text: &[u8]) -> Option<i64>
     }
 }
 
-/// Whether a moment, in microseconds since 1970-01-01 00:00:00, lies in the years 1 to 9999.
+/// Whether an instant, in microseconds since 1970-01-01 00:00:00, is in the years 1 to 9999.
 pub fn is_in_years(instant: &i64) -> bool
     ensures { result ≡ is_instant instant.now }
 {
     *instant >= FIRST_INSTANT && *instant <= LAST_INSTANT
 }
 
-/// The day of a moment in the years 1 to 9999, and the microseconds since its midnight.
+/// The day of an instant in the years 1 to 9999, and the microseconds since its midnight.
 fn day_and_clock(moment: &i64) -> (i32, u64)
     requires { IsTrue (is_instant moment.now) }
     ensures day { result.0 ≡ day_of_stamp moment.now }
@@ -148,8 +148,8 @@ fn day_and_clock(moment: &i64) -> (i32, u64)
     (day, clock)
 }
 
-/// Appends a moment, in microseconds since 1970-01-01 00:00:00, as a date, one space and a time with the shortest fraction, as
-/// PostgreSQL writes timestamps.
+/// Appends a timestamp, in microseconds since 1970-01-01 00:00:00, as PostgreSQL prints it: a date,
+/// one space and a time with the shortest fraction.
 #[tactic(auto, unfolding(crate::specs::Stamps::stamp_text))]
 pub fn push_timestamp(text: &mut String, moment: &i64) -> Result<(), AllocError>
     requires { IsTrue (is_instant moment.now) }
@@ -161,7 +161,8 @@ pub fn push_timestamp(text: &mut String, moment: &i64) -> Result<(), AllocError>
     push_time(text, clock)
 }
 
-/// Appends an instant, in microseconds since 1970-01-01 00:00:00 UTC, as `YYYY-MM-DDTHH:MM:SS.ffffffZ` (RFC 3339).
+/// Appends an instant, in microseconds since 1970-01-01 00:00:00 UTC, as
+/// `YYYY-MM-DDTHH:MM:SS.ffffffZ` (RFC 3339).
 #[tactic(auto, unfolding(crate::specs::Stamps::zulu_text))]
 pub fn push_zulu(text: &mut String, instant: &i64) -> Result<(), AllocError>
     requires { IsTrue (is_instant instant.now) }

@@ -4,7 +4,7 @@ use Rattle.std.proofs.lemmas.List.{take_all}
 use Rattle.dbl_record.specs.declared.record.Record.{Record}
 use Rattle.std.specs.Prelude.{false, max, IsTrue}
 use Rattle.dbl_journal.specs.Form.{IsJournal, up_to_gate}
-use Rattle.dbl_journal.specs.Growth.{ComesOf}
+use Rattle.dbl_journal.specs.Growth.{ExtendsJournal}
 use Rattle.dbl_journal.specs.Stored.{LeavesEntries, OnDisk, count_of, size}
 use Rattle.dbl_journal.proofs.Growth.{grown_from}
 use Rattle.dbl_journal.proofs.Appends.{length-places}
@@ -72,7 +72,7 @@ some_left seen may_leave may_be_left disk bytes told P leaves =
     (here.0, (bytes, may, here.1))
 
 -- what a log has become that comes of one with groups
-pub log_grown : {D : Type 0} (seen : D → Option (List ℕ)) (may_leave : D → List ℕ → Type 0) (old new : OnDisk D) (groups : List (List Record)) (before after : List ℕ) → ComesOf seen may_leave old new → HoldsGroups seen may_leave old groups
+pub log_grown : {D : Type 0} (seen : D → Option (List ℕ)) (may_leave : D → List ℕ → Type 0) (old new : OnDisk D) (groups : List (List Record)) (before after : List ℕ) → ExtendsJournal seen may_leave old new → HoldsGroups seen may_leave old groups
     → seen old.disk ≡ Some before → seen new.disk ≡ Some after → (entries : List (List ℕ)) × IsJournal after entries × (log_size groups ≤ size entries) × (length after ≤ max (length before) (length (up_to_gate entries) + 2 ^ 30))
 log_grown seen may_leave old new groups before after comes held was told =
     let far = grown_from seen may_leave old new held.entries before after comes held.lists was told in

@@ -1,4 +1,4 @@
--- Faults of sinks and of topic logs.
+-- Errors of sinks and of topic logs.
 use Rattle.dbl_journal.specs.declared.error.JournalError.{JournalError}
 use Rattle.dbl_journal.specs.declared.error.JournalError.TheVariants as journal
 use Rattle.dbl_topic.specs.declared.error.SinkError.{SinkError}
@@ -6,14 +6,14 @@ use Rattle.dbl_topic.specs.declared.error.SinkError.TheVariants as sink
 use Rattle.dbl_topic.specs.declared.error.TopicError.{TopicError}
 use Rattle.dbl_topic.specs.declared.error.TopicError.TheVariants.{Journal, Memory}
 
--- a fault of the journal, as one of the log: `Memory` stays what it is
+-- a journal's error as one of the topic log; `Memory` stays `Memory`
 abbrev pub topic_fault : JournalError → TopicError
 topic_fault journal.Memory = Memory
 topic_fault journal.Failed = Journal journal.Failed
 topic_fault (journal.NotAJournal at) = Journal (journal.NotAJournal at)
 topic_fault (journal.EntryTooLong len) = Journal (journal.EntryTooLong len)
 
--- a fault of a journal to which a group is appended, as one of a sink; that it is no journal never comes there
+-- a journal's append error as one of a sink; `NotAJournal` doesn't occur there
 abbrev pub sink_fault : JournalError → SinkError
 sink_fault journal.Failed = sink.Failed
 sink_fault (journal.NotAJournal at) = sink.Failed

@@ -1,4 +1,4 @@
--- Topic logs as bytes: a journal, each entry of which is the bytes form of a group of records. Source: own.
+-- Topic logs as bytes: a journal, each entry of which is an encoded group of records.
 use Rattle.std.specs.Prelude.{◌≡◌, ◌≤◌, ℕ, List, [], ◌∷◌, length, map, take, Some, slice_get}
 use Rattle.dbl_record.specs.declared.record.Record.{Record}
 use Rattle.dbl_record.specs.Cuts.{joined}
@@ -6,13 +6,13 @@ use Rattle.dbl_record.specs.Groups.{IsGroup, group_form}
 use Rattle.dbl_journal.specs.Form.{IsJournal}
 use Rattle.dbl_journal.specs.Stored.{size}
 
--- an entry of a topic log is the bytes form of a group of 1 to 1,000 records
+-- the entry encodes a group of 1 to 1,000 records
 pub record IsLogEntry (entry : List ℕ) (group : List Record) : Type 0 where
   pub is : IsGroup entry group
   pub some : 1 ≤ length group
   pub few : length group ≤ 1000
 
--- the entries are those of these groups, one by one
+-- the entries encode these groups, one by one
 abbrev pub AreLogEntries : List (List ℕ) → List (List Record) → Type 0
 AreLogEntries [] [] = Unit {0}
 AreLogEntries [] (group ∷ groups) = ⊥
@@ -25,15 +25,15 @@ pub record IsLog (bytes : List ℕ) (groups : List (List Record)) : Type 0 where
   pub journal : IsJournal bytes entries
   pub are : AreLogEntries entries groups
 
--- how many bytes a topic log of these groups takes: what a journal of their forms does
+-- the number of bytes that a topic log of these groups takes
 abbrev pub log_size : List (List Record) → ℕ
 log_size groups = size (map group_form groups)
 
--- the bytes of a topics disk hold these records
+-- the bytes of a topic log contain these records
 abbrev pub HoldRecords : List ℕ → List Record → Type 0
 HoldRecords bytes records = (groups : List (List Record)) × IsLog bytes groups × (records ≡ joined groups)
 
--- the bytes are a journal, and the entry with this number is the first that isn't one of a topic log
+-- the bytes are a journal, and this is the number of the first entry that is no group of a topic log
 pub record HasBadEntry (bytes : List ℕ) (index : ℕ) : Type 0 where
   pub entries : List (List ℕ)
   pub journal : IsJournal bytes entries

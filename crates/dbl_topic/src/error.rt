@@ -3,12 +3,13 @@ use dbl_record::RecordError;
 use std::alloc::{AllocError, AllocFailed};
 use thiserror::Error;
 
-/// Why a group wasn't put.
+/// Why a group wasn't appended.
 #[derive(Clone, Copy, Debug, PartialEq, Eq, Error)]
 pub enum SinkError {
     #[error("sink failed")]
     Failed,
-    /// The group's bytes form has more than `GROUP_LIMIT` bytes; `len` says how many, as far as 64 bits tell.
+    /// The encoded group is longer than `GROUP_LIMIT` bytes; `len` is its length, saturating at
+    /// 2^64 - 1.
     #[error("group too long: {len}")]
     TooLong { len: u64 },
     #[error("out of memory")]
@@ -43,7 +44,7 @@ impl From<RecordError> for SinkError {
 
     ghost from_gives = { λ _ e. e ≡ Memory };
 
-    // Of a group that is written there is no other fault.
+    // Writing a group has no other error.
     fn from(_error: RecordError) -> SinkError {
         SinkError::Memory
     }
@@ -64,13 +65,13 @@ impl From<JournalError> for SinkError {
     }
 }
 
-/// Why a topic log wasn't made, opened or read.
+/// Why a topic log couldn't be made, opened or read.
 #[derive(Clone, Copy, Debug, PartialEq, Eq, Error)]
 pub enum TopicError {
-    /// The journal's fault. It is never `Memory`.
+    /// The journal's error, other than `Memory`.
     #[error("{0}")]
     Journal(JournalError),
-    /// The first entry, counted from 0, that isn't the bytes form of a group of 1 to 1,000 records.
+    /// The number, from 0, of the first entry that isn't an encoded group of 1 to 1,000 records.
     #[error("bad entry {index}")]
     BadEntry { index: u64 },
     #[error("out of memory")]

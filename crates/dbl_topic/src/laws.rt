@@ -1,17 +1,17 @@
-//! Laws of topic logs. The functions do nothing: their contracts are the laws.
+//! Theorems about topic logs; the functions have empty bodies.
 
 ghost use Rattle.std.specs.Prelude.{◌≡◌, ◌⊎◌, ◌+◌, ◌≤◌, ◌++◌, ◌∷◌, [], ℕ, Some, IsTrue, List, length, max};
 ghost use Rattle.dbl_journal.specs.Form.{IsFaultAt, IsJournal, up_to_gate};
 ghost use Rattle.dbl_journal.specs.Stored.{OnDisk, count_of, size};
 ghost use Rattle.dbl_record.specs.declared.record.Record.{Record};
-ghost use Rattle.dbl_topic.specs.Held.{ComesOf, HoldsGroups, LeavesGroups, MayLeaveGroups};
+ghost use Rattle.dbl_topic.specs.Held.{ExtendsTopics, HoldsGroups, LeavesGroups, MayLeaveGroups};
 ghost use Rattle.dbl_topic.specs.Logs.{HasBadEntry, HoldRecords, IsLog, log_size};
 ghost use Rattle.dbl_topic.specs.Sinks.{IsLeftByWhole};
 ghost use Rattle.dbl_journal.specs.Growth.{growth_room};
 
 use dbl_disk::Disk;
 
-/// Bytes are a topic log of one list of groups at most, and hold one list of records at most.
+/// Bytes are a topic log of at most one list of groups, and contain at most one list of records.
 pub fn logs_are_read_once()
     ensures groups { (bytes : List ℕ) (first second : List (List Record)) → IsLog bytes first →
         IsLog bytes second → first ≡ second }
@@ -19,7 +19,8 @@ pub fn logs_are_read_once()
         HoldRecords bytes second → first ≡ second }
 {}
 
-/// Bytes never are a topic log and have a bad entry, or are no journal. They have one first bad entry at most.
+/// Bytes are a topic log, or have a bad entry, or are no journal, at most one of these, and the
+/// first bad entry is unique.
 pub fn logs_or_faults()
     ensures not_bad { (bytes : List ℕ) (groups : List (List Record)) (index : ℕ) →
         IsLog bytes groups → ¬ HasBadEntry bytes index }
@@ -31,8 +32,8 @@ pub fn logs_or_faults()
         HasBadEntry bytes second → first ≡ second }
 {}
 
-/// A topic log holds one list of groups at most, of which it has the count, which is what its bytes are a log of, and what a
-/// crash may leave of it, and nothing else. What may be left while a group is put is the list or the one with the group.
+/// A topic log has at most one list of groups, of known count; a crash leaves that list, with or
+/// without a group being appended.
 pub fn held_groups_are_one<D: Disk>()
     ensures one { (log : OnDisk D) (first second : List (List Record)) →
         HoldsGroups D.seen D.may_leave log first → HoldsGroups D.seen D.may_leave log second →
@@ -55,22 +56,22 @@ pub fn held_groups_are_one<D: Disk>()
         MayLeaveGroups D.may_leave disk left → IsLeftByWhole groups group left }
 {}
 
-/// Of a log that comes of one with groups, the disk tells its bytes. They are a journal, whose closed gate stands no earlier
-/// than behind these groups, and they are no more than they were, or than 2^30 past that gate. Where it can be used it holds some
-/// groups, and whatever a crash leaves of it is a topic log.
+/// A log that extends one with groups has known contents: a journal at least as long as one of
+/// these groups, which grew to at most 2^30 bytes past its unset commit byte. If usable it has some
+/// groups, and a crash leaves a topic log.
 pub fn logs_come_of_logs<D: Disk>()
     ensures told { (old new : OnDisk D) (groups : List (List Record)) →
-        ComesOf D.seen D.may_leave old new → HoldsGroups D.seen D.may_leave old groups →
+        ExtendsTopics D.seen D.may_leave old new → HoldsGroups D.seen D.may_leave old groups →
         (after : List ℕ) × (D.seen new.disk ≡ Some after) }
     ensures grown { (old new : OnDisk D) (groups : List (List Record)) (before after : List ℕ) →
-        ComesOf D.seen D.may_leave old new → HoldsGroups D.seen D.may_leave old groups →
+        ExtendsTopics D.seen D.may_leave old new → HoldsGroups D.seen D.may_leave old groups →
         D.seen old.disk ≡ Some before → D.seen new.disk ≡ Some after →
         (entries : List (List ℕ)) × IsJournal after entries × (log_size groups ≤ size entries) ×
         (length after ≤ max (length before) (length (up_to_gate entries) + growth_room)) }
     ensures holds { (old new : OnDisk D) (groups : List (List Record)) →
-        ComesOf D.seen D.may_leave old new → HoldsGroups D.seen D.may_leave old groups →
+        ExtendsTopics D.seen D.may_leave old new → HoldsGroups D.seen D.may_leave old groups →
         IsTrue new.live → (now : List (List Record)) × HoldsGroups D.seen D.may_leave new now }
     ensures leaves { (old new : OnDisk D) (groups : List (List Record)) →
-        ComesOf D.seen D.may_leave old new → HoldsGroups D.seen D.may_leave old groups →
+        ExtendsTopics D.seen D.may_leave old new → HoldsGroups D.seen D.may_leave old groups →
         LeavesGroups D.may_leave new.disk (λ left. Unit {0}) }
 {}

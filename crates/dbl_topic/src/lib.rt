@@ -1,4 +1,4 @@
-//! Sinks of change events: where a capture puts its records, in groups.
+//! Sinks of change events, to which a capture delivers its records in groups.
 #![tactic(auto)]
 
 mod error;

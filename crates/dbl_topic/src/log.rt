@@ -1,13 +1,13 @@
 ghost use Rattle.std.specs.Prelude.{◌≡◌, ◌≢◌, ◌⊎◌, ◌↔◌, ℕ, ◌+◌, ◌<◌, ◌≤◌, ◌++◌, List, [], ◌∷◌, length, max, take, drop};
 ghost use Rattle.std.specs.Prelude.{false, Some, IsTrue, IsErr, IfOk, IfErr, OnOk, OnErr, MatchResult, slice_get};
-ghost use Rattle.dbl_base.specs.Streams.{HasCause};
+ghost use Rattle.dbl_base.specs.Streams.{FailsOnlyIfCounted};
 ghost use Rattle.dbl_disk.specs.Disks.{Follows, IsOnly, Torn};
 ghost use Rattle.dbl_journal.specs.Form.{IsFaultAt, IsJournal};
 ghost use Rattle.dbl_journal.specs.Stored.{IsSteady, Lists, count_of};
 ghost use Rattle.dbl_record.specs.declared.record.Record.{Record};
 ghost use Rattle.dbl_record.specs.Cuts.{IsHandful};
 ghost use Rattle.dbl_record.specs.Groups.{group_form};
-ghost use Rattle.dbl_topic.specs.Held.{ComesOf, HoldsGroups, LeavesGroups, MayLeaveGroups};
+ghost use Rattle.dbl_topic.specs.Held.{ExtendsTopics, HoldsGroups, LeavesGroups, MayLeaveGroups};
 ghost use Rattle.dbl_topic.specs.Logs.{AreLogEntries, HasBadEntry, IsLog, IsLogEntry, log_size};
 ghost use Rattle.dbl_topic.specs.Sinks.{IsLeftByPut, IsLeftByWhole, told_length, group_limit};
 ghost use Rattle.dbl_journal.specs.Calls.{Keeps, Makes, PutLeaves};
@@ -21,11 +21,11 @@ use dbl_record::{
 use std::alloc::Global;
 use std::marker::Model;
 
-/// A topic log has at most so many records in an entry.
+/// The maximum number of records in an entry of a topic log.
 const MOST_RECORDS: usize = 1000;
 
-/// A log of records on a disk: a journal with an entry for each group. A crash while a group is put leaves all of the group or
-/// nothing of it.
+/// A log of records on a disk: a journal with one entry per group. A crash while a group is
+/// appended leaves all of the group or nothing of it.
 #[derive(Drop)]
 pub struct TopicLog<D: Disk> {
     alloc: Global,
@@ -40,7 +40,7 @@ impl<D: Disk> Model for TopicLog<D> {
     ghost view = { λ l. l.journal };
 }
 
-// The group of an entry with this number.
+// Decodes the group of an entry with this number.
 fn group_of(alloc: Global, entry: &[u8], number: u64) -> Result<Vec<Record>, TopicError>
     ensures read { IfOk result (λ group. IsLogEntry entry.now group.items) }
     ensures errors { IfErr result
@@ -59,7 +59,7 @@ fn group_of(alloc: Global, entry: &[u8], number: u64) -> Result<Vec<Record>, Top
     }
 }
 
-// The entry of a group behind room for its length, in a buffer that the journal needn't grow.
+// Builds the entry of a group after room for its length, in a buffer that the journal needn't grow.
 fn build_entry(alloc: Global, group: &Vec<Record>, len: u64) -> Result<Vec<u8>, SinkError>
     requires handful { IsHandful group.now.items }
     requires len { len ≡ length (group_form group.now.items) }
@@ -70,7 +70,6 @@ fn build_entry(alloc: Global, group: &Vec<Record>, len: u64) -> Result<Vec<u8>, 
 {
     let mut bytes = Vec::with_capacity(alloc, ENTRY_ROOM + len as usize + 1)?;
     bytes.extend_from_slice(&[0; ENTRY_ROOM])?;
-    // The law by which the group may be appended.
     short_groups_have_a_form();
     append_group(&mut bytes, group)?;
     Ok(bytes)
@@ -100,7 +99,7 @@ fn read_entry<D: Disk>(
     ensures seen { D.seen journal.new.disk ≡ D.seen journal.old.disk }
     ensures crash { (crashed : List ℕ) → D.may_leave journal.new.disk crashed ↔
         D.may_leave journal.old.disk crashed }
-    ensures cause { HasCause (result ≡ Err (TopicError.Journal JournalError.Failed))
+    ensures cause { FailsOnlyIfCounted (result ≡ Err (TopicError.Journal JournalError.Failed))
         (D.faults journal.old.disk) (D.faults journal.new.disk) }
     ensures steady { result ≢ Err (TopicError.Journal JournalError.Failed) →
         IsSteady D.seen D.faults journal.old.disk journal.new.disk }
@@ -109,7 +108,7 @@ fn read_entry<D: Disk>(
     group_of(alloc, entry.items(), number)
 }
 
-// Reads each entry once.
+// Checks each entry once.
 fn check_entries<D: Disk>(alloc: Global, journal: &mut Journal<D>) -> Result<(), TopicError>
     requires { IsTrue journal.old.live }
     ensures good { (entries : List (List ℕ)) → Lists D.seen D.may_leave journal.old entries →
@@ -127,7 +126,7 @@ fn check_entries<D: Disk>(alloc: Global, journal: &mut Journal<D>) -> Result<(),
     ensures seen { D.seen journal.new.disk ≡ D.seen journal.old.disk }
     ensures crash { (crashed : List ℕ) → D.may_leave journal.new.disk crashed →
         D.may_leave journal.old.disk crashed }
-    ensures cause { HasCause (result ≡ Err (TopicError.Journal JournalError.Failed))
+    ensures cause { FailsOnlyIfCounted (result ≡ Err (TopicError.Journal JournalError.Failed))
         (D.faults journal.old.disk) (D.faults journal.new.disk) }
     ensures steady { result ≢ Err (TopicError.Journal JournalError.Failed) →
         IsSteady D.seen D.faults journal.old.disk journal.new.disk }
@@ -139,7 +138,8 @@ fn check_entries<D: Disk>(alloc: Global, journal: &mut Journal<D>) -> Result<(),
 }
 
 impl<D: Disk> TopicLog<D> {
-    /// An empty topic log on an empty disk: a write and a sync. The allocator is for later calls, and no memory is taken now.
+    /// Makes an empty topic log on an empty disk by a write and a sync. The allocator is for later
+    /// calls; this one takes no memory.
     pub fn make(alloc: Global, disk: D) -> Result<TopicLog<D>, Refused<D, TopicError>>
         requires { (bytes : List ℕ) → D.seen disk ≡ Some bytes → bytes ≡ [] }
         ensures made { D.seen disk ≡ Some [] →
@@ -164,8 +164,8 @@ impl<D: Disk> TopicLog<D> {
         }
     }
 
-    /// The topic log on the disk, as a crash may have left it: the journal is opened, which begins with a sync, and each entry
-    /// is read once. Whatever it answers but `Failed`, a crash leaves what was read and nothing else.
+    /// Opens the topic log on the disk, as a crash may have left it: it syncs first, and reads each
+    /// entry once. After every answer but `Failed` a crash leaves exactly what was read.
     pub fn open(alloc: Global, disk: D) -> Result<TopicLog<D>, Refused<D, TopicError>>
         ensures opened { (bytes : List ℕ) → D.seen disk ≡ Some bytes →
             IfOk result (λ log. (groups : List (List Record)) × IsLog bytes groups ×
@@ -198,7 +198,7 @@ impl<D: Disk> TopicLog<D> {
         }
     }
 
-    /// The group with this number, counted from 0. Its entry alone is read. The log stays live.
+    /// Reads the group with this number, counted from 0, and no other entry. The log stays live.
     pub fn group(&mut self, number: u64) -> Result<Vec<Record>, TopicError>
         requires live { IsTrue self.old.live }
         requires within { number < count_of self.old }
@@ -220,7 +220,7 @@ impl<D: Disk> TopicLog<D> {
         ensures seen { D.seen self.new.disk ≡ D.seen self.old.disk }
         ensures crash { (crashed : List ℕ) → D.may_leave self.new.disk crashed ↔
             D.may_leave self.old.disk crashed }
-        ensures cause { HasCause (result ≡ Err (TopicError.Journal JournalError.Failed))
+        ensures cause { FailsOnlyIfCounted (result ≡ Err (TopicError.Journal JournalError.Failed))
             (D.faults self.old.disk) (D.faults self.new.disk) }
         ensures steady { result ≢ Err (TopicError.Journal JournalError.Failed) →
             IsSteady D.seen D.faults self.old.disk self.new.disk }
@@ -228,7 +228,7 @@ impl<D: Disk> TopicLog<D> {
         read_entry(self.alloc, &mut self.journal, number)
     }
 
-    /// The number of groups. Takes no memory.
+    /// The number of groups.
     pub fn groups(&self) -> u64
         requires { IsTrue self.now.live }
         ensures { result ≡ count_of self.now }
@@ -236,7 +236,7 @@ impl<D: Disk> TopicLog<D> {
         self.journal.count()
     }
 
-    /// The disk, as it stands. Takes no memory and makes no call of the disk.
+    /// Unwraps the disk in its current state, without a disk call.
     pub fn into_disk(self) -> D
         ensures { result ≡ self.disk }
     {
@@ -245,7 +245,7 @@ impl<D: Disk> TopicLog<D> {
     }
 }
 
-// The topic log over a journal whose entries are groups.
+// Makes the topic log of a journal whose entries are groups.
 fn check_log<D: Disk>(
     alloc: Global,
     mut journal: Journal<D>,
@@ -280,7 +280,7 @@ fn check_log<D: Disk>(
 }
 
 impl<D: Disk> Sink for TopicLog<D> {
-    ghost use Rattle.dbl_topic.specs.Held.{ComesOf, HoldsGroups, LeavesGroups, MayLeaveGroups};
+    ghost use Rattle.dbl_topic.specs.Held.{ExtendsTopics, HoldsGroups, LeavesGroups, MayLeaveGroups};
     ghost use Rattle.dbl_topic.specs.SinkLaws.{leaves_held, may_leave_held, only_held};
 
     ghost holds = { λ log groups. HoldsGroups D.seen D.may_leave log groups };
@@ -289,7 +289,7 @@ impl<D: Disk> Sink for TopicLog<D> {
 
     ghost leaves_groups = { λ log. LeavesGroups D.may_leave log.disk (λ groups. Unit {0}) };
 
-    ghost comes_of = { λ old new. ComesOf D.seen D.may_leave old new };
+    ghost comes_of = { λ old new. ExtendsTopics D.seen D.may_leave old new };
 
     ghost is_live = { λ log. log.live };
 
@@ -327,18 +327,16 @@ impl<D: Disk> Sink for TopicLog<D> {
         ensures some { (groups : List (List Record)) →
             HoldsGroups D.seen D.may_leave self.old groups → (left : List (List Record)) ×
             MayLeaveGroups D.may_leave self.new.disk left }
-        ensures comes { ComesOf D.seen D.may_leave self.old self.new }
+        ensures comes { ExtendsTopics D.seen D.may_leave self.old self.new }
         ensures live { result ≢ Err SinkError.Failed → IsTrue self.new.live }
         ensures dead { result ≡ Err SinkError.Failed → self.new.live ≡ false }
         ensures too_long { (len : ℕ) → result ≡ Err (SinkError.TooLong len) →
             (group_limit < length (group_form group.now.items)) ×
             (len ≡ told_length group.now.items) }
         ensures long { group_limit < length (group_form group.now.items) → IsErr result }
-        ensures cause { HasCause (result ≡ Err SinkError.Failed)
+        ensures cause { FailsOnlyIfCounted (result ≡ Err SinkError.Failed)
             (D.faults self.old.disk) (D.faults self.new.disk) }
 
-        // A put is all or nothing, and a group is too long exactly by its length. The disk's bytes become no more than a log
-        // with the group takes, unless they were more before. A disk that tells its bytes tells them after each answer.
         ensures one_of { (groups : List (List Record)) →
             HoldsGroups D.seen D.may_leave self.old groups →
             LeavesGroups D.may_leave self.new.disk (IsLeftByWhole groups group.now.items) }

@@ -1,6 +1,6 @@
 ghost use Rattle.std.specs.Prelude.{◌≡◌, ◌≢◌, ◌↔◌, ℕ, ◌+◌, ◌<◌, ◌++◌, List, [], ◌∷◌, length, Bool, true, false, IsTrue};
 ghost use Rattle.std.specs.Prelude.{IsErr, IfOk, OnOk, OnErr, Contains};
-ghost use Rattle.dbl_base.specs.Streams.{HasCause, raised};
+ghost use Rattle.dbl_base.specs.Streams.{FailsOnlyIfCounted, incremented};
 ghost use Rattle.dbl_base.specs.Memory.{new_plan};
 ghost use Rattle.dbl_record.specs.declared.record.Record.{Record};
 ghost use Rattle.dbl_record.specs.Cuts.{IsHandful, joined};
@@ -13,7 +13,7 @@ use dbl_record::{Record, group_length};
 use std::alloc::{AllocError, Global};
 use std::marker::Model;
 
-/// A sink that keeps its records in memory.
+/// An in-memory sink.
 #[derive(Debug, Drop)]
 pub struct MemSink {
     alloc: Global,
@@ -35,7 +35,8 @@ impl Model for MemSink {
 }
 
 impl MemSink {
-    /// An empty sink, whose listed puts, counted from 1, are to fail. Takes no memory; later calls use the allocator.
+    /// Makes an empty sink, whose listed appends, numbered from 1, are to fail. Takes no memory;
+    /// later calls use the allocator.
     pub fn make(alloc: Global, fails: Vec<u64>) -> MemSink
         ensures { result ≡ record { groups = []; plan = new_plan fails.items; live = true } }
     {
@@ -48,7 +49,7 @@ impl MemSink {
         }
     }
 
-    /// The records of all groups. Takes no memory.
+    /// The records of all groups.
     pub fn records(&self) -> &Vec<Record>
         ensures { result.now.items ≡ joined self.now.groups }
     {
@@ -56,7 +57,6 @@ impl MemSink {
     }
 }
 
-// Equal records.
 fn copies(alloc: Global, group: &[Record]) -> Result<Vec<Record>, AllocError>
     ensures { IfOk result (λ copies. copies.items ≡ group.now) }
 {
@@ -67,7 +67,7 @@ fn copies(alloc: Global, group: &[Record]) -> Result<Vec<Record>, AllocError>
     Ok(copies)
 }
 
-// Appends the records, and how many they are.
+// Appends the records and their number.
 fn gather(
     records: &mut Vec<Record>,
     sizes: &mut Vec<usize>,
@@ -135,20 +135,18 @@ impl Sink for MemSink {
             (group_limit < length (group_form group.now.items)) ×
             (len ≡ told_length group.now.items) }
         ensures long { group_limit < length (group_form group.now.items) → IsErr result }
-        ensures cause { HasCause (result ≡ Err SinkError.Failed)
+        ensures cause { FailsOnlyIfCounted (result ≡ Err SinkError.Failed)
             self.old.plan.faults self.new.plan.faults }
 
-        // A put fails exactly where it is planned to, whatever its length, and then changes no records. Of the others those
-        // fail whose group is too long.
         ensures planned { (result ≡ Err SinkError.Failed) ↔
-            Contains self.old.plan.planned (raised self.old.plan.calls) }
+            Contains self.old.plan.planned (incremented self.old.plan.calls) }
         ensures exactly { (len : ℕ) → (result ≡ Err (SinkError.TooLong len)) ↔
-            (¬ Contains self.old.plan.planned (raised self.old.plan.calls) ×
+            (¬ Contains self.old.plan.planned (incremented self.old.plan.calls) ×
             (group_limit < length (group_form group.now.items)) ×
             (len ≡ told_length group.now.items)) }
-        ensures calls { self.new.plan.calls ≡ raised self.old.plan.calls }
+        ensures calls { self.new.plan.calls ≡ incremented self.old.plan.calls }
         ensures counted { result ≡ Err SinkError.Failed →
-            self.new.plan.faults ≡ raised self.old.plan.faults }
+            self.new.plan.faults ≡ incremented self.old.plan.faults }
         ensures uncounted { result ≢ Err SinkError.Failed →
             self.new.plan.faults ≡ self.old.plan.faults }
         ensures plan { self.new.plan.planned ≡ self.old.plan.planned }

@@ -1,5 +1,5 @@
 ghost use Rattle.std.specs.Prelude.{◌≡◌, ◌≢◌, ℕ, ◌<◌, ◌++◌, List, [], ◌∷◌, length, Bool, false, IsTrue, IsErr, OnOk, OnErr};
-ghost use Rattle.dbl_base.specs.Streams.{HasCause};
+ghost use Rattle.dbl_base.specs.Streams.{FailsOnlyIfCounted};
 ghost use Rattle.dbl_record.specs.declared.record.Record.{Record};
 ghost use Rattle.dbl_record.specs.Cuts.{IsHandful};
 ghost use Rattle.dbl_record.specs.Groups.{group_form};
@@ -8,33 +8,34 @@ ghost use Rattle.dbl_topic.specs.Sinks.{IsLeftByPut, told_length, group_limit};
 use crate::SinkError;
 use dbl_record::Record;
 
-/// A sink takes groups whose bytes form has at most so many bytes: 2^28.
+/// The maximum length in bytes of an encoded group that a sink accepts: 2^28.
 pub const GROUP_LIMIT: u64 = 1 << 28;
 
-/// Where records go, group by group.
+/// A destination of records, which are appended group by group.
 pub trait Sink {
-    /// The sink can be used, tells its groups, and they are these; joined they are its records.
+    /// The sink is usable and its groups are known to be these; joined they are its records.
     ghost holds: { Self → List (List Record) → Type 0 };
 
-    /// A crash now may leave these groups.
+    /// The groups that a crash now may leave.
     ghost may_leave: { Self → List (List Record) → Type 0 };
 
-    /// What the sink says of all that a crash may leave now: of a topic log, that it is one of some groups.
+    /// A property of everything that a crash now may leave: for a topic log, that it is one of some
+    /// groups.
     ghost leaves_groups: { Self → Type 0 };
 
-    /// The second sink comes of the first one: what no put undoes, whatever it answers. Of a topic log, how far it has come:
-    /// its closed gate never falls, and the disk's bytes become no more than 2^30 past it, unless they were more before.
+    /// The second sink extends the first one: what no append undoes. In a topic log the unset
+    /// commit byte never moves back, and the disk grows to at most 2^30 bytes past it.
     ghost comes_of: { Self → Self → Type 0 };
 
-    /// Whether the sink can be used.
+    /// Whether the sink is usable.
     ghost is_live: { Self → Bool };
 
-    /// How often the sink has failed. A count that stands at 2^64 - 1 stays there.
+    /// The number of faults; it saturates at 2^64 - 1.
     ghost faults: { Self → ℕ };
 
-    /// Appends the group. After `Failed` some first records of it may have been appended, as a group of their own, and the
-    /// sink isn't live. After the other errors nothing was appended, and the sink stays live. A group that is too long may be
-    /// answered with another error, where that comes first. Whatever it answers, a crash leaves some groups.
+    /// Appends the group. After `Failed` some first records of it may have been appended, as a
+    /// group of their own, and the sink isn't live; after the other errors nothing was appended. A
+    /// group that is too long may be refused with another error that comes first.
     fn put(&mut self, group: &Vec<Record>) -> Result<(), SinkError>
         requires live { IsTrue (is_live self.old) }
         requires handful { IsHandful group.now.items }
@@ -55,17 +56,17 @@ pub trait Sink {
             (group_limit < length (group_form group.now.items)) ×
             (len ≡ told_length group.now.items) }
         ensures long { group_limit < length (group_form group.now.items) → IsErr result }
-        ensures cause { HasCause (result ≡ Err SinkError.Failed)
+        ensures cause { FailsOnlyIfCounted (result ≡ Err SinkError.Failed)
             (faults self.old) (faults self.new) };
 
-    /// A sink that tells its groups may leave them, and no others.
+    /// A crash of a sink with known groups leaves exactly those.
     ghost only: { (sink : Self) (groups left : List (List Record)) → holds sink groups → may_leave sink left → left ≡ groups };
 
     ghost may: { (sink : Self) (groups : List (List Record)) → holds sink groups → may_leave sink groups };
 
     ghost whole: { (sink : Self) (groups : List (List Record)) → holds sink groups → leaves_groups sink };
 
-    /// Each sink comes of itself, and of what those come of that it comes of.
+    /// A sink extends itself, and extension is transitive.
     ghost comes_self: { (sink : Self) → comes_of sink sink };
 
     ghost comes_on: { (first second third : Self) → comes_of first second → comes_of second third → comes_of first third };

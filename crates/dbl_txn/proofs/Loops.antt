@@ -1,8 +1,8 @@
 -- Loops that read item by item, and stop at the first fault.
 use Rattle.std.proofs.Common.{◌≡◌, List, [], ◌∷◌, ◌++◌, refl, sym, ap, append_assoc}
 use Rattle.std.specs.Prelude.{Result, Ok, Err}
-use Rattle.dbl_commit.specs.declared.txn_error.TxnError.{TxnError}
-use Rattle.dbl_commit.specs.Tuples.{◌>>=◌}
+use Rattle.dbl_model_commit.specs.declared.txn_error.TxnError.{TxnError}
+use Rattle.dbl_model_commit.specs.Tuples.{◌>>=◌}
 
 -- what is read, behind a front
 abbrev pub with_front : {A : Type 0} → List A → Result (List A) TxnError → Result (List A) TxnError

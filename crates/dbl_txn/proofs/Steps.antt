@@ -6,20 +6,20 @@ use Rattle.indexmap.specs.IndexMap.{get}
 use Rattle.dbl_base.specs.declared.lsn.Lsn.{Lsn}
 use Rattle.dbl_pgmsg.specs.declared.messages.Message.{Message}
 use Rattle.dbl_pgmsg.specs.declared.messages.Message.TheVariants as says
-use Rattle.dbl_table.specs.declared.change.Change.{Change}
-use Rattle.dbl_table.specs.declared.change.Commit.{Commit}
-use Rattle.dbl_table.specs.declared.table.TableInfo.{TableInfo}
-use Rattle.dbl_commit.specs.declared.message_parts.Relation.{Relation}
-use Rattle.dbl_commit.specs.declared.message_parts.RowChange.{RowChange}
-use Rattle.dbl_commit.specs.declared.message_parts.RowChange.TheVariants as row
-use Rattle.dbl_commit.specs.declared.txn_error.TxnError.{TxnError}
-use Rattle.dbl_commit.specs.declared.txn_error.TxnError.TheVariants as errors
-use Rattle.dbl_commit.specs.Past.{relation_of, Begun, begin_of, mark_of, HasNoRelation}
-use Rattle.dbl_commit.specs.Stated.{has_some, stated, ok_or_none, open_changes, mismatch, first_of, commit_of, ended_with, target}
-use Rattle.dbl_commit.proofs.Learning.{changes_learnt, other_relation, target_learnt}
+use Rattle.dbl_model_table.specs.declared.change.Change.{Change}
+use Rattle.dbl_model_table.specs.declared.change.Commit.{Commit}
+use Rattle.dbl_model_table.specs.declared.table.TableInfo.{TableInfo}
+use Rattle.dbl_model_commit.specs.declared.message_parts.Relation.{Relation}
+use Rattle.dbl_model_commit.specs.declared.message_parts.RowChange.{RowChange}
+use Rattle.dbl_model_commit.specs.declared.message_parts.RowChange.TheVariants as row
+use Rattle.dbl_model_commit.specs.declared.txn_error.TxnError.{TxnError}
+use Rattle.dbl_model_commit.specs.declared.txn_error.TxnError.TheVariants as errors
+use Rattle.dbl_model_commit.specs.Past.{relation_of, Begun, begin_of, open_mark, HasNoRelation}
+use Rattle.dbl_model_commit.specs.Stated.{has_some, stated, ok_or_none, open_changes, mismatch, first_of, commit_of, ended_with, target}
+use Rattle.dbl_model_commit.proofs.Learning.{changes_learnt, other_relation, target_learnt}
 use Rattle.dbl_txn.specs.declared.assembler.Block.{Block}
 use Rattle.dbl_txn.specs.declared.assembler.Assembler.{Assembler}
-use Rattle.dbl_txn.specs.Stands.{message_of, known_in, IsBlock, IsOpen, Stands, Moved, Moves, Said, Taken, Takes}
+use Rattle.dbl_txn.specs.Stands.{message_of, known_in, IsBlock, IsOpen, Stands, TakesNoChange, Moves, Said, Taken, Takes}
 
 -- the Begin of an open transaction
 pub record IsBegun (o : Option Begun) (mark : Option (List ℕ)) (changed : Bool) (held : List Change) (block : Block) : Type 0 where
@@ -39,9 +39,9 @@ is_open_so mark changed held (Some begin) None h = absurd h
 is_open_so mark changed held (Some begin) (Some block) h = refl
 
 open_with : (infos : List TableInfo) (after : Lsn) (ms : List Message) (held : List Change) (a : Assembler) (block : Block) → Stands infos after ms held a → a.block ≡ Some block
-    → IsBegun (begin_of ms) (mark_of ms) (has_some (open_changes infos ms)) held block
+    → IsBegun (begin_of ms) (open_mark ms) (has_some (open_changes infos ms)) held block
 open_with infos after ms held a block s was =
-    begun (begin_of ms) (mark_of ms) (has_some (open_changes infos ms)) held block (subst (IsOpen (mark_of ms) (has_some (open_changes infos ms)) held (begin_of ms)) was s.block)
+    begun (begin_of ms) (open_mark ms) (has_some (open_changes infos ms)) held block (subst (IsOpen (open_mark ms) (has_some (open_changes infos ms)) held (begin_of ms)) was s.block)
 
 matched : (o : Option Begun) (b : Begun) (lsn : Lsn) (e : TxnError) → o ≡ Some b → b.lsn.0 ≡ lsn.0 → first_of (if is_some o then None else Some e) (mismatch o lsn) ≡ None
 matched o b lsn e found is = rw found (rw (eq-eqb b.lsn.0 lsn.0 is) refl)
@@ -50,16 +50,16 @@ matched o b lsn e found is = rw found (rw (eq-eqb b.lsn.0 lsn.0 is) refl)
 pub committed : (infos : List TableInfo) (after : Lsn) (ms : List Message) (held : List Change) (a : Assembler) (block : Block) (flags : ℕ) (lsn end_lsn : Lsn) (time : ℤ) (commit : Commit)
     → Stands infos after ms held a → a.block ≡ Some block → block.lsn.0 ≡ lsn.0
     → ((b : Begun) → block.time ≡ b.time → block.xid ≡ b.xid → commit ≡ commit_of lsn end_lsn block.mark block.changes.items b)
-    → Moved infos after (says.Commit flags lsn end_lsn time) ms held (record { infos = a.infos; last = lsn; relations = a.relations; block = None }) (Some commit)
+    → TakesNoChange infos after (says.Commit flags lsn end_lsn time) ms held (record { infos = a.infos; last = lsn; relations = a.relations; block = None }) (Some commit)
 committed infos after ms held a block flags lsn end_lsn time commit s was same made =
     let b = open_with infos after ms held a block s was in
     let lsns : b.begin.lsn.0 ≡ lsn.0 = sym (ap (λ (l : Lsn). l.0) b.is.lsn) ∙ same in
-    let made_so : commit ≡ commit_of lsn end_lsn (mark_of ms) held b.begin =
+    let made_so : commit ≡ commit_of lsn end_lsn (open_mark ms) held b.begin =
     made b.begin b.is.time b.is.xid ∙ ap (λ (m : Option (List ℕ)). commit_of lsn end_lsn m block.changes.items b.begin) b.is.mark_is
-    ∙ ap (λ (cs : List Change). commit_of lsn end_lsn (mark_of ms) cs b.begin) b.is.changes in
+    ∙ ap (λ (cs : List Change). commit_of lsn end_lsn (open_mark ms) cs b.begin) b.is.changes in
     record {
       clean = matched (begin_of ms) b.begin lsn errors.OutsideTransaction b.found lsns;
-      commit = ap (λ c. Some c) made_so ∙ ap (option_map (commit_of lsn end_lsn (mark_of ms) held)) (sym b.found);
+      commit = ap (λ c. Some c) made_so ∙ ap (option_map (commit_of lsn end_lsn (open_mark ms) held)) (sym b.found);
       none = refl;
       stands = record { tables = s.tables; last = refl; relations = s.relations; block = tt };
     }
@@ -74,7 +74,7 @@ held_more infos after ms held cs a old new s was more =
       tables = s.tables;
       last = s.last;
       relations = s.relations;
-      block = subst (λ (o : Option Begun). IsOpen (mark_of ms) (has_some (open_changes infos ms)) (held ++ cs) o (Some new)) (sym b.found) (more (mark_of ms) (has_some (open_changes infos ms)) held b.begin b.is);
+      block = subst (λ (o : Option Begun). IsOpen (open_mark ms) (has_some (open_changes infos ms)) (held ++ cs) o (Some new)) (sym b.found) (more (open_mark ms) (has_some (open_changes infos ms)) held b.begin b.is);
     }
 
 row_commits_none : (oid : ℕ) (change : RowChange) (ms : List Message) (cs : List Change) → ended_with (message_of oid change) ms cs ≡ None
@@ -138,5 +138,5 @@ stands_learnt infos info after ms held a b s none is last relations block = reco
   tables = is ∙ ap (λ (l : List TableInfo). l ++ info ∷ []) s.tables;
   last = last ∙ s.last;
   relations = λ oid. subst (λ m. get nat_eq m oid ≡ option_map (known_in (infos ++ info ∷ [])) (relation_of oid ms)) (sym relations) (s.relations oid ∙ known_learnt infos info (relation_of oid ms) (other_relation info.name oid ms none));
-  block = subst (λ (cs : List Change). IsOpen (mark_of ms) (has_some cs) held (begin_of ms) b.block) (sym (changes_learnt infos info ms none)) (subst (IsOpen (mark_of ms) (has_some (open_changes infos ms)) held (begin_of ms)) (sym block) s.block);
+  block = subst (λ (cs : List Change). IsOpen (open_mark ms) (has_some cs) held (begin_of ms) b.block) (sym (changes_learnt infos info ms none)) (subst (IsOpen (open_mark ms) (has_some (open_changes infos ms)) held (begin_of ms)) (sym block) s.block);
 }

@@ -5,27 +5,27 @@ ghost use Rattle.indexmap.specs.IndexMap.{get};
 ghost use Rattle.dbl_base.specs.declared.lsn.Lsn.{Lsn};
 ghost use Rattle.dbl_pgmsg.specs.declared.messages.Message.{Message};
 ghost use Rattle.dbl_pgmsg.specs.declared.messages.Message.TheVariants as says;
-ghost use Rattle.dbl_table.specs.declared.change.Change.{Change};
-ghost use Rattle.dbl_table.specs.declared.change.Commit.{Commit};
-ghost use Rattle.dbl_table.specs.declared.table.TableInfo.{TableInfo};
-ghost use Rattle.dbl_commit.specs.Past.{Begun, begin_of, second_text, mark_in, HasNoRelation};
-ghost use Rattle.dbl_commit.specs.Tuples.{refuse_if};
-ghost use Rattle.dbl_commit.specs.Stated.{is_empty, has_some, in_table, row_stated, targets_at, is_the_watermark};
-ghost use Rattle.dbl_commit.specs.Stated.{clears, truncate_stated, truncated_tables, commit_of};
-ghost use Rattle.dbl_commit.specs.Blocks.{onto, States};
-ghost use Rattle.dbl_txn.specs.Stands.{message_of, IsBlock, Recalls, Stands, StandsWhole, Moves, Says, Takes};
-ghost use Rattle.dbl_txn.specs.Answers.{Gives};
+ghost use Rattle.dbl_model_table.specs.declared.change.Change.{Change};
+ghost use Rattle.dbl_model_table.specs.declared.change.Commit.{Commit};
+ghost use Rattle.dbl_model_table.specs.declared.table.TableInfo.{TableInfo};
+ghost use Rattle.dbl_model_commit.specs.Past.{Begun, begin_of, second_text, mark_in, HasNoRelation};
+ghost use Rattle.dbl_model_commit.specs.Tuples.{refuse_if};
+ghost use Rattle.dbl_model_commit.specs.Stated.{is_empty, has_some, in_table, row_stated, targets_at, is_the_watermark};
+ghost use Rattle.dbl_model_commit.specs.Stated.{clears, truncate_stated, truncated_tables, commit_of};
+ghost use Rattle.dbl_model_commit.specs.Blocks.{onto, States};
+ghost use Rattle.dbl_txn.specs.Stands.{message_of, IsBlock, Recalls, Stands, StandsWhole, Moves, StatesChanges, Takes};
+ghost use Rattle.dbl_txn.specs.Answers.{ReturnsAssembled};
 
 use crate::changes::change_of;
 use crate::tables::{check_schema, table_named, target_of};
 use dbl_base::{Lsn, Seq, Text};
-use dbl_commit::{Relation, RowChange, Target, TxnError};
+use dbl_model_commit::{Relation, RowChange, Target, TxnError};
+use dbl_model_table::{Body, Change, Commit, TableInfo};
 use dbl_pgmsg::{Message, RelationColumn, TupleCell};
-use dbl_table::{Body, Change, Commit, TableInfo};
 use indexmap::IndexMap;
 use std::alloc::{AllocError, Global};
 
-// A table as its last Relation described it.
+// A table as its last Relation describes it.
 #[derive(Debug, Drop)]
 struct Known {
     relation: Relation,
@@ -39,12 +39,13 @@ struct Block {
     time: i64,
     xid: u32,
     mark: Option<Text>,
-    // Whether a captured table was changed, whatever is held.
+    // Whether a captured table was changed, even if no change is buffered.
     changed: bool,
     changes: Vec<Change>,
 }
 
-/// Puts messages together to commits. It knows each table by its last Relation, and holds the open transaction.
+/// Assembles messages into commits. It keeps the last Relation of each table, and buffers the open
+/// transaction.
 #[derive(Drop)]
 pub struct Assembler {
     infos: Vec<TableInfo>,
@@ -63,7 +64,7 @@ fn mark_of_cells(cells: Seq<TupleCell>) -> Option<Text>
     if cells.len() == 1 { Some(value) } else { None }
 }
 
-// What an Update of the watermark table marks.
+// The watermark that an Update of the watermark table writes.
 fn mark_of_change(change: RowChange) -> Option<Text>
     ensures { result ≡ mark_in change }
 {
@@ -73,14 +74,14 @@ fn mark_of_change(change: RowChange) -> Option<Text>
     }
 }
 
-fn stated_in(
+fn change_in(
     alloc: Global,
     infos: &Vec<TableInfo>,
     table: u32,
     relation: &Relation,
     change: RowChange,
 ) -> Result<Seq<Change>, TxnError>
-    ensures { Gives result (in_table table (slice_get infos.now.items table) relation.now change) }
+    ensures { ReturnsAssembled result (in_table table (slice_get infos.now.items table) relation.now change) }
 {
     let Some(info) = infos.get(table as usize) else {
         return Ok(Seq::make(Vec::new(alloc)));
@@ -91,9 +92,9 @@ fn stated_in(
     Ok(Seq::make(changes))
 }
 
-// The one Update of the watermark.
+// Records the transaction's one Update of the watermark.
 fn take_mark(mark: &mut Option<Text>, changed: bool, change: RowChange) -> Result<(), TxnError>
-    ensures gives { Gives result (refuse_if (not
+    ensures gives { ReturnsAssembled result (refuse_if (not
         (is_some (mark_in change) && not (is_some mark.old) && not changed)) TxnError.BadMark) }
     ensures mark { OnOk result (mark.new ≡ mark_in change) }
 {
@@ -107,8 +108,8 @@ fn take_mark(mark: &mut Option<Text>, changed: bool, change: RowChange) -> Resul
     Ok(())
 }
 
-// What a change of a row states in the open transaction.
-#[tactic(auto, unfolding(dbl_commit::specs::Stated::row_stated))]
+// The changes that a row message states in the open transaction.
+#[tactic(auto, unfolding(dbl_model_commit::specs::Stated::row_stated))]
 fn row_in(
     alloc: Global,
     infos: &Vec<TableInfo>,
@@ -117,7 +118,7 @@ fn row_in(
     changed: bool,
     change: RowChange,
 ) -> Result<Seq<Change>, TxnError>
-    ensures gives { Gives result
+    ensures gives { ReturnsAssembled result
         (row_stated infos.now.items mark.old changed known.now.relation change known.now.target) }
     ensures mark { OnOk result
         (mark.new ≡ (if is_the_watermark known.now.target then mark_in change else mark.old)) }
@@ -132,7 +133,7 @@ fn row_in(
             if mark.is_some() {
                 return Err(TxnError::BadMark);
             }
-            stated_in(alloc, infos, table, &known.relation, change)
+            change_in(alloc, infos, table, &known.relation, change)
         }
     }
 }
@@ -145,7 +146,7 @@ fn targets_in(
 ) -> Result<Seq<Target>, TxnError>
     ensures { (infos : List TableInfo) (ms : List Message) →
         Recalls infos ms (get nat_eq relations.now) →
-        Gives result (targets_at infos oids.now.items ms) }
+        ReturnsAssembled result (targets_at infos oids.now.items ms) }
 {
     let mut targets = Vec::with_capacity(alloc, oids.len())?;
     for oid in oids {
@@ -177,14 +178,14 @@ fn any_watermark(targets: &Vec<Target>) -> bool
     targets.iter().any(|target| *target == Target::Watermark)
 }
 
-// The Clears of a Truncate in the open transaction.
-#[tactic(auto, unfolding(dbl_commit::specs::Stated::truncate_stated))]
+// The Clears that a Truncate states in the open transaction.
+#[tactic(auto, unfolding(dbl_model_commit::specs::Stated::truncate_stated))]
 fn truncate_stated(
     alloc: Global,
     marked: bool,
     targets: &Vec<Target>,
 ) -> Result<Seq<Change>, TxnError>
-    ensures { Gives result (truncate_stated marked targets.now.items) }
+    ensures { ReturnsAssembled result (truncate_stated marked targets.now.items) }
 {
     let changes = clears_in(alloc, targets)?;
     if any_watermark(targets) || marked && !changes.is_empty() {
@@ -201,13 +202,13 @@ fn truncated_tables(
 ) -> Result<Seq<Change>, TxnError>
     ensures { (infos : List TableInfo) (ms : List Message) →
         Recalls infos ms (get nat_eq relations.now) →
-        Gives result (truncated_tables infos oids.now.items ms marked) }
+        ReturnsAssembled result (truncated_tables infos oids.now.items ms marked) }
 {
     let targets = targets_in(alloc, relations, oids)?;
     truncate_stated(alloc, marked, targets.items())
 }
 
-fn note(block: &mut Block, stated: &Seq<Change>)
+fn set_changed(block: &mut Block, stated: &Seq<Change>)
     ensures { block.new ≡ record block.old { changed = block.old.changed || has_some stated.now } }
 {
     if !stated.items().is_empty() {
@@ -222,7 +223,7 @@ fn row_at(
     block: &mut Block,
     change: RowChange,
 ) -> Result<Seq<Change>, TxnError>
-    ensures gives { Gives result (row_stated infos.now.items block.old.mark block.old.changed
+    ensures gives { ReturnsAssembled result (row_stated infos.now.items block.old.mark block.old.changed
         known.now.relation change known.now.target) }
     ensures block { IfOk result (λ cs. block.new ≡
         record block.old {
@@ -233,7 +234,7 @@ fn row_at(
 {
     let changed = block.changed;
     let stated = row_in(alloc, infos, known, &mut block.mark, changed, change)?;
-    note(block, &stated);
+    set_changed(block, &stated);
     Ok(stated)
 }
 
@@ -245,12 +246,12 @@ fn truncate_at(
 ) -> Result<Seq<Change>, TxnError>
     ensures gives { (infos : List TableInfo) (ms : List Message) →
         Recalls infos ms (get nat_eq relations.now) →
-        Gives result (truncated_tables infos oids.now.items ms (is_some block.old.mark)) }
+        ReturnsAssembled result (truncated_tables infos oids.now.items ms (is_some block.old.mark)) }
     ensures block { IfOk result
         (λ cs. block.new ≡ record block.old { changed = block.old.changed || has_some cs }) }
 {
     let stated = truncated_tables(alloc, relations, block.mark.is_some(), oids)?;
-    note(block, &stated);
+    set_changed(block, &stated);
     Ok(stated)
 }
 
@@ -264,7 +265,8 @@ fn hold_in(block: &mut Block, stated: Seq<Change>) -> Result<(), AllocError>
 }
 
 impl Assembler {
-    /// An assembler of these captured tables that has taken nothing. Reading began after the LSN `after`. Takes no memory.
+    /// Makes an assembler of these captured tables that has received no message, for reading after
+    /// the LSN `after`. Takes no memory.
     pub fn make(alloc: Global, infos: Vec<TableInfo>, after: Lsn) -> Assembler
         ensures { (held : List Change) → Stands infos.items after [] held result }
     {
@@ -276,7 +278,7 @@ impl Assembler {
         }
     }
 
-    /// The captured tables. Takes no memory.
+    /// The captured tables.
     pub fn infos(&self) -> &Vec<TableInfo>
         ensures { (infos : List TableInfo) (after : Lsn) (ms : List Message) (held : List Change) →
             Stands infos after ms held self.now → result.now.items ≡ infos }
@@ -284,7 +286,7 @@ impl Assembler {
         &self.infos
     }
 
-    /// Whether a transaction is open. Takes no memory.
+    /// Whether a transaction is open.
     pub fn inside(&self) -> bool
         ensures begun { (infos : List TableInfo) (after : Lsn) (ms : List Message)
             (held : List Change) → Stands infos after ms held self.now →
@@ -297,7 +299,8 @@ impl Assembler {
         self.block.is_some()
     }
 
-    /// One more captured table, of which no Relation was taken so far. Once memory ran out the assembler is as it was.
+    /// Adds a captured table of which no Relation was received so far. If memory runs out the
+    /// assembler is unchanged.
     pub fn learn(&mut self, info: TableInfo) -> Result<(), TxnError>
         ensures learnt { (infos : List TableInfo) (after : Lsn) (ms : List Message)
             (held : List Change) → Stands infos after ms held self.old →
@@ -400,11 +403,11 @@ impl Assembler {
         Ok(None)
     }
 
-    // What a change of a row states.
+    // The changes that a row message states.
     fn row(&mut self, alloc: Global, oid: u32, change: RowChange) -> Result<Seq<Change>, TxnError>
         ensures { (infos : List TableInfo) (after : Lsn) (ms : List Message) (held : List Change) →
             Stands infos after ms held self.old →
-            Says infos after (message_of oid change) ms held self.new result }
+            StatesChanges infos after (message_of oid change) ms held self.new result }
     {
         let Some(block) = &mut self.block else {
             return Err(TxnError::OutsideTransaction);
@@ -416,11 +419,11 @@ impl Assembler {
         Ok(stated)
     }
 
-    // What a Truncate states.
+    // The changes that a Truncate states.
     fn truncate(&mut self, alloc: Global, oids: &Vec<u32>) -> Result<Seq<Change>, TxnError>
         ensures { (infos : List TableInfo) (after : Lsn) (ms : List Message) (held : List Change)
             (options : ℕ) → Stands infos after ms held self.old →
-            Says infos after (says.Truncate options oids.now.items) ms held self.new result }
+            StatesChanges infos after (says.Truncate options oids.now.items) ms held self.new result }
     {
         let Some(block) = &mut self.block else {
             return Err(TxnError::OutsideTransaction);
@@ -429,8 +432,8 @@ impl Assembler {
         Ok(stated)
     }
 
-    // More changes are held.
-    fn hold(&mut self, stated: Seq<Change>) -> Result<(), TxnError>
+    // Buffers more changes.
+    fn buffer_changes(&mut self, stated: Seq<Change>) -> Result<(), TxnError>
         ensures held { (infos : List TableInfo) (after : Lsn) (ms : List Message)
             (held : List Change) → Stands infos after ms held self.old →
             OnOk result (Stands infos after ms (held ++ stated) self.new) }
@@ -456,7 +459,7 @@ impl Assembler {
             Takes infos after (message_of oid change) ms self.new result }
     {
         let stated = self.row(alloc, oid, change)?;
-        self.hold(stated)?;
+        self.buffer_changes(stated)?;
         Ok(None)
     }
 
@@ -466,12 +469,12 @@ impl Assembler {
             Takes infos after (says.Truncate options oids.now.items) ms self.new result }
     {
         let stated = self.truncate(alloc, oids)?;
-        self.hold(stated)?;
+        self.buffer_changes(stated)?;
         Ok(None)
     }
 
-    /// Takes the next message, and answers the commit that it ends. The transaction is held until then. After a refusal the
-    /// assembler is given up.
+    /// Processes the next message, and returns the commit that it ends, until which the transaction
+    /// is buffered. The assembler must not be used after an error.
     pub fn take(&mut self, alloc: Global, message: Message) -> Result<Option<Commit>, TxnError>
         ensures { (infos : List TableInfo) (after : Lsn) (ms : List Message) →
             StandsWhole infos after ms self.old → Takes infos after message ms self.new result }

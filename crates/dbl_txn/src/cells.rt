@@ -1,18 +1,18 @@
-//! How one cell of a row is read.
+//! Reading one cell of a row.
 
 ghost use Rattle.std.specs.Prelude.{◌≡◌, ◌≢◌, ◌⊎◌};
 ghost use Rattle.std.specs.Option.{option_copied};
-ghost use Rattle.dbl_commit.specs.Tuples.{spelled_value, null_cell, given_cell, is_fixed, filled_cell, new_cell};
-ghost use Rattle.dbl_txn.specs.Answers.{Gives};
+ghost use Rattle.dbl_model_commit.specs.Tuples.{spelled_value, null_cell, given_cell, is_fixed, filled_cell, new_cell};
+ghost use Rattle.dbl_txn.specs.Answers.{ReturnsAssembled};
 
 use dbl_base::Text;
-use dbl_commit::TxnError;
+use dbl_model_commit::TxnError;
+use dbl_model_table::{Cell, Column, TableName};
 use dbl_pgmsg::TupleCell;
-use dbl_table::{Cell, Column, TableName};
 use dbl_value::{PgType, Val, ValueError, oid, read_owned};
 use std::alloc::Global;
 
-// What is answered of a text that spells no value of its column's type.
+// The error for a text that is no value of its column's type.
 fn refuse_text(
     alloc: Global,
     table: &TableName,
@@ -32,14 +32,14 @@ fn refuse_text(
     }
 }
 
-#[tactic(auto, unfolding(dbl_commit::specs::Tuples::spelled_value))]
+#[tactic(auto, unfolding(dbl_model_commit::specs::Tuples::spelled_value))]
 fn spelled_value(
     alloc: Global,
     table: &TableName,
     column: &Column,
     text: Text,
 ) -> Result<Val, TxnError>
-    ensures { Gives result (spelled_value table.now column.now text) }
+    ensures { ReturnsAssembled result (spelled_value table.now column.now text) }
 {
     match read_owned(alloc, column.ty, text) {
         Ok(value) => Ok(value),
@@ -48,7 +48,7 @@ fn spelled_value(
 }
 
 fn null_cell(alloc: Global, table: &TableName, in_key: bool) -> Result<Val, TxnError>
-    ensures { Gives result (null_cell table.now in_key) }
+    ensures { ReturnsAssembled result (null_cell table.now in_key) }
 {
     if in_key {
         Err(TxnError::NullKey {
@@ -59,8 +59,8 @@ fn null_cell(alloc: Global, table: &TableName, in_key: bool) -> Result<Val, TxnE
     }
 }
 
-/// A cell of an Insert or of an old row.
-#[tactic(auto, unfolding(dbl_commit::specs::Tuples::given_cell))]
+/// Reads a cell of an Insert or of an old row.
+#[tactic(auto, unfolding(dbl_model_commit::specs::Tuples::given_cell))]
 pub fn given_cell(
     alloc: Global,
     table: &TableName,
@@ -68,7 +68,7 @@ pub fn given_cell(
     column: &Column,
     cell: TupleCell,
 ) -> Result<Val, TxnError>
-    ensures { Gives result (given_cell table.now in_key column.now cell) }
+    ensures { ReturnsAssembled result (given_cell table.now in_key column.now cell) }
 {
     match cell {
         TupleCell::Null => null_cell(alloc, table, in_key),
@@ -80,7 +80,7 @@ pub fn given_cell(
     }
 }
 
-// Types of a fixed size are never stored out of line.
+// Whether the type has a fixed size, and so is never stored out of line.
 fn is_fixed(ty: PgType) -> bool
     ensures { result ≡ is_fixed ty }
 {
@@ -96,7 +96,7 @@ fn filled_cell(
     old: Option<&Val>,
     column: &Column,
 ) -> Result<Cell, TxnError>
-    ensures { Gives result (filled_cell table.now in_key (option_copied old.entry) column.now) }
+    ensures { ReturnsAssembled result (filled_cell table.now in_key (option_copied old.entry) column.now) }
 {
     match old {
         Some(value) => Ok(Cell::Given(value.copy(alloc)?)),
@@ -113,8 +113,8 @@ fn filled_cell(
     }
 }
 
-/// A cell of an Update's new row, where the old row fills in `old`.
-#[tactic(auto, unfolding(dbl_commit::specs::Tuples::new_cell))]
+/// Reads a cell of an Update's new row; the old row supplies `old` if the cell wasn't sent.
+#[tactic(auto, unfolding(dbl_model_commit::specs::Tuples::new_cell))]
 pub fn new_cell(
     alloc: Global,
     table: &TableName,
@@ -123,7 +123,7 @@ pub fn new_cell(
     column: &Column,
     cell: TupleCell,
 ) -> Result<Cell, TxnError>
-    ensures { Gives result (new_cell table.now in_key (option_copied old.entry) column.now cell) }
+    ensures { ReturnsAssembled result (new_cell table.now in_key (option_copied old.entry) column.now cell) }
 {
     match cell {
         TupleCell::Null => Ok(Cell::Given(null_cell(alloc, table, in_key)?)),

@@ -1,18 +1,18 @@
-//! What a change of a captured table states.
+//! The changes of a captured table that messages state.
 
 ghost use Rattle.std.specs.Prelude.{◌≡◌, ◌&&◌, not, IfOk};
 ghost use Rattle.std.specs.List.{position_from};
-ghost use Rattle.dbl_table.specs.Infos.{name_at};
-ghost use Rattle.dbl_commit.specs.Tuples.{refuse_if, is_unsent, none_unsent, all_sent_if_moved, key_in_identity, is_full, change_of};
-ghost use Rattle.dbl_commit.specs.declared.message_parts.RowChange.TheVariants as row;
-ghost use Rattle.dbl_txn.specs.Answers.{Gives};
+ghost use Rattle.dbl_model_table.specs.Infos.{name_at};
+ghost use Rattle.dbl_model_commit.specs.Tuples.{refuse_if, is_unsent, none_unsent, all_sent_if_moved, key_in_identity, is_full, change_of};
+ghost use Rattle.dbl_model_commit.specs.declared.message_parts.RowChange.TheVariants as row;
+ghost use Rattle.dbl_txn.specs.Answers.{ReturnsAssembled};
 
 use crate::keys::{identifies_key, is_same, key_before, key_of, new_key_of};
 use crate::rows::{has_whole, new_cells, old_row, old_row_if_sent, row_of};
 use dbl_base::{Seq, Text};
-use dbl_commit::{Relation, RowChange, TxnError};
+use dbl_model_commit::{Relation, RowChange, TxnError};
+use dbl_model_table::{Cell, Change, Column, Key, TableInfo, TableName};
 use dbl_pgmsg::{OldTuple, Tuple};
-use dbl_table::{Cell, Change, Column, Key, TableInfo, TableName};
 use std::alloc::{AllocError, Global};
 
 fn is_unsent(cell: &Cell) -> bool
@@ -45,7 +45,7 @@ fn check_sent(
     columns: &Vec<Column>,
     cells: &Seq<Cell>,
 ) -> Result<(), TxnError>
-    ensures { Gives result (none_unsent table.now columns.now.items cells.now) }
+    ensures { ReturnsAssembled result (none_unsent table.now columns.now.items cells.now) }
 {
     match first_unsent(cells) {
         None => Ok(()),
@@ -56,15 +56,15 @@ fn check_sent(
     }
 }
 
-// An update that moves the key sends all cells.
-#[tactic(auto, unfolding(dbl_commit::specs::Tuples::all_sent_if_moved))]
+// Checks that an update of the key sends all cells.
+#[tactic(auto, unfolding(dbl_model_commit::specs::Tuples::all_sent_if_moved))]
 fn check_moved(
     alloc: Global,
     info: &TableInfo,
     key: &Key,
     cells: &Seq<Cell>,
 ) -> Result<(), TxnError>
-    ensures { Gives result (all_sent_if_moved info.now key.now cells.now) }
+    ensures { ReturnsAssembled result (all_sent_if_moved info.now key.now cells.now) }
 {
     let after = new_key_of(alloc, info, cells)?;
     if is_same(key, &after) {
@@ -74,7 +74,7 @@ fn check_moved(
 }
 
 fn check_identity(alloc: Global, info: &TableInfo, relation: &Relation) -> Result<(), TxnError>
-    ensures { Gives result (refuse_if (not (key_in_identity info.now relation.now))
+    ensures { ReturnsAssembled result (refuse_if (not (key_in_identity info.now relation.now))
         (TxnError.KeyNotInIdentity info.now.name)) }
 {
     if identifies_key(info, relation) {
@@ -92,7 +92,7 @@ fn check_old(
     relation: &Relation,
     whole: bool,
 ) -> Result<(), TxnError>
-    ensures { Gives result
+    ensures { ReturnsAssembled result
         (refuse_if (is_full relation.now && not whole) (TxnError.MissingOld info.now.name)) }
 {
     if relation.identity == b'f' && !whole {
@@ -104,7 +104,7 @@ fn check_old(
     }
 }
 
-#[tactic(auto, unfolding(dbl_commit::specs::Tuples::change_of))]
+#[tactic(auto, unfolding(dbl_model_commit::specs::Tuples::change_of))]
 fn insert_of(
     alloc: Global,
     table: u32,
@@ -112,13 +112,13 @@ fn insert_of(
     relation: &Relation,
     tuple: Tuple,
 ) -> Result<Change, TxnError>
-    ensures { Gives result (change_of table info.now relation.now (row.Insert tuple)) }
+    ensures { ReturnsAssembled result (change_of table info.now relation.now (row.Insert tuple)) }
 {
     let row = row_of(alloc, info, relation, true, tuple)?;
     Ok(Change::Insert { table, row })
 }
 
-#[tactic(auto, unfolding(dbl_commit::specs::Tuples::change_of))]
+#[tactic(auto, unfolding(dbl_model_commit::specs::Tuples::change_of))]
 fn update_of(
     alloc: Global,
     table: u32,
@@ -127,7 +127,7 @@ fn update_of(
     before: Option<OldTuple>,
     tuple: Tuple,
 ) -> Result<Change, TxnError>
-    ensures { Gives result (change_of table info.now relation.now (row.Update before tuple)) }
+    ensures { ReturnsAssembled result (change_of table info.now relation.now (row.Update before tuple)) }
 {
     let whole = has_whole(&before);
     check_identity(alloc, info, relation)?;
@@ -144,7 +144,7 @@ fn update_of(
     })
 }
 
-#[tactic(auto, unfolding(dbl_commit::specs::Tuples::change_of))]
+#[tactic(auto, unfolding(dbl_model_commit::specs::Tuples::change_of))]
 fn delete_of(
     alloc: Global,
     table: u32,
@@ -152,7 +152,7 @@ fn delete_of(
     relation: &Relation,
     before: OldTuple,
 ) -> Result<Change, TxnError>
-    ensures { Gives result (change_of table info.now relation.now (row.Delete before)) }
+    ensures { ReturnsAssembled result (change_of table info.now relation.now (row.Delete before)) }
 {
     check_identity(alloc, info, relation)?;
     let old = old_row(alloc, info, relation, before)?;
@@ -160,7 +160,8 @@ fn delete_of(
     Ok(Change::Delete { table, key, old })
 }
 
-/// What a change of the captured table at a place states. The texts of its new row move into the change.
+/// The change that a row message of the captured table at an index states. The texts of its new row
+/// move into the change.
 pub fn change_of(
     alloc: Global,
     table: u32,
@@ -168,7 +169,7 @@ pub fn change_of(
     relation: &Relation,
     change: RowChange,
 ) -> Result<Change, TxnError>
-    ensures { Gives result (change_of table info.now relation.now change) }
+    ensures { ReturnsAssembled result (change_of table info.now relation.now change) }
 {
     match change {
         RowChange::Insert(tuple) => insert_of(alloc, table, info, relation, tuple),

@@ -1,23 +1,23 @@
-//! Keys of rows, and which columns they are of.
+//! Keys of rows, and their columns.
 
 ghost use Rattle.std.specs.Prelude.{◌≡◌, IfOk, map};
-ghost use Rattle.dbl_table.specs.Keys.{key_of, new_key_of, cell_or_null, given_or_null, same_key};
-ghost use Rattle.dbl_commit.specs.Tuples.{is_key_place, is_flagged, key_in_identity, key_before};
+ghost use Rattle.dbl_model_table.specs.Keys.{key_of, new_key_of, cell_or_null, given_or_null, same_key};
+ghost use Rattle.dbl_model_commit.specs.Tuples.{is_key_place, is_flagged, key_in_identity, key_before};
 
 use dbl_base::Seq;
-use dbl_commit::Relation;
-use dbl_table::{Cell, Key, Row, TableInfo, compare};
+use dbl_model_commit::Relation;
+use dbl_model_table::{Cell, Key, Row, TableInfo, compare};
 use dbl_value::Val;
 use std::alloc::{AllocError, Global};
 
-/// Whether the column at a place is one of the key.
+/// Whether the column at an index is a key column.
 pub fn has_key_place(info: &TableInfo, place: usize) -> bool
     ensures { result ≡ is_key_place info.now place }
 {
     info.key.items().iter().any(|key| place == *key as usize)
 }
 
-/// Whether the column at a place is one of the replica identity.
+/// Whether the column at an index is one of the replica identity.
 pub fn has_flag(relation: &Relation, place: usize) -> bool
     ensures { result ≡ is_flagged relation.now place }
 {
@@ -27,8 +27,8 @@ pub fn has_flag(relation: &Relation, place: usize) -> bool
     }
 }
 
-/// Whether all columns of the key are columns of the replica identity.
-#[tactic(auto, unfolding(dbl_commit::specs::Tuples::key_in_identity))]
+/// Whether all key columns are in the replica identity.
+#[tactic(auto, unfolding(dbl_model_commit::specs::Tuples::key_in_identity))]
 pub fn identifies_key(info: &TableInfo, relation: &Relation) -> bool
     ensures { result ≡ key_in_identity info.now relation.now }
 {
@@ -45,7 +45,7 @@ fn cell_or_null(alloc: Global, cells: &Seq<Val>, place: u32) -> Result<Val, Allo
     }
 }
 
-/// The key of a row's cells.
+/// The key of a row, given its cells.
 pub fn key_of(alloc: Global, info: &TableInfo, cells: &Seq<Val>) -> Result<Key, AllocError>
     ensures { IfOk result (λ key. key ≡ key_of info.now cells.now) }
 {
@@ -68,7 +68,7 @@ fn given_or_null(alloc: Global, cells: &Seq<Cell>, place: u32) -> Result<Val, Al
     }
 }
 
-/// The key of an update's cells.
+/// The new key of an update, given its cells.
 pub fn new_key_of(alloc: Global, info: &TableInfo, cells: &Seq<Cell>) -> Result<Key, AllocError>
     ensures { IfOk result (λ key. key ≡ new_key_of info.now cells.now) }
 {
@@ -81,8 +81,8 @@ pub fn new_key_of(alloc: Global, info: &TableInfo, cells: &Seq<Cell>) -> Result<
     })
 }
 
-/// The key that a row had before an update of these cells.
-#[tactic(auto, unfolding(dbl_commit::specs::Tuples::key_before))]
+/// The row's key before an update to these cells.
+#[tactic(auto, unfolding(dbl_model_commit::specs::Tuples::key_before))]
 pub fn key_before(
     alloc: Global,
     info: &TableInfo,
@@ -97,7 +97,7 @@ pub fn key_before(
     }
 }
 
-/// Whether two keys are the same.
+/// Whether two keys are equal.
 pub fn is_same(a: &Key, b: &Key) -> bool
     ensures { result ≡ same_key a.now b.now }
 {

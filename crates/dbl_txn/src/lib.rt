@@ -1,4 +1,5 @@
-//! Transactions put together from the messages of a log: its commits, with their changes of captured tables.
+//! Transactions assembled from the messages of a log: its commits, with their changes of captured
+//! tables.
 #![tactic(auto)]
 
 mod assembler;
@@ -10,5 +11,5 @@ mod tables;
 mod whole;
 
 pub use assembler::Assembler;
-pub use dbl_commit::TxnError;
+pub use dbl_model_commit::TxnError;
 pub use whole::take_all;

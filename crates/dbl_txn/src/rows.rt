@@ -1,21 +1,21 @@
-//! How the rows of a change are read, column by column.
+//! Reading the rows of a change, column by column.
 
 ghost use Rattle.std.specs.Prelude.{◌≡◌, ◌⊎◌, length};
 ghost use Rattle.std.specs.Option.{option_copied};
-ghost use Rattle.dbl_table.specs.Infos.{width};
-ghost use Rattle.dbl_commit.specs.Tuples.{each_from, row_cell, row_of, old_row, old_row_if_sent, is_whole, filling, next_cell, new_cells};
-ghost use Rattle.dbl_txn.specs.Answers.{Gives};
+ghost use Rattle.dbl_model_table.specs.Infos.{width};
+ghost use Rattle.dbl_model_commit.specs.Tuples.{each_from, row_cell, row_of, old_row, old_row_if_sent, is_whole, filling, next_cell, new_cells};
+ghost use Rattle.dbl_txn.specs.Answers.{ReturnsAssembled};
 
 use crate::cells::{given_cell, new_cell};
 use crate::keys::{has_flag, has_key_place};
 use dbl_base::Seq;
-use dbl_commit::{Relation, TxnError};
+use dbl_model_commit::{Relation, TxnError};
+use dbl_model_table::{Cell, Column, Row, TableInfo};
 use dbl_pgmsg::{OldTuple, Tuple, TupleCell};
-use dbl_table::{Cell, Column, Row, TableInfo};
 use dbl_value::Val;
 use std::alloc::Global;
 
-// More than 2^32 columns or cells count as out of memory.
+// The error for a wrong number of cells; more than 2^32 columns or cells count as out of memory.
 fn count_error(want: usize, got: usize) -> TxnError
     ensures { (result ≡ TxnError.Memory) ⊎ (result ≡ TxnError.ColumnCount want got) }
 {
@@ -37,7 +37,7 @@ fn read_cell(
     column: &Column,
     cell: TupleCell,
 ) -> Result<Val, TxnError>
-    ensures { Gives result (row_cell info.now relation.now whole place column.now cell) }
+    ensures { ReturnsAssembled result (row_cell info.now relation.now whole place column.now cell) }
 {
     if whole || has_flag(relation, place) {
         given_cell(alloc, &info.name, has_key_place(info, place), column, cell)
@@ -54,7 +54,7 @@ fn read_cells(
     cells: Vec<TupleCell>,
 ) -> Result<Seq<Val>, TxnError>
     requires { length cells.items ≡ width info.now }
-    ensures { Gives result
+    ensures { ReturnsAssembled result
         (each_from (row_cell info.now relation.now whole) 0 info.now.columns cells.items) }
 {
     let columns = info.columns.items();
@@ -67,8 +67,8 @@ fn read_cells(
     Ok(Seq::make(values))
 }
 
-/// A row of a table: a whole one, or an old key.
-#[tactic(auto, unfolding(dbl_commit::specs::Tuples::row_of))]
+/// Reads a row of a table: a complete one, or an old key.
+#[tactic(auto, unfolding(dbl_model_commit::specs::Tuples::row_of))]
 pub fn row_of(
     alloc: Global,
     info: &TableInfo,
@@ -76,7 +76,7 @@ pub fn row_of(
     whole: bool,
     tuple: Tuple,
 ) -> Result<Row, TxnError>
-    ensures { Gives result (row_of info.now relation.now whole tuple.cells) }
+    ensures { ReturnsAssembled result (row_of info.now relation.now whole tuple.cells) }
 {
     let cells = tuple.cells.into_items();
     let want = info.columns.items().len();
@@ -87,14 +87,14 @@ pub fn row_of(
     Ok(Row { cells })
 }
 
-/// What was sent of the row before a change.
+/// Reads what was sent of the row before a change.
 pub fn old_row(
     alloc: Global,
     info: &TableInfo,
     relation: &Relation,
     before: OldTuple,
 ) -> Result<Row, TxnError>
-    ensures { Gives result (old_row info.now relation.now before) }
+    ensures { ReturnsAssembled result (old_row info.now relation.now before) }
 {
     match before {
         OldTuple::Key(tuple) => row_of(alloc, info, relation, false, tuple),
@@ -102,14 +102,14 @@ pub fn old_row(
     }
 }
 
-/// The same of an update, before which nothing may have been sent.
+/// Reads what was sent of the row before an update, which may be nothing.
 pub fn old_row_if_sent(
     alloc: Global,
     info: &TableInfo,
     relation: &Relation,
     before: Option<OldTuple>,
 ) -> Result<Option<Row>, TxnError>
-    ensures { Gives result (old_row_if_sent info.now relation.now before) }
+    ensures { ReturnsAssembled result (old_row_if_sent info.now relation.now before) }
 {
     match before {
         Some(before) => {
@@ -120,7 +120,7 @@ pub fn old_row_if_sent(
     }
 }
 
-/// Whether the whole old row was sent.
+/// Whether the complete old row was sent.
 pub fn has_whole(before: &Option<OldTuple>) -> bool
     ensures { result ≡ is_whole before.now }
 {
@@ -130,7 +130,7 @@ pub fn has_whole(before: &Option<OldTuple>) -> bool
     }
 }
 
-// What the old row fills in at a place.
+// The value that the old row supplies at an index.
 fn filling<'a>(
     relation: &Relation,
     whole: bool,
@@ -161,7 +161,7 @@ fn next_cell(
     column: &Column,
     cell: TupleCell,
 ) -> Result<Cell, TxnError>
-    ensures { Gives result (next_cell info.now relation.now whole old.now place column.now cell) }
+    ensures { ReturnsAssembled result (next_cell info.now relation.now whole old.now place column.now cell) }
 {
     new_cell(
         alloc,
@@ -182,7 +182,7 @@ fn next_cells(
     cells: Vec<TupleCell>,
 ) -> Result<Seq<Cell>, TxnError>
     requires { length cells.items ≡ width info.now }
-    ensures { Gives result
+    ensures { ReturnsAssembled result
         (each_from (next_cell info.now relation.now whole old.now) 0 info.now.columns cells.items) }
 {
     let columns = info.columns.items();
@@ -204,8 +204,8 @@ fn next_cells(
     Ok(Seq::make(renewed))
 }
 
-/// The cells of an update, where the old row fills in what wasn't sent.
-#[tactic(auto, unfolding(dbl_commit::specs::Tuples::new_cells))]
+/// Reads the cells of an update; the old row supplies those that weren't sent.
+#[tactic(auto, unfolding(dbl_model_commit::specs::Tuples::new_cells))]
 pub fn new_cells(
     alloc: Global,
     info: &TableInfo,
@@ -214,7 +214,7 @@ pub fn new_cells(
     old: &Option<Row>,
     tuple: Tuple,
 ) -> Result<Seq<Cell>, TxnError>
-    ensures { Gives result (new_cells info.now relation.now whole old.now tuple.cells) }
+    ensures { ReturnsAssembled result (new_cells info.now relation.now whole old.now tuple.cells) }
 {
     let cells = tuple.cells.into_items();
     let want = info.columns.items().len();

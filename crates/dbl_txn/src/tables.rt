@@ -1,20 +1,20 @@
-//! What the table of a Relation is, and whether its columns are the captured ones.
+//! The table of a Relation, and the check of its columns against the captured ones.
 
 ghost use Rattle.std.specs.Prelude.{◌≡◌, Ok, IfOk, Some};
 ghost use Rattle.std.specs.List.{list_all, zip};
-ghost use Rattle.dbl_table.specs.Infos.{number_of};
-ghost use Rattle.dbl_commit.specs.Past.{table_named};
-ghost use Rattle.dbl_commit.specs.Stated.{target, same_column, same_columns, columns_fault, schema_fault};
-ghost use Rattle.dbl_txn.specs.Answers.{Gives, Judges};
+ghost use Rattle.dbl_model_table.specs.Infos.{number_of};
+ghost use Rattle.dbl_model_commit.specs.Past.{table_named};
+ghost use Rattle.dbl_model_commit.specs.Stated.{target, same_column, same_columns, columns_fault, schema_fault};
+ghost use Rattle.dbl_txn.specs.Answers.{ReturnsAssembled, Judges};
 
 use dbl_base::Text;
-use dbl_commit::{Relation, Target, TxnError};
+use dbl_model_commit::{Relation, Target, TxnError};
+use dbl_model_table::{Column, TableInfo, TableName};
 use dbl_pgmsg::RelationColumn;
-use dbl_table::{Column, TableInfo, TableName};
 use dbl_value::oid;
 use std::alloc::{AllocError, Global};
 
-/// A table's name: an empty namespace is `pg_catalog`.
+/// A table's name; an empty namespace is `pg_catalog`.
 pub fn table_named(alloc: Global, namespace: Text, name: Text) -> Result<TableName, AllocError>
     ensures { IfOk result (λ table. table ≡ table_named namespace name) }
 {
@@ -32,9 +32,9 @@ fn place_of(infos: &Vec<TableInfo>, table: &TableName) -> Option<usize>
     infos.iter().position(|info| info.name == *table)
 }
 
-/// What the table of a name is. A place above 2^32 counts as out of memory.
+/// Which table has this name. An index above 2^32 counts as out of memory.
 pub fn target_of(infos: &Vec<TableInfo>, table: &TableName) -> Result<Target, TxnError>
-    ensures { Gives result (Ok (target infos.now.items table.now)) }
+    ensures { ReturnsAssembled result (Ok (target infos.now.items table.now)) }
 {
     if table.is_watermark() {
         return Ok(Target::Watermark);
@@ -81,7 +81,7 @@ fn check_columns(alloc: Global, info: &TableInfo, relation: &Relation) -> Result
     }
 }
 
-/// Whether a Relation has the columns of its captured table, if it is of one.
+/// Checks that a Relation has the columns of its captured table, if it is of one.
 pub fn check_schema(
     alloc: Global,
     infos: &Vec<TableInfo>,

@@ -1,15 +1,15 @@
 ghost use Rattle.std.specs.Prelude.{◌≡◌, ◌⊎◌, List, [], ◌++◌, None, Some, OnOk, IfOk, IfErr};
 ghost use Rattle.dbl_base.specs.declared.lsn.Lsn.{Lsn};
 ghost use Rattle.dbl_pgmsg.specs.declared.messages.Message.{Message};
-ghost use Rattle.dbl_table.specs.declared.table.TableInfo.{TableInfo};
-ghost use Rattle.dbl_commit.specs.Stated.{commits_of, list_of};
-ghost use Rattle.dbl_commit.specs.Blocks.{onto, States, first_fault};
+ghost use Rattle.dbl_model_table.specs.declared.table.TableInfo.{TableInfo};
+ghost use Rattle.dbl_model_commit.specs.Stated.{commits_of, list_of};
+ghost use Rattle.dbl_model_commit.specs.Blocks.{onto, States, first_transaction_fault};
 ghost use Rattle.dbl_txn.specs.Stands.{StandsWhole};
 
 use crate::Assembler;
-use dbl_commit::TxnError;
+use dbl_model_commit::TxnError;
+use dbl_model_table::Commit;
 use dbl_pgmsg::Message;
-use dbl_table::Commit;
 use std::alloc::{AllocError, Global};
 
 fn keep(commits: &mut Vec<Commit>, ended: Option<Commit>) -> Result<(), AllocError>
@@ -21,7 +21,8 @@ fn keep(commits: &mut Vec<Commit>, ended: Option<Commit>) -> Result<(), AllocErr
     }
 }
 
-/// Takes messages in order, and answers their commits, or the first fault. After a refusal the assembler is given up.
+/// Processes messages in order, and returns their commits, or the first error, after which the
+/// assembler must not be used.
 pub fn take_all(
     alloc: Global,
     assembler: &mut Assembler,
@@ -36,7 +37,7 @@ pub fn take_all(
         (onto ms messages.items) ≡ commits_of infos ms ++ commits.items) }
     ensures clean { (infos : List TableInfo) (after : Lsn) (ms : List Message) →
         StandsWhole infos after ms assembler.old →
-        IfOk result (λ _. first_fault infos after ms messages.items ≡ None) }
+        IfOk result (λ _. first_transaction_fault infos after ms messages.items ≡ None) }
     ensures blocks { (infos : List TableInfo) (after : Lsn) →
         StandsWhole infos after [] assembler.old →
         IfOk result
@@ -44,7 +45,7 @@ pub fn take_all(
     ensures refused { (infos : List TableInfo) (after : Lsn) (ms : List Message) →
         StandsWhole infos after ms assembler.old →
         IfErr result
-        (λ e. (e ≡ TxnError.Memory) ⊎ (first_fault infos after ms messages.items ≡ Some e)) }
+        (λ e. (e ≡ TxnError.Memory) ⊎ (first_transaction_fault infos after ms messages.items ≡ Some e)) }
 {
     let mut commits = Vec::new(alloc);
     for message in messages {

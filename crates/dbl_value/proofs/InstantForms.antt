@@ -14,7 +14,7 @@ use Rattle.dbl_value.specs.Forms.{IsFractionText, IsStampText, IsOffsetText, IsI
 use Rattle.dbl_time.proofs.ShapeLemmas.{digit_from, digit_is, first_of, none_left, more_shape, no_shape}
 use Rattle.dbl_time.proofs.ClockLemmas.{clock_shape, clock_seconds-is}
 use Rattle.dbl_value.proofs.ClockForms.{two_are, clock_bytes, AreSeconds, clock_seconds-are, stamp_form, stamp_read}
-use Rattle.dbl_time.proofs.StampLemmas.{no_sign, digits_no_sign, place_behind}
+use Rattle.dbl_time.proofs.StampLemmas.{no_sign, digits_no_sign, place_after}
 use Rattle.dbl_value.proofs.KindLemmas.{mapped}
 
 -- ---- offsets
@@ -170,11 +170,11 @@ fraction_signs fraction part (inr has) = ap (list_all no_sign) has.text_is ∙ d
 record EndsAt (stamp : List ℕ) : Type 0 where
   fraction : List ℕ
   signs : list_all no_sign fraction ≡ true
-  behind : (rest : List ℕ) → drop 19 (stamp ++ rest) ≡ fraction ++ rest
+  subsequent : (rest : List ℕ) → drop 19 (stamp ++ rest) ≡ fraction ++ rest
   long : length stamp ≡ 19 + length fraction
 
 parts_end : (y m d hours minutes seconds : ℕ) (fraction : List ℕ) → list_all no_sign fraction ≡ true → EndsAt (date_parts_text y m d ++ codes " " ++ (two_digits hours ++ codes ":" ++ two_digits minutes ++ codes ":" ++ two_digits seconds ++ fraction))
-parts_end y m d hours minutes seconds fraction signs = record { fraction = fraction; signs = signs; behind = λ rest. refl; long = omega arith }
+parts_end y m d hours minutes seconds fraction signs = record { fraction = fraction; signs = signs; subsequent = λ rest. refl; long = omega arith }
 
 stamp_ends : (stamp : List ℕ) (moment : ℤ) → IsStampText stamp moment → EndsAt stamp
 stamp_ends stamp moment is =
@@ -187,7 +187,7 @@ signed_read : (stamp offset : List ℕ) (sign : ℕ) (moment shift z : ℤ) → 
 unfolding sign_place
 signed_read stamp offset sign moment shift z is stamp_is shifted same =
     let ends = stamp_ends stamp moment stamp_is in
-    let place : position is_sign (drop 19 (stamp ++ sign ∷ offset)) ≡ Some (length ends.fraction) = ap (position is_sign) (ends.behind (sign ∷ offset)) ∙ place_behind ends.fraction offset sign is ends.signs in
+    let place : position is_sign (drop 19 (stamp ++ sign ∷ offset)) ≡ Some (length ends.fraction) = ap (position is_sign) (ends.subsequent (sign ∷ offset)) ∙ place_after ends.fraction offset sign is ends.signs in
     ap (instant_at (stamp ++ sign ∷ offset)) place
     ∙ ap₂ joined_instant (ap stamp_of (take_at stamp (sign ∷ offset) _ ends.long) ∙ stamp_read stamp moment stamp_is) (ap offset_of (drop_at stamp (sign ∷ offset) _ ends.long) ∙ shifted)
     ∙ ap Some same

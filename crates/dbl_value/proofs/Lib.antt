@@ -1,3 +1,4 @@
+pub use Rattle.dbl_time.proofs as Time
 pub mod Decimals
 pub mod KindLemmas
 pub mod ByteLemmas

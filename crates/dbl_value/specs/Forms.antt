@@ -14,7 +14,7 @@ use Rattle.dbl_time.specs.Stamps.{is_instant}
 use Rattle.dbl_value.specs.ByteTexts.{bytes_text}
 use Rattle.dbl_value.specs.Values.{SpellsValue}
 
--- a day of the calendar as `YYYY-MM-DD`, and its number
+-- the text is a calendar day as `YYYY-MM-DD`, and this is its number
 pub record IsDateText (text : List ℕ) (number : ℤ) : Type 0 where
   pub year : ℕ
   pub month : ℕ
@@ -23,11 +23,11 @@ pub record IsDateText (text : List ℕ) (number : ℤ) : Type 0 where
   pub text_is : text ≡ date_parts_text year month day
   pub number_is : days_from_civil (pos year) month day ≡ number
 
--- a text spells a date exactly where it is a day of the calendar in the years 1 to 9999
+-- a text parses as a date if and only if it is a calendar day in the years 1 to 9999
 abbrev pub DateTextsAreDays : Type 0
 DateTextsAreDays = (text : List ℕ) (number : ℤ) → SpellsValue type.Date text (val.Date number) ↔ IsDateText text number
 
--- each day from 0001-01-01 to 9999-12-31 is that of one date, and no other day is that of one in these years
+-- the day is that of exactly one date in the years 1 to 9999
 pub record NamesOneDate (number : ℤ) : Type 0 where
   pub year : ℕ
   pub month : ℕ
@@ -36,19 +36,20 @@ pub record NamesOneDate (number : ℤ) : Type 0 where
   pub number_is : days_from_civil (pos year) month day ≡ number
   pub one : (y m d : ℕ) → IsTrue (Rattle.dbl_time.specs.Dates.is_day y m d) → days_from_civil (pos y) m d ≡ number → (y ≡ year) × (m ≡ month) × (d ≡ day)
 
+-- each day from 0001-01-01 to 9999-12-31 is that of exactly one date, and no date in these years has another day
 abbrev pub DaysAreDates : Type 0
 DaysAreDates = ((number : ℤ) → IsInYears number → NamesOneDate number) × ((y m d : ℕ) → IsTrue (is_day y m d) → IsInYears (days_from_civil (pos y) m d))
 
--- a text spells bytes exactly where it is `\x` and two digits for each byte, in lower case
+-- a text parses as bytes if and only if it is `\x` and two lower-case hexadecimal digits for each byte
 abbrev pub ByteTextsAreHex : Type 0
 ByteTextsAreHex = (text bytes : List ℕ) → SpellsValue type.Bytea text (val.Bytes bytes) ↔ (IsBytes bytes × (text ≡ bytes_text bytes))
 
--- so many hexadecimal digits in lower case
+-- this many lower-case hexadecimal digits
 pub record AreHex (count : ℕ) (digits : List ℕ) : Type 0 where
   pub many : length digits ≡ count
   pub lower : IsTrue (list_all is_lower_hex digits)
 
--- five groups of hexadecimal digits in lower case, with `-` between them
+-- five groups of lower-case hexadecimal digits, separated by `-`
 pub record IsUuidText (text : List ℕ) : Type 0 where
   pub first : List ℕ
   pub second : List ℕ
@@ -62,10 +63,11 @@ pub record IsUuidText (text : List ℕ) : Type 0 where
   pub fifth_is : AreHex 12 fifth
   pub text_is : text ≡ first ++ codes "-" ++ second ++ codes "-" ++ third ++ codes "-" ++ fourth ++ codes "-" ++ fifth
 
+-- a text parses as a uuid if and only if it is five groups of lower-case hexadecimal digits
 abbrev pub UuidTextsAreGroups : Type 0
 UuidTextsAreGroups = (text t : List ℕ) → SpellsValue type.Uuid text (val.Text t) ↔ ((t ≡ text) × IsUuidText text)
 
--- `.` and 1 to 6 digits, and the microseconds that they mean: a digit that is missing counts as 0
+-- a point and 1 to 6 digits, and their value in microseconds; a missing digit counts as 0
 pub record HasDigits (text : List ℕ) (micros : ℕ) : Type 0 where
   pub digits : List ℕ
   pub are_digits : IsTrue (list_all is_ascii_digit digits)
@@ -74,11 +76,11 @@ pub record HasDigits (text : List ℕ) (micros : ℕ) : Type 0 where
   pub text_is : text ≡ codes "." ++ digits
   pub micros_are : digits_value 10 digits * 10 ^ (6 - length digits) ≡ micros
 
--- the fraction of a second: nothing, or a point and digits
+-- a fraction of a second: nothing, or a point and digits
 abbrev pub IsFractionText : List ℕ → ℕ → Type 0
 IsFractionText text micros = ((text ≡ []) × (micros ≡ 0)) ⊎ HasDigits text micros
 
--- hours, minutes and seconds, two digits each, and a fraction
+-- a time of day: hours, minutes and seconds, two digits each, and a fraction
 pub record IsClockText (text : List ℕ) (micros : ℕ) : Type 0 where
   pub hours : ℕ
   pub minutes : ℕ
@@ -92,11 +94,11 @@ pub record IsClockText (text : List ℕ) (micros : ℕ) : Type 0 where
   pub text_is : text ≡ two_digits hours ++ codes ":" ++ two_digits minutes ++ codes ":" ++ two_digits seconds ++ fraction
   pub micros_are : 1000000 * (3600 * hours + 60 * minutes + seconds) + part ≡ micros
 
--- a text spells a time exactly where it is `24:00:00`, or a clock's time before it
+-- a text parses as a time if and only if it is `24:00:00` or a time of day before it
 abbrev pub TimeTextsAreClocks : Type 0
 TimeTextsAreClocks = (text : List ℕ) (z : ℤ) → SpellsValue type.Time text (val.Time z) ↔ (((text ≡ codes "24:00:00") × (z ≡ pos day_micros)) ⊎ ((micros : ℕ) × IsClockText text micros × (z ≡ pos micros)))
 
--- a date, one space and a clock's time
+-- a timestamp: a date, one space and a time of day
 pub record IsStampText (text : List ℕ) (moment : ℤ) : Type 0 where
   pub date : List ℕ
   pub clock : List ℕ
@@ -107,10 +109,11 @@ pub record IsStampText (text : List ℕ) (moment : ℤ) : Type 0 where
   pub text_is : text ≡ date ++ codes " " ++ clock
   pub moment_is : number *ℤ pos day_micros +ℤ pos micros ≡ moment
 
+-- a text parses as a timestamp if and only if it is a date, one space and a time of day
 abbrev pub StampTextsAreMoments : Type 0
 StampTextsAreMoments = (text : List ℕ) (z : ℤ) → SpellsValue type.Timestamp text (val.Stamp z) ↔ IsStampText text z
 
--- hours, hours and minutes, or all three, up to 15:59:59
+-- an offset: hours, hours and minutes, or all three, up to 15:59:59
 pub record IsOffsetText (text : List ℕ) (size : ℕ) : Type 0 where
   pub hours : ℕ
   pub minutes : ℕ
@@ -123,7 +126,7 @@ pub record IsOffsetText (text : List ℕ) (size : ℕ) : Type 0 where
       ⊎ (text ≡ two_digits hours ++ codes ":" ++ two_digits minutes ++ codes ":" ++ two_digits seconds))
   pub size_is : 3600 * hours + 60 * minutes + seconds ≡ size
 
--- a timestamp, `+` or `-`, and an offset: the instant in UTC is so many seconds before the moment or after it
+-- an instant: a timestamp, `+` or `-`, and an offset, by which the UTC instant is before or after the timestamp
 pub record IsInstantText (text : List ℕ) (instant : ℤ) : Type 0 where
   pub stamp : List ℕ
   pub offset : List ℕ
@@ -134,6 +137,6 @@ pub record IsInstantText (text : List ℕ) (instant : ℤ) : Type 0 where
   pub signed : ((text ≡ stamp ++ codes "+" ++ offset) × (moment -ℤ pos size *ℤ pos 1000000 ≡ instant))
       ⊎ ((text ≡ stamp ++ codes "-" ++ offset) × (moment +ℤ pos size *ℤ pos 1000000 ≡ instant))
 
--- a text spells an instant exactly where it is such a text, and the instant is in the years 1 to 9999
+-- a text parses as an instant if and only if it is a timestamp and an offset, and the instant is in the years 1 to 9999
 abbrev pub InstantTextsAreInstants : Type 0
 InstantTextsAreInstants = (text : List ℕ) (z : ℤ) → SpellsValue type.Timestamptz text (val.StampTz z) ↔ (IsInstantText text z × IsTrue (is_instant z))

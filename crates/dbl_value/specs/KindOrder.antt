@@ -1,11 +1,11 @@
--- The kinds of values in their order. With the law ValuesAreOrdered it says which of two values of different kinds is less.
+-- The order of kinds, which determines the order of two values of different kinds.
 use Rattle.std.specs.Prelude.{◌≡◌, ℕ, ℤ, List}
 use Rattle.std.specs.Prelude.{Bool as Truth}
 use Rattle.std.specs.declared.cmp.Ordering.TheVariants.{Less}
 use Rattle.dbl_value.specs.declared.value.Val.TheVariants.{Null, Bool, Int, Text, Bytes, Date, Time, Stamp, StampTz}
 use Rattle.dbl_value.specs.Order.{val_cmp}
 
--- null, then truth values, integers, texts, byte strings, dates, times of a day, timestamps and instants
+-- the kinds ascend: null, truth values, integers, texts, byte strings, dates, times of day, timestamps, instants
 pub record KindsAreInOrder : Type 0 where
   pub null_before_truth : (truth : Truth) → val_cmp Null (Bool truth) ≡ Less
   pub truth_before_integer : (truth : Truth) (number : ℤ) → val_cmp (Bool truth) (Int number) ≡ Less

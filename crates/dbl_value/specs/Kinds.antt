@@ -1,9 +1,9 @@
--- Types by what their values take.
+-- Types by the memory of their values.
 use Rattle.std.specs.Prelude.{Bool, true, false}
 use Rattle.dbl_value.specs.declared.column_type.PgType.{PgType}
 use Rattle.dbl_value.specs.declared.column_type.PgType.TheVariants as type
 
--- whether the values of a type take no memory
+-- the values of the type take no memory
 abbrev pub is_fixed : PgType → Bool
 is_fixed type.Bool = true
 is_fixed type.Int2 = true

@@ -1,4 +1,4 @@
--- What holds of types, values and their texts.
+-- Theorems about types, values and their texts.
 use Rattle.std.specs.Prelude.{◌≡◌, ◌↔◌, ◌^◌, ℕ, ℤ, List, IsTrue, Some, None}
 use Rattle.std.specs.Fmt.{signed_decimal}
 use Rattle.std.specs.Cmp.{IsTotalOrder}
@@ -12,33 +12,34 @@ use Rattle.dbl_value.specs.Decimals.{is_within}
 use Rattle.dbl_value.specs.Faults.{is_date_range}
 use Rattle.dbl_value.specs.Order.{val_cmp}
 
--- an OID is that of at most one type that a column can have, and each such type has one
+-- an OID is that of at most one column type, and each column type has an OID
 abbrev pub OidsNameTypes : Type 0
 OidsNameTypes = (oid : ℕ) (ty : PgType) → (type_of oid ≡ Some ty) ↔ ((oid_of ty ≡ oid) × IsTrue (is_column_type ty))
 
--- a text spells one value of a type at most
+-- a text parses as at most one value of a type
 abbrev pub TextsSpellOneValue : Type 0
 TextsSpellOneValue = (ty : PgType) (text : List ℕ) (v w : Val) → SpellsValue ty text v → SpellsValue ty text w → v ≡ w
 
--- a text that names a date outside the years 1 to 9999 spells no value
+-- a text that denotes a date outside the years 1 to 9999 is no value
 abbrev pub DateRangesSpellNoValue : Type 0
 DateRangesSpellNoValue = (ty : PgType) (text : List ℕ) → IsTrue (is_date_range ty text) → value_of ty text ≡ None
 
--- a text spells an integer exactly where it is the decimal text of one in the type's range
+-- a text parses as an integer of the type if and only if it is the decimal text of one within the limit
 abbrev pub AreDecimals : PgType → ℕ → Type 0
 AreDecimals ty limit = (text : List ℕ) (z : ℤ) → SpellsValue ty text (val.Int z) ↔ ((text ≡ signed_decimal z) × IsTrue (is_within limit z))
 
+-- a text parses as an integer if and only if it is the decimal text of one in its type's range
 abbrev pub DecimalsSpellIntegers : Type 0
 DecimalsSpellIntegers = AreDecimals type.Int2 (2 ^ 15) × AreDecimals type.Int4 (2 ^ 31) × AreDecimals type.Int8 (2 ^ 63)
 
--- the text of a value spells it
+-- a value's text parses as the value
 abbrev pub TextsReadBack : Type 0
 TextsReadBack = (ty : PgType) (v : Val) → IsOf ty v → SpellsValue ty (text_of v) v
 
--- cells of one column that have the same JSON text are the same
+-- cells of one column with equal JSON texts are equal
 abbrev pub JsonTellsCells : Type 0
 JsonTellsCells = (ty : PgType) (v w : Val) → IsCellOf ty v → IsCellOf ty w → json_of v ≡ json_of w → v ≡ w
 
--- values have a total order, and only a value itself is equal to it
+-- values are totally ordered, and only equal values compare equal
 abbrev pub ValuesAreOrdered : Type 0
 ValuesAreOrdered = IsTotalOrder val_cmp × ((v w : Val) → (val_cmp v w ≡ Equal) ↔ (v ≡ w))

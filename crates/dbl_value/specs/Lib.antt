@@ -1,3 +1,4 @@
+pub use Rattle.dbl_time.specs as Time
 pub mod Types
 pub mod Kinds
 pub mod Decimals

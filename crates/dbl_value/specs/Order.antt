@@ -7,7 +7,7 @@ use Rattle.dbl_base.specs.Texts.{text_cmp}
 use Rattle.dbl_value.specs.declared.value.Val.{Val}
 use Rattle.dbl_value.specs.declared.value.Val.TheVariants.{Null, Bool, Int, Text, Bytes, Date, Time, Stamp, StampTz}
 
--- the place of a value's kind in the order
+-- the rank of a value's kind in the order
 abbrev pub rank : Val → ℕ
 rank Null = 0
 rank (Bool truth) = 1
@@ -19,7 +19,7 @@ rank (Time micros) = 6
 rank (Stamp moment) = 7
 rank (StampTz instant) = 8
 
--- by their kinds, and within a kind false before true, numbers by value, texts and byte strings by their bytes
+-- values are ordered by kind, then false before true, numbers by value, texts and byte strings by their bytes
 abbrev pub val_cmp : Val → Val → Ordering
 val_cmp Null Null = Equal
 val_cmp (Bool a) (Bool b) = bool_cmp a b

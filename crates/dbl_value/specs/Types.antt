@@ -1,9 +1,10 @@
--- Column types and the OIDs that PostgreSQL's catalogue pg_type gives them.
+-- Column types and their OIDs in PostgreSQL's catalogue pg_type.
 use Rattle.std.specs.Prelude.{ℕ, ◌==◌, ◌&&◌, ◌||◌, not, Bool, true, if◌then◌else◌, Option, Some, None, unwrap_or, List, [], ◌∷◌}
 use Rattle.std.specs.List.{find, list_any}
 use Rattle.dbl_value.specs.declared.column_type.PgType.{PgType}
 use Rattle.dbl_value.specs.declared.column_type.PgType.TheVariants as type
 
+-- the OID of a type
 abbrev pub oid_of : PgType → ℕ
 oid_of type.Bool = 16
 oid_of type.Int2 = 21
@@ -23,22 +24,23 @@ oid_of type.Timestamp = 1114
 oid_of type.Timestamptz = 1184
 oid_of (type.Other oid) = oid
 
--- the types that are known by name
+-- the types with a variant of their own
 abbrev pub listed : List PgType
 listed = type.Bool ∷ type.Int2 ∷ type.Int4 ∷ type.Int8 ∷ type.Text ∷ type.Varchar ∷ type.Bpchar ∷ type.Json ∷ type.Jsonb ∷ type.Numeric ∷ type.Uuid ∷ type.Bytea ∷ type.Date ∷ type.Time ∷ type.Timestamp ∷ type.Timestamptz ∷ []
 
--- float4 and float8, whose values aren't captured
+-- the OID is that of float4 or float8, whose values aren't captured
 abbrev pub is_float : ℕ → Bool
 is_float oid = (oid == 700) || (oid == 701)
 
+-- the type has this OID
 abbrev pub has_oid : ℕ → PgType → Bool
 has_oid oid ty = oid_of ty == oid
 
--- the type of an OID: none for floats, else the listed type that has it, and where none has it one that is known by its OID
+-- the type of an OID: none for a float, else the listed type with this OID, or the type known only by its OID
 unfoldable pub type_of : ℕ → Option PgType
 type_of oid = if is_float oid then None else Some (unwrap_or (find (has_oid oid) listed) (type.Other oid))
 
--- whether a column can have the type: one that is known by its OID isn't a listed one's, nor a float's
+-- the type is a possible column type: one known only by its OID is neither listed nor a float
 abbrev pub is_column_type : PgType → Bool
 is_column_type (type.Other oid) = not (is_float oid) && not (list_any (has_oid oid) listed)
 is_column_type ty = true

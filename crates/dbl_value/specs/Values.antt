@@ -1,4 +1,4 @@
--- Which value a text spells at a type, a value's text and its JSON.
+-- The value of a text at a type, a value's text, and its JSON.
 use Rattle.std.specs.Prelude.{ℕ, ℤ, pos, ◌^◌, ◌≡◌, ◌⊎◌, Bool, true, false, if◌then◌else◌, Option, Some, None, option_map, List, [], ◌++◌, unsigned_abs, codes}
 use Rattle.std.specs.Fmt.{signed_decimal}
 use Rattle.std.specs.Str.{bytes_eq, IsUtf8}
@@ -20,22 +20,21 @@ use Rattle.dbl_time.specs.Clocks.{time_of, clock_text}
 use Rattle.dbl_time.specs.Stamps.{stamp_of, instant_of, is_instant, stamp_text, zulu_text}
 use Rattle.dbl_value.specs.ByteTexts.{bytes_of, bytes_text}
 
--- `t` or `f`
+-- the truth value of `t` or `f`
 abbrev pub truth_of : List ℕ → Option Bool
 truth_of text = if bytes_eq text (codes "t") then Some true else (if bytes_eq text (codes "f") then Some false else None)
 
--- 36 characters: hexadecimal digits in lower case, in groups of 8, 4, 4, 4 and 12
+-- 36 characters: lower-case hexadecimal digits in groups of 8, 4, 4, 4 and 12, separated by `-`
 abbrev pub is_uuid : List ℕ → Bool
 is_uuid text = has_shape (codes "xxxxxxxx-xxxx-xxxx-xxxx-xxxxxxxxxxxx") text
 
--- an instant in the years 1 to 9999
+-- the instant, if it is in the years 1 to 9999
 abbrev pub instant_if_any : Option ℤ → Option ℤ
 instant_if_any None = None
 instant_if_any (Some instant) = if is_instant instant then Some instant else None
 
--- The value that a text spells at a type, if it spells one. A numeric, a json and a type that isn't listed stand as their texts.
--- That the text is UTF-8 isn't asked here but by `IsOf`.
--- PostgreSQL's manual, "Data Types", for the texts that a server sends with DateStyle ISO and bytea_output hex.
+-- The value of a text at a type, if any; those of numeric, json and unlisted types are texts. PostgreSQL's manual, "Data Types", with
+-- DateStyle ISO and bytea_output hex.
 abbrev pub value_of : PgType → List ℕ → Option Val
 value_of type.Bool text = option_map val.Bool (truth_of text)
 value_of type.Int2 text = option_map val.Int (integer_of (2 ^ 15) text)
@@ -55,22 +54,21 @@ value_of type.Timestamp text = option_map val.Stamp (stamp_of text)
 value_of type.Timestamptz text = option_map val.StampTz (instant_if_any (instant_of text))
 value_of (type.Other oid) text = Some (val.Text text)
 
--- the text spells the value
+-- the text parses as the value
 abbrev pub SpellsValue : PgType → List ℕ → Val → Type 0
 SpellsValue ty text v = value_of ty text ≡ Some v
 
--- some UTF-8 text spells the value at the type; no text spells Null
+-- some UTF-8 text parses as the value at the type; none parses as Null
 pub record IsOf (ty : PgType) (v : Val) : Type 0 where
   pub text : List ℕ
   pub utf8 : IsUtf8 text
   pub spells : SpellsValue ty text v
 
--- what stands in a column of the type, Null among it
+-- the value may be in a column of the type, as may Null
 abbrev pub IsCellOf : PgType → Val → Type 0
 IsCellOf ty v = (v ≡ val.Null) ⊎ IsOf ty v
 
--- the text that PostgreSQL sends for a value of a type, a moment with an offset in UTC; none is sent for Null, which has the
--- empty one here
+-- the text that PostgreSQL sends for a value of a type, an instant with its offset in UTC; empty for Null, for which none is sent
 abbrev pub text_of : Val → List ℕ
 text_of val.Null = []
 text_of (val.Bool truth) = if truth then codes "t" else codes "f"
@@ -82,8 +80,7 @@ text_of (val.Time micros) = clock_text (unsigned_abs micros)
 text_of (val.Stamp moment) = stamp_text moment
 text_of (val.StampTz instant) = stamp_text instant ++ codes "+00"
 
--- A value as JSON: the Debezium PostgreSQL connector's "Data type mappings", where bytes are base64 (RFC 4648, section 4).
--- No value of a type is an instant outside the years 1 to 9999; such a one stands as its number.
+-- A value as JSON: the Debezium PostgreSQL connector's "Data type mappings", with bytes in base64 (RFC 4648, section 4).
 abbrev pub json_data : Val → Data
 json_data val.Null = null
 json_data (val.Bool truth) = boolean truth
@@ -95,6 +92,6 @@ json_data (val.Time micros) = number (of_integer micros)
 json_data (val.Stamp moment) = number (of_integer moment)
 json_data (val.StampTz instant) = if is_instant instant then string (zulu_text instant) else number (of_integer instant)
 
--- the value's JSON text
+-- the JSON text of the value
 abbrev pub json_of : Val → List ℕ
 json_of v = compact_text (json_data v)

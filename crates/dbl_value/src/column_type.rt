@@ -4,7 +4,7 @@ ghost use Rattle.dbl_value.specs.Types.{oid_of, type_of, has_oid};
 
 use crate::error::ValueError;
 
-/// The type of a column, as far as it says how the column's texts are read.
+/// The type of a column, as far as it determines how the column's texts are parsed.
 #[derive(Clone, Copy, Debug, PartialEq, Eq)]
 pub enum PgType {
     Bool,
@@ -23,7 +23,7 @@ pub enum PgType {
     Time,
     Timestamp,
     Timestamptz,
-    /// A type that isn't one of these, by its OID. Its values are their texts.
+    /// Any other type, by its OID; its values are texts.
     Other(u32),
 }
 
@@ -50,7 +50,7 @@ const FLOAT4: u32 = 700;
 
 const FLOAT8: u32 = 701;
 
-/// The first of some types that has an OID.
+/// The first of the types that has this OID.
 fn first_with_oid(types: &[PgType], number: u32) -> Option<PgType>
     ensures { result ≡ find (has_oid number) types.now }
 {
@@ -62,7 +62,7 @@ fn first_with_oid(types: &[PgType], number: u32) -> Option<PgType>
     None
 }
 
-/// The type that PostgreSQL knows by an OID. A float's is refused. Takes no memory.
+/// The type with an OID in PostgreSQL's catalogue; float types are refused. Takes no memory.
 #[tactic(auto, unfolding(crate::specs::Types::type_of))]
 pub fn of(number: u32) -> Result<PgType, ValueError>
     ensures ok { IfOk result (λ ty. type_of number ≡ Some ty) }
@@ -77,7 +77,7 @@ pub fn of(number: u32) -> Result<PgType, ValueError>
     }
 }
 
-/// A type's OID. Takes no memory.
+/// The OID of a type.
 pub fn oid(ty: PgType) -> u32
     ensures { result ≡ oid_of ty }
 {

@@ -35,7 +35,7 @@ fn write_instant(alloc: Global, writer: &mut Writer, instant: &i64) -> Result<()
     writer.string(text.as_str())
 }
 
-/// Appends a value's JSON to what the writer holds. The caller sees to what stands round it.
+/// Appends a value's JSON; the caller writes the separators around it.
 pub fn write_json(alloc: Global, writer: &mut Writer, val: &Val) -> Result<(), AllocError>
     ensures ok { OnOk result (writer.new.tokens
         ≡ writer.old.tokens ++ json_tokens (outline (json_data val.now))) }
@@ -55,7 +55,7 @@ pub fn write_json(alloc: Global, writer: &mut Writer, val: &Val) -> Result<(), A
     }
 }
 
-/// A value's JSON text.
+/// The JSON text of a value.
 pub fn json(alloc: Global, val: &Val) -> Result<Text, ValueError>
     ensures ok { IfOk result (λ text. text ≡ json_of val.now) }
     ensures err { IfErr result (λ e. e ≡ ValueError.Memory) }

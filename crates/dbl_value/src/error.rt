@@ -1,16 +1,16 @@
 use std::alloc::{AllocError, AllocFailed};
 use thiserror::Error;
 
-/// Why an OID has no type, or a value isn't read, printed or written.
+/// Why an OID has no type, or a value can't be parsed, printed or encoded.
 #[derive(Debug, Drop, PartialEq, Eq, Error)]
 pub enum ValueError {
-    /// float4 and float8: their texts don't read back in JSON as they were.
+    /// The type is float4 or float8, whose texts don't survive a round trip through JSON.
     #[error("float type")]
     FloatType,
-    /// The text spells no value of the type.
+    /// The text is no value of the type.
     #[error("bad text")]
     BadText,
-    /// The text names a date that isn't in the years 1 to 9999.
+    /// The text denotes a date outside the years 1 to 9999.
     #[error("date range")]
     DateRange,
     #[error("out of memory")]

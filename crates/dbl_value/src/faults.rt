@@ -8,8 +8,8 @@ use crate::column_type::PgType;
 use crate::error::ValueError;
 use dbl_time::{byte_at, is_in_years, parse_instant};
 
-/// The place of the first byte that is no digit.
-fn place_behind_digits(text: &[u8]) -> Option<usize>
+/// The index of the first byte that isn't a digit.
+fn place_after_digits(text: &[u8]) -> Option<usize>
     ensures { result ≡ position (λ c. not (is_ascii_digit c)) text.now }
 {
     text.iter().position(|byte| !byte.is_ascii_digit())
@@ -19,13 +19,13 @@ fn place_behind_digits(text: &[u8]) -> Option<usize>
 fn begins_with_long_year(text: &[u8]) -> bool
     ensures { result ≡ has_long_year text.now }
 {
-    match place_behind_digits(text) {
+    match place_after_digits(text) {
         Some(digits) if digits >= 5 => byte_at(text, digits) == b'-',
         _ => false,
     }
 }
 
-/// Whether a text is one that PostgreSQL writes for a date outside the years 1 to 9999.
+/// Whether PostgreSQL writes the text for a date outside the years 1 to 9999.
 fn is_beyond_years(text: &[u8]) -> bool
     ensures { result ≡ is_beyond text.now }
 {
@@ -36,7 +36,7 @@ fn is_beyond_years(text: &[u8]) -> bool
         || text.starts_with(b"0000-")
 }
 
-/// Whether the instant of a text lies outside the years 1 to 9999 in UTC.
+/// Whether the UTC instant of the text is outside the years 1 to 9999.
 fn is_out_in_utc(text: &[u8]) -> bool
     ensures { result ≡ is_moved_out text.now }
 {
@@ -56,7 +56,7 @@ fn is_out_of_range(ty: PgType, text: &[u8]) -> bool
     }
 }
 
-/// The fault of a text that spells no value of the type.
+/// The fault of a text that is no value of the type.
 pub fn fault(ty: PgType, text: &str) -> ValueError
     requires { value_of ty text.now ≡ None }
     ensures { value_fault ty text.now ≡ Some result }

@@ -19,7 +19,7 @@ fn begins_above_zero(bytes: &[u8]) -> bool
     !bytes.is_empty() && bytes[0] > b'0'
 }
 
-/// Whether a text is `0`, or an optional minus and digits, of which the first isn't 0.
+/// Whether a text is `0`, or digits that begin with no 0 after an optional minus.
 fn is_plain_decimal(text: &str) -> bool
     ensures { result ≡ is_plain text.now }
 {
@@ -27,6 +27,7 @@ fn is_plain_decimal(text: &str) -> bool
     text == "0" || (are_digits(digits) && begins_above_zero(digits))
 }
 
+/// Parses a 16-bit integer.
 pub fn int2(text: &str) -> Option<i16>
     ensures { result ≡ integer_of (2 ^ 15) text.now }
 {
@@ -39,6 +40,7 @@ pub fn int2(text: &str) -> Option<i16>
     }
 }
 
+/// Parses a 32-bit integer.
 pub fn int4(text: &str) -> Option<i32>
     ensures { result ≡ integer_of (2 ^ 31) text.now }
 {
@@ -51,6 +53,7 @@ pub fn int4(text: &str) -> Option<i32>
     }
 }
 
+/// Parses a 64-bit integer.
 pub fn int8(text: &str) -> Option<i64>
     ensures { result ≡ integer_of (2 ^ 63) text.now }
 {

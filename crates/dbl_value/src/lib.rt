@@ -1,4 +1,5 @@
-//! Column types and their values: read from the texts that PostgreSQL sends, printed, and written as JSON.
+//! Column types and their values: parsed from the texts that PostgreSQL sends, printed, and encoded
+//! as JSON.
 #![tactic(auto)]
 
 mod column_type;

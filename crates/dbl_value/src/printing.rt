@@ -65,7 +65,7 @@ fn instant_string(alloc: Global, instant: &i64) -> Result<String, AllocError>
     Ok(text)
 }
 
-/// The text that PostgreSQL sends for a value of a type. It reads back as the value.
+/// The text that PostgreSQL sends for a value of a type; it parses as the value.
 pub fn print(alloc: Global, ty: PgType, val: &Val) -> Result<Text, ValueError>
     requires is_of { IsOf ty val.now }
     ensures ok { IfOk result (λ text. text ≡ text_of val.now) }

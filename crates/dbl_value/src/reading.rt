@@ -124,7 +124,7 @@ fn bytes_value(alloc: Global, text: &str) -> Result<Option<Val>, AllocError>
     }
 }
 
-/// The value of a text at a type whose values take no memory.
+/// Parses a value of a type whose values take no memory.
 fn fixed_value(ty: PgType, text: &str) -> Option<Val>
     requires { is_fixed ty ≡ true }
     ensures { result ≡ value_of ty text.now }
@@ -158,7 +158,7 @@ fn has_no_memory(ty: PgType) -> bool
     }
 }
 
-/// The value that a text spells, if it spells one.
+/// Parses the value, if the text is one of the type.
 fn parse_value(alloc: Global, ty: PgType, text: &Text) -> Result<Option<Val>, AllocError>
     ensures value { IfOk result (λ o. o ≡ value_of ty text.now) }
     ensures fixed { is_fixed ty ≡ true → result ≡ Ok (value_of ty text.now) }
@@ -173,7 +173,8 @@ fn parse_value(alloc: Global, ty: PgType, text: &Text) -> Result<Option<Val>, Al
     }
 }
 
-/// The value that a text spells. Texts, uuids and byte strings take memory for what the value keeps; other values take none.
+/// Parses a value. Texts, uuids and byte strings take memory for their contents; other values take
+/// none.
 pub fn read(alloc: Global, ty: PgType, text: &Text) -> Result<Val, ValueError>
     ensures value { IfOk result (SpellsValue ty text.now) }
     ensures fault { IfErr result
@@ -187,7 +188,8 @@ pub fn read(alloc: Global, ty: PgType, text: &Text) -> Result<Val, ValueError>
     }
 }
 
-/// The same of a text that is given up: where the value is a text it moves into it, so only byte strings take memory.
+/// Parses a value from an owned text, which moves into the value if that is a text; only byte
+/// strings take memory.
 pub fn read_owned(alloc: Global, ty: PgType, text: Text) -> Result<Val, ValueError>
     ensures value { IfOk result (SpellsValue ty text) }
     ensures fault { IfErr result (λ e. (e ≡ ValueError.Memory) ⊎ (value_fault ty text ≡ Some e)) }

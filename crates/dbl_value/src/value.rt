@@ -3,8 +3,8 @@ ghost use Rattle.std.specs.Prelude.{◌≡◌, IfOk};
 use dbl_base::{Bytes, Seq, Text};
 use std::alloc::{AllocError, Global};
 
-/// The value of a cell. Values are ordered by their kinds, in this order, and within a kind by value, texts and byte strings
-/// by their bytes.
+/// The value of a cell. Values are ordered by kind, in this order, then by value; texts and byte
+/// strings by their bytes.
 #[derive(Debug, Drop, PartialEq, Eq, PartialOrd, Ord)]
 pub enum Val {
     Null,
@@ -14,16 +14,16 @@ pub enum Val {
     Bytes(Bytes),
     /// Days since 1970-01-01.
     Date(i32),
-    /// Microseconds since midnight; the end of the day is 86,400,000,000.
+    /// Microseconds since midnight; 24:00:00 is 86,400,000,000.
     Time(i64),
-    /// Microseconds since 1970-01-01 00:00:00, by a clock without a time zone.
+    /// Microseconds since 1970-01-01 00:00:00, without time zone.
     Stamp(i64),
     /// Microseconds since 1970-01-01 00:00:00 UTC.
     StampTz(i64),
 }
 
 impl Val {
-    /// An equal value.
+    /// Copies the value.
     pub fn copy(&self, alloc: Global) -> Result<Val, AllocError>
         ensures { IfOk result (λ v. v ≡ self.now) }
     {

@@ -10,18 +10,18 @@ use Rattle.dbl_value.specs.declared.value.Val.{Val}
 use Rattle.dbl_value.specs.declared.value.Val.TheVariants as val
 use Rattle.dbl_value.specs.Faults.{fault_of, value_fault}
 use Rattle.dbl_value.specs.Values.{value_of, IsOf, IsCellOf}
-use Rattle.dbl_table.specs.declared.table.Column.{Column}
-use Rattle.dbl_table.specs.declared.table.TableInfo.{TableInfo}
-use Rattle.dbl_table.specs.Tables.{type_at}
-use Rattle.dbl_table.specs.Keys.{cell_or_null}
-use Rattle.dbl_table.proofs.Lists.{and_left, and_right, or_right}
-use Rattle.dbl_table.proofs.InfoLemmas.{places_within}
-use Rattle.dbl_history.specs.Typed.{typed_cell, typed_cells}
-use Rattle.dbl_history.specs.Fit.{AreOf}
-use Rattle.dbl_history.specs.FitsInfos.{AreCellsOf}
+use Rattle.dbl_model_table.specs.declared.table.Column.{Column}
+use Rattle.dbl_model_table.specs.declared.table.TableInfo.{TableInfo}
+use Rattle.dbl_model_table.specs.Tables.{type_at}
+use Rattle.dbl_model_table.specs.Keys.{cell_or_null}
+use Rattle.dbl_model_table.proofs.Lists.{and_left, and_right, or_right}
+use Rattle.dbl_model_table.proofs.InfoLemmas.{places_within}
+use Rattle.dbl_model_history.specs.Typed.{typed_cell, typed_cells}
+use Rattle.dbl_model_history.specs.Fit.{AreOf}
+use Rattle.dbl_model_history.specs.FitsInfos.{AreCellsOf}
 use Rattle.dbl_window.specs.declared.error.WindowError.{WindowError}
 use Rattle.dbl_window.specs.Reading.{◌>>=◌, is_of_key, null_read, value_read, cell_read, cells_read, with_key}
-use Rattle.dbl_window.specs.ReadParts.{Reads, FitsCell, FitCells}
+use Rattle.dbl_window.specs.ReadParts.{ReadsPart, FitsColumnCell, FitCells}
 use Rattle.dbl_window.specs.Changing.{FitsRow}
 
 -- what was read by one step and another
@@ -113,16 +113,16 @@ get_push (x ∷ cells) v w (suc place) at = elim (get_push cells v w place at) [
 -- the first cells of a row fit
 pub record FitSoFar (info : TableInfo) (cells : List Val) (place : ℕ) : Type 0 where
   pub so_many : length cells ≡ place
-  pub each : (at : ℕ) (v : Val) → slice_get cells at ≡ Some v → FitsCell info at (type_at info.columns at) v
+  pub each : (at : ℕ) (v : Val) → slice_get cells at ≡ Some v → FitsColumnCell info at (type_at info.columns at) v
 
-pub fit_push : (info : TableInfo) (cells : List Val) (place : ℕ) (v : Val) → FitSoFar info cells place → FitsCell info place (type_at info.columns place) v → FitSoFar info (cells ++ v ∷ []) (place + 1)
+pub fit_push : (info : TableInfo) (cells : List Val) (place : ℕ) (v : Val) → FitSoFar info cells place → FitsColumnCell info place (type_at info.columns place) v → FitSoFar info (cells ++ v ∷ []) (place + 1)
 fit_push info cells place v so_far fits = record {
   so_many = length_push cells v ∙ ap (λ (n : ℕ). n + 1) so_far.so_many;
   each = λ at w is. elim (get_push cells v w at is) [
     | inl early ↦ so_far.each at w early
     | inr last ↦ (
         let at_is : place ≡ at = sym so_far.so_many ∙ sym last.0 in
-        subst (λ (x : Val). FitsCell info at (type_at info.columns at) x) last.1 (subst (λ (n : ℕ). FitsCell info n (type_at info.columns n) v) at_is fits)
+        subst (λ (x : Val). FitsColumnCell info at (type_at info.columns at) x) last.1 (subst (λ (n : ℕ). FitsColumnCell info n (type_at info.columns n) v) at_is fits)
         )
   ];
 }
@@ -141,16 +141,16 @@ unread_is ty text e h = by (value_of ty text) refl h
     by (Some v) is told = absurd (cc)
     by None is told = record { none = is; fault = cc }
 
-pub reads_same : {A : Type 0} (r read : Result A WindowError) → r ≡ read → Reads r read
+pub reads_same : {A : Type 0} (r read : Result A WindowError) → r ≡ read → ReadsPart r read
 reads_same (Ok x) read same = sym same
 reads_same (Err e) read same = inr (sym same)
 
-pub null_fits : (info : TableInfo) (number place : ℕ) (ty : PgType) → IfOk (null_read number (is_of_key info place)) (FitsCell info place ty)
+pub null_fits : (info : TableInfo) (number place : ℕ) (ty : PgType) → IfOk (null_read number (is_of_key info place)) (FitsColumnCell info place ty)
 null_fits info number place ty = by (is_of_key info place) refl
   where
-    by : (b : Bool) → is_of_key info place ≡ b → IfOk (null_read number b) (FitsCell info place ty)
+    by : (b : Bool) → is_of_key info place ≡ b → IfOk (null_read number b) (FitsColumnCell info place ty)
     by true is = tt
     by false is = (inl refl, λ own. (let contra : true ≡ false = sym own ∙ is in absurd (cc)))
 
-pub value_fits : (info : TableInfo) (place : ℕ) (ty : PgType) (v : Val) → IsOf ty v → FitsCell info place ty v
+pub value_fits : (info : TableInfo) (place : ℕ) (ty : PgType) (v : Val) → IsOf ty v → FitsColumnCell info place ty v
 value_fits info place ty v is = (inr is, λ own. is)

@@ -4,24 +4,24 @@ use Rattle.std.specs.Prelude.{if◌then◌else◌, option_map, unwrap_or, slice_
 use Rattle.std.proofs.lemmas.Bool.Decides.{Decides-eqb}
 use Rattle.dbl_value.specs.declared.column_type.PgType.{PgType}
 use Rattle.dbl_value.specs.declared.value.Val.{Val}
-use Rattle.dbl_table.specs.declared.table.Column.{Column}
-use Rattle.dbl_table.specs.declared.row.Key.{Key}
-use Rattle.dbl_table.specs.declared.row.Row.{Row}
-use Rattle.dbl_table.specs.declared.change.Cell.{Cell}
-use Rattle.dbl_table.specs.declared.change.Cell.TheVariants.{Given, Unchanged}
-use Rattle.dbl_table.specs.declared.change.Change.{Change}
-use Rattle.dbl_table.specs.declared.change.Change.TheVariants.{Insert, Update, Delete, Clear}
-use Rattle.dbl_table.specs.declared.table.TableInfo.{TableInfo}
-use Rattle.dbl_table.specs.Tables.{type_at}
-use Rattle.dbl_table.specs.Infos.{key_places, column_types}
-use Rattle.dbl_table.specs.Keys.{same_key, key_at, key_of, new_key_of, cell_or_null, given_or_null}
-use Rattle.dbl_table.specs.Rows.{Effect, all_given, updated, at_key, at_keys, effect_of, overlay, table_of}
-use Rattle.dbl_table.specs.Rows.Effect.{Whole, Ends}
-use Rattle.dbl_table.proofs.InfoLemmas.{places_within}
-use Rattle.dbl_table.proofs.KeyLemmas.{same_key-is}
-use Rattle.dbl_history.specs.Fit.{IsKeyOf}
-use Rattle.dbl_history.specs.FitsInfos.{AreCellsOf, AreSentOf}
-use Rattle.dbl_history.specs.KeyedRows.{row_in, row_left}
+use Rattle.dbl_model_table.specs.declared.table.Column.{Column}
+use Rattle.dbl_model_table.specs.declared.row.Key.{Key}
+use Rattle.dbl_model_table.specs.declared.row.Row.{Row}
+use Rattle.dbl_model_table.specs.declared.change.Cell.{Cell}
+use Rattle.dbl_model_table.specs.declared.change.Cell.TheVariants.{Given, Unchanged}
+use Rattle.dbl_model_table.specs.declared.change.Change.{Change}
+use Rattle.dbl_model_table.specs.declared.change.Change.TheVariants.{Insert, Update, Delete, Clear}
+use Rattle.dbl_model_table.specs.declared.table.TableInfo.{TableInfo}
+use Rattle.dbl_model_table.specs.Tables.{type_at}
+use Rattle.dbl_model_table.specs.Infos.{key_places, column_types}
+use Rattle.dbl_model_table.specs.Keys.{same_key, key_at, key_of, new_key_of, cell_or_null, given_or_null}
+use Rattle.dbl_model_table.specs.Rows.{Effect, all_given, updated, at_key, at_keys, effect_of, overlay, table_of}
+use Rattle.dbl_model_table.specs.Rows.Effect.{Whole, Ends}
+use Rattle.dbl_model_table.proofs.InfoLemmas.{places_within}
+use Rattle.dbl_model_table.proofs.KeyLemmas.{same_key-is}
+use Rattle.dbl_model_history.specs.Fit.{IsKeyOf}
+use Rattle.dbl_model_history.specs.FitsInfos.{AreCellsOf, AreSentOf}
+use Rattle.dbl_model_history.specs.KeyedRows.{row_in, row_left}
 use Rattle.dbl_window.specs.Changing.{FitsRow, effect_at, IsLeftBy}
 use Rattle.dbl_window.proofs.Overlays.{overlaid_key}
 

@@ -3,15 +3,15 @@ use Rattle.std.proofs.Common.{◌≡◌, ◌+◌, inl, inr, ◌&&◌, ℕ, Bool,
 use Rattle.std.specs.Prelude.{Ok, Err, if◌then◌else◌, ◌==◌, nat_lt}
 use Rattle.dbl_value.specs.declared.value.Val.{Val}
 use Rattle.dbl_value.specs.Values.{value_of}
-use Rattle.dbl_table.specs.declared.table.Column.{Column}
-use Rattle.dbl_table.specs.declared.table.RawRow.{RawRow}
-use Rattle.dbl_table.specs.declared.table.TableInfo.{TableInfo}
-use Rattle.dbl_table.specs.declared.row.Key.{Key}
-use Rattle.dbl_table.specs.declared.row.Row.{Row}
-use Rattle.dbl_table.specs.Infos.{width}
+use Rattle.dbl_model_table.specs.declared.table.Column.{Column}
+use Rattle.dbl_model_table.specs.declared.table.RawRow.{RawRow}
+use Rattle.dbl_model_table.specs.declared.table.TableInfo.{TableInfo}
+use Rattle.dbl_model_table.specs.declared.row.Key.{Key}
+use Rattle.dbl_model_table.specs.declared.row.Row.{Row}
+use Rattle.dbl_model_table.specs.Infos.{width}
 use Rattle.dbl_window.specs.declared.error.WindowError.TheVariants as window
 use Rattle.dbl_window.specs.Plans.{Plan}
-use Rattle.dbl_window.specs.Reading.{◌>>=◌, is_of_key, null_read, value_read, cell_read, cells_read, is_behind, placed, with_key, row_read, rows_read}
+use Rattle.dbl_window.specs.Reading.{◌>>=◌, is_of_key, null_read, value_read, cell_read, cells_read, comes_after, placed, with_key, row_read, rows_read}
 use Rattle.dbl_window.proofs.HonestLemmas.{went_wrong}
 
 null_never : (number : ℕ) (in_key : Bool) → null_read number in_key ≡ Err window.Failed → ⊥
@@ -47,7 +47,7 @@ row_never : (plan : Plan) (number : ℕ) (last : Option Key) (raw : RawRow) (b :
 row_never plan number last raw false h = cc
 row_never plan number last raw true h = elim (went_wrong (cells_read plan.info number 0 plan.info.columns raw.cells) (λ cells. placed number last (with_key plan.info cells)) window.Failed h) [
   | inl wrong ↦ cells_never plan.info number 0 plan.info.columns raw.cells wrong
-  | inr later ↦ placed_never number (with_key plan.info later.value) (is_behind last (with_key plan.info later.value).0) later.then_is
+  | inr later ↦ placed_never number (with_key plan.info later.value) (comes_after last (with_key plan.info later.value).0) later.then_is
 ]
 
 pub reads_never_fail : (plan : Plan) (number : ℕ) (last : Option Key) (rows : List RawRow) → rows_read plan number last rows ≡ Err window.Failed → ⊥

@@ -1,10 +1,10 @@
 -- The fault of a chunk's rows is that of the first row that has one.
 use Rattle.std.proofs.Common.{◌≡◌, ◌∙◌, ◌+◌, inl, inr, ℕ, zero, suc, Option, Some, List, [], ◌∷◌, take, refl, sym, ap, arith}
 use Rattle.std.specs.Prelude.{Result, Ok, Err, slice_get}
-use Rattle.dbl_table.specs.declared.table.RawRow.{RawRow}
-use Rattle.dbl_table.specs.declared.row.Key.{Key}
-use Rattle.dbl_table.specs.declared.row.Row.{Row}
-use Rattle.dbl_history.specs.KeyedRows.{last_key}
+use Rattle.dbl_model_table.specs.declared.table.RawRow.{RawRow}
+use Rattle.dbl_model_table.specs.declared.row.Key.{Key}
+use Rattle.dbl_model_table.specs.declared.row.Row.{Row}
+use Rattle.dbl_model_history.specs.KeyedRows.{last_key}
 use Rattle.dbl_window.specs.declared.error.WindowError.{WindowError}
 use Rattle.dbl_window.specs.Plans.{Plan}
 use Rattle.dbl_window.specs.Reading.{◌>>=◌, row_read, rows_read, chunk_read}

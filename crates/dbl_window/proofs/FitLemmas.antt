@@ -1,16 +1,16 @@
 -- What every chunk keeps, as what is asked of a closed window.
 use Rattle.std.proofs.Common.{◌≡◌, ◌≤◌, ℕ, Option, Some, IfSome, List, [], ◌∷◌, length, sym, subst}
 use Rattle.std.specs.List.{AllByRecursion}
-use Rattle.dbl_table.specs.declared.row.Key.{Key}
-use Rattle.dbl_table.specs.declared.row.Row.{Row}
-use Rattle.dbl_table.specs.declared.table.TableInfo.{TableInfo}
-use Rattle.dbl_table.specs.Infos.{column_types}
-use Rattle.dbl_table.specs.Keys.{key_of}
-use Rattle.dbl_history.specs.Fit.{IsKeyOf}
-use Rattle.dbl_history.specs.FitsInfos.{AreCellsOf}
-use Rattle.dbl_history.specs.KeyedRows.{last_key}
-use Rattle.dbl_event.specs.declared.closed.Closed.{Closed}
-use Rattle.dbl_event.specs.Snapshots.{FitsChunk}
+use Rattle.dbl_model_table.specs.declared.row.Key.{Key}
+use Rattle.dbl_model_table.specs.declared.row.Row.{Row}
+use Rattle.dbl_model_table.specs.declared.table.TableInfo.{TableInfo}
+use Rattle.dbl_model_table.specs.Infos.{column_types}
+use Rattle.dbl_model_table.specs.Keys.{key_of}
+use Rattle.dbl_model_history.specs.Fit.{IsKeyOf}
+use Rattle.dbl_model_history.specs.FitsInfos.{AreCellsOf}
+use Rattle.dbl_model_history.specs.KeyedRows.{last_key}
+use Rattle.dbl_model_event.specs.declared.closed.Closed.{Closed}
+use Rattle.dbl_model_event.specs.Snapshots.{FitsChunk}
 use Rattle.dbl_window.specs.Plans.{Chunk, IsFitChunk}
 use Rattle.dbl_window.specs.Changing.{FitsRow}
 use Rattle.dbl_window.specs.Promise.{closed_of}

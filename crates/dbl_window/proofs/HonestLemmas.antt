@@ -10,33 +10,33 @@ use Rattle.dbl_value.specs.declared.error.ValueError.{ValueError}
 use Rattle.dbl_value.specs.Values.{value_of, IsOf}
 use Rattle.dbl_value.specs.Faults.{fault_of, value_fault}
 use Rattle.dbl_value.proofs.KindLemmas.{null_spelled}
-use Rattle.dbl_table.specs.declared.table.Column.{Column}
-use Rattle.dbl_table.specs.declared.table.TableName.{TableName}
-use Rattle.dbl_table.specs.declared.table.RawTable.{RawTable}
-use Rattle.dbl_table.specs.declared.table.RawRow.{RawRow}
-use Rattle.dbl_table.specs.declared.table.TableInfo.{TableInfo}
-use Rattle.dbl_table.specs.declared.row.Key.{Key}
-use Rattle.dbl_table.specs.declared.row.Row.{Row}
-use Rattle.dbl_table.specs.Tables.{same_name, type_at}
-use Rattle.dbl_table.specs.Infos.{IsInfoOf, number_of, column_types, width}
-use Rattle.dbl_table.specs.Keys.{cell_or_null}
-use Rattle.dbl_table.specs.Rows.{Rows, rows_at, all_changes, moment_of}
-use Rattle.dbl_table.proofs.Lists.{and_left, and_right, and_both, same_text, text_itself, is_some-position_from, position_from-at}
-use Rattle.dbl_table.proofs.InfoLemmas.{true_false}
-use Rattle.dbl_history.specs.History.{History}
-use Rattle.dbl_history.specs.Typed.{typed, typed_cell, typed_cells}
-use Rattle.dbl_history.specs.Fit.{AreOf, IsKeyOf, AreInfosOf, IsFitHistory}
-use Rattle.dbl_history.specs.KeyBounds.{IsAbove}
-use Rattle.dbl_history.specs.KeyedRows.{AreFirst, last_key}
-use Rattle.dbl_history.proofs.BoundLemmas.{first_is_there}
-use Rattle.dbl_history.proofs.ImageLemmas.{table_one}
-use Rattle.dbl_history.proofs.RowKeys.{fit_rows}
-use Rattle.dbl_honest.specs.Selected.{rows_behind, keyed_row, AreFirstOf, AreAnswered}
-use Rattle.dbl_honest.proofs.GrowthLemmas.{rows_are}
+use Rattle.dbl_model_table.specs.declared.table.Column.{Column}
+use Rattle.dbl_model_table.specs.declared.table.TableName.{TableName}
+use Rattle.dbl_model_table.specs.declared.table.RawTable.{RawTable}
+use Rattle.dbl_model_table.specs.declared.table.RawRow.{RawRow}
+use Rattle.dbl_model_table.specs.declared.table.TableInfo.{TableInfo}
+use Rattle.dbl_model_table.specs.declared.row.Key.{Key}
+use Rattle.dbl_model_table.specs.declared.row.Row.{Row}
+use Rattle.dbl_model_table.specs.Tables.{same_name, type_at}
+use Rattle.dbl_model_table.specs.Infos.{IsInfoOf, number_of, column_types, width}
+use Rattle.dbl_model_table.specs.Keys.{cell_or_null}
+use Rattle.dbl_model_table.specs.Rows.{Rows, rows_at, all_changes, moment_of}
+use Rattle.dbl_model_table.proofs.Lists.{and_left, and_right, and_both, same_text, text_itself, is_some-position_from, position_from-at}
+use Rattle.dbl_model_table.proofs.InfoLemmas.{true_false}
+use Rattle.dbl_model_history.specs.History.{History}
+use Rattle.dbl_model_history.specs.Typed.{typed, typed_cell, typed_cells}
+use Rattle.dbl_model_history.specs.Fit.{AreOf, IsKeyOf, AreInfosOf, IsFitHistory}
+use Rattle.dbl_model_history.specs.KeyBounds.{IsAbove}
+use Rattle.dbl_model_history.specs.KeyedRows.{AreFirst, last_key}
+use Rattle.dbl_model_history.proofs.BoundLemmas.{first_is_there}
+use Rattle.dbl_model_history.proofs.ImageLemmas.{table_one}
+use Rattle.dbl_model_history.proofs.RowKeys.{fit_rows}
+use Rattle.dbl_source.specs.SourceModel.Selected.{rows_up_to, keyed_row, AreFirstOf, AreAnswered}
+use Rattle.dbl_source.proofs.SourceModelGrowthLemmas.{rows_are}
 use Rattle.dbl_window.specs.declared.error.WindowError.{WindowError}
 use Rattle.dbl_window.specs.declared.error.WindowError.TheVariants as window
 use Rattle.dbl_window.specs.Plans.{Plan, Chunk}
-use Rattle.dbl_window.specs.Reading.{◌>>=◌, is_of_key, null_read, value_read, cell_read, cells_read, is_behind, placed, with_key, row_read, rows_read, chunk_read}
+use Rattle.dbl_window.specs.Reading.{◌>>=◌, is_of_key, null_read, value_read, cell_read, cells_read, comes_after, placed, with_key, row_read, rows_read, chunk_read}
 use Rattle.dbl_window.specs.Selected.{IsCaptured, IsSelected, HasUnreadable}
 use Rattle.dbl_window.proofs.CellLemmas.{cells_are}
 use Rattle.dbl_window.proofs.OrderLemmas.{first_behind}
@@ -85,16 +85,16 @@ captured_stays s t infos same are = record {
 -- the answered rows are the table's first ones at their place
 pub first_answered : (infos : List TableInfo) (history : History) (plan : Plan) (from upto : ℕ) (rows : List RawRow) → IsCaptured infos history plan → IfSome plan.above (IsKeyOf plan.info)
     → (answered : AreAnswered history from upto plan.info.name plan.above plan.limit rows)
-    → AreFirst plan.info (rows_behind infos history answered.place plan.table) plan.above plan.limit (map (keyed_row infos plan.table plan.info) rows)
+    → AreFirst plan.info (rows_up_to infos history answered.place plan.table) plan.above plan.limit (map (keyed_row infos plan.table plan.info) rows)
 first_answered infos history plan from upto rows captured starts answered =
     let are = answered.are infos captured.are in
     let number : number_of infos plan.info.name ≡ Some plan.table = number_is history infos plan.table plan.info captured.are captured.here in
-    let own : (info : TableInfo) × AreFirstOf infos plan.table info (rows_behind infos history answered.place) plan.above plan.limit rows =
-    subst (λ (o : Option ℕ). IfSome o (λ t. (info : TableInfo) × AreFirstOf infos t info (rows_behind infos history answered.place) plan.above plan.limit rows)) number are in
+    let own : (info : TableInfo) × AreFirstOf infos plan.table info (rows_up_to infos history answered.place) plan.above plan.limit rows =
+    subst (λ (o : Option ℕ). IfSome o (λ t. (info : TableInfo) × AreFirstOf infos t info (rows_up_to infos history answered.place) plan.above plan.limit rows)) number are in
     let both : Some own.0 ≡ Some plan.info = sym own.1.captured ∙ captured.here in
     let info_is : own.0 ≡ plan.info = cc in
-    let first : IfSome plan.above (IsKeyOf own.0) → AreFirst own.0 (rows_behind infos history answered.place plan.table) plan.above plan.limit (map (keyed_row infos plan.table own.0) rows) = own.1.first in
-    (subst (λ (i : TableInfo). IfSome plan.above (IsKeyOf i) → AreFirst i (rows_behind infos history answered.place plan.table) plan.above plan.limit (map (keyed_row infos plan.table i) rows)) info_is first) starts
+    let first : IfSome plan.above (IsKeyOf own.0) → AreFirst own.0 (rows_up_to infos history answered.place plan.table) plan.above plan.limit (map (keyed_row infos plan.table own.0) rows) = own.1.first in
+    (subst (λ (i : TableInfo). IfSome plan.above (IsKeyOf i) → AreFirst i (rows_up_to infos history answered.place plan.table) plan.above plan.limit (map (keyed_row infos plan.table i) rows)) info_is first) starts
 
 -- ---- a step that goes wrong
 
@@ -253,8 +253,8 @@ bad_row plan number last raw e true counted wide key above test h =
     never : (cells : List Val) → cells_read plan.info number 0 plan.info.columns raw.cells ≡ Ok cells → placed number last (with_key plan.info cells) ≡ Err e → ⊥
     never cells fine wrong =
         let cells_is : cells ≡ typed_cells (column_types plan.info) raw.cells = cells_are plan.info number 0 plan.info.columns raw.cells cells wide fine in
-        let behind_it : is_behind last (with_key plan.info cells).0 ≡ true =
-        ap (λ (l : List Val). is_behind last (with_key plan.info l).0) cells_is ∙ above_is last (with_key plan.info (typed_cells (column_types plan.info) raw.cells)).0 above in
+        let behind_it : comes_after last (with_key plan.info cells).0 ≡ true =
+        ap (λ (l : List Val). comes_after last (with_key plan.info l).0) cells_is ∙ above_is last (with_key plan.info (typed_cells (column_types plan.info) raw.cells)).0 above in
         let contra : Ok (with_key plan.info cells) ≡ Err e = sym (ap (λ (t : Bool). if t then Ok (with_key plan.info cells) else Err (window.BadChunk number)) behind_it) ∙ wrong in
         cc
 
@@ -310,7 +310,7 @@ bad_rows infos plan at number room last (raw ∷ answered) e captured wide le ar
 
 -- the rows at a place of a fit history are as wide as their table
 pub wide_rows : (infos : List TableInfo) (history : History) (plan : Plan) (place : ℕ) → IsFitHistory history → IsCaptured infos history plan
-    → (key : Key) (cells : List Val) → rows_behind infos history place plan.table key ≡ Some cells → length cells ≡ width plan.info
+    → (key : Key) (cells : List Val) → rows_up_to infos history place plan.table key ≡ Some cells → length cells ≡ width plan.info
 wide_rows infos history plan place fit captured key cells there =
     let at_moment : rows_at infos (all_changes (typed infos history)) (moment_of (typed infos history) place 0) plan.table key ≡ Some cells =
     ap (λ (r : Rows). r plan.table key) (sym (rows_are infos history place)) ∙ there in
@@ -322,9 +322,9 @@ wide_rows infos history plan place fit captured key cells there =
 -- a fault of the rows that an honest source answered is an unreadable cell of its history
 pub honest_fault : (infos : List TableInfo) (history : History) (plan : Plan) (from upto : ℕ) (answered : List RawRow) (e : WindowError) → IsFitHistory history → IsCaptured infos history plan
     → IfSome plan.above (IsKeyOf plan.info) → (are : AreAnswered history from upto plan.info.name plan.above plan.limit answered) → rows_read plan 0 plan.above answered ≡ Err e
-    → IsUnreadable plan.info (rows_behind infos history are.place plan.table) e
+    → IsUnreadable plan.info (rows_up_to infos history are.place plan.table) e
 honest_fault infos history plan from upto answered e fit captured starts are h =
-    bad_rows infos plan (rows_behind infos history are.place plan.table) 0 plan.limit plan.above answered e captured.here
+    bad_rows infos plan (rows_up_to infos history are.place plan.table) 0 plan.limit plan.above answered e captured.here
     (wide_rows infos history plan are.place fit captured) (omega arith) (first_answered infos history plan from upto answered captured starts are) h
 
 never_bad : (info : TableInfo) (at : Key → Option (List Val)) (row : ℕ) → IsUnreadable info at (window.BadChunk row) → ⊥
@@ -333,7 +333,7 @@ never_bad info at row bad = let e : window.BadChunk row ≡ window.Cell bad.colu
 pub never_bad_chunk : (infos : List TableInfo) (history : History) (plan : Plan) (from upto : ℕ) (answered : List RawRow) (row : ℕ) → IsFitHistory history → IsCaptured infos history plan
     → IfSome plan.above (IsKeyOf plan.info) → AreAnswered history from upto plan.info.name plan.above plan.limit answered → rows_read plan 0 plan.above answered ≡ Err (window.BadChunk row) → ⊥
 never_bad_chunk infos history plan from upto answered row fit captured starts are h =
-    never_bad plan.info (rows_behind infos history are.place plan.table) row (honest_fault infos history plan from upto answered (window.BadChunk row) fit captured starts are h)
+    never_bad plan.info (rows_up_to infos history are.place plan.table) row (honest_fault infos history plan from upto answered (window.BadChunk row) fit captured starts are h)
 
 pub unreadable_cell : (infos : List TableInfo) (history : History) (plan : Plan) (from upto : ℕ) (answered : List RawRow) (name : List ℕ) (error : ValueError) → IsFitHistory history → IsCaptured infos history plan
     → IfSome plan.above (IsKeyOf plan.info) → AreAnswered history from upto plan.info.name plan.above plan.limit answered → rows_read plan 0 plan.above answered ≡ Err (window.Cell name error)
@@ -366,7 +366,7 @@ selected_chunk infos history from upto answered chunk captured starts are read t
   place = are.place;
   not_before = are.not_before;
   not_after = are.not_after;
-  first = subst (λ (rows : List (Key × Row)). AreFirst chunk.plan.info (rows_behind infos history are.place chunk.plan.table) chunk.plan.above chunk.plan.limit rows)
+  first = subst (λ (rows : List (Key × Row)). AreFirst chunk.plan.info (rows_up_to infos history are.place chunk.plan.table) chunk.plan.above chunk.plan.limit rows)
       (sym (read_answered infos chunk.plan answered chunk.rows captured.here read).same) (first_answered infos history chunk.plan from upto answered captured starts are);
   through_is = through;
   done_is = done;

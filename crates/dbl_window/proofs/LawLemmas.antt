@@ -10,21 +10,21 @@ use Rattle.std.specs.declared.cmp.Ordering.TheVariants.{Less, Equal, Greater}
 use Rattle.std.proofs.lemmas.List.{length-map, map-append, take-append-le}
 use Rattle.std.proofs.lemmas.Bool.Decides.{Decides-ltb, Decides-eqb}
 use Rattle.dbl_value.specs.declared.value.Val.{Val}
-use Rattle.dbl_table.specs.declared.row.Key.{Key}
-use Rattle.dbl_table.specs.declared.row.Row.{Row}
-use Rattle.dbl_table.specs.declared.table.TableInfo.{TableInfo}
-use Rattle.dbl_table.specs.declared.change.Commit.{Commit}
-use Rattle.dbl_table.specs.Keys.{key_cmp, same_key}
-use Rattle.dbl_table.specs.Rows.{Rows, at_key, no_rows, rows_from, all_changes}
-use Rattle.dbl_table.specs.Rows.Effect.{Ends}
-use Rattle.dbl_table.proofs.Lists.{bool_case}
-use Rattle.dbl_table.proofs.KeyLemmas.{key_total, same_key-is}
-use Rattle.dbl_history.specs.History.{RawCommit, History}
-use Rattle.dbl_history.specs.Typed.{typed, typed_commit}
-use Rattle.dbl_history.specs.KeyedRows.{row_in, row_left, AreAbove, last_key, AreFirst}
-use Rattle.dbl_history.proofs.BoundLemmas.{row_in-first}
-use Rattle.dbl_event.specs.Snapshots.{AreInKeyOrder}
-use Rattle.dbl_honest.specs.Selected.{rows_behind}
+use Rattle.dbl_model_table.specs.declared.row.Key.{Key}
+use Rattle.dbl_model_table.specs.declared.row.Row.{Row}
+use Rattle.dbl_model_table.specs.declared.table.TableInfo.{TableInfo}
+use Rattle.dbl_model_table.specs.declared.change.Commit.{Commit}
+use Rattle.dbl_model_table.specs.Keys.{key_cmp, same_key}
+use Rattle.dbl_model_table.specs.Rows.{Rows, at_key, no_rows, rows_from, all_changes}
+use Rattle.dbl_model_table.specs.Rows.Effect.{Ends}
+use Rattle.dbl_model_table.proofs.Lists.{bool_case}
+use Rattle.dbl_model_table.proofs.KeyLemmas.{key_total, same_key-is}
+use Rattle.dbl_model_history.specs.History.{RawCommit, History}
+use Rattle.dbl_model_history.specs.Typed.{typed, typed_commit}
+use Rattle.dbl_model_history.specs.KeyedRows.{row_in, row_left, AreAbove, last_key, AreFirst}
+use Rattle.dbl_model_history.proofs.BoundLemmas.{row_in-first}
+use Rattle.dbl_model_event.specs.Snapshots.{AreInKeyOrder}
+use Rattle.dbl_source.specs.SourceModel.Selected.{rows_up_to}
 use Rattle.dbl_window.specs.Plans.{Plan, Chunk}
 use Rattle.dbl_window.specs.Changing.{AreLeft}
 use Rattle.dbl_window.specs.Selected.{IsSelected}
@@ -115,7 +115,7 @@ clears_leave infos table rows others = (
 -- ---- what was selected
 
 rows_stay : (infos : List TableInfo) (old new : History) (more : List RawCommit) (place : ℕ) → new.commits ≡ old.commits ++ more → place ≤ length old.commits
-    → rows_behind infos new place ≡ rows_behind infos old place
+    → rows_up_to infos new place ≡ rows_up_to infos old place
 rows_stay infos old new more place longer fits =
     ap (λ (cs : List RawCommit). rows_from infos no_rows (all_changes (take place (map (typed_commit infos) cs)))) longer
     ∙ (ap (λ (h : List Commit). rows_from infos no_rows (all_changes (take place h))) (map-append (typed_commit infos) old.commits more)

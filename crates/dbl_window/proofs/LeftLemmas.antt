@@ -2,16 +2,16 @@
 use Rattle.std.proofs.Common.{◌≡◌, ◌∙◌, ◌+◌, ◌<◌, ◌⊎◌, inl, inr, ℕ, zero, suc, Option, Some, None, List, [], ◌∷◌, ◌++◌, length, refl, sym, ap, arith}
 use Rattle.std.specs.Prelude.{option_map, slice_get}
 use Rattle.dbl_value.specs.declared.value.Val.{Val}
-use Rattle.dbl_table.specs.declared.row.Key.{Key}
-use Rattle.dbl_table.specs.declared.change.Cell.{Cell}
-use Rattle.dbl_table.specs.declared.change.Change.{Change}
-use Rattle.dbl_table.specs.declared.table.TableInfo.{TableInfo}
-use Rattle.dbl_table.specs.Rows.{Effect, IsWholeEffect, IsWholeFor, effect_of, overlay, row_after}
-use Rattle.dbl_table.specs.Rows.Effect.{Stays, Whole, Part, Ends}
-use Rattle.dbl_history.specs.KeyedRows.{row_in, row_left}
-use Rattle.dbl_history.specs.PlainRows.{row_from}
-use Rattle.dbl_history.specs.WholeChanges.{IsTouched}
-use Rattle.dbl_history.proofs.RowLemmas.{effect_of-other_table}
+use Rattle.dbl_model_table.specs.declared.row.Key.{Key}
+use Rattle.dbl_model_table.specs.declared.change.Cell.{Cell}
+use Rattle.dbl_model_table.specs.declared.change.Change.{Change}
+use Rattle.dbl_model_table.specs.declared.table.TableInfo.{TableInfo}
+use Rattle.dbl_model_table.specs.Rows.{Effect, IsWholeEffect, IsWholeFor, effect_of, overlay, row_after}
+use Rattle.dbl_model_table.specs.Rows.Effect.{Stays, Whole, Part, Ends}
+use Rattle.dbl_model_history.specs.KeyedRows.{row_in, row_left}
+use Rattle.dbl_model_history.specs.PlainRows.{row_from}
+use Rattle.dbl_model_history.specs.WholeChanges.{IsTouched}
+use Rattle.dbl_model_history.proofs.RowLemmas.{effect_of-other_table}
 use Rattle.dbl_window.specs.Changing.{left_from}
 use Rattle.dbl_window.specs.Laws.{LeftRowsGoOn, OtherTablesLeaveRows}
 use Rattle.dbl_window.proofs.Overlays.{merged, no_cells, one_after_another}

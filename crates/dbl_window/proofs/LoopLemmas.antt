@@ -5,18 +5,18 @@ use Rattle.std.proofs.lemmas.List.{drop_more}
 use Rattle.std.proofs.lemmas.Option.{slice_get-get_or}
 use Rattle.dbl_value.specs.declared.column_type.PgType.TheVariants as type
 use Rattle.dbl_value.specs.declared.value.Val.{Val}
-use Rattle.dbl_table.specs.declared.table.Column.{Column}
-use Rattle.dbl_table.specs.declared.table.RawRow.{RawRow}
-use Rattle.dbl_table.specs.declared.table.TableInfo.{TableInfo}
-use Rattle.dbl_table.specs.declared.row.Key.{Key}
-use Rattle.dbl_table.specs.declared.row.Row.{Row}
-use Rattle.dbl_table.specs.Tables.{type_at}
-use Rattle.dbl_table.specs.Infos.{width}
-use Rattle.dbl_history.specs.KeyBounds.{IsAbove}
+use Rattle.dbl_model_table.specs.declared.table.Column.{Column}
+use Rattle.dbl_model_table.specs.declared.table.RawRow.{RawRow}
+use Rattle.dbl_model_table.specs.declared.table.TableInfo.{TableInfo}
+use Rattle.dbl_model_table.specs.declared.row.Key.{Key}
+use Rattle.dbl_model_table.specs.declared.row.Row.{Row}
+use Rattle.dbl_model_table.specs.Tables.{type_at}
+use Rattle.dbl_model_table.specs.Infos.{width}
+use Rattle.dbl_model_history.specs.KeyBounds.{IsAbove}
 use Rattle.dbl_window.specs.declared.error.WindowError.{WindowError}
 use Rattle.dbl_window.specs.declared.error.WindowError.TheVariants as window
 use Rattle.dbl_window.specs.Plans.{Plan}
-use Rattle.dbl_window.specs.Reading.{◌>>=◌, cell_read, cells_read, is_behind, placed, with_key, row_read, rows_read}
+use Rattle.dbl_window.specs.Reading.{◌>>=◌, cell_read, cells_read, comes_after, placed, with_key, row_read, rows_read}
 use Rattle.dbl_window.proofs.Loops.{with_front, push_front}
 use Rattle.dbl_window.proofs.CellLemmas.{went_on}
 use Rattle.dbl_window.proofs.ReadLemmas.{placed_by}
@@ -49,7 +49,7 @@ above_by : (plan : Plan) (number : ℕ) (last : Option Key) (raw : RawRow) (entr
 above_by plan number last raw entry false h = absurd (cc)
 above_by plan number last raw entry true h =
     let read = went_on (cells_read plan.info number 0 plan.info.columns raw.cells) (λ cells. placed number last (with_key plan.info cells)) entry h in
-    let here = placed_by number last (with_key plan.info read.value) entry (is_behind last (with_key plan.info read.value).0) refl read.then_is in
+    let here = placed_by number last (with_key plan.info read.value) entry (comes_after last (with_key plan.info read.value).0) refl read.then_is in
     subst (λ (e : Key × Row). IsAbove last e.0) (sym here.same) here.above
 
 -- a row that was read stands behind the last key

@@ -10,13 +10,13 @@ use Rattle.std.specs.declared.cmp.Ordering.{Ordering}
 use Rattle.std.specs.declared.cmp.Ordering.TheVariants.{Less, Equal, Greater}
 use Rattle.dbl_value.specs.declared.value.Val.{Val}
 use Rattle.dbl_value.specs.contracts.value.ValOrd.TheImpl.{cmp-value}
-use Rattle.dbl_table.specs.declared.row.Key.{Key}
-use Rattle.dbl_table.specs.declared.row.Row.{Row}
-use Rattle.dbl_table.specs.Keys.{key_cmp, same_key}
-use Rattle.dbl_history.specs.KeyBounds.{IsAbove}
-use Rattle.dbl_history.specs.KeyedRows.{row_in, AreAbove, last_key}
-use Rattle.dbl_table.proofs.DerivedOrder.{derived_order}
-use Rattle.dbl_table.proofs.KeyLemmas.{key_total, same_key-is, same_key-itself, same_key-other, same_key-not}
+use Rattle.dbl_model_table.specs.declared.row.Key.{Key}
+use Rattle.dbl_model_table.specs.declared.row.Row.{Row}
+use Rattle.dbl_model_table.specs.Keys.{key_cmp, same_key}
+use Rattle.dbl_model_history.specs.KeyBounds.{IsAbove}
+use Rattle.dbl_model_history.specs.KeyedRows.{row_in, AreAbove, last_key}
+use Rattle.dbl_model_table.proofs.DerivedOrder.{derived_order}
+use Rattle.dbl_model_table.proofs.KeyLemmas.{key_total, same_key-is, same_key-itself, same_key-other, same_key-not}
 
 abbrev pub cells_in : Option Row → Option (List Val)
 cells_in row = option_map (λ r. r.cells) row

@@ -6,17 +6,17 @@ use Rattle.std.specs.List.Sorted.{IsStrictlySortedBy}
 use Rattle.std.specs.Map.{keys_of}
 use Rattle.std.specs.declared.cmp.Ordering.TheVariants.{Less}
 use Rattle.dbl_value.specs.declared.value.Val.{Val}
-use Rattle.dbl_table.specs.declared.row.Key.{Key}
-use Rattle.dbl_table.specs.declared.row.Row.{Row}
-use Rattle.dbl_table.specs.declared.table.TableInfo.{TableInfo}
-use Rattle.dbl_table.specs.Keys.{key_cmp, same_key}
-use Rattle.dbl_history.specs.Fit.{IsKeyOf}
-use Rattle.dbl_history.specs.KeyBounds.{IsAbove, IsUpTo}
-use Rattle.dbl_history.specs.KeyedRows.{row_in, AreAbove, last_key, AreFirst}
-use Rattle.dbl_event.specs.Snapshots.{AreInKeyOrder}
-use Rattle.dbl_table.proofs.Lists.{bool_case}
-use Rattle.dbl_table.proofs.KeyLemmas.{same_key-is, same_key-other}
-use Rattle.dbl_history.proofs.BoundLemmas.{not_below_itself, above_goes_on, up_to_last, row_in-first}
+use Rattle.dbl_model_table.specs.declared.row.Key.{Key}
+use Rattle.dbl_model_table.specs.declared.row.Row.{Row}
+use Rattle.dbl_model_table.specs.declared.table.TableInfo.{TableInfo}
+use Rattle.dbl_model_table.specs.Keys.{key_cmp, same_key}
+use Rattle.dbl_model_history.specs.Fit.{IsKeyOf}
+use Rattle.dbl_model_history.specs.KeyBounds.{IsAbove, IsUpTo}
+use Rattle.dbl_model_history.specs.KeyedRows.{row_in, AreAbove, last_key, AreFirst}
+use Rattle.dbl_model_event.specs.Snapshots.{AreInKeyOrder}
+use Rattle.dbl_model_table.proofs.Lists.{bool_case}
+use Rattle.dbl_model_table.proofs.KeyLemmas.{same_key-is, same_key-other}
+use Rattle.dbl_model_history.proofs.BoundLemmas.{not_below_itself, above_goes_on, up_to_last, row_in-first}
 
 pub row_past : (entry : Key × Row) (rows : List (Key × Row)) (key : Key) → same_key entry.0 key ≡ false → row_in (entry ∷ rows) key ≡ row_in rows key
 row_past entry rows key apart = ap (λ (b : Bool). if b then Some entry.1.cells else row_in rows key) apart
@@ -58,12 +58,12 @@ first_behind info at above limit entry rows are = record {
   keys = are.keys.1;
   ordered = are.ordered.1;
   few = (let few : suc (length rows) ≤ limit = are.few in omega (arith, few));
-  right = λ key is behind range.
-      let whole : row_in (entry ∷ rows) key ≡ at key = are.right key is (above_goes_on above entry.0 key are.ordered.0 behind) (elim range [
+  right = λ key is subsequent range.
+      let whole : row_in (entry ∷ rows) key ≡ at key = are.right key is (above_goes_on above entry.0 key are.ordered.0 subsequent) (elim range [
         | inl fewer ↦ inl (let few : suc (length rows) ≤ limit = are.few in let less : length rows < limit - 1 = fewer in omega (arith, few, less))
         | inr up ↦ inr up
       ]) in
-      let other : entry.0 ≢ key = λ same. not_below_itself key (subst (λ (k : Key). key_cmp k key ≡ Less) same behind) in
+      let other : entry.0 ≢ key = λ same. not_below_itself key (subst (λ (k : Key). key_cmp k key ≡ Less) same subsequent) in
       sym (row_past entry rows key (same_key-other entry.0 key other)) ∙ whole;
 }
 

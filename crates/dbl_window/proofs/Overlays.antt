@@ -9,12 +9,12 @@ use Rattle.dbl_value.specs.declared.value.Val.{Val}
 use Rattle.dbl_value.specs.declared.value.Val.TheVariants as val
 use Rattle.dbl_value.specs.Values.{IsOf}
 use Rattle.dbl_value.proofs.KindLemmas.{null_spelled}
-use Rattle.dbl_table.specs.declared.change.Cell.{Cell}
-use Rattle.dbl_table.specs.declared.change.Cell.TheVariants.{Given, Unchanged}
-use Rattle.dbl_table.specs.Keys.{cell_or_null, given_or_null}
-use Rattle.dbl_table.specs.Rows.{overlay}
-use Rattle.dbl_table.proofs.Lists.{and_left, and_right}
-use Rattle.dbl_history.specs.Fit.{AreOf}
+use Rattle.dbl_model_table.specs.declared.change.Cell.{Cell}
+use Rattle.dbl_model_table.specs.declared.change.Cell.TheVariants.{Given, Unchanged}
+use Rattle.dbl_model_table.specs.Keys.{cell_or_null, given_or_null}
+use Rattle.dbl_model_table.specs.Rows.{overlay}
+use Rattle.dbl_model_table.proofs.Lists.{and_left, and_right}
+use Rattle.dbl_model_history.specs.Fit.{AreOf}
 use Rattle.dbl_window.specs.Changing.{laid}
 
 -- a later cell takes the place of an earlier one where it is given

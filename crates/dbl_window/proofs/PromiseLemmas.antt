@@ -3,22 +3,22 @@ use Rattle.std.proofs.Common.{◌≡◌, ◌∙◌, ◌+◌, ◌-◌, ◌<◌, �
 use Rattle.std.specs.Prelude.{option_map, slice_get, IsTrue}
 use Rattle.std.proofs.lemmas.List.{take-append-drop, take-take, take_at, drop-drop, drop-take}
 use Rattle.dbl_value.specs.declared.value.Val.{Val}
-use Rattle.dbl_table.specs.declared.row.Key.{Key}
-use Rattle.dbl_table.specs.declared.row.Row.{Row}
-use Rattle.dbl_table.specs.declared.change.Change.{Change}
-use Rattle.dbl_table.specs.declared.change.Commit.{Commit}
-use Rattle.dbl_table.specs.declared.table.TableInfo.{TableInfo}
-use Rattle.dbl_table.specs.Rows.{Rows, no_rows, rows_from, rows_at, all_changes, overlay}
-use Rattle.dbl_history.specs.Fit.{IsKeyOf}
-use Rattle.dbl_history.specs.KeyBounds.{IsAbove, IsUpTo}
-use Rattle.dbl_history.specs.KeyedRows.{row_in, last_key}
-use Rattle.dbl_history.specs.PlainRows.{row_from}
-use Rattle.dbl_history.specs.WholeChanges.{IsTouched}
-use Rattle.dbl_history.proofs.RowLemmas.{rows_from-append, all_changes-append}
-use Rattle.dbl_history.proofs.PlainLemmas.{rows_from-row_from}
-use Rattle.dbl_event.specs.declared.closed.Closed.{Closed}
-use Rattle.dbl_event.specs.Snapshots.{AreInKeyOrder}
-use Rattle.dbl_ageing.specs.Windows.{IsRightWindow}
+use Rattle.dbl_model_table.specs.declared.row.Key.{Key}
+use Rattle.dbl_model_table.specs.declared.row.Row.{Row}
+use Rattle.dbl_model_table.specs.declared.change.Change.{Change}
+use Rattle.dbl_model_table.specs.declared.change.Commit.{Commit}
+use Rattle.dbl_model_table.specs.declared.table.TableInfo.{TableInfo}
+use Rattle.dbl_model_table.specs.Rows.{Rows, no_rows, rows_from, rows_at, all_changes, overlay}
+use Rattle.dbl_model_history.specs.Fit.{IsKeyOf}
+use Rattle.dbl_model_history.specs.KeyBounds.{IsAbove, IsUpTo}
+use Rattle.dbl_model_history.specs.KeyedRows.{row_in, last_key}
+use Rattle.dbl_model_history.specs.PlainRows.{row_from}
+use Rattle.dbl_model_history.specs.WholeChanges.{IsTouched}
+use Rattle.dbl_model_history.proofs.RowLemmas.{rows_from-append, all_changes-append}
+use Rattle.dbl_model_history.proofs.PlainLemmas.{rows_from-row_from}
+use Rattle.dbl_model_event.specs.declared.closed.Closed.{Closed}
+use Rattle.dbl_model_event.specs.Snapshots.{AreInKeyOrder}
+use Rattle.dbl_consume_laws.specs.Windows.{IsRightWindow}
 use Rattle.dbl_window.specs.Plans.{Chunk}
 use Rattle.dbl_window.specs.Changing.{left_from}
 use Rattle.dbl_window.specs.Promise.{rows_after_first, moment_after_first, WasGiven, IsClosedOf, KeepsPromise}

@@ -6,21 +6,21 @@ use Rattle.std.specs.declared.cmp.Ordering.{Ordering}
 use Rattle.std.specs.declared.cmp.Ordering.TheVariants.{Less, Equal, Greater}
 use Rattle.std.proofs.lemmas.Bool.Decides.{Decides-eqb, Decides-ltb}
 use Rattle.dbl_value.specs.declared.column_type.PgType.{PgType}
-use Rattle.dbl_table.specs.declared.table.Column.{Column}
-use Rattle.dbl_table.specs.declared.table.RawRow.{RawRow}
-use Rattle.dbl_table.specs.declared.table.TableInfo.{TableInfo}
-use Rattle.dbl_table.specs.declared.row.Key.{Key}
-use Rattle.dbl_table.specs.declared.row.Row.{Row}
-use Rattle.dbl_table.specs.Infos.{column_types, width}
-use Rattle.dbl_table.specs.Keys.{key_cmp}
-use Rattle.dbl_table.proofs.Lists.{and_left, and_right}
-use Rattle.dbl_history.specs.Typed.{types_of, typed_cells}
-use Rattle.dbl_history.specs.KeyBounds.{IsAbove}
-use Rattle.dbl_history.specs.KeyedRows.{AreAbove}
-use Rattle.dbl_honest.specs.Selected.{keyed_row}
+use Rattle.dbl_model_table.specs.declared.table.Column.{Column}
+use Rattle.dbl_model_table.specs.declared.table.RawRow.{RawRow}
+use Rattle.dbl_model_table.specs.declared.table.TableInfo.{TableInfo}
+use Rattle.dbl_model_table.specs.declared.row.Key.{Key}
+use Rattle.dbl_model_table.specs.declared.row.Row.{Row}
+use Rattle.dbl_model_table.specs.Infos.{column_types, width}
+use Rattle.dbl_model_table.specs.Keys.{key_cmp}
+use Rattle.dbl_model_table.proofs.Lists.{and_left, and_right}
+use Rattle.dbl_model_history.specs.Typed.{types_of, typed_cells}
+use Rattle.dbl_model_history.specs.KeyBounds.{IsAbove}
+use Rattle.dbl_model_history.specs.KeyedRows.{AreAbove}
+use Rattle.dbl_source.specs.SourceModel.Selected.{keyed_row}
 use Rattle.dbl_window.specs.declared.error.WindowError.TheVariants as window
 use Rattle.dbl_window.specs.Plans.{Plan}
-use Rattle.dbl_window.specs.Reading.{◌>>=◌, cells_read, is_behind, placed, with_key, row_read, rows_read, chunk_read}
+use Rattle.dbl_window.specs.Reading.{◌>>=◌, cells_read, comes_after, placed, with_key, row_read, rows_read, chunk_read}
 use Rattle.dbl_window.specs.Laws.{ReadRowsAreAnswered}
 use Rattle.dbl_window.proofs.CellLemmas.{went_on, cells_are}
 
@@ -31,11 +31,11 @@ less_is Less h = refl
 less_is Equal h = cc
 less_is Greater h = cc
 
-pub behind_is : (last : Option Key) (key : Key) → is_behind last key ≡ true → IsAbove last key
+pub behind_is : (last : Option Key) (key : Key) → comes_after last key ≡ true → IsAbove last key
 behind_is None key h = tt
 behind_is (Some bound) key h = less_is (key_cmp bound key) h
 
-pub above_is : (last : Option Key) (key : Key) → IsAbove last key → is_behind last key ≡ true
+pub above_is : (last : Option Key) (key : Key) → IsAbove last key → comes_after last key ≡ true
 above_is None key above = refl
 above_is (Some bound) key above = ap is_lt above
 
@@ -44,12 +44,12 @@ pub record IsPlaced (number : ℕ) (last : Option Key) (entry found : Key × Row
   pub same : found ≡ entry
   pub above : IsAbove last entry.0
 
-pub placed_by : (number : ℕ) (last : Option Key) (entry found : Key × Row) (b : Bool) → is_behind last entry.0 ≡ b
+pub placed_by : (number : ℕ) (last : Option Key) (entry found : Key × Row) (b : Bool) → comes_after last entry.0 ≡ b
     → (if b then Ok entry else Err (window.BadChunk number)) ≡ Ok found → IsPlaced number last entry found
-placed_by number last entry found true behind h =
+placed_by number last entry found true subsequent h =
     let back : entry ≡ found = cc in
-    record { same = sym back; above = behind_is last entry.0 behind }
-placed_by number last entry found false behind h = absurd (cc)
+    record { same = sym back; above = behind_is last entry.0 subsequent }
+placed_by number last entry found false subsequent h = absurd (cc)
 
 -- ---- one row
 
@@ -79,7 +79,7 @@ row_by infos plan number last raw entry true at test h =
     let wide : length raw.cells ≡ length plan.info.columns =
     (Decides-eqb (length raw.cells) (width plan.info)).0 (and_right (nat_lt number plan.limit) (length raw.cells == width plan.info) test) in
     let cells : read.value ≡ typed_cells (column_types plan.info) raw.cells = cells_are plan.info number 0 plan.info.columns raw.cells read.value wide read.first in
-    let here = placed_by number last (with_key plan.info read.value) entry (is_behind last (with_key plan.info read.value).0) refl read.then_is in
+    let here = placed_by number last (with_key plan.info read.value) entry (comes_after last (with_key plan.info read.value).0) refl read.then_is in
     record {
       same = here.same ∙ (ap (with_key plan.info) cells ∙ keyed_by infos plan raw at);
       above = subst (λ (e : Key × Row). IsAbove last e.0) (sym here.same) here.above;

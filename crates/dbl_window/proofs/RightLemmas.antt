@@ -1,27 +1,27 @@
 -- Windows are right: rows that were selected between two marks stay so, and then the promise speaks.
 use Rattle.std.proofs.Common.{◌≡◌, ◌∙◌, ◌+◌, ◌≤◌, ℕ, suc, Some, List, ◌∷◌, ◌++◌, length, sym, ap, subst, arith, length-append, append_assoc}
 use Rattle.std.specs.Prelude.{slice_get}
-use Rattle.dbl_table.specs.declared.table.TableInfo.{TableInfo}
-use Rattle.dbl_table.specs.Rows.{all_changes}
-use Rattle.dbl_history.specs.History.{RawCommit, History}
-use Rattle.dbl_history.specs.Typed.{typed}
-use Rattle.dbl_ageing.specs.Windows.{IsRightWindow}
-use Rattle.dbl_honest.specs.Growth.{Marks}
+use Rattle.dbl_model_table.specs.declared.table.TableInfo.{TableInfo}
+use Rattle.dbl_model_table.specs.Rows.{all_changes}
+use Rattle.dbl_model_history.specs.History.{RawCommit, History}
+use Rattle.dbl_model_history.specs.Typed.{typed}
+use Rattle.dbl_consume_laws.specs.Windows.{IsRightWindow}
+use Rattle.dbl_source.specs.SourceModel.Growth.{Marks}
 use Rattle.dbl_window.specs.Plans.{Plan, Chunk}
 use Rattle.dbl_window.specs.Selected.{IsSelected}
 use Rattle.dbl_window.specs.Promise.{moment_after_first}
-use Rattle.dbl_window.specs.RightLaws.{GoesOn, upto_mark, WasSelected, WindowsAreRight}
+use Rattle.dbl_window.specs.RightLaws.{ExtendsHistory, upto_mark, WasSelected, WindowsAreRight}
 use Rattle.dbl_window.proofs.LawLemmas.{stays_by, selected_given}
 
 -- ---- how a history goes on
 
-goes_on_again : (a b c : History) → GoesOn a b → GoesOn b c → GoesOn a c
+goes_on_again : (a b c : History) → ExtendsHistory a b → ExtendsHistory b c → ExtendsHistory a c
 goes_on_again a b c one two = (one.0 ++ two.0, two.1 ∙ (ap (λ (l : List RawCommit). l ++ two.0) one.1 ∙ append_assoc a.commits one.0 two.0))
 
-marked_on : (value : List ℕ) (old new : History) → Marks value old new → GoesOn old new
+marked_on : (value : List ℕ) (old new : History) → Marks value old new → ExtendsHistory old new
 marked_on value old new marks = (marks.before ++ marks.mark ∷ marks.after, marks.commits ∙ append_assoc old.commits marks.before (marks.mark ∷ marks.after))
 
-longer : (old new : History) → GoesOn old new → length old.commits ≤ length new.commits
+longer : (old new : History) → ExtendsHistory old new → length old.commits ≤ length new.commits
 longer old new on =
     let long : length new.commits ≡ length old.commits + length on.0 = ap length on.1 ∙ length-append old.commits on.0 in
     omega (arith, long)
@@ -48,13 +48,13 @@ widen infos history from upto low high chunk below above sel = record {
 }
 
 module _ (infos : List TableInfo) (now : History) (held : Chunk) (was : WasSelected infos now held) where
-  since : GoesOn was.returned now
-  since = goes_on_again was.returned was.asked now was.before_high (goes_on_again was.asked was.last now (marked_on _ was.asked was.last was.high) was.behind_high)
+  since : ExtendsHistory was.returned now
+  since = goes_on_again was.returned was.asked now was.before_high (goes_on_again was.asked was.last now (marked_on _ was.asked was.last was.high) was.after_high)
 
   below : upto_mark was.low ≤ length was.called.commits
   below =
       let one : length was.first.commits + length was.low.before + 1 ≤ length was.marked.commits = counted _ was.first was.marked was.low in
-      let two : length was.marked.commits ≤ length was.called.commits = longer was.marked was.called was.behind_low in
+      let two : length was.marked.commits ≤ length was.called.commits = longer was.marked was.called was.after_low in
       omega (arith, one, two)
 
   above : length was.returned.commits ≤ upto_mark was.high

@@ -2,22 +2,22 @@
 use Rattle.std.proofs.Common.{◌≡◌, ◌∙◌, inl, inr, ℕ, Bool, true, false, Option, Some, None, List, [], length, refl, sym, ap, subst}
 use Rattle.std.specs.Prelude.{IsTrue, Result, Ok, Err, IfOk, OnOk, IfSome, nat_lt}
 use Rattle.dbl_value.specs.declared.error.ValueError.{ValueError}
-use Rattle.dbl_table.specs.declared.table.RawRow.{RawRow}
-use Rattle.dbl_table.specs.declared.table.TableInfo.{TableInfo}
-use Rattle.dbl_history.specs.Fit.{IsKeyOf, IsFitHistory}
-use Rattle.dbl_history.specs.KeyedRows.{last_key}
-use Rattle.dbl_honest.specs.Standings.{Standing, Stood}
-use Rattle.dbl_honest.specs.Selected.{Selects}
-use Rattle.dbl_honest.specs.Calls.{Moved}
-use Rattle.dbl_honest.specs.Told.{Told, Selected, IsTakenBy, Tells}
-use Rattle.dbl_reading.specs.declared.error.SourceError.{SourceError}
-use Rattle.dbl_reading.specs.declared.error.SourceError.TheVariants as source
+use Rattle.dbl_model_table.specs.declared.table.RawRow.{RawRow}
+use Rattle.dbl_model_table.specs.declared.table.TableInfo.{TableInfo}
+use Rattle.dbl_model_history.specs.Fit.{IsKeyOf, IsFitHistory}
+use Rattle.dbl_model_history.specs.KeyedRows.{last_key}
+use Rattle.dbl_source.specs.SourceModel.Standings.{SourceState, HasState}
+use Rattle.dbl_source.specs.SourceModel.Selected.{Selects}
+use Rattle.dbl_source.specs.SourceModel.Calls.{Moved}
+use Rattle.dbl_source.specs.SourceModel.Trace.{Trace, Selected, IsTakenBy, LastAnswerIs}
+use Rattle.dbl_source.specs.SourceLog.declared.error.SourceError.{SourceError}
+use Rattle.dbl_source.specs.SourceLog.declared.error.SourceError.TheVariants as source
 use Rattle.dbl_window.specs.declared.error.WindowError.{WindowError}
 use Rattle.dbl_window.specs.declared.error.WindowError.TheVariants as window
 use Rattle.dbl_window.specs.Errors.{window_fault}
 use Rattle.dbl_window.specs.Plans.{Plan, Chunk}
 use Rattle.dbl_window.specs.Reading.{rows_read, chunk_read}
-use Rattle.dbl_window.specs.Selected.{IsCaptured, IsSelected, SelectsChunk, HasUnreadable, IsReadAs, IsReadFrom}
+use Rattle.dbl_window.specs.Selected.{IsCaptured, IsSelected, SelectsChunk, HasUnreadable, IsReadAs, IsChunkReadFrom}
 use Rattle.dbl_window.proofs.HonestLemmas.{captured_stays, never_bad_chunk, unreadable_cell, selected_chunk}
 
 pub chunk_is : (plan : Plan) (rows : List RawRow) → chunk_read plan rows ≡ rows_read plan 0 plan.above rows
@@ -25,7 +25,7 @@ unfolding chunk_read
 chunk_is plan rows = refl
 
 -- who tells nothing new goes on telling what was told
-pub none_taken : (told : Option Told) → IsTakenBy [] told told
+pub none_taken : (told : Option Trace) → IsTakenBy [] told told
 none_taken None = tt
 none_taken (Some t) = refl
 
@@ -37,12 +37,12 @@ memory_was source.Memory is = refl
 -- ---- what was read of a source
 
 -- a source stands for one thing, and so for what a call led to
-pub still_led : {S : Type 0} (stands : S → Standing → Type 0) (source : S) (P : Standing → Type 0) (s t : Standing) → ((a b : Standing) → stands source a → stands source b → a ≡ b) → Stood stands source P
-    → ((u : Standing) → P u → u.reading ≡ s.reading) → stands source t → t.reading ≡ s.reading
-still_led stands source P s t one stood same is = ap (λ (u : Standing). u.reading) (one t stood.standing is stood.is) ∙ same stood.standing stood.holds
+pub still_led : {S : Type 0} (stands : S → SourceState → Type 0) (source : S) (P : SourceState → Type 0) (s t : SourceState) → ((a b : SourceState) → stands source a → stands source b → a ≡ b) → HasState stands source P
+    → ((u : SourceState) → P u → u.reading ≡ s.reading) → stands source t → t.reading ≡ s.reading
+still_led stands source P s t one stood same is = ap (λ (u : SourceState). u.reading) (one t stood.standing is stood.is) ∙ same stood.standing stood.holds
 
 -- one that can't be used stands for nothing
-pub still_dead : {S : Type 0} (stands : S → Standing → Type 0) (is_live : S → Bool) (source : S) (s t : Standing) → ((u : Standing) → stands source u → IsTrue (is_live source)) → is_live source ≡ false → stands source t → t.reading ≡ s.reading
+pub still_dead : {S : Type 0} (stands : S → SourceState → Type 0) (is_live : S → Bool) (source : S) (s t : SourceState) → ((u : SourceState) → stands source u → IsTrue (is_live source)) → is_live source ≡ false → stands source t → t.reading ≡ s.reading
 still_dead stands is_live source s t lives dead is =
     let contra : false ≡ true = sym dead ∙ lives t is in
     absurd (cc)
@@ -61,7 +61,7 @@ pub held_so : (plan : Plan) (rows : List RawRow) (Q : Chunk → Type 0) (result 
 held_so plan rows Q (Ok chunk) read same through done so = so chunk same read through done
 held_so plan rows Q (Err e) read same through done so = tt
 
-pub read_so : (plan : Plan) (told : Option Told) (rows : List RawRow) (result : Result Chunk WindowError) → Tells told (Selected rows) → IsReadAs plan rows result → IsReadFrom plan told result
+pub read_so : (plan : Plan) (told : Option Trace) (rows : List RawRow) (result : Result Chunk WindowError) → LastAnswerIs told (Selected rows) → IsReadAs plan rows result → IsChunkReadFrom plan told result
 read_so plan told rows (Ok chunk) tells read = record { rows = rows; told_so = tells; read_is = read }
 read_so plan told rows (Err e) tells read =
     elim read [
@@ -74,10 +74,10 @@ read_so plan told rows (Err e) tells read =
 
 -- ---- an honest source's rows
 
-moved_captured : (infos : List TableInfo) (plan : Plan) (s t : Standing) → Moved s t → IsCaptured infos s.history plan → IsCaptured infos t.history plan
+moved_captured : (infos : List TableInfo) (plan : Plan) (s t : SourceState) → Moved s t → IsCaptured infos s.history plan → IsCaptured infos t.history plan
 moved_captured infos plan s t moved captured = record { are = captured_stays s.history t.history infos moved.grows.tables captured.are; here = captured.here }
 
-pub selects_so : (plan : Plan) (rows : List RawRow) (chunk : Chunk) (s t : Standing) → Moved s t → IfSome plan.above (IsKeyOf plan.info)
+pub selects_so : (plan : Plan) (rows : List RawRow) (chunk : Chunk) (s t : SourceState) → Moved s t → IfSome plan.above (IsKeyOf plan.info)
     → Selects plan.info.name plan.above plan.limit s.history t.history rows → chunk.plan ≡ plan → chunk_read plan rows ≡ Ok chunk.rows → chunk.through ≡ last_key plan.above chunk.rows
     → chunk.done ≡ nat_lt (length chunk.rows) plan.limit → SelectsChunk plan chunk s t
 selects_so plan rows chunk s t moved starts selects plan_is read through done infos captured =
@@ -99,13 +99,13 @@ fault_of_rows plan rows result e read is not_failed not_memory =
       ]
     ]
 
-pub never_so : (plan : Plan) (rows : List RawRow) (result : Result Chunk WindowError) (s t : Standing) (infos : List TableInfo) (row : ℕ) → IsReadAs plan rows result → Moved s t → IsFitHistory t.history
+pub never_so : (plan : Plan) (rows : List RawRow) (result : Result Chunk WindowError) (s t : SourceState) (infos : List TableInfo) (row : ℕ) → IsReadAs plan rows result → Moved s t → IsFitHistory t.history
     → IfSome plan.above (IsKeyOf plan.info) → Selects plan.info.name plan.above plan.limit s.history t.history rows → IsCaptured infos s.history plan → result ≡ Err (window.BadChunk row) → ⊥
 never_so plan rows result s t infos row read moved fit starts selects captured is =
     never_bad_chunk infos t.history plan (length s.history.commits) (length t.history.commits) rows row fit (moved_captured infos plan s t moved captured) starts selects
     (fault_of_rows plan rows result (window.BadChunk row) read is (λ e. (let never : ⊥ = cc in never)) (λ e. (let never : ⊥ = cc in never)))
 
-pub cell_so : (plan : Plan) (rows : List RawRow) (result : Result Chunk WindowError) (s t : Standing) (infos : List TableInfo) (name : List ℕ) (error : ValueError) → IsReadAs plan rows result → Moved s t
+pub cell_so : (plan : Plan) (rows : List RawRow) (result : Result Chunk WindowError) (s t : SourceState) (infos : List TableInfo) (name : List ℕ) (error : ValueError) → IsReadAs plan rows result → Moved s t
     → IsFitHistory t.history → IfSome plan.above (IsKeyOf plan.info) → Selects plan.info.name plan.above plan.limit s.history t.history rows → IsCaptured infos s.history plan
     → result ≡ Err (window.Cell name error) → HasUnreadable infos t.history plan name error
 cell_so plan rows result s t infos name error read moved fit starts selects captured is =

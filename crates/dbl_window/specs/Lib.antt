@@ -1,3 +1,6 @@
+pub use Rattle.dbl_source.specs.SourceModel
+pub use Rattle.dbl_consume_laws.specs as ConsumeLaws
+pub use Rattle.dbl_source.specs.ModelCommit
 pub mod Plans
 pub mod Errors
 pub mod Reading

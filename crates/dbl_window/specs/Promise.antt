@@ -1,28 +1,26 @@
--- What a window promises once it is closed. Source: Andreakis and Papapanagiotou, "DBLog: A Watermark Based Change-Data-Capture
--- Framework" (2020), made exact.
+-- The guarantee of a closed window. After the DBLog paper, made exact.
 use Rattle.std.specs.Prelude.{◌≡◌, ℕ, ◌≤◌, ◌<◌, IsTrue, Some, List, length, take, drop, slice_get}
-use Rattle.dbl_table.specs.declared.row.Key.{Key}
-use Rattle.dbl_table.specs.declared.row.Row.{Row}
-use Rattle.dbl_table.specs.declared.table.TableInfo.{TableInfo}
-use Rattle.dbl_table.specs.declared.change.Commit.{Commit}
-use Rattle.dbl_table.specs.Rows.{Rows, no_rows, rows_from, all_changes}
-use Rattle.dbl_history.specs.KeyedRows.{AreFirst, last_key}
-use Rattle.dbl_event.specs.declared.closed.Closed.{Closed}
-use Rattle.dbl_ageing.specs.Windows.{IsRightWindow}
+use Rattle.dbl_model_table.specs.declared.row.Key.{Key}
+use Rattle.dbl_model_table.specs.declared.row.Row.{Row}
+use Rattle.dbl_model_table.specs.declared.table.TableInfo.{TableInfo}
+use Rattle.dbl_model_table.specs.declared.change.Commit.{Commit}
+use Rattle.dbl_model_table.specs.Rows.{Rows, no_rows, rows_from, all_changes}
+use Rattle.dbl_model_history.specs.KeyedRows.{AreFirst, last_key}
+use Rattle.dbl_model_event.specs.declared.closed.Closed.{Closed}
+use Rattle.dbl_consume_laws.specs.Windows.{IsRightWindow}
 use Rattle.dbl_window.specs.Plans.{Chunk}
 use Rattle.dbl_window.specs.Changing.{AreLeft}
 
--- the rows behind the first so many commits
+-- The rows after a number of first commits.
 abbrev pub rows_after_first : List TableInfo → List Commit → ℕ → Rows
 rows_after_first infos commits place = rows_from infos no_rows (all_changes (take place commits))
 
--- the moment behind the first so many commits
+-- The point in the history after a number of first commits.
 abbrev pub moment_after_first : List Commit → ℕ → ℕ
 moment_after_first commits place = length (all_changes (take place commits))
 
--- The window's marks are the last of the first `low` and of the first `high` commits. Between them the window read its rows at one
--- place, and what it holds is what the changes of the commits between the marks leave of these rows: each was given to it, in
--- order. What it holds is no more than that, and it went to where it read.
+-- Whether the window read its rows at one position between its watermarks, the last of the first `low` and of the first `high` commits, and
+-- has what the changes between them keep of these rows.
 pub record WasGiven (infos : List TableInfo) (commits : List Commit) (low high : ℕ) (chunk : Chunk) : Type 0 where
   pub selected : List (Key × Row)
   pub place : ℕ
@@ -33,19 +31,19 @@ pub record WasGiven (infos : List TableInfo) (commits : List Commit) (low high :
   pub done_is : IsTrue chunk.done → length selected < chunk.plan.limit
   pub left : AreLeft infos chunk.plan.table selected (all_changes (drop low (take high commits))) chunk.rows
 
--- For every history, whatever is captured beside the window's table: a window that was given the changes between its marks is right
--- at its high mark. Nothing else is asked of the history.
+-- A window that saw the changes between its watermarks is right at its high watermark, for every history and any captured tables besides
+-- its own.
 abbrev pub KeepsPromise : Chunk → Closed → Type 0
 KeepsPromise chunk closed =
     (infos : List TableInfo) (commits : List Commit) (low high : ℕ)
     → slice_get infos chunk.plan.table ≡ Some chunk.plan.info → WasGiven infos commits low high chunk
     → IsRightWindow infos (all_changes commits) (moment_after_first commits low) (moment_after_first commits high) chunk.plan.above closed
 
--- what a chunk is when it is closed
+-- The closed window of a chunk.
 abbrev pub closed_of : Chunk → Closed
 closed_of chunk = record { table = chunk.plan.table; rows = chunk.rows; through = chunk.through; done = chunk.done }
 
--- a closed window has what its chunk has
+-- Whether a closed window has the contents of its chunk.
 pub record IsClosedOf (chunk : Chunk) (closed : Closed) : Type 0 where
   pub table : closed.table ≡ chunk.plan.table
   pub rows : closed.rows ≡ chunk.rows

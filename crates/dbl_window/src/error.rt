@@ -4,14 +4,14 @@ use dbl_value::ValueError;
 use std::alloc::{AllocError, AllocFailed};
 use thiserror::Error;
 
-/// Why a window isn't read.
+/// Why a step of a window failed.
 #[derive(Debug, Drop, PartialEq, Eq, Error)]
 pub enum WindowError {
-    /// The first row, counted from 0, that is past the limit, has another number of cells than its table, a null cell of its
-    /// key, or a key that isn't above the one before it.
+    /// The first row, counted from 0, that is past the limit, has another number of cells than its
+    /// table, a null cell of its key, or a key that isn't above the one before it.
     #[error("bad chunk at row {row}")]
     BadChunk { row: u32 },
-    /// A cell whose text spells no value of its column's type: `BadText` or `DateRange`.
+    /// A cell whose text doesn't parse as a value of its column's type: `BadText` or `DateRange`.
     #[error("unreadable cell in {column}: {error}")]
     Cell { column: Text, error: ValueError },
     #[error("source failed")]

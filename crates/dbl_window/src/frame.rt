@@ -1,17 +1,17 @@
 ghost use Rattle.std.specs.Prelude.{◌≡◌};
 ghost use Rattle.std.specs.Option.{option_copied};
 
-use dbl_table::{Key, TableInfo};
+use dbl_model_table::{Key, TableInfo};
 use std::alloc::Global;
 
-// What a window is to read, and under which numbers. Every state of it has one.
+// The plan of a window and the numbers of its watermarks. Every state of the window has one.
 #[derive(Debug, Drop)]
 pub(crate) struct Frame {
     pub alloc: Global,
     pub info: TableInfo,
-    // the table's place among the captured ones
+    // the table's index among the captured ones
     pub table: u32,
-    // the key behind which the window begins
+    // the key after which the window begins
     pub above: Option<Key>,
     pub limit: u32,
     pub incarnation: u64,

@@ -3,26 +3,26 @@
 ghost use Rattle.std.specs.Prelude.{◌≡◌, IfOk, map, Some, None};
 ghost use Rattle.std.specs.List.{list_all};
 ghost use Rattle.std.specs.Option.{option_copied};
-ghost use Rattle.dbl_table.specs.Keys.{key_of, new_key_of, cell_or_null, given_or_null};
-ghost use Rattle.dbl_history.specs.PlainRows.{is_sent};
-ghost use Rattle.dbl_window.specs.Reading.{is_of_key, is_behind};
+ghost use Rattle.dbl_model_table.specs.Keys.{key_of, new_key_of, cell_or_null, given_or_null};
+ghost use Rattle.dbl_model_history.specs.PlainRows.{is_sent};
+ghost use Rattle.dbl_window.specs.Reading.{is_of_key, comes_after};
 
 use dbl_base::Seq;
-use dbl_history::key_at;
-use dbl_table::{Cell, Key, TableInfo, compare};
+use dbl_model_history::key_at;
+use dbl_model_table::{Cell, Key, TableInfo, compare};
 use dbl_value::Val;
 use std::alloc::{AllocError, Global};
 
-/// Whether the column at a place is one of the key.
+/// Whether the column at an index is one of the key.
 pub(crate) fn is_of_key(info: &TableInfo, place: usize) -> bool
     ensures { result ≡ is_of_key info.now place }
 {
     info.key.items().iter().any(|key| place == *key as usize)
 }
 
-/// Whether a key stands behind the last one.
-pub(crate) fn is_behind(last: Option<&Key>, key: &Key) -> bool
-    ensures { result ≡ is_behind (option_copied last.entry) key.now }
+/// Whether a key is after the last one, if there is one.
+pub(crate) fn comes_after(last: Option<&Key>, key: &Key) -> bool
+    ensures { result ≡ comes_after (option_copied last.entry) key.now }
 {
     match last {
         Some(last) => compare(last, key).is_lt(),
@@ -73,7 +73,7 @@ fn is_sent(cell: &Cell) -> bool
     }
 }
 
-/// Whether an update gives all cells.
+/// Whether an update sends all cells.
 pub(crate) fn gives_all(cells: &Seq<Cell>) -> bool
     ensures { result ≡ list_all is_sent cells.now }
 {

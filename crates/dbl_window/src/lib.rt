@@ -1,4 +1,5 @@
-//! Windows of a table's snapshot: rows that are read between two watermarks, and what the log's changes leave of them.
+//! Windows of a table's snapshot: rows that are read between two watermarks, without those that
+//! changes in the log replace.
 #![tactic(auto)]
 
 mod error;

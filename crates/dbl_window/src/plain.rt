@@ -1,18 +1,18 @@
-//! What changes leave of a row that was read, by a plain walk over all of them, for one key at a time. It only serves tests of the
-//! definitions.
+//! The part of a row that changes keep, by a plain walk over all of them, for one key at a time.
+//! Only for tests.
 
 ghost use Rattle.std.specs.Prelude.{◌≡◌, IfOk};
-ghost use Rattle.dbl_table.specs.Infos.{key_places};
-ghost use Rattle.dbl_table.specs.Rows.{all_given, effect_of, updated};
-ghost use Rattle.dbl_history.specs.KeyedRows.{row_left};
-ghost use Rattle.dbl_history.specs.PlainRows.{cells_of};
+ghost use Rattle.dbl_model_table.specs.Infos.{key_places};
+ghost use Rattle.dbl_model_table.specs.Rows.{all_given, effect_of, updated};
+ghost use Rattle.dbl_model_history.specs.KeyedRows.{row_left};
+ghost use Rattle.dbl_model_history.specs.PlainRows.{plain_row_cells};
 ghost use Rattle.dbl_window.specs.Changing.{left_from};
 
 use crate::keys::gives_all;
 use crate::rows::overlaid_row;
 use dbl_base::Seq;
-use dbl_history::{given_or_nulls, is_same, key_at};
-use dbl_table::{Cell, Change, Key, Row, TableInfo};
+use dbl_model_history::{given_or_nulls, is_same, key_at};
+use dbl_model_table::{Cell, Change, Key, Row, TableInfo};
 use std::alloc::{AllocError, Global};
 
 fn key_places(infos: &Vec<TableInfo>, table: u32) -> &[u32]
@@ -29,8 +29,8 @@ fn left_of_update(
     cells: &Seq<Cell>,
     row: Option<Row>,
 ) -> Result<Option<Row>, AllocError>
-    ensures { IfOk result (λ left. cells_of left
-        ≡ row_left (updated (all_given cells.now) cells.now) (cells_of row)) }
+    ensures { IfOk result (λ left. plain_row_cells left
+        ≡ row_left (updated (all_given cells.now) cells.now) (plain_row_cells row)) }
 {
     if gives_all(cells) {
         return Ok(None);
@@ -49,8 +49,8 @@ fn left_by(
     key: &Key,
     row: Option<Row>,
 ) -> Result<Option<Row>, AllocError>
-    ensures { IfOk result (λ left. cells_of left
-        ≡ row_left (effect_of infos.now.items change.now table key.now) (cells_of row)) }
+    ensures { IfOk result (λ left. plain_row_cells left
+        ≡ row_left (effect_of infos.now.items change.now table key.now) (plain_row_cells row)) }
 {
     match change {
         Change::Insert { table: t, row: new } => {
@@ -94,7 +94,7 @@ fn left_by(
     }
 }
 
-/// What changes leave of a row at a key of a table.
+/// The part of a row at a key of a table that changes keep.
 pub fn plain_left(
     alloc: Global,
     infos: &Vec<TableInfo>,
@@ -103,8 +103,8 @@ pub fn plain_left(
     row: Option<Row>,
     changes: &Vec<Change>,
 ) -> Result<Option<Row>, AllocError>
-    ensures { IfOk result (λ left. cells_of left
-        ≡ left_from infos.now.items table key.now (cells_of row) changes.now.items) }
+    ensures { IfOk result (λ left. plain_row_cells left
+        ≡ left_from infos.now.items table key.now (plain_row_cells row) changes.now.items) }
 {
     let mut left = row;
     for change in changes {

@@ -3,20 +3,20 @@
 ghost use Rattle.std.specs.Prelude.{◌≡◌, ◌≢◌, ◌⊎◌, ◌≤◌, ◌<◌, length, Ok, Err, IfOk, MatchResult};
 ghost use Rattle.std.specs.List.{AllByRecursion};
 ghost use Rattle.std.specs.Option.{option_copied};
-ghost use Rattle.dbl_table.specs.Infos.{width};
+ghost use Rattle.dbl_model_table.specs.Infos.{width};
 ghost use Rattle.dbl_value.specs.Values.{IsOf, value_of};
-ghost use Rattle.dbl_history.specs.KeyedRows.{last_key};
+ghost use Rattle.dbl_model_history.specs.KeyedRows.{last_key};
 ghost use Rattle.dbl_window.specs.Plans.{plan_of};
 ghost use Rattle.dbl_window.specs.Reading.{null_read, value_read, cell_read, cells_read, placed, with_key, row_read, rows_read};
 ghost use Rattle.dbl_window.specs.Changing.{FitsRow};
-ghost use Rattle.dbl_window.specs.ReadParts.{Reads, FitsCell, FitCells};
+ghost use Rattle.dbl_window.specs.ReadParts.{ReadsPart, FitsColumnCell, FitCells};
 
 use crate::WindowError;
 use crate::frame::Frame;
-use crate::keys::{is_behind, is_of_key, key_of};
+use crate::keys::{comes_after, is_of_key, key_of};
 use crate::rows::{HeldRows, put_row};
 use dbl_base::{Seq, Text};
-use dbl_table::{Column, Key, RawRow, Row, TableInfo};
+use dbl_model_table::{Column, Key, RawRow, Row, TableInfo};
 use dbl_value::{Val, ValueError, read_owned};
 use std::alloc::Global;
 use std::collections::BTreeMap;
@@ -35,10 +35,10 @@ fn unread_cell(alloc: Global, column: &Column, error: ValueError) -> WindowError
 }
 
 fn read_value(alloc: Global, column: &Column, text: Text) -> Result<Val, WindowError>
-    ensures read { Reads result (value_read column.now text (value_of column.now.ty text)) }
+    ensures read { ReadsPart result (value_read column.now text (value_of column.now.ty text)) }
     ensures is { IfOk result (IsOf column.now.ty) }
 {
-    // A text tells that it is UTF-8 where it is read.
+    // Reading a text shows the prover that it is UTF-8.
     let _text = text.as_str();
     match read_owned(alloc, column.ty, text) {
         Ok(value) => Ok(value),
@@ -64,8 +64,8 @@ fn read_cell(
     column: &Column,
     cell: Option<Text>,
 ) -> Result<Val, WindowError>
-    ensures read { Reads result (cell_read info.now number place column.now cell) }
-    ensures fits { IfOk result (FitsCell info.now place column.now.ty) }
+    ensures read { ReadsPart result (cell_read info.now number place column.now cell) }
+    ensures fits { IfOk result (FitsColumnCell info.now place column.now.ty) }
 {
     match cell {
         None => read_null(number, is_of_key(info, place)),
@@ -80,7 +80,7 @@ fn read_cells(
     cells: Vec<Option<Text>>,
 ) -> Result<Seq<Val>, WindowError>
     requires { length cells.items ≡ width info.now }
-    ensures read { Reads result (cells_read info.now number 0 info.now.columns cells.items) }
+    ensures read { ReadsPart result (cells_read info.now number 0 info.now.columns cells.items) }
     ensures fit { IfOk result (FitCells info.now) }
 {
     let columns = info.columns.items();
@@ -93,7 +93,7 @@ fn read_cells(
     Ok(Seq::make(values))
 }
 
-/// The row in its place, which is behind the last key.
+/// The row with its key if that is after the last key, or else an error.
 fn place_row(
     alloc: Global,
     info: &TableInfo,
@@ -102,12 +102,12 @@ fn place_row(
     cells: Seq<Val>,
 ) -> Result<(Key, Row), WindowError>
     requires { FitCells info.now cells }
-    ensures read { Reads result
+    ensures read { ReadsPart result
         (placed number (option_copied last.entry) (with_key info.now cells)) }
     ensures fits { IfOk result (FitsRow info.now) }
 {
     let key = key_of(alloc, info, &cells)?;
-    if is_behind(last, &key) {
+    if comes_after(last, &key) {
         Ok((key, Row { cells }))
     } else {
         Err(WindowError::BadChunk { row: number })
@@ -120,7 +120,7 @@ fn read_row(
     last: Option<&Key>,
     raw: RawRow,
 ) -> Result<(Key, Row), WindowError>
-    ensures read { Reads result
+    ensures read { ReadsPart result
         (row_read (plan_of frame.now) number (option_copied last.entry) raw) }
     ensures fits { IfOk result (FitsRow frame.now.info) }
     ensures within { IfOk result (λ entry. number < frame.now.limit) }
@@ -133,13 +133,13 @@ fn read_row(
     place_row(frame.alloc, &frame.info, number, last, cells)
 }
 
-/// What was read of a chunk.
+/// The rows read of a chunk.
 #[derive(Drop)]
 pub(crate) struct Read {
     pub rows: HeldRows,
-    /// The last key, or the one behind which the window began.
+    /// The last key, or the one after which the window began.
     pub through: Option<Key>,
-    /// How many rows there were.
+    /// The number of rows.
     pub count: u32,
 }
 

@@ -1,24 +1,24 @@
-//! What a change leaves of the rows that a window holds.
+//! The part of a window's rows that a change keeps.
 
 ghost use Rattle.std.specs.Prelude.{◌≡◌, ◌+◌, ◌≤◌, ◌++◌, ◌∷◌, [], Option, length, slice_set, option_map, is_some};
 ghost use Rattle.std.specs.Prelude.{if◌then◌else◌, true, None, IfOk, IfSome, OnOk};
 ghost use Rattle.std.specs.List.{AllByRecursion};
-ghost use Rattle.dbl_table.specs.declared.row.Key.{Key as SpecKey};
-ghost use Rattle.dbl_table.specs.declared.table.TableInfo.{TableInfo as SpecInfo};
-ghost use Rattle.dbl_table.specs.Infos.{column_types};
-ghost use Rattle.dbl_table.specs.Keys.{same_key, new_key_of};
-ghost use Rattle.dbl_table.specs.Rows.{all_given, at_keys, overlay, updated};
-ghost use Rattle.dbl_history.specs.Fit.{IsKeyOf};
-ghost use Rattle.dbl_history.specs.FitsInfos.{AreSentOf};
-ghost use Rattle.dbl_history.specs.KeyBounds.{IsAbove};
-ghost use Rattle.dbl_history.specs.KeyedRows.{AreAbove, last_key, row_in, row_left};
-ghost use Rattle.dbl_event.specs.Snapshots.{AreInKeyOrder};
-ghost use Rattle.dbl_window.specs.Changing.{FitsRow, FitsTable, effect_at, laid};
+ghost use Rattle.dbl_model_table.specs.declared.row.Key.{Key as SpecKey};
+ghost use Rattle.dbl_model_table.specs.declared.table.TableInfo.{TableInfo as SpecInfo};
+ghost use Rattle.dbl_model_table.specs.Infos.{column_types};
+ghost use Rattle.dbl_model_table.specs.Keys.{same_key, new_key_of};
+ghost use Rattle.dbl_model_table.specs.Rows.{all_given, at_keys, overlay, updated};
+ghost use Rattle.dbl_model_history.specs.Fit.{IsKeyOf};
+ghost use Rattle.dbl_model_history.specs.FitsInfos.{AreSentOf};
+ghost use Rattle.dbl_model_history.specs.KeyBounds.{IsAbove};
+ghost use Rattle.dbl_model_history.specs.KeyedRows.{AreAbove, last_key, row_in, row_left};
+ghost use Rattle.dbl_model_event.specs.Snapshots.{AreInKeyOrder};
+ghost use Rattle.dbl_window.specs.Changing.{FitsRow, FitsTableChange, effect_at, laid};
 
 use crate::keys::{gives_all, key_of, new_key_of};
 use dbl_base::Seq;
-use dbl_history::is_same;
-use dbl_table::{Cell, Change, Key, Row, TableInfo};
+use dbl_model_history::is_same;
+use dbl_model_table::{Cell, Change, Key, Row, TableInfo};
 use dbl_value::Val;
 use std::alloc::{AllocError, Global};
 use std::collections::BTreeMap;
@@ -33,7 +33,7 @@ fn put_cell(values: &mut Vec<Val>, place: usize, value: Val)
     }
 }
 
-/// Lays a cell of an update over a row's in its place.
+/// Sets a cell of a row to that of an update, unless it is unsent.
 fn lay_cell(
     alloc: Global,
     values: &mut Vec<Val>,
@@ -51,7 +51,7 @@ fn lay_cell(
     }
 }
 
-/// The row with the cells that an update gives. The others move along.
+/// The row with the cells that an update sends. The others are moved, not copied.
 pub(crate) fn overlaid_row(alloc: Global, cells: &Seq<Cell>, row: Row) -> Result<Row, AllocError>
     ensures { IfOk result (λ new. new.cells ≡ overlay cells.now row.cells) }
 {
@@ -64,15 +64,15 @@ pub(crate) fn overlaid_row(alloc: Global, cells: &Seq<Cell>, row: Row) -> Result
     })
 }
 
-/// The rows are in the order of their keys.
+/// Shows the prover that the rows are in the order of their keys.
 pub(crate) fn in_order(rows: &HeldRows)
     ensures { AreInKeyOrder rows.now.entries }
 {
-    // std tells that the keys of a map ascend when it is asked for its length.
+    // Reading the length shows the prover that the map's keys are in ascending order.
     let _count = rows.len();
 }
 
-/// Takes the row at a key, where there is one.
+/// Removes the row at a key, if there is one.
 fn remove_row(rows: &mut HeldRows, key: &Key) -> Option<Row>
     ensures row { option_map (λ row. row.cells) result ≡ row_in rows.old.entries key.now }
     ensures left { (k : SpecKey) → row_in rows.new.entries k ≡
@@ -86,7 +86,7 @@ fn remove_row(rows: &mut HeldRows, key: &Key) -> Option<Row>
     rows.remove(key)
 }
 
-/// Puts a row at a key, in the place of one that is there.
+/// Sets the row at a key, replacing one that exists.
 pub(crate) fn put_row(rows: &mut HeldRows, key: Key, row: Row) -> Result<(), AllocError>
     ensures put { OnOk result ((k : SpecKey) → row_in rows.new.entries k ≡
         (if same_key key k then Some row.cells else row_in rows.old.entries k)) }
@@ -103,7 +103,7 @@ pub(crate) fn put_row(rows: &mut HeldRows, key: Key, row: Row) -> Result<(), All
     }
 }
 
-/// Lays an update's cells over the row at its key, where there is one.
+/// Applies an update's cells to the row at its key, if there is one.
 fn overlay_row(
     alloc: Global,
     info: &TableInfo,
@@ -130,7 +130,7 @@ fn overlay_row(
     }
 }
 
-/// What an update does at its new key: it gives the row whole, or some cells of it.
+/// The effect of an update at its new key: it sets the whole row, or some of its cells.
 fn give_row(
     alloc: Global,
     info: &TableInfo,
@@ -157,7 +157,7 @@ fn give_row(
     }
 }
 
-/// What an update does at its old key: it ends the row that it moves away.
+/// The effect of an update at its old key: it ends the row that it moves away.
 fn leave_row(rows: &mut HeldRows, from: &Key, to: &Key)
     ensures left { (k : SpecKey) → row_in rows.new.entries k ≡
         (if same_key to.now k then row_in rows.old.entries k
@@ -193,14 +193,14 @@ fn update_rows(
     Ok(())
 }
 
-/// What a change of the table leaves of its rows. Once memory ran out some may be missing.
+/// Applies a change of the table to its rows. After out of memory some may be missing.
 pub(crate) fn change_rows(
     alloc: Global,
     info: &TableInfo,
     rows: &mut HeldRows,
     change: &Change,
 ) -> Result<(), AllocError>
-    requires fits { FitsTable info.now change.now }
+    requires fits { FitsTableChange info.now change.now }
     requires rows { AllByRecursion (FitsRow info.now) rows.old.entries }
     ensures left { OnOk result ((k : SpecKey) → row_in rows.new.entries k ≡
         row_left (effect_at info.now change.now k) (row_in rows.old.entries k)) }

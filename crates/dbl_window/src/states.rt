@@ -1,23 +1,24 @@
-//! The states of a window, each consumed by the step to the next one. A state keeps only what other clients' commits can't undo: a
-//! mark that stands in a history which grows, and rows of one place between two marks.
+//! The states of a window, each consumed by the step to the next one. A state has only what other
+//! clients' commits can't undo: a watermark in a history that grows, and rows of one position
+//! between two watermarks.
 
 ghost use Rattle.std.specs.Prelude.{◌≡◌, ◌≢◌, ◌⊎◌, ◌↔◌, ◌≤◌, ℕ, List, [], length, nat_lt, IsTrue, IfOk, IfErr, IfSome, IsOk, OnOk};
 ghost use Rattle.std.specs.List.{AllByRecursion};
-ghost use Rattle.dbl_base.specs.Streams.{HasCause};
+ghost use Rattle.dbl_base.specs.Streams.{FailsOnlyIfCounted};
 ghost use Rattle.dbl_value.specs.declared.error.ValueError.{ValueError as SpecValueError};
-ghost use Rattle.dbl_table.specs.declared.table.TableInfo.{TableInfo as SpecInfo};
-ghost use Rattle.dbl_table.specs.Rows.{table_of};
-ghost use Rattle.dbl_history.specs.Fit.{IsKeyOf};
-ghost use Rattle.dbl_history.specs.KeyedRows.{last_key};
-ghost use Rattle.dbl_event.specs.Snapshots.{AreInKeyOrder, FitsChunk};
-ghost use Rattle.dbl_honest.specs.Standings.{Standing, Stood, Leads};
-ghost use Rattle.dbl_honest.specs.Calls.{Moved, IsMarked};
-ghost use Rattle.dbl_honest.specs.Leaves.{Leaves, LeavesSome, MayFollow, MayFollowMark};
-ghost use Rattle.dbl_honest.specs.Selected.{Selects};
-ghost use Rattle.dbl_honest.specs.Told.{Selected, Done, IsTakenBy, Tells};
+ghost use Rattle.dbl_model_table.specs.declared.table.TableInfo.{TableInfo as SpecInfo};
+ghost use Rattle.dbl_model_table.specs.Rows.{table_of};
+ghost use Rattle.dbl_model_history.specs.Fit.{IsKeyOf};
+ghost use Rattle.dbl_model_history.specs.KeyedRows.{last_key};
+ghost use Rattle.dbl_model_event.specs.Snapshots.{AreInKeyOrder, FitsChunk};
+ghost use Rattle.dbl_source.specs.SourceModel.Standings.{SourceState, HasState, MovesTo};
+ghost use Rattle.dbl_source.specs.SourceModel.Calls.{Moved, IsMarked};
+ghost use Rattle.dbl_source.specs.SourceModel.Leaves.{Leaves, LeavesSome, MayFollow, MayFollowMark};
+ghost use Rattle.dbl_source.specs.SourceModel.Selected.{Selects};
+ghost use Rattle.dbl_source.specs.SourceModel.Trace.{Selected, Done, IsTakenBy, LastAnswerIs};
 ghost use Rattle.dbl_window.specs.Plans.{Chunk, low_text, high_text, IsFitChunk};
-ghost use Rattle.dbl_window.specs.Changing.{FitsTable, IsLeftBy};
-ghost use Rattle.dbl_window.specs.Selected.{IsCaptured, SelectsChunk, HasUnreadable, IsReadAs, IsReadFrom};
+ghost use Rattle.dbl_window.specs.Changing.{FitsTableChange, IsLeftBy};
+ghost use Rattle.dbl_window.specs.Selected.{IsCaptured, SelectsChunk, HasUnreadable, IsReadAs, IsChunkReadFrom};
 ghost use Rattle.dbl_window.specs.Leaving.{MayStayOrMark, MayStayOrFollow};
 ghost use Rattle.dbl_window.specs.Promise.{KeepsPromise, IsClosedOf, closed_of};
 
@@ -26,13 +27,13 @@ use crate::reading::{Read, read_rows};
 use crate::rows::{HeldRows, change_rows, in_order};
 use crate::{WindowError, marks};
 use dbl_base::Text;
-use dbl_event::{Closed, KeyedRows};
+use dbl_model_event::{Closed, KeyedRows};
+use dbl_model_table::{Change, Key, RawRow, TableInfo};
 use dbl_source::Source;
-use dbl_table::{Change, Key, RawRow, TableInfo};
 use std::alloc::{AllocError, Global};
 use std::marker::Model;
 
-/// Nothing was done yet. Contracts see a window's plan.
+/// The initial state. Contracts see a window's plan.
 #[derive(Debug, Drop)]
 pub struct Idle {
     frame: Frame,
@@ -48,11 +49,11 @@ impl Model for Idle {
     ghost invariant = { λ w. IsFrame w.frame };
 }
 
-/// The low mark stands.
+/// The low watermark was written.
 #[derive(Debug, Drop)]
 pub struct Marked {
     frame: Frame,
-    // the texts of both marks, so that later steps take no memory for them
+    // The texts of both watermarks, so that later steps take no memory for them.
     low: Text,
     high: Text,
 }
@@ -93,7 +94,7 @@ impl Model for Held {
     ghost invariant = { λ w. IsHeld w.frame w.low w.high w.rows.entries w.through };
 }
 
-/// The high mark stands, and the low one hasn't come back in the log yet.
+/// The high watermark was written, and the low one hasn't been read from the log yet.
 #[derive(Drop)]
 pub struct Armed {
     held: Held,
@@ -107,7 +108,8 @@ impl Model for Armed {
     ghost view = { λ w. w.held };
 }
 
-/// The low mark came back in the log. Rows leave the window as the log's changes come.
+/// The low watermark was read from the log. Rows are removed from the window as the log's changes
+/// are read.
 #[derive(Drop)]
 pub struct Open {
     held: Held,
@@ -121,15 +123,16 @@ impl Model for Open {
     ghost view = { λ w. w.held };
 }
 
-/// What a mark in the log makes of an armed window.
+/// An armed window after a watermark in the log.
 #[derive(Drop)]
 pub enum Seen {
     Opened(Open),
     Waiting(Armed),
 }
 
-/// A window of a captured table that is to read at most `limit` rows behind a key. `table` is the table's place among the captured
-/// ones. Its marks carry the session's incarnation and the window's number in it. Takes no memory; later calls use the allocator.
+/// A window of a captured table, by its index, that reads at most `limit` rows after a key. Its
+/// watermarks have the session's incarnation and the window's number. Takes no memory; later calls
+/// use the allocator.
 pub fn new(
     alloc: Global,
     info: TableInfo,
@@ -165,7 +168,7 @@ pub fn new(
 }
 
 impl Idle {
-    // The window with the texts of its marks.
+    // The window with the texts of its watermarks.
     fn name_marks(self) -> Result<Marked, AllocError>
         ensures { IfOk result (λ marked. marked ≡ self) }
     {
@@ -178,27 +181,27 @@ impl Idle {
         })
     }
 
-    /// Writes the low mark. After `Failed` it may stand in the log, after `Memory` it doesn't.
+    /// Writes the low watermark. After `Failed` it may be in the log, after `Memory` it isn't.
     pub fn low<S: Source>(self, src: &mut S) -> Result<Marked, WindowError>
         requires { IsTrue (S.is_live src.old) }
-        ensures marks { Leads S.stands src.old src.new result (λ marked. IsMarked (low_text self)) }
+        ensures marks { MovesTo S.stands src.old src.new result (λ marked. IsMarked (low_text self)) }
         ensures same { IfOk result (λ marked. marked ≡ self) }
         ensures errors { IfErr result (λ e. (e ≡ WindowError.Failed) ⊎ (e ≡ WindowError.Memory)) }
 
-        // Of the source, whatever it answers.
+        // About the source, for every result.
         ensures left { Leaves S.stands S.may_leave src.old src.new (MayStayOrMark (low_text self)) }
         ensures some { LeavesSome S.stands S.may_leave src.old src.new }
         ensures unmarked { result ≡ Err WindowError.Memory →
             Leaves S.stands S.may_leave src.old src.new MayStayOrFollow }
-        ensures told { OnOk result (Tells (S.told src.new) Done) }
+        ensures told { OnOk result (LastAnswerIs (S.told src.new) Done) }
         ensures taken { IsTakenBy [] (S.told src.old) (S.told src.new) }
-        ensures still { (s t : Standing) → S.stands src.old s → S.stands src.new t →
+        ensures still { (s t : SourceState) → S.stands src.old s → S.stands src.new t →
             t.reading ≡ s.reading }
         ensures reading { S.is_reading src.new ≡ S.is_reading src.old }
         ensures live { OnOk result (IsTrue (S.is_live src.new)) }
         ensures honest { S.honest src.new → S.honest src.old }
         ensures comes { S.comes_of src.old src.new }
-        ensures cause { HasCause (result ≡ Err WindowError.Failed)
+        ensures cause { FailsOnlyIfCounted (result ≡ Err WindowError.Failed)
             (S.faults src.old) (S.faults src.new) }
     {
         let marked = self.name_marks()?;
@@ -243,34 +246,35 @@ impl Marked {
     // The rows that the source answers.
     fn answered_rows<S: Source>(&self, src: &mut S) -> Result<Vec<RawRow>, WindowError>
         requires { IsTrue (S.is_live src.old) }
-        ensures selected { Leads S.stands src.old src.new result (λ rows s t. Moved s t
+        ensures selected { MovesTo S.stands src.old src.new result (λ rows s t. Moved s t
             × (S.honest src.new → Selects self.now.info.name self.now.above self.now.limit
             s.history t.history rows.items)) }
-        ensures told { IfOk result (λ rows. Tells (S.told src.new) (Selected rows.items)) }
+        ensures told { IfOk result (λ rows. LastAnswerIs (S.told src.new) (Selected rows.items)) }
         ensures starts { IfSome self.now.above (IsKeyOf self.now.info) }
         ensures errors { IfErr result (λ e. (e ≡ WindowError.Failed) ⊎ (e ≡ WindowError.Memory)) }
         ensures left { Leaves S.stands S.may_leave src.old src.new MayFollow }
         ensures some { LeavesSome S.stands S.may_leave src.old src.new }
         ensures taken { IsTakenBy [] (S.told src.old) (S.told src.new) }
-        ensures still { (s t : Standing) → S.stands src.old s → S.stands src.new t →
+        ensures still { (s t : SourceState) → S.stands src.old s → S.stands src.new t →
             t.reading ≡ s.reading }
         ensures reading { S.is_reading src.new ≡ S.is_reading src.old }
         ensures live { OnOk result (IsTrue (S.is_live src.new)) }
         ensures honest { S.honest src.new → S.honest src.old }
         ensures comes { S.comes_of src.old src.new }
-        ensures cause { HasCause (result ≡ Err WindowError.Failed)
+        ensures cause { FailsOnlyIfCounted (result ≡ Err WindowError.Failed)
             (S.faults src.old) (S.faults src.new) }
     {
         let frame = &self.frame;
         Ok(src.select(&frame.info.name, frame.bound(), frame.limit)?)
     }
 
-    /// Reads the chunk: the first rows of the table behind the window's key, at most as many as its limit.
+    /// Reads the chunk: the first rows of the table after the window's key, at most as many as its
+    /// limit.
     pub fn select<S: Source>(self, src: &mut S) -> Result<Held, WindowError>
         requires { IsTrue (S.is_live src.old) }
 
-        // The rows are those of one place between the call and the return.
-        ensures held { Leads S.stands src.old src.new result
+        // The rows are those of one position between the call and the return.
+        ensures held { MovesTo S.stands src.old src.new result
             (λ held s t. Moved s t × (S.honest src.new → SelectsChunk self held s t)) }
         ensures same { IfOk result (λ held. held.plan ≡ self) }
         ensures few { IfOk result (λ held. length held.rows ≤ self.limit) }
@@ -278,28 +282,29 @@ impl Marked {
         ensures done { IfOk result (λ held. held.done ≡ nat_lt (length held.rows) self.limit) }
         ensures fit { IfOk result (λ held. IsFitChunk self.info self.limit held.rows held.through) }
 
-        // Where the source tells which rows it answered: what they are read as, or which fault of them comes first, exactly.
-        ensures chunk { IsReadFrom self (S.told src.new) result }
-        ensures never { (s : Standing) (infos : List SpecInfo) (row : ℕ) →
+        // If the source reports which rows it answered: exactly what they are read as, or which of
+        // their errors is first.
+        ensures chunk { IsChunkReadFrom self (S.told src.new) result }
+        ensures never { (s : SourceState) (infos : List SpecInfo) (row : ℕ) →
             S.stands src.old s → S.honest src.new → IsCaptured infos s.history self →
             result ≢ Err (WindowError.BadChunk row) }
-        ensures cell { (s : Standing) (infos : List SpecInfo)
+        ensures cell { (s : SourceState) (infos : List SpecInfo)
             (column : List ℕ) (error : SpecValueError) →
             S.stands src.old s → S.honest src.new → IsCaptured infos s.history self →
             result ≡ Err (WindowError.Cell column error) →
-            Stood S.stands src.new (λ t. HasUnreadable infos t.history self column error) }
+            HasState S.stands src.new (λ t. HasUnreadable infos t.history self column error) }
 
-        // Of the source, whatever it answers.
+        // About the source, for every result.
         ensures left { Leaves S.stands S.may_leave src.old src.new MayFollow }
         ensures some { LeavesSome S.stands S.may_leave src.old src.new }
         ensures taken { IsTakenBy [] (S.told src.old) (S.told src.new) }
-        ensures still { (s t : Standing) → S.stands src.old s → S.stands src.new t →
+        ensures still { (s t : SourceState) → S.stands src.old s → S.stands src.new t →
             t.reading ≡ s.reading }
         ensures reading { S.is_reading src.new ≡ S.is_reading src.old }
         ensures live { OnOk result (IsTrue (S.is_live src.new)) }
         ensures honest { S.honest src.new → S.honest src.old }
         ensures comes { S.comes_of src.old src.new }
-        ensures cause { HasCause (result ≡ Err WindowError.Failed)
+        ensures cause { FailsOnlyIfCounted (result ≡ Err WindowError.Failed)
             (S.faults src.old) (S.faults src.new) }
     {
         let rows = self.answered_rows(src)?;
@@ -326,29 +331,29 @@ impl Held {
         &self.high
     }
 
-    /// Writes the high mark. After `Failed` it may stand in the log, after `Memory` it doesn't.
+    /// Writes the high watermark. After `Failed` it may be in the log, after `Memory` it isn't.
     pub fn high<S: Source>(self, src: &mut S) -> Result<Armed, WindowError>
         requires { IsTrue (S.is_live src.old) }
-        ensures marks { Leads S.stands src.old src.new result
+        ensures marks { MovesTo S.stands src.old src.new result
             (λ armed. IsMarked (high_text self.plan)) }
         ensures same { IfOk result (λ armed. armed ≡ self) }
         ensures errors { IfErr result (λ e. (e ≡ WindowError.Failed) ⊎ (e ≡ WindowError.Memory)) }
 
-        // Of the source, whatever it answers.
+        // About the source, for every result.
         ensures left { Leaves S.stands S.may_leave src.old src.new
             (MayFollowMark (high_text self.plan)) }
         ensures some { LeavesSome S.stands S.may_leave src.old src.new }
         ensures unmarked { result ≡ Err WindowError.Memory →
             Leaves S.stands S.may_leave src.old src.new MayFollow }
-        ensures told { OnOk result (Tells (S.told src.new) Done) }
+        ensures told { OnOk result (LastAnswerIs (S.told src.new) Done) }
         ensures taken { IsTakenBy [] (S.told src.old) (S.told src.new) }
-        ensures still { (s t : Standing) → S.stands src.old s → S.stands src.new t →
+        ensures still { (s t : SourceState) → S.stands src.old s → S.stands src.new t →
             t.reading ≡ s.reading }
         ensures reading { S.is_reading src.new ≡ S.is_reading src.old }
         ensures live { OnOk result (IsTrue (S.is_live src.new)) }
         ensures honest { S.honest src.new → S.honest src.old }
         ensures comes { S.comes_of src.old src.new }
-        ensures cause { HasCause (result ≡ Err WindowError.Failed)
+        ensures cause { FailsOnlyIfCounted (result ≡ Err WindowError.Failed)
             (S.faults src.old) (S.faults src.new) }
     {
         src.mark(self.high_mark())?;
@@ -357,7 +362,7 @@ impl Held {
 
     fn change(&mut self, change: &Change) -> Result<(), AllocError>
         requires { table_of change.now ≡ self.old.plan.table →
-            FitsTable self.old.plan.info change.now }
+            FitsTableChange self.old.plan.info change.now }
         ensures left { OnOk result (IsLeftBy self.old.plan.table self.old.plan.info change.now
             self.old.rows self.new.rows) }
         ensures other { (table_of change.now ≢ self.old.plan.table) →
@@ -396,7 +401,7 @@ impl Held {
 }
 
 impl Armed {
-    /// The text of the mark that opens it.
+    /// The text of the watermark that opens it.
     pub fn awaited_mark(&self) -> &Text
         ensures text { result.now ≡ low_text self.now.plan }
         ensures fits { FitsChunk self.now.plan.info (closed_of self.now) }
@@ -404,7 +409,8 @@ impl Armed {
         self.held.low_mark()
     }
 
-    /// A mark came in the log. The window opens exactly at its own low mark.
+    /// Passes a watermark that was read from the log. The window opens if and only if it is its own
+    /// low watermark.
     pub fn see(self, value: &Text) -> Seen
         ensures opened { (w : Chunk) → result ≡ Seen.Opened w →
             (value.now ≡ low_text self.plan) × (w ≡ self) }
@@ -421,7 +427,7 @@ impl Armed {
 }
 
 impl Open {
-    /// The text of the mark that closes it.
+    /// The text of the watermark that closes it.
     pub fn awaited_mark(&self) -> &Text
         ensures text { result.now ≡ high_text self.now.plan }
         ensures few { length self.now.rows ≤ self.now.plan.limit }
@@ -430,11 +436,12 @@ impl Open {
         self.held.high_mark()
     }
 
-    /// A change came in the log. Of a row that the change gives whole or ends nothing is left; a change that leaves cells unsent is laid
-    /// over the row. A change of another table leaves all rows. Once memory ran out the window is to be given up.
+    /// Passes a change that was read from the log: a row that it sets as a whole or ends is
+    /// removed, and unsent cells keep the row's. After out of memory the window must not be used
+    /// any more.
     pub fn change(&mut self, change: &Change) -> Result<(), AllocError>
         requires { table_of change.now ≡ self.old.plan.table →
-            FitsTable self.old.plan.info change.now }
+            FitsTableChange self.old.plan.info change.now }
         ensures left { OnOk result (IsLeftBy self.old.plan.table self.old.plan.info change.now
             self.old.rows self.new.rows) }
         ensures other { (table_of change.now ≢ self.old.plan.table) →
@@ -446,21 +453,21 @@ impl Open {
         self.held.change(change)
     }
 
-    /// The table was truncated: no row is left. So a change that clears the table does.
+    /// Removes all rows after a truncation of the table, as a change that clears the table does.
     pub fn clear(&mut self)
         ensures { self.new ≡ record self.old { rows = [] } }
     {
         self.held.clear();
     }
 
-    /// Whether a mark in the log closes it: exactly its own high mark.
+    /// Whether a watermark in the log closes it: only its own high watermark does.
     pub fn closes(&self, value: &Text) -> bool
         ensures { IsTrue result ↔ (value.now ≡ high_text self.now.plan) }
     {
         marks::is_same(value, self.held.high_mark())
     }
 
-    /// The closed window, where its high mark came in the log.
+    /// The closed window, once its high watermark was read from the log.
     pub fn finish(self) -> Closed
         ensures closed { IsClosedOf self result }
         ensures promise { KeepsPromise self result }

@@ -1,9 +1,9 @@
-//! The program `dblog`: the words, the clock, the standard streams and the files that a run is made with.
+//! The program `dblog`: a run with the arguments, the clock, the standard streams and the files.
 #![tactic(auto)]
 
 use dbl_base::{StdInput, StdOutput, Text};
 use dbl_disk::FileDisk;
-use dbl_program::{Halt, run, say};
+use dblog_run::{Halt, run, say};
 use std::alloc::AllocError;
 use std::env;
 use std::io::{self, ErrorKind};
@@ -11,7 +11,7 @@ use std::process::ExitCode;
 use std::rt::{Clock, Env};
 use std::time::{SystemTime, UNIX_EPOCH};
 
-// The words behind the program's name, or none where one isn't UTF-8: none spell no command either.
+// The arguments after the program's name, or none, which is no command, if one isn't UTF-8.
 fn words(rt: &(impl Env + AllocGlobal)) -> Result<Vec<Text>, AllocError> {
     let mut words = Vec::new(rt.alloc());
     let args = match env::args(rt) {
@@ -25,7 +25,7 @@ fn words(rt: &(impl Env + AllocGlobal)) -> Result<Vec<Text>, AllocError> {
     Ok(words)
 }
 
-// Milliseconds since 1970; 0 by a clock that stands before it.
+// Milliseconds since 1970; 0 if the clock is before it.
 fn now_ms(rt: &impl Clock) -> i64 {
     match SystemTime::now(rt) {
         Ok(now) => match now.duration_since(UNIX_EPOCH) {
@@ -36,8 +36,8 @@ fn now_ms(rt: &impl Clock) -> i64 {
     }
 }
 
-// The stores are files of the current folder. A disk over a file opens it, and creates it where it is absent, at its first call,
-// so a command that neither reads nor writes a store leaves its file alone.
+// The stores are files of the current folder. A disk opens or creates its file at its first call,
+// so a command that neither reads nor writes a store leaves its file unchanged.
 fn main(rt: HostRuntime) -> ExitCode {
     let mut output = StdOutput::make(io::writer(&rt));
     let status = match words(&rt) {

@@ -4,7 +4,7 @@ use crate::fuses::Fuses;
 use crate::sweep::Sweep;
 use dbl_base::{MemInput, MemOutput, Text};
 use dbl_disk::FuseDisk;
-use dbl_program::Finished;
+use dblog_run::Finished;
 use std::alloc::{AllocError, Global};
 use std::mem;
 
@@ -157,7 +157,7 @@ impl Run {
             topics,
             offsets,
         } = mem::replace(disks, Disks::empty(alloc));
-        let finished = dbl_program::run(
+        let finished = dblog_run::run(
             alloc,
             &self.words,
             self.now_ms,

@@ -16,7 +16,7 @@ const RUNS: u64 = 10;
 
 // What the runs answered: the statuses of those that a fuse stopped or didn't, and what was applied in the end, each once.
 #[derive(Drop)]
-struct Told {
+struct Trace {
     statuses: Vec<u8>,
     rows: Vec<Vec<u8>>,
 }
@@ -30,7 +30,7 @@ pub fn tell_stops<W: Write>(
     place: Place,
     writer: &mut W,
 ) -> io::Result<()> {
-    let mut told = Told {
+    let mut told = Trace {
         statuses: Vec::new(alloc),
         rows: Vec::new(alloc),
     };
@@ -42,7 +42,7 @@ pub fn tell_stops<W: Write>(
     tell(&told, writer)
 }
 
-fn tell<W: Write>(told: &Told, writer: &mut W) -> io::Result<()> {
+fn tell<W: Write>(told: &Trace, writer: &mut W) -> io::Result<()> {
     statuses::tell(&told.statuses, writer)?;
     writer.write_all(b"then\n")?;
     for rows in &told.rows {
@@ -58,7 +58,7 @@ fn stop(
     disks: &Disks,
     place: Place,
     calls: u64,
-    told: &mut Told,
+    told: &mut Trace,
 ) -> io::Result<u8> {
     let mut left = disks.crash(Choice::New)?;
     let status = stopped(alloc, run, place, calls, &mut left)?;
@@ -82,7 +82,7 @@ fn stopped(
 }
 
 // Ends the work for each choice of what a crash leaves of the disks.
-fn end_each(alloc: Global, run: &Run, left: &Disks, told: &mut Told) -> io::Result<()> {
+fn end_each(alloc: Global, run: &Run, left: &Disks, told: &mut Trace) -> io::Result<()> {
     for choice in [Choice::Old, Choice::New, Choice::Fill(1)] {
         end_one(alloc, run, &mut left.crash(choice)?, told)?;
     }
@@ -90,7 +90,7 @@ fn end_each(alloc: Global, run: &Run, left: &Disks, told: &mut Told) -> io::Resu
 }
 
 // Ends the work on these disks, and adds what `apply` then answers.
-fn end_one(alloc: Global, run: &Run, disks: &mut Disks, told: &mut Told) -> io::Result<()> {
+fn end_one(alloc: Global, run: &Run, disks: &mut Disks, told: &mut Trace) -> io::Result<()> {
     end_work(alloc, run, disks)?;
     let rows = perform(alloc, "apply", disks)?.told(alloc)?;
     if !told.rows.contains(&rows) {

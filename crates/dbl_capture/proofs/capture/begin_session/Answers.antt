@@ -1,31 +1,31 @@
 use Rattle.std.proofs.Common.{◌≡◌, ◌∙◌, ◌⊎◌, inl, inr, Some, refl, sym, subst, le_refl}
-use Rattle.dbl_history.specs.Fit.{IsFitHistory}
-use Rattle.dbl_honest.specs.Standings.{left_of}
+use Rattle.dbl_model_history.specs.Fit.{IsFitHistory}
+use Rattle.dbl_source.specs.SourceModel.Standings.{left_of}
 use Rattle.dbl_offset.specs.declared.offset.Offset.{Offset}
-use Rattle.dbl_offset.specs.Stores.{Holds, LeavesOffset, disk_of}
-use Rattle.dbl_work.specs.declared.halt.Halt.TheVariants as halt
-use Rattle.dbl_steps.proofs.Causes.{OfNone, OfStore, err_at, residual_is, residual_of, store_of}
-use Rattle.dbl_exits.proofs.Endings.{held_same, held_stored}
-use Rattle.dbl_exits.proofs.Keeping.{on_err}
-use Rattle.dbl_exits.proofs.Openings.{began_at, rest_left, store_left}
+use Rattle.dbl_offset.specs.Stores.{HoldsOffset, LeavesOffset, disk_of}
+use Rattle.dbl_capture_work.specs.declared.halt.Halt.TheVariants as halt
+use Rattle.dbl_capture_laws.proofs.StepCauses.{OfNone, OfStore, err_at, residual_is, residual_of, store_of}
+use Rattle.dbl_capture_laws.proofs.Endings.{held_same, held_stored}
+use Rattle.dbl_capture_laws.proofs.Keeping.{on_err}
+use Rattle.dbl_capture_laws.proofs.Openings.{began_at, rest_left, store_left}
 use Rattle.dbl_offset.specs.Offsets.{IsOffset}
-use Rattle.dbl_work.specs.Begins.{IsOffsetFor}
-use Rattle.dbl_causes.specs.Underway.{IsBeginHalt}
-use Rattle.dbl_steps.proofs.Telling.{store_begins}
-use Rattle.dbl_steps.proofs.Telling.{not_both, residual_on}
-use Rattle.dbl_work.specs.Begins.{IsAbsentHalt}
-use Rattle.dbl_steps.proofs.Telling.{memory_absent, store_absent}
-use Rattle.dbl_steps.proofs.Lasting.{moved_rest}
-use Rattle.dbl_steps.specs.Caused.{AsksUnread}
-use Rattle.dbl_steps.proofs.Asking.{memory_asks, store_asks}
-use Rattle.dbl_work.specs.Begins.{IsTooLong}
-use Rattle.dbl_steps.specs.Owned.{IsFirstByCatalogue, IsLongBy}
-use Rattle.dbl_causes.specs.Nevers.{IsFaithfulHalt}
-use Rattle.dbl_steps.proofs.Owning.{first_long, first_own, free_long, free_own, had_of}
-use Rattle.dbl_steps.specs.Captured.{CapturesOrHalts}
-use Rattle.dbl_steps.proofs.Telling.{residual_as}
-use Rattle.dbl_steps.proofs.Captured.{captures_by, captures_same}
-use Rattle.dbl_steps.specs.Stood.{IsShortOr}
+use Rattle.dbl_capture_work.specs.Begins.{IsOffsetFor}
+use Rattle.dbl_capture_laws.specs.Underway.{IsBeginHalt}
+use Rattle.dbl_capture_laws.proofs.Telling.{store_begins}
+use Rattle.dbl_capture_laws.proofs.Telling.{not_both, residual_on}
+use Rattle.dbl_capture_work.specs.Begins.{IsAbsentHalt}
+use Rattle.dbl_capture_laws.proofs.Telling.{memory_absent, store_absent}
+use Rattle.dbl_capture_laws.proofs.Lasting.{moved_rest}
+use Rattle.dbl_capture_laws.specs.Caused.{AsksUnread}
+use Rattle.dbl_capture_laws.proofs.Asking.{memory_asks, store_asks}
+use Rattle.dbl_capture_work.specs.Begins.{IsTooLong}
+use Rattle.dbl_capture_laws.specs.Owned.{IsFirstByCatalogue, IsLongBy}
+use Rattle.dbl_capture_laws.specs.Nevers.{IsFaithfulHalt}
+use Rattle.dbl_capture_laws.proofs.Owning.{first_long, first_own, free_long, free_own, had_of}
+use Rattle.dbl_capture_laws.specs.Captured.{CapturesOrHalts}
+use Rattle.dbl_capture_laws.proofs.Telling.{residual_as}
+use Rattle.dbl_capture_laws.proofs.Captured.{captures_by, captures_same}
+use Rattle.dbl_capture_laws.specs.HasState.{IsShortOr}
 use Rattle.dbl_capture.proofs.capture.begin_session.Goals as goal
 
 -- before the store
@@ -61,7 +61,7 @@ pub returns-clause-begun : goal.returns-clause-begun
 returns-clause-begun g c tell entry asked f honest had =
     let stood = c.in_ok-offset.ensures.begins entry asked f.offset_is had f.standing f.source_is f.history in
     began_at f c.offset_of.new.src c.put_offset.new.store stood.standing c.in_ok-offset.offset stood.is stood.holds
-    (λ t. subst (λ (o : Offset). Holds g.D.Disk.seen g.D.Disk.may_leave c.put_offset.new.store (Some o)) c.in_ok-stored.ensures (c.in_ok-put_offset.ensures.stored entry.offset (f.store_is t)))
+    (λ t. subst (λ (o : Offset). HoldsOffset g.D.Disk.seen g.D.Disk.may_leave c.put_offset.new.store (Some o)) c.in_ok-stored.ensures (c.in_ok-put_offset.ensures.stored entry.offset (f.store_is t)))
 
 -- ---- counts, and what no call undoes
 

@@ -1,30 +1,30 @@
 use Rattle.std.proofs.Common.{◌∙◌, inl, inr, Some, Option, refl, sym, ap, subst, arith}
 use Rattle.std.specs.Prelude.{IfOk}
-use Rattle.dbl_honest.proofs.GrowthLemmas.{grows_none}
-use Rattle.dbl_honest.specs.Standings.{Standing, left_of}
+use Rattle.dbl_source.proofs.SourceModelGrowthLemmas.{grows_none}
+use Rattle.dbl_source.specs.SourceModel.Standings.{SourceState, left_of}
 use Rattle.dbl_offset.specs.declared.offset.Offset.{Offset}
-use Rattle.dbl_work.specs.Begins.{IsAgain, IsOffsetFor}
-use Rattle.dbl_exits.proofs.Beginnings.{again_for, begins_again, begins_first, first_at_head, none_again}
-use Rattle.dbl_steps.proofs.Causes.{OfNone, OfSource, again_of, err_at, err_then, first_of, residual_of}
-use Rattle.dbl_exits.proofs.Keeping.{answer_then}
-use Rattle.dbl_work.proofs.Exits.{none_taken}
-use Rattle.dbl_causes.specs.Underway.{IsBeginHalt}
-use Rattle.dbl_steps.proofs.Telling.{again_begins, first_begins}
-use Rattle.dbl_steps.proofs.Telling.{again_exhausted, not_exhausted}
-use Rattle.dbl_work.specs.Begins.{IsAbsentHalt}
-use Rattle.dbl_steps.proofs.Telling.{again_absent}
-use Rattle.dbl_steps.specs.Caused.{AsksUnread}
-use Rattle.dbl_steps.proofs.Asking.{again_asks, again_found, first_asks}
-use Rattle.dbl_steps.specs.Owned.{IsContentFree}
-use Rattle.dbl_steps.proofs.Owning.{again_free, first_by_catalogue, first_free}
-use Rattle.dbl_window.proofs.HonestLemmas.{captured_stays}
-use Rattle.dbl_steps.specs.Captured.{CapturesOrHalts, IsOfTable}
-use Rattle.dbl_steps.proofs.Telling.{residual_as}
-use Rattle.dbl_steps.proofs.Honest.{captured_tables_can_be_captured}
-use Rattle.dbl_steps.proofs.Captured.{again_table, captures_ok, first_table}
-use Rattle.dbl_steps.proofs.Awaited.{again_within, first_within}
-use Rattle.dbl_steps.specs.Stood.{IsShort}
-use Rattle.dbl_steps.proofs.Stood.{again_short, first_short}
+use Rattle.dbl_capture_work.specs.Begins.{IsAgain, IsOffsetFor}
+use Rattle.dbl_capture_laws.proofs.Beginnings.{again_for, begins_again, begins_first, first_at_head, none_again}
+use Rattle.dbl_capture_laws.proofs.StepCauses.{OfNone, OfSource, again_of, err_at, err_then, first_of, residual_of}
+use Rattle.dbl_capture_laws.proofs.Keeping.{answer_then}
+use Rattle.dbl_capture_work.proofs.Exits.{none_taken}
+use Rattle.dbl_capture_laws.specs.Underway.{IsBeginHalt}
+use Rattle.dbl_capture_laws.proofs.Telling.{again_begins, first_begins}
+use Rattle.dbl_capture_laws.proofs.Telling.{again_exhausted, not_exhausted}
+use Rattle.dbl_capture_work.specs.Begins.{IsAbsentHalt}
+use Rattle.dbl_capture_laws.proofs.Telling.{again_absent}
+use Rattle.dbl_capture_laws.specs.Caused.{AsksUnread}
+use Rattle.dbl_capture_laws.proofs.Asking.{again_asks, again_found, first_asks}
+use Rattle.dbl_capture_laws.specs.Owned.{IsContentFree}
+use Rattle.dbl_capture_laws.proofs.Owning.{again_free, first_by_catalogue, first_free}
+use Rattle.dbl_capture_work.proofs.WindowHonestLemmas.{captured_stays}
+use Rattle.dbl_capture_laws.specs.Captured.{CapturesOrHalts, IsTableHalt}
+use Rattle.dbl_capture_laws.proofs.Telling.{residual_as}
+use Rattle.dbl_capture_laws.proofs.Honest.{captured_tables_can_be_captured}
+use Rattle.dbl_capture_laws.proofs.Captured.{again_table, captures_ok, first_table}
+use Rattle.dbl_capture_laws.proofs.Awaited.{again_within, first_within}
+use Rattle.dbl_capture_laws.specs.HasState.{IsNotOffsetTooLong}
+use Rattle.dbl_capture_laws.proofs.HasState.{again_short, first_short}
 use Rattle.dbl_capture.proofs.capture.offset_of.Goals as goal
 
 -- nothing was asked of the source yet
@@ -120,25 +120,25 @@ returns-in-None-clause-halt g c =
     (λ h is. first_begins c.args.config.now c.args.store.now.offset (g.S.Source.told c.first_offset.new.src) h (none_again c.args.store.now.offset (subst (IsAgain c.args.store.now.offset) c.in-None.is c.in_ok-offset.ensures.again)) is)
 
 pub returns-in_err-offset-clause-still : goal.returns-in_err-offset-clause-still
-returns-in_err-offset-clause-still g c s t was now = ap (λ (x : Standing). x.reading) (g.met.S.Source.one c.args.src.now t s now was)
+returns-in_err-offset-clause-still g c s t was now = ap (λ (x : SourceState). x.reading) (g.met.S.Source.one c.args.src.now t s now was)
 
 pub returns-in_err-offset-clause-taken : goal.returns-in_err-offset-clause-taken
 returns-in_err-offset-clause-taken g c = none_taken (g.S.Source.told c.args.src.now)
 
 pub returns-in-Some-clause-still : goal.returns-in-Some-clause-still
-returns-in-Some-clause-still g c s t was now = ap (λ (x : Standing). x.reading) (g.met.S.Source.one c.args.src.now t s now was)
+returns-in-Some-clause-still g c s t was now = ap (λ (x : SourceState). x.reading) (g.met.S.Source.one c.args.src.now t s now was)
 
 pub returns-in-Some-clause-taken : goal.returns-in-Some-clause-taken
 returns-in-Some-clause-taken g c = none_taken (g.S.Source.told c.args.src.now)
 
 pub returns-in_err-offset-clause-exhausted : goal.returns-in_err-offset-clause-exhausted
-returns-in_err-offset-clause-exhausted g c h is = again_exhausted c.again.result c.from_residual.result c.args.store.now.offset _ h c.again.ensures.exhausted c.in_err-offset.was c.from_residual.ensures.1 is
+returns-in_err-offset-clause-exhausted g c h is = again_exhausted c.next_incarnation.result c.from_residual.result c.args.store.now.offset _ h c.next_incarnation.ensures.exhausted c.in_err-offset.was c.from_residual.ensures.1 is
 
 pub returns-in-Some-clause-exhausted : goal.returns-in-Some-clause-exhausted
-returns-in-Some-clause-exhausted g c h is = absurd (not_exhausted c.again.result _ c.args.store.now.offset h c.again.ensures.exhausted c.in_ok-offset.was is)
+returns-in-Some-clause-exhausted g c h is = absurd (not_exhausted c.next_incarnation.result _ c.args.store.now.offset h c.next_incarnation.ensures.exhausted c.in_ok-offset.was is)
 
 pub returns-in-None-clause-exhausted : goal.returns-in-None-clause-exhausted
-returns-in-None-clause-exhausted g c h is = absurd (not_exhausted c.again.result _ c.args.store.now.offset h c.again.ensures.exhausted c.in_ok-offset.was is)
+returns-in-None-clause-exhausted g c h is = absurd (not_exhausted c.next_incarnation.result _ c.args.store.now.offset h c.next_incarnation.ensures.exhausted c.in_ok-offset.was is)
 
 pub returns-in_err-offset-clause-absent : goal.returns-in_err-offset-clause-absent
 returns-in_err-offset-clause-absent g c s is = residual_of c.from_residual.result _ (IsAbsentHalt c.args.config.now.tables s.history) c.from_residual.ensures.1 (again_absent c.args.config.now.tables s.history c.args.store.now.offset _ c.in_err-offset.ensures.halt)
@@ -192,7 +192,7 @@ returns-in-None-clause-captures g c s is none =
     (λ offset stood.
     captured_tables_can_be_captured s.history c.args.config.now.tables stood.holds.1.0 stood.holds.1.3
     (captured_stays stood.standing.history s.history stood.holds.1.0 (sym stood.holds.0.grows.tables) stood.holds.1.4))
-    (err_then c.first_offset.result _ IsOfTable c.first_offset.ensures.fault (λ h is. first_table _ _ h is))
+    (err_then c.first_offset.result _ IsTableHalt c.first_offset.ensures.fault (λ h is. first_table _ _ h is))
 
 pub returns-in-Some-clause-within : goal.returns-in-Some-clause-within
 returns-in-Some-clause-within g c s is log = record {
@@ -211,7 +211,7 @@ returns-in-None-clause-within g c s is log =
     })
 
 pub returns-in_err-offset-clause-short : goal.returns-in_err-offset-clause-short
-returns-in_err-offset-clause-short g c = residual_of c.from_residual.result _ IsShort c.from_residual.ensures.1 (again_short c.args.store.now.offset _ c.in_err-offset.ensures.halt)
+returns-in_err-offset-clause-short g c = residual_of c.from_residual.result _ IsNotOffsetTooLong c.from_residual.ensures.1 (again_short c.args.store.now.offset _ c.in_err-offset.ensures.halt)
 
 pub returns-in-None-clause-short : goal.returns-in-None-clause-short
-returns-in-None-clause-short g c = err_then c.first_offset.result _ IsShort c.first_offset.ensures.fault (λ h is. first_short _ _ h is)
+returns-in-None-clause-short g c = err_then c.first_offset.result _ IsNotOffsetTooLong c.first_offset.ensures.fault (λ h is. first_short _ _ h is)

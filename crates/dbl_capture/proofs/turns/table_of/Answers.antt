@@ -1,5 +1,5 @@
 use Rattle.std.proofs.Common.{◌∙◌}
-use Rattle.dbl_exits.proofs.Turning.{waits_none, waits_table}
+use Rattle.dbl_capture_laws.proofs.Turning.{waits_none, waits_table}
 use Rattle.dbl_capture.proofs.turns.table_of.Goals as goal
 
 pub returns-in-Some : goal.returns-in-Some

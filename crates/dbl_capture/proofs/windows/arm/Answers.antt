@@ -1,32 +1,32 @@
-use Rattle.dbl_exits.specs.Sessions.{standing_at}
-use Rattle.dbl_exits.proofs.Arms.{arm_left, plan_captured, plan_here, plan_parts, window_on}
-use Rattle.dbl_steps.proofs.Causes.{OfSource, chunk_of, err_at, err_then}
-use Rattle.dbl_exits.proofs.Keeping.{capturing, ok_then, on_err}
+use Rattle.dbl_capture_laws.specs.Sessions.{state_at_stage}
+use Rattle.dbl_capture_laws.proofs.Arms.{arm_left, plan_captured, plan_here, plan_parts, window_on}
+use Rattle.dbl_capture_laws.proofs.StepCauses.{OfSource, chunk_of, err_at, err_then}
+use Rattle.dbl_capture_laws.proofs.Keeping.{capturing, ok_then, on_err}
 use Rattle.std.proofs.Common.{inl, refl}
-use Rattle.dbl_steps.specs.Caused.{Halts, IsNotGone}
-use Rattle.dbl_causes.proofs.Sources.{arms_on, at_rest, halts_between}
-use Rattle.dbl_steps.proofs.Telling.{chunk_left, ok_both}
-use Rattle.dbl_steps.proofs.Halting.{chunk_caused}
-use Rattle.dbl_steps.specs.Sinks.{HasHaltedPut}
-use Rattle.dbl_steps.proofs.Sinks.{halts_put_nothing, rests_put, windows_put_nothing}
-use Rattle.dbl_steps.proofs.Sinking.{source_other}
-use Rattle.dbl_steps.proofs.Going.{chunk_reads}
-use Rattle.dbl_steps.proofs.Nevers.{window_honest}
-use Rattle.dbl_causes.specs.Nevers.{IsHonestHalt}
-use Rattle.dbl_honest.specs.Standings.{left_of}
-use Rattle.dbl_window.proofs.HonestLemmas.{captured_stays}
-use Rattle.dbl_steps.proofs.Marks.{windows_leave_few_marks}
-use Rattle.dbl_steps.proofs.Lasting.{leaves_most}
-use Rattle.dbl_steps.proofs.Asking.{chunk_asks, ok_done}
-use Rattle.dbl_steps.specs.Owned.{IsContentFree}
-use Rattle.dbl_steps.proofs.Owning.{chunk_free}
-use Rattle.dbl_steps.proofs.Stood.{chunk_stood}
-use Rattle.dbl_steps.proofs.Awaited.{awaits_armed}
+use Rattle.dbl_capture_laws.specs.Caused.{Halts, IsNotGone}
+use Rattle.dbl_capture_laws.proofs.Sources.{arms_on, at_rest, halts_between}
+use Rattle.dbl_capture_laws.proofs.Telling.{chunk_left, ok_both}
+use Rattle.dbl_capture_laws.proofs.StepHalting.{chunk_caused}
+use Rattle.dbl_capture_laws.specs.Sinks.{HasHaltedPut}
+use Rattle.dbl_capture_laws.proofs.Sinks.{halts_put_nothing, rests_put, windows_put_nothing}
+use Rattle.dbl_capture_laws.proofs.Sinking.{source_other}
+use Rattle.dbl_capture_laws.proofs.Going.{chunk_reads}
+use Rattle.dbl_capture_laws.proofs.Nevers.{window_honest}
+use Rattle.dbl_capture_laws.specs.Nevers.{IsHonestHalt}
+use Rattle.dbl_source.specs.SourceModel.Standings.{left_of}
+use Rattle.dbl_capture_work.proofs.WindowHonestLemmas.{captured_stays}
+use Rattle.dbl_capture_laws.proofs.StepMarks.{windows_leave_few_marks}
+use Rattle.dbl_capture_laws.proofs.Lasting.{leaves_most}
+use Rattle.dbl_capture_laws.proofs.Asking.{chunk_asks, ok_done}
+use Rattle.dbl_capture_laws.specs.Owned.{IsContentFree}
+use Rattle.dbl_capture_laws.proofs.Owning.{chunk_free}
+use Rattle.dbl_capture_laws.proofs.HasState.{chunk_stood}
+use Rattle.dbl_capture_laws.proofs.Awaited.{awaits_armed}
 use Rattle.dbl_capture.proofs.windows.arm.Goals as goal
 
 pub returns-clause-armed : goal.returns-clause-armed
 returns-clause-armed g c tell entry s honest =
-    ok_then c.read_window.result _ _ (c.read_window.ensures.windowed (standing_at s.stage) s.source_is)
+    ok_then c.read_window.result _ _ (c.read_window.ensures.windowed (state_at_stage s.stage) s.source_is)
     (λ w. window_on s c.args.table c.read_window.new.work (g.S.Source.honest c.read_window.new.src) honest c.read_window.new.src w c.requires.table c.requires.number c.requires.absent
     (λ t is. g.met.S.Source.fit _ _ (g.met.S.Source.may _ t is) honest))
 
@@ -35,10 +35,10 @@ returns-clause-left g c tell entry s honest =
     let planned = plan_here c.args.work.now c.args.table c.requires.ready c.requires.table in
     on_err _ _
     (arm_left s c.args.table planned.0 (plan_parts c.args.work.now c.args.table planned.0 planned.1) c.requires.table c.requires.number _ _ c.read_window.new.src c.requires.absent
-    (λ left is. c.read_window.ensures.left planned.0 planned.1 (standing_at s.stage) left s.source_is is)
+    (λ left is. c.read_window.ensures.left planned.0 planned.1 (state_at_stage s.stage) left s.source_is is)
     (λ left is. g.met.S.Source.fit _ left is honest)
     (λ t groups is. g.met.K.Sink.only _ s.stage.groups groups (s.sink_is t) is)
-    (c.read_window.ensures.some (standing_at s.stage) s.source_is)
+    (c.read_window.ensures.some (state_at_stage s.stage) s.source_is)
     (λ t. (s.stage.groups, g.met.K.Sink.may _ s.stage.groups (s.sink_is t))))
 
 pub returns-clause-others : goal.returns-clause-others
@@ -82,17 +82,17 @@ returns-clause-own g c tell entry s honest =
     let planned = plan_here c.args.work.now c.args.table c.requires.ready c.requires.table in
     let here = plan_captured s c.args.table planned.0 (plan_parts c.args.work.now c.args.table planned.0 planned.1) c.requires.table c.requires.number in
     err_then c.read_window.result _ (IsHonestHalt entry (g.S.Source.stands c.read_window.new.src))
-    (c.read_window.ensures.never (standing_at s.stage) s.stage.first.infos planned.0 s.source_is honest planned.1 (record { are = s.going.reading.infos; here = here }))
+    (c.read_window.ensures.never (state_at_stage s.stage) s.stage.first.infos planned.0 s.source_is honest planned.1 (record { are = s.going.reading.infos; here = here }))
     (λ h fault. window_honest entry (g.S.Source.stands c.read_window.new.src) planned.0 s.stage.first.infos h (capturing s)
     (λ t is. record {
-      are = captured_stays s.stage.history t.history s.stage.first.infos (c.read_window.ensures.left planned.0 planned.1 (standing_at s.stage) (left_of t) s.source_is (g.met.S.Source.may c.read_window.new.src t is)).grown.tables s.going.reading.infos;
+      are = captured_stays s.stage.history t.history s.stage.first.infos (c.read_window.ensures.left planned.0 planned.1 (state_at_stage s.stage) (left_of t) s.source_is (g.met.S.Source.may c.read_window.new.src t is)).grown.tables s.going.reading.infos;
       here = here;
     }) fault)
 
 pub returns-clause-most : goal.returns-clause-most
 returns-clause-most g c tell entry chunks s closed =
     let planned = plan_here c.args.work.now c.args.table c.requires.ready c.requires.table in
-    leaves_most _ g.S.Source.may_leave c.read_window.new.src chunks entry.history (λ left may. windows_leave_few_marks entry s.stage c.args.work.now planned.0 left chunks s.work_is s.going closed c.requires.absent (c.read_window.ensures.left planned.0 planned.1 (standing_at s.stage) left s.source_is may))
+    leaves_most _ g.S.Source.may_leave c.read_window.new.src chunks entry.history (λ left may. windows_leave_few_marks entry s.stage c.args.work.now planned.0 left chunks s.work_is s.going closed c.requires.absent (c.read_window.ensures.left planned.0 planned.1 (state_at_stage s.stage) left s.source_is may))
 
 pub returns-clause-quiet : goal.returns-clause-quiet
 returns-clause-quiet g c = ok_done c.read_window.result (g.S.Source.told c.read_window.new.src) c.read_window.ensures.told

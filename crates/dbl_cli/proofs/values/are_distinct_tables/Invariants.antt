@@ -1,5 +1,5 @@
 use Rattle.std.proofs.Common.{◌≡◌, drop}
-use Rattle.dbl_table.specs.Tables.{are_distinct, same_name}
+use Rattle.dbl_model_table.specs.Tables.{are_distinct, same_name}
 use Rattle.dbl_cli.proofs.values.are_distinct_tables.Given as goal
 
 abbrev pub invariant-loop-i : goal.invariant-loop-i

@@ -1,6 +1,6 @@
 use Rattle.std.proofs.Common.{◌≡◌, drop}
 use Rattle.std.specs.List.{list_any}
-use Rattle.dbl_table.specs.Tables.{same_name}
+use Rattle.dbl_model_table.specs.Tables.{same_name}
 use Rattle.dbl_cli.specs.Values.{tables_in}
 use Rattle.dbl_cli.proofs.values.has_key.Given as goal
 

@@ -1,5 +1,5 @@
 use Rattle.std.proofs.Common.{refl}
-use Rattle.dbl_running.proofs.MakeLemmas.{made_first}
+use Rattle.dbl_demo_laws.proofs.MakeLemmas.{made_first}
 use Rattle.dbl_demo.proofs.NumberLemmas.{first_numbers}
 use Rattle.dbl_demo.proofs.making.first_source.Goals as goal
 

@@ -1,9 +1,9 @@
 use Rattle.std.proofs.Common.{◌∙◌, Err, ap, sym, subst}
-use Rattle.dbl_workload.specs.declared.error.DemoError.{DemoError}
-use Rattle.dbl_workload.specs.Errors.{journal_error}
-use Rattle.dbl_workload.specs.Logs.{IsFailed}
-use Rattle.dbl_running.specs.Made.{first_forms}
-use Rattle.dbl_running.proofs.MakeLemmas.{first_small}
+use Rattle.dbl_demo_workload.specs.declared.error.DemoError.{DemoError}
+use Rattle.dbl_demo_workload.specs.Errors.{journal_error}
+use Rattle.dbl_demo_workload.specs.Logs.{IsFailed}
+use Rattle.dbl_demo_laws.specs.Made.{first_forms}
+use Rattle.dbl_demo_laws.proofs.MakeLemmas.{first_small}
 use Rattle.dbl_demo.proofs.BeginLemmas.{begun_disk, unmade_disk}
 use Rattle.dbl_demo.specs.Begun.{first_room}
 use Rattle.dbl_journal.specs.Calls.{Makes}

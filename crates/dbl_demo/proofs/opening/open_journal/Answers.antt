@@ -1,6 +1,6 @@
 use Rattle.std.proofs.Common.{◌≡◌, ◌<◌, ◌^◌, length, refl, ap, arith}
 use Rattle.dbl_journal.specs.Stored.{OnDisk}
-use Rattle.dbl_running.proofs.OpenLemmas.{bad_opened, opened_demo}
+use Rattle.dbl_demo_laws.proofs.OpenLemmas.{bad_opened, opened_demo}
 use Rattle.dbl_demo.proofs.opening.open_journal.Goals as goal
 
 pub returns-in-Err-clause-bad : goal.returns-in-Err-clause-bad

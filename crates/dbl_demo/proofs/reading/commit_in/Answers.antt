@@ -1,12 +1,12 @@
 use Rattle.std.proofs.Common.{◌≡◌, ℕ, List, ap}
-use Rattle.dbl_wal.specs.declared.entry.Entry.{Entry}
-use Rattle.dbl_wal.specs.Entries.{Spells}
-use Rattle.dbl_wal.proofs.EntryLaws.{one_entry}
-use Rattle.dbl_sound.specs.Sound.{logged_by}
+use Rattle.dbl_demo_wal.specs.declared.entry.Entry.{Entry}
+use Rattle.dbl_demo_wal.specs.Entries.{EncodesEntry}
+use Rattle.dbl_demo_wal.proofs.EntryLaws.{one_entry}
+use Rattle.dbl_demo_wal.specs.Sound.{logged_by}
 use Rattle.dbl_demo.proofs.reading.commit_in.Goals as goal
 
 -- bytes spell one entry, and so one commit
-one_commit : (bytes : List ℕ) (read entry : Entry) → Spells bytes read → Spells bytes entry → logged_by read ≡ logged_by entry
+one_commit : (bytes : List ℕ) (read entry : Entry) → EncodesEntry bytes read → EncodesEntry bytes entry → logged_by read ≡ logged_by entry
 one_commit bytes read entry is spells = ap logged_by (one_entry bytes read entry is spells)
 
 pub returns-in-Ok-Commits-clause-commit : goal.returns-in-Ok-Commits-clause-commit

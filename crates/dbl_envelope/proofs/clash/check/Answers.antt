@@ -1,8 +1,8 @@
 use Rattle.std.proofs.Common.{◌≡◌, ◌∙◌, ◌+◌, ◌<◌, ◌∷◌, drop, length, Option, sym, ap, subst, arith}
 use Rattle.std.specs.List.{slice_index_or}
 use Rattle.std.proofs.lemmas.List.{drop_more}
-use Rattle.dbl_table.specs.Rows.{changes_of}
-use Rattle.dbl_event.specs.Clashes.{Clash}
+use Rattle.dbl_model_table.specs.Rows.{changes_of}
+use Rattle.dbl_model_event.specs.Clashes.{Clash}
 use Rattle.dbl_envelope.specs.Suits.{Suits}
 use Rattle.dbl_envelope.specs.Clashing.{IsClash}
 use Rattle.dbl_envelope.proofs.ClashLemmas.{check_more, check_stop}

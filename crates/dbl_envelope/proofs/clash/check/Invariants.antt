@@ -1,7 +1,7 @@
 use Rattle.std.proofs.Common.{◌≡◌, drop, flat_map}
-use Rattle.dbl_table.specs.Rows.{changes_of}
-use Rattle.dbl_event.specs.Events.{notices}
-use Rattle.dbl_event.specs.Clashes.{first_found, notice_clash, clash_of}
+use Rattle.dbl_model_table.specs.Rows.{changes_of}
+use Rattle.dbl_model_event.specs.Events.{notices}
+use Rattle.dbl_model_event.specs.Clashes.{first_found, notice_clash, clash_of}
 use Rattle.dbl_envelope.proofs.clash.check.Given as goal
 
 abbrev pub invariant-loop-change : goal.invariant-loop-change

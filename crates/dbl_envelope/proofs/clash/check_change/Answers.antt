@@ -1,7 +1,7 @@
 use Rattle.std.proofs.Common.{◌≡◌, ◌∙◌, Option, sym, ap, subst}
 use Rattle.std.proofs.lemmas.Result.{on_ok_weaker, IfErr-weaker}
-use Rattle.dbl_table.specs.declared.identity.Identity.{Identity}
-use Rattle.dbl_event.specs.Clashes.{Clash, clash_at}
+use Rattle.dbl_model_table.specs.declared.identity.Identity.{Identity}
+use Rattle.dbl_model_event.specs.Clashes.{Clash, clash_at}
 use Rattle.dbl_envelope.specs.Clashing.{IsClash, change_clash, notices_clash}
 use Rattle.dbl_envelope.proofs.ClashLemmas.{change_found}
 use Rattle.dbl_envelope.proofs.clash.check_change.Goals as goal

@@ -1,7 +1,7 @@
 use Rattle.std.proofs.Common.{◌∙◌, Option, sym, ap}
-use Rattle.dbl_table.specs.declared.row.Row.{Row}
-use Rattle.dbl_table.specs.Tables.{column_names}
-use Rattle.dbl_event.specs.Clashes.{clash_among, old_cells}
+use Rattle.dbl_model_table.specs.declared.row.Row.{Row}
+use Rattle.dbl_model_table.specs.Tables.{column_names}
+use Rattle.dbl_model_event.specs.Clashes.{clash_among, old_cells}
 use Rattle.dbl_envelope.proofs.ClashLemmas.{none_among}
 use Rattle.dbl_envelope.proofs.clash.old_clash.Goals as goal
 

@@ -1,7 +1,7 @@
 use Rattle.std.proofs.Common.{◌≡◌, drop, map}
-use Rattle.dbl_table.specs.declared.change.Cell.TheVariants.{Given}
-use Rattle.dbl_table.specs.Tables.{column_names}
-use Rattle.dbl_event.specs.Clashes.{clash_among}
+use Rattle.dbl_model_table.specs.declared.change.Cell.TheVariants.{Given}
+use Rattle.dbl_model_table.specs.Tables.{column_names}
+use Rattle.dbl_model_event.specs.Clashes.{clash_among}
 use Rattle.dbl_envelope.proofs.clash.row_clash.Given as goal
 
 abbrev pub invariant-loop-i : goal.invariant-loop-i

@@ -1,10 +1,10 @@
 use Rattle.std.proofs.Common.{◌≡◌, ◌∙◌, ◌<◌, ◌≤◌, min, length, map, slice_get, Some, true, false, refl, sym, ap, arith}
 use Rattle.std.proofs.lemmas.Option.{slice_get_read}
 use Rattle.std.proofs.lemmas.List.{length-map}
-use Rattle.dbl_table.specs.declared.table.Column.{Column}
-use Rattle.dbl_table.specs.Tables.{column_names}
-use Rattle.dbl_event.specs.Clashes.{is_clash}
-use Rattle.dbl_event_text.proofs.TokenLemmas.{map_get}
+use Rattle.dbl_model_table.specs.declared.table.Column.{Column}
+use Rattle.dbl_model_table.specs.Tables.{column_names}
+use Rattle.dbl_model_event.specs.Clashes.{is_clash}
+use Rattle.dbl_envelope_json.proofs.TokenLemmas.{map_get}
 use Rattle.dbl_envelope.proofs.ClashLemmas.{among_more, among_found, among_end}
 use Rattle.dbl_envelope.proofs.clash.sent_clash.Goals as goal
 

@@ -1,6 +1,6 @@
 use Rattle.std.proofs.Common.{◌≡◌, drop}
-use Rattle.dbl_table.specs.Tables.{column_names}
-use Rattle.dbl_event.specs.Clashes.{clash_among}
+use Rattle.dbl_model_table.specs.Tables.{column_names}
+use Rattle.dbl_model_event.specs.Clashes.{clash_among}
 use Rattle.dbl_envelope.proofs.clash.sent_clash.Given as goal
 
 abbrev pub invariant-loop-i : goal.invariant-loop-i

@@ -1,7 +1,7 @@
 use Rattle.std.proofs.Common.{◌≡◌, ◌∙◌, ◌<◌, Some, option_map, slice_get, length, sym, ap, arith, codes}
-use Rattle.dbl_table.specs.Rows.{table_of}
-use Rattle.dbl_event_text.specs.Layouts.{layout_of}
-use Rattle.dbl_event_text.specs.Frames.{tail_text}
+use Rattle.dbl_model_table.specs.Rows.{table_of}
+use Rattle.dbl_envelope_json.specs.Layouts.{layout_of}
+use Rattle.dbl_envelope_json.specs.Frames.{tail_text}
 use Rattle.dbl_envelope.proofs.CommitLemmas.{suits_place, laid, tailed}
 use Rattle.dbl_envelope.proofs.left.frame_of.Goals as goal
 

@@ -1,8 +1,8 @@
 use Rattle.std.proofs.Common.{◌≡◌, ◌∙◌, [], Option, sym, ap, codes}
 use Rattle.std.specs.Prelude.{option_map, unwrap_or}
-use Rattle.dbl_table.specs.declared.identity.Identity.{Identity}
-use Rattle.dbl_table.specs.declared.table.TableInfo.{TableInfo}
-use Rattle.dbl_event_text.specs.Frames.{tail_text}
+use Rattle.dbl_model_table.specs.declared.identity.Identity.{Identity}
+use Rattle.dbl_model_table.specs.declared.table.TableInfo.{TableInfo}
+use Rattle.dbl_envelope_json.specs.Frames.{tail_text}
 use Rattle.dbl_envelope.specs.Writers.{tail_at}
 use Rattle.dbl_envelope.proofs.TailLemmas.{tails_set}
 use Rattle.dbl_envelope.proofs.left.make_tail.Goals as goal

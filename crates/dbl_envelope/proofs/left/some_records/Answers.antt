@@ -1,8 +1,8 @@
 use Rattle.std.proofs.Common.{◌≡◌, ◌∙◌, ◌+◌, ◌++◌, ◌==◌, ◌<◌, ◌∷◌, drop, length, length-append, sym, ap, subst, arith}
 use Rattle.std.specs.List.{slice_index_or}
 use Rattle.std.proofs.lemmas.List.{drop_more}
-use Rattle.dbl_table.specs.Rows.{changes_of}
-use Rattle.dbl_event_text.specs.declared.stamp.Stamp.{Stamp}
+use Rattle.dbl_model_table.specs.Rows.{changes_of}
+use Rattle.dbl_envelope_json.specs.declared.stamp.Stamp.{Stamp}
 use Rattle.dbl_envelope.specs.Suits.{Suits}
 use Rattle.dbl_envelope.specs.Writers.{records_from, change_records}
 use Rattle.dbl_envelope.proofs.CommitLemmas.{change_step, change_count, all_by}

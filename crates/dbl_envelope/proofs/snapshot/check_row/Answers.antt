@@ -1,6 +1,6 @@
 use Rattle.std.proofs.Common.{◌∙◌, Option, List, ℕ, sym, subst}
 use Rattle.std.proofs.lemmas.Result.{on_ok_weaker, IfErr-weaker}
-use Rattle.dbl_event.specs.Clashes.{clash_at}
+use Rattle.dbl_model_event.specs.Clashes.{clash_at}
 use Rattle.dbl_envelope.specs.Clashing.{IsClash}
 use Rattle.dbl_envelope.proofs.snapshot.check_row.Goals as goal
 

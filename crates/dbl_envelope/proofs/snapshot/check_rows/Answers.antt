@@ -1,5 +1,5 @@
 use Rattle.std.proofs.Common.{◌∙◌, Option, sym, ap, subst}
-use Rattle.dbl_event.specs.Clashes.{Clash, rows_clash}
+use Rattle.dbl_model_event.specs.Clashes.{Clash, rows_clash}
 use Rattle.dbl_envelope.specs.Clashing.{IsClash}
 use Rattle.dbl_envelope.proofs.ClashLemmas.{row_more, row_stop}
 use Rattle.dbl_envelope.proofs.snapshot.check_rows.Goals as goal

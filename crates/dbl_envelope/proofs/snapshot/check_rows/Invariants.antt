@@ -1,5 +1,5 @@
 use Rattle.std.proofs.Common.{◌≡◌}
-use Rattle.dbl_event.specs.Clashes.{rows_clash}
+use Rattle.dbl_model_event.specs.Clashes.{rows_clash}
 use Rattle.dbl_envelope.proofs.snapshot.check_rows.Given as goal
 
 abbrev pub invariant-loop-row : goal.invariant-loop-row

@@ -1,5 +1,5 @@
 use Rattle.std.proofs.Common.{◌≡◌, ◌∙◌, ℕ, length, ap}
-use Rattle.dbl_event.specs.Snapshots.{progress_record}
+use Rattle.dbl_model_event.specs.Snapshots.{progress_record}
 use Rattle.dbl_envelope.proofs.SnapshotLemmas.{chunk_is}
 use Rattle.dbl_envelope.proofs.snapshot.chunk_records.Goals as goal
 

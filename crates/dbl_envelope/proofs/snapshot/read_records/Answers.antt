@@ -1,7 +1,7 @@
 use Rattle.std.proofs.Common.{◌≡◌, ◌∙◌, ◌++◌, ℕ, List, length, ap, subst}
-use Rattle.dbl_table.specs.declared.row.Key.{Key}
-use Rattle.dbl_table.specs.declared.row.Row.{Row}
-use Rattle.dbl_event.specs.Snapshots.{read_record, read_records}
+use Rattle.dbl_model_table.specs.declared.row.Key.{Key}
+use Rattle.dbl_model_table.specs.declared.row.Row.{Row}
+use Rattle.dbl_model_event.specs.Snapshots.{read_record, read_records}
 use Rattle.dbl_envelope.specs.Suits.{SuitsRows}
 use Rattle.dbl_envelope.proofs.SnapshotLemmas.{read_step}
 use Rattle.dbl_envelope.proofs.snapshot.read_records.Goals as goal

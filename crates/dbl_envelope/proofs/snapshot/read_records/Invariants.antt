@@ -1,5 +1,5 @@
 use Rattle.std.proofs.Common.{◌≡◌, ◌++◌, length}
-use Rattle.dbl_event.specs.Snapshots.{read_records}
+use Rattle.dbl_model_event.specs.Snapshots.{read_records}
 use Rattle.dbl_envelope.specs.Suits.{SuitsRows}
 use Rattle.dbl_envelope.proofs.snapshot.read_records.Given as goal
 

@@ -1,5 +1,5 @@
 use Rattle.std.proofs.Common.{◌≡◌, map, take}
-use Rattle.dbl_event_text.specs.Layouts.{layout_of}
+use Rattle.dbl_envelope_json.specs.Layouts.{layout_of}
 use Rattle.dbl_envelope.proofs.writer.layouts.Given as goal
 
 abbrev pub invariant-loop-info : goal.invariant-loop-info

@@ -1,5 +1,5 @@
 use Rattle.std.proofs.Common.{◌≡◌, map, drop}
-use Rattle.dbl_table.specs.Tables.{type_at}
+use Rattle.dbl_model_table.specs.Tables.{type_at}
 use Rattle.dbl_offset.specs.Reading.{cells_at}
 use Rattle.dbl_offset.proofs.Many.{with_front}
 use Rattle.dbl_offset.proofs.cursors.read_cells.Given as goal

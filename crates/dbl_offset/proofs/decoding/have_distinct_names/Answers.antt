@@ -1,7 +1,7 @@
 use Rattle.std.proofs.Common.{◌≡◌, ◌∙◌, ◌+◌, true, false, drop, sym, ap}
 use Rattle.std.specs.List.{list_any}
-use Rattle.dbl_table.specs.declared.table.TableInfo.{TableInfo}
-use Rattle.dbl_table.specs.Tables.{same_name}
+use Rattle.dbl_model_table.specs.declared.table.TableInfo.{TableInfo}
+use Rattle.dbl_model_table.specs.Tables.{same_name}
 use Rattle.dbl_offset.proofs.OffsetLaws.{name_again, name_new, names_end, rest_whole}
 use Rattle.dbl_offset.proofs.decoding.have_distinct_names.Goals as goal
 

@@ -1,5 +1,5 @@
 use Rattle.std.proofs.Common.{◌≡◌, map, drop}
-use Rattle.dbl_table.specs.Tables.{same_name, are_distinct}
+use Rattle.dbl_model_table.specs.Tables.{same_name, are_distinct}
 use Rattle.dbl_offset.proofs.decoding.have_distinct_names.Given as goal
 
 abbrev pub invariant-loop-i : goal.invariant-loop-i

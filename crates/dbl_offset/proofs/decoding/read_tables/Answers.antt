@@ -1,6 +1,6 @@
 use Rattle.std.proofs.Common.{◌∙◌, List, inr, sym, ap, arith}
-use Rattle.dbl_table.specs.declared.table.TableInfo.{TableInfo}
-use Rattle.dbl_table.specs.Tables.{same_name, are_distinct}
+use Rattle.dbl_model_table.specs.declared.table.TableInfo.{TableInfo}
+use Rattle.dbl_model_table.specs.Tables.{same_name, are_distinct}
 use Rattle.dbl_offset.proofs.OffsetLaws.{table_names, tables_some, tables_none}
 use Rattle.dbl_offset.proofs.decoding.read_tables.Goals as goal
 

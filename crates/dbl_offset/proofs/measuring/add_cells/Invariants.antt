@@ -1,10 +1,10 @@
 use Rattle.std.proofs.Common.{◌<◌, ◌^◌}
-use Rattle.dbl_offset.specs.Entries.{cell, FitsCell}
+use Rattle.dbl_offset.specs.Entries.{cell, FitsKeyCell}
 use Rattle.dbl_offset.proofs.Sizes.{Rest}
 use Rattle.dbl_offset.proofs.measuring.add_cells.Given as goal
 
 abbrev pub invariant-loop-value : goal.invariant-loop-value
 invariant-loop-value l = record {
-  sum : Rest cell FitsCell l.before l.total l.cells l.value-index;
+  sum : Rest cell FitsKeyCell l.before l.total l.cells l.value-index;
   small : l.total < 2 ^ 64;
 }

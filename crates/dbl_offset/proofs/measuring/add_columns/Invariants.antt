@@ -1,10 +1,10 @@
 use Rattle.std.proofs.Common.{◌<◌, ◌^◌}
-use Rattle.dbl_offset.specs.Entries.{column, FitsColumn}
+use Rattle.dbl_offset.specs.Entries.{column, FitsTableColumn}
 use Rattle.dbl_offset.proofs.Sizes.{Rest}
 use Rattle.dbl_offset.proofs.measuring.add_columns.Given as goal
 
 abbrev pub invariant-loop-item : goal.invariant-loop-item
 invariant-loop-item l = record {
-  sum : Rest column FitsColumn l.before l.total l.columns l.item-index;
+  sum : Rest column FitsTableColumn l.before l.total l.columns l.item-index;
   small : l.total < 2 ^ 64;
 }

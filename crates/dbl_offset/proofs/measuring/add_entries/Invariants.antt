@@ -1,11 +1,11 @@
 use Rattle.std.proofs.Common.{◌<◌, ◌^◌}
 use Rattle.std.specs.List.{zip}
-use Rattle.dbl_offset.specs.Entries.{entry, FitsEntry}
+use Rattle.dbl_offset.specs.Entries.{entry, FitsTableCursor}
 use Rattle.dbl_offset.proofs.Sizes.{Rest}
 use Rattle.dbl_offset.proofs.measuring.add_entries.Given as goal
 
 abbrev pub invariant-loop-i : goal.invariant-loop-i
 invariant-loop-i l = record {
-  sum : Rest entry FitsEntry l.before l.total (zip l.infos l.cursors) l.i;
+  sum : Rest entry FitsTableCursor l.before l.total (zip l.infos l.cursors) l.i;
   small : l.total < 2 ^ 64;
 }

@@ -1,6 +1,6 @@
 use Rattle.std.proofs.Common.{◌≡◌, ◌∙◌, length, subst}
 use Rattle.std.specs.List.{AllByRecursion, flat_map, zip}
-use Rattle.dbl_offset.specs.Entries.{entry, FitsEntry}
+use Rattle.dbl_offset.specs.Entries.{entry, FitsTableCursor}
 use Rattle.dbl_offset.specs.Measures.{Measures}
 use Rattle.dbl_offset.proofs.Sizes.{offset_measured}
 use Rattle.dbl_offset.proofs.measuring.measure.Goals as goal
@@ -11,5 +11,5 @@ returns c =
     let infos : c.deref.result.now ≡ o.infos = c.deref.ensures.value ∙ c.items.ensures in
     let cursors : c.deref-2.result.now ≡ o.cursors = c.deref-2.ensures.value ∙ c.items-2.ensures in
     let zipped : zip c.deref.result.now c.deref-2.result.now ≡ zip o.infos o.cursors = λ i. zip (infos i) (cursors i) in
-    let tables = subst (λ l. Measures c.add_numbers-numbers.result (length (flat_map entry l)) (AllByRecursion FitsEntry l) c.add_entries.result) zipped c.add_entries.ensures in
+    let tables = subst (λ l. Measures c.add_numbers-numbers.result (length (flat_map entry l)) (AllByRecursion FitsTableCursor l) c.add_entries.result) zipped c.add_entries.ensures in
     offset_measured c.add_names-names.result c.add_numbers-numbers.result c.add_entries.result o c.add_names-names.ensures c.add_numbers-numbers.ensures tables

@@ -2,7 +2,7 @@ use Rattle.std.proofs.Common.{◌≡◌, ◌≤◌, ℕ, List, Some, take}
 use Rattle.std.specs.Prelude.{◌↔◌, IfSome}
 use Rattle.std.specs.List.{All}
 use Rattle.dbl_journal.specs.Stored.{Lists, count_of}
-use Rattle.dbl_offset.specs.Offsets.{IsEntry, IsOffset}
+use Rattle.dbl_offset.specs.Offsets.{IsOffsetEntry, IsOffset}
 use Rattle.dbl_offset.specs.Stores.{IsLastOf}
 use Rattle.dbl_offset.proofs.store.read_last.Given as goal
 
@@ -10,7 +10,7 @@ abbrev pub invariant-loop-index : goal.invariant-loop-index
 invariant-loop-index g l = record {
   same : l.journal ≡ record l.fn.journal { disk = l.journal.disk };
   lists : (entries : List (List ℕ)) → Lists g.D.Disk.seen g.D.Disk.may_leave l.fn.journal entries → Lists g.D.Disk.seen g.D.Disk.may_leave l.journal entries;
-  each : (entries : List (List ℕ)) → Lists g.D.Disk.seen g.D.Disk.may_leave l.fn.journal entries → All IsEntry (take l.index entries);
+  each : (entries : List (List ℕ)) → Lists g.D.Disk.seen g.D.Disk.may_leave l.fn.journal entries → All IsOffsetEntry (take l.index entries);
   last : (entries : List (List ℕ)) → Lists g.D.Disk.seen g.D.Disk.may_leave l.fn.journal entries → IsLastOf (take l.index entries) l.last;
   asked : IfSome l.last IsOffset;
   count : l.index-end ≡ count_of l.fn.journal;

@@ -1,5 +1,5 @@
 use Rattle.std.proofs.Common.{◌∙◌, inr, ap, arith}
-use Rattle.dbl_table.specs.Tables.{are_typed}
+use Rattle.dbl_model_table.specs.Tables.{are_typed}
 use Rattle.dbl_offset.proofs.TableLaws.{table_some, table_none, typed_behind}
 use Rattle.dbl_offset.proofs.tables.read_table.Goals as goal
 

@@ -1,6 +1,6 @@
 use Rattle.std.proofs.Common.{◌++◌, arith}
 use Rattle.std.specs.List.{flat_map, zip}
-use Rattle.dbl_offset.specs.Entries.{entry, FitsEntry}
+use Rattle.dbl_offset.specs.Entries.{entry, FitsTableCursor}
 use Rattle.dbl_record.proofs.Sizes.{written_goes, written_done}
 use Rattle.dbl_offset.proofs.Sizes.{held_at, zip_at, zip_long}
 use Rattle.dbl_offset.proofs.writing.write_entries.Goals as goal
@@ -10,7 +10,7 @@ write_entry-requires c =
     let infos = c.args.infos.now in
     let cursors = c.args.cursors.now in
     let long = zip_long infos cursors c.requires.long in
-    held_at FitsEntry (zip infos cursors) c.loop-i.i (c.index-infos-i.result, c.index-cursors-i.result) c.requires.fit (omega (arith, long, c.loop-i-test.true))
+    held_at FitsTableCursor (zip infos cursors) c.loop-i.i (c.index-infos-i.result, c.index-cursors-i.result) c.requires.fit (omega (arith, long, c.loop-i-test.true))
     (zip_at infos cursors c.loop-i.i c.index-infos-i.result c.index-cursors-i.result c.requires.long c.loop-i-test.true c.index-infos-i.is c.index-cursors-i.is)
 
 pub loop-i-preserved : goal.loop-i-preserved

@@ -17,10 +17,10 @@ returns-in_err-cell-clause-read c =
 pub words-preserved : goal.words-preserved
 words-preserved c =
     let rest = before_goes_on c.words.words c.next_part.new.self c.in-Some.word.now c.in-Some.ensures (sym c.if-is_word.ensures) in
-    let behind = behind_goes_on c.words.words c.next_part.new.self c.in-Some.word.now c.in-Some.ensures (sym c.if-is_word.ensures) in
+    let subsequent = behind_goes_on c.words.words c.next_part.new.self c.in-Some.word.now c.in-Some.ensures (sym c.if-is_word.ensures) in
     record {
       read = takes cell_of c.words.cells.items (before_set c.args.words.now) (before_set c.words.words) c.words.invariant.read (before_set c.next_part.new.self) c.in-Some.word.now c.in_ok-cell.cell c.push.new.self.items rest c.in_ok-cell.ensures c.in_ok-push.ensures.items;
-      left = sym behind ∙ c.words.invariant.left;
+      left = sym subsequent ∙ c.words.invariant.left;
     }
 
 pub returns-clause-read : goal.returns-clause-read

@@ -1,5 +1,5 @@
 use Rattle.std.proofs.Common.{◌≡◌, ◌++◌, map}
-use Rattle.dbl_feed.specs.declared.logged.Logged.TheVariants.{Changes}
+use Rattle.dbl_source_log.specs.declared.logged.Logged.TheVariants.{Changes}
 use Rattle.dbl_source.proofs.moves.append.Given as goal
 
 abbrev pub invariant-loop-messages : goal.invariant-loop-messages

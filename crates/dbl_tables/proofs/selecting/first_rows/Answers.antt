@@ -2,7 +2,7 @@ use Rattle.std.proofs.Common.{◌≡◌, ◌∙◌, ◌<◌, ◌≤◌, ◌++◌
 use Rattle.std.specs.Prelude.{nat_le, option_to_list}
 use Rattle.std.proofs.lemmas.Bool.Decides.{nat_tests}
 use Rattle.std.proofs.lemmas.List.{append-nil}
-use Rattle.dbl_table.specs.declared.table.RawRow.{RawRow}
+use Rattle.dbl_model_table.specs.declared.table.RawRow.{RawRow}
 use Rattle.dbl_tables.proofs.SelectLemmas.{Entry, rows_of}
 use Rattle.dbl_tables.proofs.SelectStands.{gathered_more, pushed_few, gathered_all, gathered_full}
 use Rattle.dbl_tables.proofs.selecting.first_rows.Goals as goal

@@ -2,8 +2,8 @@ use Rattle.std.proofs.Common.{◌≡◌, List, take, subst}
 use Rattle.std.specs.Prelude.{IfOk}
 use Rattle.std.specs.declared.cmp.Ordering.{Ordering}
 use Rattle.std.specs.BTreeMap.{IsOrdered}
-use Rattle.dbl_table.specs.declared.row.Key.{Key}
-use Rattle.dbl_rows.proofs.SlotLemmas.{orders}
+use Rattle.dbl_model_table.specs.declared.row.Key.{Key}
+use Rattle.dbl_tables_rows.proofs.SlotLemmas.{orders}
 use Rattle.dbl_tables.proofs.SelectLemmas.{Entry, rows_of}
 use Rattle.dbl_tables.proofs.SelectStands.{range_behind}
 use Rattle.dbl_tables.proofs.selecting.rows_above.Goals as goal

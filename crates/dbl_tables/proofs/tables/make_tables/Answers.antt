@@ -3,8 +3,8 @@ use Rattle.std.specs.List.{AllZip}
 use Rattle.std.proofs.lemmas.List.{map-id}
 use Rattle.std.proofs.lemmas.Iterator.Adapters.{YieldsList-from_vec}
 use Rattle.std.proofs.lemmas.Iterator.Consumers.{YieldsList-end}
-use Rattle.dbl_serial.specs.declared.demo_table.DemoTable.{DemoTable}
-use Rattle.dbl_rows.specs.declared.rows.Rows.{Rows}
+use Rattle.dbl_tables_rows.specs.declared.demo_table.DemoTable.{DemoTable}
+use Rattle.dbl_tables_rows.specs.declared.rows.Rows.{Rows}
 use Rattle.dbl_tables.specs.Stands.{IsMade}
 use Rattle.dbl_tables.proofs.MadeLemmas.{zip_more}
 use Rattle.dbl_tables.proofs.tables.make_tables.Goals as goal

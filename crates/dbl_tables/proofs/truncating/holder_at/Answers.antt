@@ -1,6 +1,6 @@
 use Rattle.std.proofs.Common.{Option, None, refl, sym, subst}
 use Rattle.std.specs.Prelude.{option_copied}
-use Rattle.dbl_rows.specs.declared.rows.Rows.{Rows}
+use Rattle.dbl_tables_rows.specs.declared.rows.Rows.{Rows}
 use Rattle.dbl_tables.specs.Truncates.{IsHolderAt}
 use Rattle.dbl_tables.proofs.StoreLemmas.{got, got_none}
 use Rattle.dbl_tables.proofs.truncating.holder_at.Goals as goal

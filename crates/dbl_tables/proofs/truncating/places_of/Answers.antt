@@ -1,8 +1,8 @@
 use Rattle.std.proofs.Common.{◌≡◌, ℕ, Some, List, [], ◌∷◌, ◌++◌, inr, take, refl, sym, subst}
 use Rattle.std.specs.List.{AllZip}
 use Rattle.std.proofs.lemmas.List.{take_all}
-use Rattle.dbl_table.specs.declared.table.TableName.{TableName}
-use Rattle.dbl_table.proofs.PartLemmas.{one_more}
+use Rattle.dbl_model_table.specs.declared.table.TableName.{TableName}
+use Rattle.dbl_model_table.proofs.PartLemmas.{one_more}
 use Rattle.dbl_tables.specs.Truncates.{place_in}
 use Rattle.dbl_tables.proofs.GatherLemmas.{places_zip, missing_there}
 use Rattle.dbl_tables.proofs.truncating.places_of.Goals as goal

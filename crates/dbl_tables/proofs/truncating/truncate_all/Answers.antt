@@ -1,6 +1,6 @@
 use Rattle.std.proofs.Common.{◌∙◌, ◌-◌, ℕ, List, length, get_or, replicate, take, refl, sym, ap, subst}
 use Rattle.std.proofs.lemmas.List.{take_all}
-use Rattle.dbl_table.proofs.PartLemmas.{one_more}
+use Rattle.dbl_model_table.proofs.PartLemmas.{one_more}
 use Rattle.dbl_tables.specs.Truncates.{TruncatesOne, TruncatesAll}
 use Rattle.dbl_tables.proofs.GatherLemmas.{pop_same, none_less, one_less, one_left, truncates_more}
 use Rattle.dbl_tables.proofs.truncating.truncate_all.Goals as goal

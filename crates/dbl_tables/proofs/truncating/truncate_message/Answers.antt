@@ -1,8 +1,8 @@
 use Rattle.std.proofs.Common.{◌∙◌, ◌+◌, ℕ, List, [], ◌∷◌, ◌++◌, map, take, get_or, refl, sym, ap}
 use Rattle.std.proofs.lemmas.List.{map-append, take_all}
-use Rattle.dbl_table.proofs.PartLemmas.{one_more}
-use Rattle.dbl_feed.specs.Relations.{first_oid}
-use Rattle.dbl_serial.specs.Sending.{truncate_message}
+use Rattle.dbl_model_table.proofs.PartLemmas.{one_more}
+use Rattle.dbl_tables_rows.specs.SourceLog.Relations.{first_oid}
+use Rattle.dbl_tables_rows.specs.Sending.{truncate_message}
 use Rattle.dbl_tables.proofs.GatherLemmas.{low_at}
 use Rattle.dbl_tables.proofs.truncating.truncate_message.Goals as goal
 

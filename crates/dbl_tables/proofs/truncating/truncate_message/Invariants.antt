@@ -1,6 +1,6 @@
 use Rattle.std.proofs.Common.{◌≡◌, ◌+◌, ◌<◌, ◌^◌, map, take}
 use Rattle.std.specs.List.{AllByRecursion}
-use Rattle.dbl_feed.specs.Relations.{first_oid}
+use Rattle.dbl_tables_rows.specs.SourceLog.Relations.{first_oid}
 use Rattle.dbl_tables.proofs.truncating.truncate_message.Given as goal
 
 abbrev pub invariant-loop-place : goal.invariant-loop-place

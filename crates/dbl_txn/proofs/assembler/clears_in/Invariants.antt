@@ -1,5 +1,5 @@
 use Rattle.std.proofs.Common.{◌≡◌, ◌++◌, drop}
-use Rattle.dbl_commit.specs.Stated.{clears}
+use Rattle.dbl_model_commit.specs.Stated.{clears}
 use Rattle.dbl_txn.proofs.assembler.clears_in.Given as goal
 
 abbrev pub invariant-loop-target : goal.invariant-loop-target

@@ -2,8 +2,8 @@ use Rattle.std.proofs.Common.{◌≡◌, List, drop}
 use Rattle.std.specs.Prelude.{nat_eq}
 use Rattle.indexmap.specs.IndexMap.{get}
 use Rattle.dbl_pgmsg.specs.declared.messages.Message.{Message}
-use Rattle.dbl_table.specs.declared.table.TableInfo.{TableInfo}
-use Rattle.dbl_commit.specs.Stated.{targets_at}
+use Rattle.dbl_model_table.specs.declared.table.TableInfo.{TableInfo}
+use Rattle.dbl_model_commit.specs.Stated.{targets_at}
 use Rattle.dbl_txn.specs.Stands.{Recalls}
 use Rattle.dbl_txn.proofs.Loops.{with_front}
 use Rattle.dbl_txn.proofs.assembler.targets_in.Given as goal

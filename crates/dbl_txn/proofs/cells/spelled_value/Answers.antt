@@ -1,5 +1,5 @@
 use Rattle.std.proofs.Common.{inl, inr, refl}
-use Rattle.dbl_commit.specs.Tuples.{spelled_value}
+use Rattle.dbl_model_commit.specs.Tuples.{spelled_value}
 use Rattle.dbl_txn.proofs.Texts.{unread}
 use Rattle.dbl_txn.proofs.cells.spelled_value.Goals as goal
 

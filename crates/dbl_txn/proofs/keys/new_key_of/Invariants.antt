@@ -1,5 +1,5 @@
 use Rattle.std.proofs.Common.{◌≡◌, map, take}
-use Rattle.dbl_table.specs.Keys.{cell_or_null, given_or_null}
+use Rattle.dbl_model_table.specs.Keys.{cell_or_null, given_or_null}
 use Rattle.dbl_txn.proofs.keys.new_key_of.Given as goal
 
 abbrev pub invariant-loop-place : goal.invariant-loop-place

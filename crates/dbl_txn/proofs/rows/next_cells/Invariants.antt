@@ -1,6 +1,6 @@
 use Rattle.std.proofs.Common.{◌≡◌, ◌+◌, length, drop}
 use Rattle.std.specs.Vec.Iter.{into_iter_items}
-use Rattle.dbl_commit.specs.Tuples.{each_from, next_cell}
+use Rattle.dbl_model_commit.specs.Tuples.{each_from, next_cell}
 use Rattle.dbl_txn.proofs.Loops.{with_front}
 use Rattle.dbl_txn.proofs.rows.next_cells.Given as goal
 

@@ -2,10 +2,10 @@ use Rattle.std.proofs.Common.{arith, sym, ◌∙◌, ap, subst, List, [], ◌≡
 use Rattle.std.proofs.lemmas.Result.{err_from_is_err_and}
 use Rattle.std.specs.Vec.Iter.{into_iter_items}
 use Rattle.dbl_pgmsg.specs.declared.messages.Message.{Message}
-use Rattle.dbl_table.specs.declared.change.Commit.{Commit}
-use Rattle.dbl_commit.specs.Stated.{commits_of}
-use Rattle.dbl_commit.specs.Blocks.{States}
-use Rattle.dbl_commit.proofs.Splitting.{faultless_states}
+use Rattle.dbl_model_table.specs.declared.change.Commit.{Commit}
+use Rattle.dbl_model_commit.specs.Stated.{commits_of}
+use Rattle.dbl_model_commit.specs.Blocks.{States}
+use Rattle.dbl_model_commit.proofs.Splitting.{faultless_states}
 use Rattle.dbl_txn.specs.Stands.{StandsWhole}
 use Rattle.dbl_txn.proofs.Wholes.{one_more, stopped, at_end, end_clean, no_items}
 use Rattle.dbl_txn.proofs.whole.take_all.Goals as goal

@@ -2,9 +2,9 @@ use Rattle.std.proofs.Common.{◌≡◌, ◌∙◌, ◌+◌, ◌<◌, List, ◌�
 use Rattle.std.specs.Vec.Iter.{into_iter_items}
 use Rattle.dbl_value.specs.declared.column_type.PgType.{PgType}
 use Rattle.dbl_value.specs.declared.value.Val.{Val}
-use Rattle.dbl_table.specs.declared.table.Column.{Column}
+use Rattle.dbl_model_table.specs.declared.table.Column.{Column}
 use Rattle.dbl_window.specs.Reading.{cells_read}
-use Rattle.dbl_window.specs.ReadParts.{FitsCell}
+use Rattle.dbl_window.specs.ReadParts.{FitsColumnCell}
 use Rattle.dbl_window.proofs.Loops.{with_front}
 use Rattle.dbl_window.proofs.CellLemmas.{FitSoFar, fit_push}
 use Rattle.dbl_window.proofs.LoopLemmas.{cells_more, type_there}
@@ -31,5 +31,5 @@ loop-cell-preserved c =
       counted = omega (arith, counted, long);
       fit = subst (λ (l : List Val). FitSoFar info l (place + 1)) (sym pushed)
           (fit_push info values place value c.loop-cell.invariant.fit
-          (subst (λ (ty : PgType). FitsCell info place ty value) (sym (type_there info place column lt is)) c.in_ok-read_cell.ensures.fits));
+          (subst (λ (ty : PgType). FitsColumnCell info place ty value) (sym (type_there info place column lt is)) c.in_ok-read_cell.ensures.fits));
     }

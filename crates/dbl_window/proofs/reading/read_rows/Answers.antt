@@ -3,10 +3,10 @@ use Rattle.std.specs.Prelude.{Ok}
 use Rattle.std.specs.List.{AllByRecursion}
 use Rattle.std.specs.Vec.Iter.{into_iter_items}
 use Rattle.std.proofs.lemmas.List.{length_push}
-use Rattle.dbl_table.specs.declared.row.Key.{Key}
-use Rattle.dbl_table.specs.declared.row.Row.{Row}
-use Rattle.dbl_history.specs.KeyBounds.{IsAbove}
-use Rattle.dbl_history.specs.KeyedRows.{AreAbove, last_key}
+use Rattle.dbl_model_table.specs.declared.row.Key.{Key}
+use Rattle.dbl_model_table.specs.declared.row.Row.{Row}
+use Rattle.dbl_model_history.specs.KeyBounds.{IsAbove}
+use Rattle.dbl_model_history.specs.KeyedRows.{AreAbove, last_key}
 use Rattle.dbl_window.specs.Plans.{plan_of}
 use Rattle.dbl_window.specs.Reading.{row_read, rows_read}
 use Rattle.dbl_window.specs.Changing.{FitsRow}

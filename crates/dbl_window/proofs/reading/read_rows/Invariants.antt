@@ -1,7 +1,7 @@
 use Rattle.std.proofs.Common.{◌≡◌, ◌≤◌, length}
 use Rattle.std.specs.List.{AllByRecursion}
 use Rattle.std.specs.Vec.Iter.{into_iter_items}
-use Rattle.dbl_history.specs.KeyedRows.{AreAbove, last_key}
+use Rattle.dbl_model_history.specs.KeyedRows.{AreAbove, last_key}
 use Rattle.dbl_window.specs.Plans.{plan_of}
 use Rattle.dbl_window.specs.Reading.{rows_read}
 use Rattle.dbl_window.specs.Changing.{FitsRow}

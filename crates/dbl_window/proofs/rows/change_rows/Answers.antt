@@ -1,9 +1,9 @@
 use Rattle.std.proofs.Common.{◌∙◌, None, sym, ap}
 use Rattle.std.specs.Prelude.{if◌then◌else◌}
-use Rattle.dbl_table.specs.declared.row.Key.{Key}
-use Rattle.dbl_table.specs.Keys.{same_key, key_of}
-use Rattle.dbl_table.specs.declared.change.Change.{Change}
-use Rattle.dbl_history.specs.KeyedRows.{row_in, row_left}
+use Rattle.dbl_model_table.specs.declared.row.Key.{Key}
+use Rattle.dbl_model_table.specs.Keys.{same_key, key_of}
+use Rattle.dbl_model_table.specs.declared.change.Change.{Change}
+use Rattle.dbl_model_history.specs.KeyedRows.{row_in, row_left}
 use Rattle.dbl_window.specs.Changing.{effect_at}
 use Rattle.dbl_window.proofs.Effects.{left-whole, left-ends}
 use Rattle.dbl_window.proofs.rows.change_rows.Goals as goal

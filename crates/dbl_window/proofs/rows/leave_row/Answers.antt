@@ -1,6 +1,6 @@
 use Rattle.std.proofs.Common.{◌∙◌, sym}
-use Rattle.dbl_table.proofs.KeyLemmas.{same_key-is, same_key-not}
-use Rattle.dbl_history.specs.KeyedRows.{row_in}
+use Rattle.dbl_model_table.proofs.KeyLemmas.{same_key-is, same_key-not}
+use Rattle.dbl_model_history.specs.KeyedRows.{row_in}
 use Rattle.dbl_window.proofs.Effects.{left_alone, left_behind}
 use Rattle.dbl_window.proofs.rows.leave_row.Goals as goal
 

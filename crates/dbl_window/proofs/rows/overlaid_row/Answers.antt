@@ -1,7 +1,7 @@
 use Rattle.std.proofs.Common.{◌≡◌, ◌∙◌, ◌<◌, List, length, get_or, sym, ap, subst, arith}
 use Rattle.std.proofs.lemmas.List.{take_all}
-use Rattle.dbl_table.specs.declared.change.Cell.{Cell}
-use Rattle.dbl_table.specs.Rows.{overlay}
+use Rattle.dbl_model_table.specs.declared.change.Cell.{Cell}
+use Rattle.dbl_model_table.specs.Rows.{overlay}
 use Rattle.dbl_window.specs.Changing.{laid}
 use Rattle.dbl_window.proofs.Overlays.{overlay-more}
 use Rattle.dbl_window.proofs.rows.overlaid_row.Goals as goal

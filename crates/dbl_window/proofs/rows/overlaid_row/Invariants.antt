@@ -1,5 +1,5 @@
 use Rattle.std.proofs.Common.{◌≡◌, take}
-use Rattle.dbl_table.specs.Rows.{overlay}
+use Rattle.dbl_model_table.specs.Rows.{overlay}
 use Rattle.dbl_window.proofs.rows.overlaid_row.Given as goal
 
 abbrev pub invariant-loop-place : goal.invariant-loop-place

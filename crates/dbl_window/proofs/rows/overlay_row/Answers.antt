@@ -1,9 +1,9 @@
 use Rattle.std.proofs.Common.{◌∙◌, Some, sym, ap, subst}
 use Rattle.std.specs.Prelude.{if◌then◌else◌}
 use Rattle.std.proofs.lemmas.Result.{on_ok_weaker}
-use Rattle.dbl_table.specs.declared.row.Key.{Key}
-use Rattle.dbl_table.specs.Keys.{same_key}
-use Rattle.dbl_history.specs.KeyedRows.{row_in}
+use Rattle.dbl_model_table.specs.declared.row.Key.{Key}
+use Rattle.dbl_model_table.specs.Keys.{same_key}
+use Rattle.dbl_model_history.specs.KeyedRows.{row_in}
 use Rattle.dbl_window.specs.Changing.{FitsRow}
 use Rattle.dbl_window.proofs.Effects.{laid_over, none_laid, fits_over}
 use Rattle.dbl_window.proofs.rows.overlay_row.Goals as goal

@@ -4,8 +4,8 @@ use Rattle.std.specs.Map.{lookup}
 use Rattle.std.specs.BTreeMap.{insert_entry}
 use Rattle.std.specs.Ordering.{is_eq}
 use Rattle.std.specs.declared.cmp.Ordering.{Ordering}
-use Rattle.dbl_table.specs.declared.row.Key.{Key}
-use Rattle.dbl_table.specs.declared.row.Row.{Row}
+use Rattle.dbl_model_table.specs.declared.row.Key.{Key}
+use Rattle.dbl_model_table.specs.declared.row.Row.{Row}
 use Rattle.dbl_window.specs.Changing.{FitsRow}
 use Rattle.dbl_window.proofs.MapLemmas.{order_is, row_changed, all_inserted, insert_last}
 use Rattle.dbl_window.proofs.rows.put_row.Goals as goal
@@ -25,7 +25,7 @@ returns-in-Ok-clause-fit c info all new_fits =
 
 -- a row behind all others stands last
 pub returns-in-Ok-clause-last : goal.returns-in-Ok-clause-last
-returns-in-Ok-clause-last c bound above behind =
+returns-in-Ok-clause-last c bound above subsequent =
     let old = c.args.rows.now.entries in
     let entries = subst (λ (cmp : Key → Key → Ordering). c.insert.new.self.entries ≡ insert_entry cmp old c.args.key c.args.row) order_is c.in-Ok.ensures.entries in
-    entries ∙ insert_last bound old c.args.key c.args.row above behind
+    entries ∙ insert_last bound old c.args.key c.args.row above subsequent

@@ -3,8 +3,8 @@ use Rattle.std.specs.List.{AllByRecursion}
 use Rattle.std.specs.Map.{lookup}
 use Rattle.std.specs.Ordering.{is_eq}
 use Rattle.std.specs.declared.cmp.Ordering.{Ordering}
-use Rattle.dbl_table.specs.declared.row.Key.{Key}
-use Rattle.dbl_table.specs.declared.row.Row.{Row}
+use Rattle.dbl_model_table.specs.declared.row.Key.{Key}
+use Rattle.dbl_model_table.specs.declared.row.Row.{Row}
 use Rattle.dbl_window.specs.Changing.{FitsRow}
 use Rattle.dbl_window.proofs.MapLemmas.{cells_in, order_is, row_in-lookup, row_changed, all_removed, found_fits}
 use Rattle.dbl_window.proofs.rows.remove_row.Goals as goal

@@ -1,9 +1,9 @@
 use Rattle.std.proofs.Common.{◌≡◌, subst}
-use Rattle.dbl_table.specs.declared.row.Key.{Key}
-use Rattle.dbl_table.specs.Keys.{same_key}
-use Rattle.dbl_table.specs.Rows.{all_given, at_keys, updated}
+use Rattle.dbl_model_table.specs.declared.row.Key.{Key}
+use Rattle.dbl_model_table.specs.Keys.{same_key}
+use Rattle.dbl_model_table.specs.Rows.{all_given, at_keys, updated}
 use Rattle.std.specs.Prelude.{true}
-use Rattle.dbl_history.specs.KeyedRows.{row_in, row_left}
+use Rattle.dbl_model_history.specs.KeyedRows.{row_in, row_left}
 use Rattle.dbl_window.proofs.Effects.{left_in_turn}
 use Rattle.dbl_window.proofs.rows.update_rows.Goals as goal
 

@@ -1,10 +1,10 @@
 use Rattle.std.proofs.Common.{[]}
-use Rattle.dbl_feed.specs.Histories.{history_of}
-use Rattle.dbl_honest.specs.Answered.{IsDescribed}
-use Rattle.dbl_honest.specs.Told.{Described}
-use Rattle.dbl_running.specs.Answers.{AnswersEntry}
-use Rattle.dbl_running.proofs.LeadLemmas.{lead_entry}
-use Rattle.dbl_running.proofs.PromiseLemmas.{comes_held, entry_named, leads_held, left_held, kept_reader, same_reader, some_held, tells_of}
+use Rattle.dbl_source_log.specs.Histories.{history_of}
+use Rattle.dbl_source_model.specs.Answered.{IsDescribed}
+use Rattle.dbl_source_model.specs.Trace.{Described}
+use Rattle.dbl_demo_laws.specs.Answers.{AnswersEntry}
+use Rattle.dbl_demo_laws.proofs.LeadLemmas.{lead_entry}
+use Rattle.dbl_demo_laws.proofs.PromiseLemmas.{comes_held, entry_named, leads_held, left_held, kept_reader, same_reader, some_held, tells_of}
 use Rattle.dbl_demo.proofs.calls.DemoSourceSource.describe.Goals as goal
 
 pub returns : goal.returns

@@ -1,9 +1,9 @@
 use Rattle.std.proofs.lemmas.Result.{IfOk-weaker}
-use Rattle.dbl_honest.specs.Answered.{IsHeaded}
-use Rattle.dbl_honest.specs.Told.{Head}
-use Rattle.dbl_running.specs.Answers.{AnswersHead}
-use Rattle.dbl_running.proofs.LeadLemmas.{lead_head}
-use Rattle.dbl_running.proofs.PromiseLemmas.{comes_held, leads_held, left_held, kept_reader, same_reader, some_held, tells_of}
+use Rattle.dbl_source_model.specs.Answered.{IsHeaded}
+use Rattle.dbl_source_model.specs.Trace.{Head}
+use Rattle.dbl_demo_laws.specs.Answers.{AnswersHead}
+use Rattle.dbl_demo_laws.proofs.LeadLemmas.{lead_head}
+use Rattle.dbl_demo_laws.proofs.PromiseLemmas.{comes_held, leads_held, left_held, kept_reader, same_reader, some_held, tells_of}
 use Rattle.dbl_demo.proofs.calls.DemoSourceSource.head.Goals as goal
 
 pub returns : goal.returns

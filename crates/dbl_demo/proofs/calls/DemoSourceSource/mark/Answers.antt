@@ -1,8 +1,8 @@
-use Rattle.dbl_honest.specs.Calls.{IsMarked}
-use Rattle.dbl_honest.specs.Told.{Done}
-use Rattle.dbl_running.specs.Answers.{AnswersNothing}
-use Rattle.dbl_running.proofs.LeadLemmas.{lead_mark, left_mark}
-use Rattle.dbl_running.proofs.PromiseLemmas.{comes_held, leads_held, left_held, kept_reader, same_reader, some_held, told_of}
+use Rattle.dbl_source_model.specs.Calls.{IsMarked}
+use Rattle.dbl_source_model.specs.Trace.{Done}
+use Rattle.dbl_demo_laws.specs.Answers.{AnswersNothing}
+use Rattle.dbl_demo_laws.proofs.LeadLemmas.{lead_mark, left_mark}
+use Rattle.dbl_demo_laws.proofs.PromiseLemmas.{comes_held, leads_held, left_held, kept_reader, same_reader, some_held, told_of}
 use Rattle.dbl_demo.proofs.calls.DemoSourceSource.mark.Goals as goal
 
 pub returns : goal.returns

@@ -1,7 +1,7 @@
 use Rattle.std.proofs.Common.{None, []}
-use Rattle.dbl_honest.specs.Told.{IsTakenBy, Read}
-use Rattle.dbl_running.proofs.PromiseLemmas.{on_err, tells_of}
-use Rattle.dbl_running.proofs.ReadLemmas.{read_comes, read_ended, read_left, read_released, read_some, read_taken, read_took}
+use Rattle.dbl_source_model.specs.Trace.{IsTakenBy, Read}
+use Rattle.dbl_demo_laws.proofs.PromiseLemmas.{on_err, tells_of}
+use Rattle.dbl_demo_laws.proofs.ReadLemmas.{read_comes, read_ended, read_left, read_released, read_some, read_taken, read_took}
 use Rattle.dbl_demo.proofs.calls.DemoSourceSource.read.Goals as goal
 
 pub returns : goal.returns

@@ -1,19 +1,19 @@
 use Rattle.std.proofs.Common.{ℕ, Option, List}
 use Rattle.std.specs.Prelude.{option_copied, Result, Ok, Err, IfOk}
-use Rattle.dbl_table.specs.declared.row.Key.{Key}
-use Rattle.dbl_table.specs.declared.table.RawRow.{RawRow}
-use Rattle.dbl_table.specs.declared.table.TableName.{TableName}
-use Rattle.dbl_reading.specs.declared.error.SourceError.{SourceError}
-use Rattle.dbl_honest.specs.Answered.{IsSelected}
-use Rattle.dbl_honest.specs.Told.{Selected}
-use Rattle.dbl_sound.specs.Wals.{Wal}
-use Rattle.dbl_sound.specs.Workloads.{acts_at}
-use Rattle.dbl_selects.specs.Shown.{AreRowsShown}
-use Rattle.dbl_running.specs.Answers.{AnswersRows, IsReaderKept}
-use Rattle.dbl_running.specs.Calls.{next_end}
-use Rattle.dbl_running.specs.Demo.{Demo, IsDemo}
-use Rattle.dbl_running.proofs.SelectLemmas.{lead_select}
-use Rattle.dbl_running.proofs.PromiseLemmas.{comes_held, leads_held, left_held, kept_reader, same_reader, some_held, tells_of}
+use Rattle.dbl_model_table.specs.declared.row.Key.{Key}
+use Rattle.dbl_model_table.specs.declared.table.RawRow.{RawRow}
+use Rattle.dbl_model_table.specs.declared.table.TableName.{TableName}
+use Rattle.dbl_source_log.specs.declared.error.SourceError.{SourceError}
+use Rattle.dbl_source_model.specs.Answered.{IsSelectAnswer}
+use Rattle.dbl_source_model.specs.Trace.{Selected}
+use Rattle.dbl_demo_wal.specs.Wals.{Wal}
+use Rattle.dbl_demo_wal.specs.Workloads.{acts_at}
+use Rattle.dbl_demo_wal.specs.Shown.{AreRowsShown}
+use Rattle.dbl_demo_laws.specs.Answers.{AnswersRows, IsReaderKept}
+use Rattle.dbl_demo_laws.specs.Calls.{next_end}
+use Rattle.dbl_demo_laws.specs.Demo.{Demo, IsDemo}
+use Rattle.dbl_demo_laws.proofs.SelectLemmas.{lead_select}
+use Rattle.dbl_demo_laws.proofs.PromiseLemmas.{comes_held, leads_held, left_held, kept_reader, same_reader, some_held, tells_of}
 use Rattle.dbl_demo.proofs.calls.DemoSourceSource.select.Goals as goal
 
 -- the reader stays, and the rows are those behind the first group
@@ -28,7 +28,7 @@ returns g c =
     let says = rows_said g.D.Disk.seen g.D.Disk.may_leave c.args.table.now (option_copied c.args.above) c.args.limit c.args.self.now c.answer_select.new.self c.answer_select.result (λ x. x.items) adds.answers c.answer_select.ensures.shown in
     let kept = kept_reader c.args.self.now c.answer_select.new.self (λ x. IsReaderKept c.args.self.now c.answer_select.new.self) c.answer_select.result adds.reader adds.answers (λ x reader. reader) in
     record {
-      selected = leads_held g.D.Disk.seen g.D.Disk.may_leave c.args.self.now c.answer_select.new.self _ _ (λ x. AnswersRows g.D.Disk.seen g.D.Disk.may_leave c.args.table.now (option_copied c.args.above) c.args.limit c.args.self.now c.answer_select.new.self x.items) (λ x. IsSelected (Unit {0}) c.args.table.now (option_copied c.args.above) c.args.limit x.items) c.answer_select.result adds.released says (λ x says wal of_old done s stands. lead_select g.D.Disk.seen g.D.Disk.may_leave c.args.self.now c.answer_select.new.self wal of_old c.args.table.now (option_copied c.args.above) c.args.limit x.items s stands done says);
+      selected = leads_held g.D.Disk.seen g.D.Disk.may_leave c.args.self.now c.answer_select.new.self _ _ (λ x. AnswersRows g.D.Disk.seen g.D.Disk.may_leave c.args.table.now (option_copied c.args.above) c.args.limit c.args.self.now c.answer_select.new.self x.items) (λ x. IsSelectAnswer (Unit {0}) c.args.table.now (option_copied c.args.above) c.args.limit x.items) c.answer_select.result adds.released says (λ x says wal of_old done s stands. lead_select g.D.Disk.seen g.D.Disk.may_leave c.args.self.now c.answer_select.new.self wal of_old c.args.table.now (option_copied c.args.above) c.args.limit x.items s stands done says);
       shown = c.answer_select.ensures.shown;
       left = left_held g.D.Disk.seen g.D.Disk.may_leave c.args.self.now c.answer_select.new.self _ adds.first;
       some = some_held g.D.Disk.seen g.D.Disk.may_leave c.args.self.now c.answer_select.new.self g.met.D.Disk.seen_may_be_left adds.come _ _ adds.first;

@@ -1,11 +1,11 @@
 use Rattle.std.proofs.Common.{None, [], ap, ◌∙◌}
 use Rattle.std.specs.Prelude.{is_some}
 use Rattle.std.proofs.lemmas.Result.{IfOk-weaker}
-use Rattle.dbl_honest.specs.Calls.{Starts}
-use Rattle.dbl_honest.specs.Told.{Began, IsTakenAnew, IsTakenBy}
-use Rattle.dbl_running.specs.Answers.{AnswersStart}
-use Rattle.dbl_running.proofs.LeadLemmas.{lead_start, started_reads}
-use Rattle.dbl_running.proofs.PromiseLemmas.{comes_held, err_ended, err_reader, leads_held, left_held, ok_ended, on_err, on_ok, some_held, tells_of}
+use Rattle.dbl_source_model.specs.Calls.{Starts}
+use Rattle.dbl_source_model.specs.Trace.{Began, IsTakenAnew, IsTakenBy}
+use Rattle.dbl_demo_laws.specs.Answers.{AnswersStart}
+use Rattle.dbl_demo_laws.proofs.LeadLemmas.{lead_start, started_reads}
+use Rattle.dbl_demo_laws.proofs.PromiseLemmas.{comes_held, err_ended, err_reader, leads_held, left_held, ok_ended, on_err, on_ok, some_held, tells_of}
 use Rattle.dbl_demo.proofs.calls.DemoSourceSource.start.Goals as goal
 
 pub returns : goal.returns

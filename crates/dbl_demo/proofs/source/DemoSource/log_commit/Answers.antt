@@ -2,9 +2,9 @@ use Rattle.std.proofs.Common.{◌∙◌, ◌<◌, ◌^◌, List, length, drop, a
 use Rattle.dbl_pgmsg.specs.declared.messages.Message.{Message}
 use Rattle.dbl_journal.specs.Stored.{Lists, OnDisk}
 use Rattle.dbl_journal.proofs.Growth.{comes_at}
-use Rattle.dbl_wal.specs.declared.entry.Entry.TheVariants.{Commits}
-use Rattle.dbl_sound.proofs.SizeLemmas.{few_in}
-use Rattle.dbl_running.specs.Demo.{Demo}
+use Rattle.dbl_demo_wal.specs.declared.entry.Entry.TheVariants.{Commits}
+use Rattle.dbl_demo_wal.proofs.SizeLemmas.{few_in}
+use Rattle.dbl_demo_laws.specs.Demo.{Demo}
 use Rattle.dbl_demo.proofs.AppendLemmas.{entry_left, fits_done, spells_at}
 use Rattle.dbl_demo.proofs.source.DemoSource.log_commit.Goals as goal
 

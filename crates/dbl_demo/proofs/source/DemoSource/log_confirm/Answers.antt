@@ -1,7 +1,7 @@
 use Rattle.std.proofs.Common.{ap, sym, subst}
 use Rattle.dbl_journal.specs.Stored.{Lists, OnDisk}
 use Rattle.dbl_journal.proofs.Growth.{comes_at}
-use Rattle.dbl_running.specs.Demo.{Demo}
+use Rattle.dbl_demo_laws.specs.Demo.{Demo}
 use Rattle.dbl_demo.proofs.source.DemoSource.log_confirm.Goals as goal
 
 pub returns-in_err-append-clause-left : goal.returns-in_err-append-clause-left

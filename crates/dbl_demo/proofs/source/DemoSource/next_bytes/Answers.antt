@@ -1,13 +1,13 @@
 use Rattle.std.proofs.Common.{◌≡◌, ◌∙◌, ◌+◌, ℕ, Option, None, Some, List, length, ap, sym, subst, arith}
 use Rattle.std.specs.Prelude.{slice_get, is_some, IfOk}
 use Rattle.dbl_base.specs.declared.seq.Seq.{Seq}
-use Rattle.dbl_feed.specs.declared.place.Place.{Place}
-use Rattle.dbl_feed.specs.Sent.{index_of}
+use Rattle.dbl_source_log.specs.declared.place.Place.{Place}
+use Rattle.dbl_source_log.specs.Sent.{index_of}
 use Rattle.dbl_journal.specs.Growth.{HasCome}
 use Rattle.dbl_journal.specs.Stored.{OnDisk}
-use Rattle.dbl_sound.specs.Sound.{logged_in}
-use Rattle.dbl_running.specs.Demo.{Demo}
-use Rattle.dbl_running.specs.Reading.{ReadsNext}
+use Rattle.dbl_demo_wal.specs.Sound.{logged_in}
+use Rattle.dbl_demo_laws.specs.Demo.{Demo}
+use Rattle.dbl_demo_laws.specs.Reading.{ReadsNext}
 use Rattle.dbl_demo.proofs.HeldLemmas.{number_none, number_some, read_nothing}
 use Rattle.dbl_demo.proofs.source.DemoSource.next_bytes.Goals as goal
 
@@ -39,15 +39,15 @@ returns-clause-read g c = λ wal place running at.
     let number = number_at c.deref.result.now c.args.self.now.commits (c.commits_upto.result + c.in-Some.place.commits) (index_of place) c.in-Some-copied.number (c.deref.ensures.value ∙ ap (λ (d : Demo _). d.commits) c.self.view_is) index
     (number_some c.deref.result.now (c.commits_upto.result + c.in-Some.place.commits) c.in-Some-copied.number c.get.result c.get.ensures.lookup (sym c.copied.ensures ∙ c.in-Some-copied.is)) in
     let held = c.in_ok-other.ensures.held wal place running at number in
-    let there = ap (λ (d : Demo _). d.place) c.hold.ensures.same ∙ at ∙ ap (λ (p : Place). Some p) (sym same) in
+    let there = ap (λ (d : Demo _). d.place) c.cache_commit.ensures.same ∙ at ∙ ap (λ (p : Place). Some p) (sym same) in
     subst (λ (p : Place). IfOk c.step_on.result (ReadsNext g.D.Disk.seen g.D.Disk.may_leave wal p c.step_on.new.self)) same
     (c.step_on.ensures.read wal held.1 there (held.2 ∙ ap (slice_get (logged_in wal.entries)) (sym index)) (c.in_ok-other.ensures.some c.in_default-2.is))
 
 pub returns-clause-reading : goal.returns-clause-reading
 returns-clause-reading g c =
     let reads = ap (λ (p : Option Place). is_some p) (sym (ap (λ (d : Demo _). d.place) c.self.view_is) ∙ c.in-Some.is) in
-    c.step_on.ensures.reading (ap (λ (d : Demo _). is_some d.place) c.hold.ensures.same ∙ reads) ∙ sym reads
+    c.step_on.ensures.reading (ap (λ (d : Demo _). is_some d.place) c.cache_commit.ensures.same ∙ reads) ∙ sym reads
 
 pub returns-clause-comes : goal.returns-clause-comes
 returns-clause-comes g c = λ gate most come.
-    subst (λ (j : OnDisk _). HasCome g.D.Disk.seen g.D.Disk.may_leave gate most j) (sym (ap (λ (d : Demo _). d.journal) c.step_on.ensures.same)) (c.hold.ensures.comes gate most come)
+    subst (λ (j : OnDisk _). HasCome g.D.Disk.seen g.D.Disk.may_leave gate most j) (sym (ap (λ (d : Demo _). d.journal) c.step_on.ensures.same)) (c.cache_commit.ensures.comes gate most come)

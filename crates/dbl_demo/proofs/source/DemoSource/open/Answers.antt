@@ -1,6 +1,6 @@
 use Rattle.std.proofs.Common.{◌≡◌, ◌∙◌, Some, sym, arith}
 use Rattle.std.proofs.lemmas.Result.{IfErr-weaker, IfOk-weaker, MatchResult-weaker}
-use Rattle.dbl_running.proofs.OpenLemmas.{bad_of_bytes, wal_of_bytes}
+use Rattle.dbl_demo_laws.proofs.OpenLemmas.{bad_of_bytes, wal_of_bytes}
 use Rattle.dbl_demo.proofs.OpeningLemmas.{as_failed, as_no_journal, is_failed, journal_kind, log_journal, log_kind, no_bad_entry}
 use Rattle.dbl_demo.proofs.source.DemoSource.open.Goals as goal
 

@@ -1,9 +1,9 @@
 use Rattle.std.proofs.Common.{◌≡◌, ◌∙◌, List, ap, sym, subst}
 use Rattle.std.specs.List.{position_from}
-use Rattle.dbl_table.specs.Tables.{same_name}
-use Rattle.dbl_feed.specs.declared.logged.LogTable.{LogTable}
+use Rattle.dbl_model_table.specs.Tables.{same_name}
+use Rattle.dbl_source_log.specs.declared.logged.LogTable.{LogTable}
 use Rattle.dbl_source.proofs.EntryLemmas.{entry_placed, none_marked}
-use Rattle.dbl_running.specs.Demo.{Demo}
+use Rattle.dbl_demo_laws.specs.Demo.{Demo}
 use Rattle.dbl_demo.proofs.source.DemoSource.place_of.Goals as goal
 
 pub returns-then-is_watermark-clause-entry : goal.returns-then-is_watermark-clause-entry

@@ -1,6 +1,6 @@
 use Rattle.std.proofs.Common.{ap}
 use Rattle.dbl_journal.proofs.Growth.{comes_at}
-use Rattle.dbl_running.specs.Demo.{Demo}
+use Rattle.dbl_demo_laws.specs.Demo.{Demo}
 use Rattle.dbl_demo.proofs.OneLemmas.{one_alone, one_ends, one_left, one_logged, one_silent}
 use Rattle.dbl_demo.proofs.source.DemoSource.run_one.Goals as goal
 

@@ -1,11 +1,11 @@
 use Rattle.std.proofs.Common.{◌≡◌, ◌∙◌, ◌+◌, ℕ, Some, List, ap, sym, subst, arith}
 use Rattle.std.specs.Prelude.{slice_get}
 use Rattle.std.specs.BTreeSet.{BTreeSet}
-use Rattle.dbl_feed.specs.declared.logged.LogTable.{LogTable}
-use Rattle.dbl_feed.specs.Sent.{index_of, told_at}
-use Rattle.dbl_reading.specs.Readings.{Describes}
-use Rattle.dbl_sound.specs.Sound.{logged_in}
-use Rattle.dbl_running.specs.Demo.{Demo}
+use Rattle.dbl_source_log.specs.declared.logged.LogTable.{LogTable}
+use Rattle.dbl_source_log.specs.Sent.{index_of, told_at}
+use Rattle.dbl_source_log.specs.Readings.{Describes}
+use Rattle.dbl_demo_wal.specs.Sound.{logged_in}
+use Rattle.dbl_demo_laws.specs.Demo.{Demo}
 use Rattle.dbl_demo.proofs.HeldLemmas.{place_near}
 use Rattle.dbl_demo.proofs.source.DemoSource.step_on.Goals as goal
 

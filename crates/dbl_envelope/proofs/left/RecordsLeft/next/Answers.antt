@@ -1,5 +1,5 @@
 use Rattle.std.proofs.Common.{◌≡◌, ◌∙◌, length, sym, ap, arith}
-use Rattle.dbl_table.specs.Rows.{changes_of}
+use Rattle.dbl_model_table.specs.Rows.{changes_of}
 use Rattle.dbl_envelope.proofs.CommitLemmas.{nothing_left}
 use Rattle.dbl_envelope.proofs.left.RecordsLeft.next.Goals as goal
 

@@ -1,7 +1,7 @@
 use Rattle.std.proofs.Common.{◌≡◌, ◌∙◌, ℤ, length, ap, arith, rules}
 use Rattle.std.proofs.Math.Facts.{to_z-of_z}
 use Rattle.std.proofs.lemmas.Bool.Decides.{nat_tests}
-use Rattle.dbl_event.specs.EventJson.{envelopes}
+use Rattle.dbl_model_event.specs.EventJson.{envelopes}
 use Rattle.dbl_envelope.proofs.CommitLemmas.{all_made}
 use Rattle.dbl_envelope.proofs.writer.EventWriter.records.Goals as goal
 

@@ -1,5 +1,5 @@
 use Rattle.std.proofs.Common.{◌≡◌, ◌++◌, length}
-use Rattle.dbl_event.specs.EventJson.{envelopes}
+use Rattle.dbl_model_event.specs.EventJson.{envelopes}
 use Rattle.dbl_envelope.proofs.writer.EventWriter.records.Given as goal
 
 abbrev pub invariant-left : goal.invariant-left

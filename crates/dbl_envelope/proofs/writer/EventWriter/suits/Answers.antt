@@ -1,7 +1,7 @@
 use Rattle.std.proofs.Common.{◌∙◌, List, All, refl, subst, arith, rules}
 use Rattle.std.proofs.lemmas.List.{take_all}
 use Rattle.std.proofs.lemmas.List.Elements.{All-more}
-use Rattle.dbl_table.specs.declared.change.Change.{Change}
+use Rattle.dbl_model_table.specs.declared.change.Change.{Change}
 use Rattle.dbl_envelope.specs.Suits.{Suits}
 use Rattle.dbl_envelope.proofs.writer.EventWriter.suits.Goals as goal
 

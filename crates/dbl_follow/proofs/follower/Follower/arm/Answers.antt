@@ -1,10 +1,10 @@
 use Rattle.std.proofs.Common.{sym, subst}
-use Rattle.dbl_follow.specs.Followed.{Following, IsPlanned}
+use Rattle.dbl_follow.specs.Followed.{Following, IsPlanOfCaptured}
 use Rattle.dbl_follow.proofs.follower.Follower.arm.Goals as goal
 
 pub invariant_of-self : goal.invariant_of-self
 invariant_of-self c = record {
   few = c.self.invariant.few;
   cursors_are = c.self.invariant.cursors_are;
-  window_is = subst (λ (f : Following). IsPlanned f.infos c.args.armed.plan) (sym c.self.view_is) c.requires.planned;
+  window_is = subst (λ (f : Following). IsPlanOfCaptured f.infos c.args.armed.plan) (sym c.self.view_is) c.requires.planned;
 }

@@ -1,5 +1,5 @@
 use Rattle.std.proofs.Common.{◌≡◌, ◌<◌, length, sym, subst, arith}
-use Rattle.dbl_event.specs.Snapshots.{FitsChunk, FitsSnapshot}
+use Rattle.dbl_model_event.specs.Snapshots.{FitsChunk, FitsSnapshot}
 use Rattle.dbl_envelope.proofs.SuitLemmas.{fitting_suits}
 use Rattle.dbl_follow.specs.Followed.{Following}
 use Rattle.dbl_follow.proofs.StepLemmas.{cursors_closed, cursors_long, captured_lt}

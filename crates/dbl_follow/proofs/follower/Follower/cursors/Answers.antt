@@ -1,5 +1,5 @@
 use Rattle.std.proofs.Common.{subst}
-use Rattle.dbl_history.specs.Cursors.{AreCursorsOf}
+use Rattle.dbl_model_history.specs.Cursors.{AreCursorsOf}
 use Rattle.dbl_follow.specs.Followed.{Following}
 use Rattle.dbl_follow.proofs.follower.Follower.cursors.Goals as goal
 

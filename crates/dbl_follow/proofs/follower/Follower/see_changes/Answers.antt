@@ -1,8 +1,8 @@
 use Rattle.std.proofs.Common.{◌≡◌, ◌∙◌, ◌+◌, ◌<◌, List, [], ◌∷◌, ◌++◌, length, take, get_or, sym, ap, subst}
 use Rattle.std.proofs.lemmas.List.{take_more}
-use Rattle.dbl_table.specs.declared.change.Change.{Change}
-use Rattle.dbl_table.specs.declared.table.TableInfo.{TableInfo}
-use Rattle.dbl_history.specs.FitsInfos.{FitsInfos}
+use Rattle.dbl_model_table.specs.declared.change.Change.{Change}
+use Rattle.dbl_model_table.specs.declared.table.TableInfo.{TableInfo}
+use Rattle.dbl_model_history.specs.FitsInfos.{FitsInfos}
 use Rattle.dbl_follow.specs.Followed.{Following}
 use Rattle.dbl_follow.specs.Steps.{Passes}
 use Rattle.dbl_follow.proofs.StepLemmas.{passes_on}

@@ -2,7 +2,7 @@ use Rattle.std.proofs.Common.{◌≡◌, ◌≢◌, ◌∙◌, ℤ, false, true,
 use Rattle.std.specs.Prelude.{IfOk}
 use Rattle.std.proofs.Math.Facts.{to_z-of_z}
 use Rattle.std.proofs.lemmas.Result.{IfOk-weaker}
-use Rattle.dbl_event.specs.Snapshots.{snapshot}
+use Rattle.dbl_model_event.specs.Snapshots.{snapshot}
 use Rattle.dbl_window.specs.Plans.{high_text}
 use Rattle.dbl_follow.specs.declared.window.Window.TheVariants as windows
 use Rattle.dbl_follow.specs.Followed.{Following}

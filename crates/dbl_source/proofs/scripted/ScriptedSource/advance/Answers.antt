@@ -1,7 +1,7 @@
 use Rattle.std.proofs.Common.{Some, refl, sym, subst}
-use Rattle.dbl_feed.specs.Sent.{told_at}
+use Rattle.dbl_source_log.specs.Sent.{told_at}
 use Rattle.dbl_source.specs.Played.{Played}
-use Rattle.dbl_source.specs.Steps.{ReadsOn, IsReadBy}
+use Rattle.dbl_source.specs.Steps.{ReadsNextMessage, IsReadBy}
 use Rattle.dbl_source.specs.Fields.{played_of}
 use Rattle.dbl_source.proofs.StepLemmas.{next_played}
 use Rattle.dbl_source.proofs.scripted.ScriptedSource.advance.Goals as goal
@@ -9,14 +9,14 @@ use Rattle.dbl_source.proofs.scripted.ScriptedSource.advance.Goals as goal
 pub invariant_of-self-2 : goal.invariant_of-self-2
 invariant_of-self-2 c =
     let i = c.self.inside in
-    let on : ReadsOn (played_of i) c.args.next = subst (λ (p : Played). ReadsOn p c.args.next) (sym c.self.view_is) c.requires in
+    let on : ReadsNextMessage (played_of i) c.args.next = subst (λ (p : Played). ReadsNextMessage p c.args.next) (sym c.self.view_is) c.requires in
     next_played i.tables.items i.log.items i.asked.items on.place i.place i.described c.remember.new.described c.args.next on.next
     (c.in_ok-remember.ensures.ok on.next.message (told_at i.tables.items i.log.items on.place) (sym on.next.described) (c.self.invariant.recalled on.place on.was)) c.self.invariant
 
 pub returns-clause-ok : goal.returns-clause-ok
 returns-clause-ok c =
     let i = c.self.inside in
-    let on : ReadsOn (played_of i) c.args.next = subst (λ (p : Played). ReadsOn p c.args.next) (sym c.self.view_is) c.requires in
+    let on : ReadsNextMessage (played_of i) c.args.next = subst (λ (p : Played). ReadsNextMessage p c.args.next) (sym c.self.view_is) c.requires in
     let now : Played = record (played_of i) { place = Some c.args.next.place } in
     let read : IsReadBy (played_of i) now c.args.next.bytes = record {
       place = on.place;

@@ -1,5 +1,5 @@
 use Rattle.std.proofs.Common.{◌∙◌, List, length, ap, take, arith, length-take-le}
-use Rattle.dbl_feed.specs.declared.logged.Logged.{Logged}
+use Rattle.dbl_source_log.specs.declared.logged.Logged.{Logged}
 use Rattle.dbl_source.specs.Played.{Played, committed}
 use Rattle.dbl_source.specs.Fields.{played_of}
 use Rattle.dbl_source.proofs.KeptLemmas.{played_on}
@@ -8,9 +8,9 @@ use Rattle.dbl_source.proofs.scripted.ScriptedSource.commit.Goals as goal
 pub invariant_of-self : goal.invariant_of-self
 invariant_of-self c =
     let i = c.self.inside in
-    let behind = c.in_err-append.ensures.err in
-    played_on i.tables.items i.log.items c.append.new.log.items i.asked.items i.place i.described (take behind.count c.args.commits.items) behind.is
-    (omega (arith, c.requires, ap (λ (p : Played). length p.log) c.self.view_is, behind.few, length-take-le behind.count c.args.commits.items behind.few)) c.self.invariant
+    let subsequent = c.in_err-append.ensures.err in
+    played_on i.tables.items i.log.items c.append.new.log.items i.asked.items i.place i.described (take subsequent.count c.args.commits.items) subsequent.is
+    (omega (arith, c.requires, ap (λ (p : Played). length p.log) c.self.view_is, subsequent.few, length-take-le subsequent.count c.args.commits.items subsequent.few)) c.self.invariant
 
 pub invariant_of-self-2 : goal.invariant_of-self-2
 invariant_of-self-2 c =

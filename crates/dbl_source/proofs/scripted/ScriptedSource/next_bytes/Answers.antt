@@ -1,10 +1,10 @@
 use Rattle.std.proofs.Common.{◌∙◌, ◌+◌, sym, ap, subst, arith}
 use Rattle.std.specs.Prelude.{Result, Err}
-use Rattle.dbl_reading.specs.declared.error.SourceError.{SourceError}
-use Rattle.dbl_reading.specs.declared.reading.Step.{Step}
-use Rattle.dbl_reading.specs.Readings.{Steps}
+use Rattle.dbl_source_log.specs.declared.error.SourceError.{SourceError}
+use Rattle.dbl_source_log.specs.declared.reading.Step.{Step}
+use Rattle.dbl_source_log.specs.Readings.{Steps}
 use Rattle.dbl_source.specs.Played.{Played}
-use Rattle.dbl_source.specs.Steps.{ReadsOn, FailsToRead}
+use Rattle.dbl_source.specs.Steps.{ReadsNextMessage, FailsToRead}
 use Rattle.dbl_source.specs.Fields.{played_of}
 use Rattle.dbl_source.proofs.StepLemmas.{steps_here, fails_to_read}
 use Rattle.dbl_source.proofs.scripted.ScriptedSource.next_bytes.Goals as goal
@@ -23,12 +23,12 @@ pub advance-requires : goal.advance-requires
 advance-requires c =
     let i = c.self.inside in
     let place = c.in-Some.place in
-    let on : ReadsOn (played_of i) c.in-Ok.next = record {
+    let on : ReadsNextMessage (played_of i) c.in-Ok.next = record {
       place = place;
       was = c.in-Some.is;
       next = subst (λ (r : Result Step SourceError). Steps i.tables.items i.log.items place r) c.in-Ok.is (steps (goal.at.advance-requires c).After-next_step-next);
     } in
-    subst (λ (p : Played). ReadsOn p c.in-Ok.next) c.self.view_is on
+    subst (λ (p : Played). ReadsNextMessage p c.in-Ok.next) c.self.view_is on
 
 pub returns-in-Err-clause-err : goal.returns-in-Err-clause-err
 returns-in-Err-clause-err c =

@@ -1,9 +1,9 @@
 use Rattle.std.proofs.Common.{◌∙◌, ap, arith, length}
 use Rattle.dbl_base.specs.declared.lsn.Lsn.{Lsn}
-use Rattle.dbl_feed.specs.Numbers.{lsn_of}
+use Rattle.dbl_source_log.specs.Numbers.{lsn_of}
 use Rattle.dbl_source.specs.declared.asked.Last.TheVariants as answers
-use Rattle.dbl_source.specs.Played.{Played, released, with_answer}
-use Rattle.dbl_source.specs.Exits.{AnswersHead}
+use Rattle.dbl_source.specs.Played.{Played, with_release, with_answer}
+use Rattle.dbl_source.specs.Exits.{AnswersPlayedHead}
 use Rattle.dbl_source.proofs.PlayedLemmas.{answered}
 use Rattle.dbl_source.proofs.scripted.ScriptedSource.play_head.Goals as goal
 
@@ -11,8 +11,8 @@ pub returns : goal.returns
 returns c =
     let begun = c.in_ok-release.ensures.ok in
     let told = c.last_lsn-lsn.ensures ∙ ap (λ (p : Played). lsn_of (length p.log)) begun in
-    let it : AnswersHead c.args.self.now c.last_lsn-lsn.result c.answer.new.self = record {
+    let it : AnswersPlayedHead c.args.self.now c.last_lsn-lsn.result c.answer.new.self = record {
       told = told;
-      is = c.answer.ensures ∙ ap (λ (p : Played). with_answer (answers.Head c.last_lsn-lsn.result) p) begun ∙ ap (λ (lsn : Lsn). with_answer (answers.Head lsn) (released c.args.self.now)) told;
+      is = c.answer.ensures ∙ ap (λ (p : Played). with_answer (answers.Head c.last_lsn-lsn.result) p) begun ∙ ap (λ (lsn : Lsn). with_answer (answers.Head lsn) (with_release c.args.self.now)) told;
     } in
-    answered 0 ⊥ _ (AnswersHead c.args.self.now) c.args.self.now c.release.new.self c.answer.new.self c.in_ok-release.field-0 c.last_lsn-lsn.result c.release.ensures.was (omega (arith, c.release.ensures.later, ap (λ (p : Played). p.plan.faults) c.answer.ensures)) c.in_ok-release.ensures.planned (λ never. never) it
+    answered 0 ⊥ _ (AnswersPlayedHead c.args.self.now) c.args.self.now c.release.new.self c.answer.new.self c.in_ok-release.field-0 c.last_lsn-lsn.result c.release.ensures.was (omega (arith, c.release.ensures.later, ap (λ (p : Played). p.plan.faults) c.answer.ensures)) c.in_ok-release.ensures.planned (λ never. never) it

@@ -2,7 +2,7 @@ use Rattle.std.proofs.Common.{◌∙◌, length, ap, arith}
 use Rattle.std.specs.Prelude.{option_copied}
 use Rattle.std.proofs.lemmas.Result.{err_from_is_err_and}
 use Rattle.dbl_source.specs.Played.{Played, inside_of, next_rows}
-use Rattle.dbl_source.specs.Exits.{AnswersRows}
+use Rattle.dbl_source.specs.Exits.{AnswersPlayedRows}
 use Rattle.dbl_source.proofs.AddedLemmas.{select_is}
 use Rattle.dbl_source.proofs.MemoryLemmas.{added_both}
 use Rattle.dbl_source.proofs.PlannedLemmas.{no_listed}
@@ -25,7 +25,7 @@ returns-in_err-ask-clause-plays c =
 pub returns-clause-plays : goal.returns-clause-plays
 returns-clause-plays c =
     let begun = c.in_ok-release_around.ensures.ok in
-    let it : AnswersRows c.args.table.now (option_copied c.args.above) c.args.limit c.args.self.now c.in_ok-rows.rows.items c.answer.new.self = record {
+    let it : AnswersPlayedRows c.args.table.now (option_copied c.args.above) c.args.limit c.args.self.now c.in_ok-rows.rows.items c.answer.new.self = record {
       told = c.in_ok-rows.ensures.ok ∙ ap next_rows begun;
       is =
           select_is c.args.self.now c.release_around.new.self c.ask.new.self c.answer.new.self c.args.table.now (option_copied c.args.above) c.args.limit c.count-from.result c.number-number.result c.answer.ensures c.in_ok-ask.ensures.ok begun

@@ -1,9 +1,9 @@
 use Rattle.std.proofs.Common.{◌≡◌, ◌∙◌, ℕ, List, length, ap, subst, arith}
 use Rattle.std.proofs.lemmas.Result.{err_from_is_err_and}
 use Rattle.dbl_pgmsg.specs.declared.messages.Message.{Message}
-use Rattle.dbl_reading.specs.declared.error.SourceError.TheVariants.{Memory}
-use Rattle.dbl_source.specs.Played.{before_of, inside_of, IsListed, past_move, committed, released, FailsAsPlanned}
-use Rattle.dbl_source.specs.Steps.{IsBehind}
+use Rattle.dbl_source_log.specs.declared.error.SourceError.TheVariants.{Memory}
+use Rattle.dbl_source.specs.Played.{before_of, inside_of, IsPlannedToFail, past_move, committed, with_release, FailsAsPlanned}
+use Rattle.dbl_source.specs.Steps.{HasPlayed}
 use Rattle.dbl_source.proofs.PlannedLemmas.{released_so, planned_after, planned_on, answer_is, error_is, no_listed, on_ok, err_holds, not_failed}
 use Rattle.dbl_source.proofs.AddedLemmas.{room_left}
 use Rattle.dbl_source.proofs.MemoryLemmas.{added_after, added_front, added_inside}
@@ -24,7 +24,7 @@ returns-in_err-begin-clause-memory c told =
 
 -- ---- it began
 
-begun : (c : In_ok-begin) → c.begin.new.self ≡ released c.args.self.now
+begun : (c : In_ok-begin) → c.begin.new.self ≡ with_release c.args.self.now
 begun c = released_so c.args.self.now c.next_move-before.new.self c.begin.new.self c.into_items.result.items c.next_move-before.ensures.past (c.into_items.ensures ∙ c.next_move-before.ensures.before) c.in_ok-begin.ensures.ok
 
 planned : (c : In_ok-begin) → FailsAsPlanned c.len.result ⊥ c.args.self.now c.begin.new.self (answer_is c.in_ok-begin.field-0)
@@ -32,7 +32,7 @@ planned c =
     planned_after c.args.self.now c.next_move-before.new.self c.begin.new.self c.into_items.result.items c.len.result (answer_is c.in_ok-begin.field-0) c.next_move-before.ensures.past (c.into_items.ensures ∙ c.next_move-before.ensures.before)
     c.in_ok-begin.ensures.full c.in_ok-begin.ensures.listed c.in_ok-begin.ensures.failed
 
-unlisted : (c : In_ok-begin) → ¬ IsListed c.args.self.now
+unlisted : (c : In_ok-begin) → ¬ IsPlannedToFail c.args.self.now
 unlisted c listed = no_listed c.in_ok-begin.field-0 ((planned c).listed listed)
 
 pub commit-requires : goal.commit-requires
@@ -42,7 +42,7 @@ commit-requires c =
 
 pub returns-clause-ok : goal.returns-clause-ok
 returns-clause-ok c =
-    on_ok (c.commit.new.self ≡ committed c.into_items-inside.result.items c.begin.new.self) (c.commit.new.self ≡ committed (inside_of c.args.self.now) (released c.args.self.now)) c.commit.result
+    on_ok (c.commit.new.self ≡ committed c.into_items-inside.result.items c.begin.new.self) (c.commit.new.self ≡ committed (inside_of c.args.self.now) (with_release c.args.self.now)) c.commit.result
     (λ is.
     is
     ∙ ap (λ (l : List (List Message)). committed l c.begin.new.self) (c.into_items-inside.ensures ∙ c.next_move-before.ensures.inside)
@@ -57,10 +57,10 @@ returns-clause-planned c =
 pub returns-clause-memory : goal.returns-clause-memory
 returns-clause-memory c told =
     let known = goal.at.returns-clause-memory c in
-    let behind = err_holds (IsBehind c.into_items-inside.result.items c.begin.new.self.log c.commit.new.self.log) c.commit.result Memory told c.commit.ensures.err in
+    let subsequent = err_holds (HasPlayed c.into_items-inside.result.items c.begin.new.self.log c.commit.new.self.log) c.commit.result Memory told c.commit.ensures.err in
     let kept = err_holds (c.commit.new.self ≡ record c.begin.new.self { log = c.commit.new.self.log }) c.commit.result Memory told c.commit.ensures.kept in
     added_inside c.args.self.now c.begin.new.self c.commit.new.self (inside_of c.args.self.now) (unlisted known.In_ok-begin) (begun known.In_ok-begin) kept
-    (subst (λ (l : List (List Message)). IsBehind l c.begin.new.self.log c.commit.new.self.log) (c.into_items-inside.ensures ∙ c.next_move-before.ensures.inside) behind)
+    (subst (λ (l : List (List Message)). HasPlayed l c.begin.new.self.log c.commit.new.self.log) (c.into_items-inside.ensures ∙ c.next_move-before.ensures.inside) subsequent)
 
 pub returns-clause-listed : goal.returns-clause-listed
 returns-clause-listed c listed told = absurd (unlisted (goal.at.returns-clause-listed c).In_ok-begin listed)

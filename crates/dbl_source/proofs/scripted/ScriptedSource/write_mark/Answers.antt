@@ -1,6 +1,6 @@
 use Rattle.std.proofs.Common.{◌∙◌, ◌++◌, ◌∷◌, [], ℕ, List, length, ap, arith}
-use Rattle.dbl_feed.specs.declared.logged.Logged.{Logged}
-use Rattle.dbl_feed.specs.declared.logged.Logged.TheVariants.{Mark}
+use Rattle.dbl_source_log.specs.declared.logged.Logged.{Logged}
+use Rattle.dbl_source_log.specs.declared.logged.Logged.TheVariants.{Mark}
 use Rattle.dbl_source.specs.Played.{Played}
 use Rattle.dbl_source.specs.Fields.{played_of}
 use Rattle.dbl_source.proofs.KeptLemmas.{played_marked}

@@ -1,6 +1,6 @@
 use Rattle.std.proofs.Common.{List, refl, sym, subst}
 use Rattle.dbl_pgmsg.specs.declared.messages.Message.{Message}
-use Rattle.dbl_serial.specs.Acts.Accepted.{Committed}
+use Rattle.dbl_tables_rows.specs.Acts.Accepted.{Committed}
 use Rattle.dbl_tables.specs.Stands.{IsGiven}
 use Rattle.dbl_tables.proofs.EndLemmas.{committed, given, not_open, nothing_taken, unmoved}
 use Rattle.dbl_tables.proofs.tables.Tables.commit.Goals as goal

@@ -2,8 +2,8 @@ use Rattle.std.proofs.Common.{◌≡◌, ◌∙◌, ℕ, inr, true, false, Some,
 use Rattle.std.proofs.lemmas.Result.{err_from_is_err_and}
 use Rattle.std.specs.Prelude.{is_some, option_copied, replicate}
 use Rattle.std.specs.List.{AllZip}
-use Rattle.dbl_serial.specs.Acts.{is_open, messages_by}
-use Rattle.dbl_serial.specs.Given.{SizeGrown}
+use Rattle.dbl_tables_rows.specs.Acts.{is_open, messages_by}
+use Rattle.dbl_tables_rows.specs.Given.{SizeGrown}
 use Rattle.dbl_tables.specs.Truncates.{place_in, TruncatesAt, FindsFirst}
 use Rattle.dbl_tables.proofs.CutLemmas.{truncate_closed}
 use Rattle.dbl_tables.proofs.GatherLemmas.{its_session, cut_unknown, utf8_cut, cut_too_long, cut_locked, cut_planned}

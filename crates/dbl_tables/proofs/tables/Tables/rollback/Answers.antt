@@ -1,5 +1,5 @@
 use Rattle.std.proofs.Common.{refl}
-use Rattle.dbl_serial.specs.Acts.Accepted.{RolledBack}
+use Rattle.dbl_tables_rows.specs.Acts.Accepted.{RolledBack}
 use Rattle.dbl_tables.proofs.EndLemmas.{rolled_back, not_open, nothing_taken, unmoved}
 use Rattle.dbl_tables.proofs.tables.Tables.rollback.Goals as goal
 

@@ -2,14 +2,14 @@ use Rattle.std.proofs.Common.{◌≡◌, ◌∙◌, true, false, Option, Some, N
 use Rattle.std.proofs.lemmas.Result.{err_from_is_err_and}
 use Rattle.std.specs.Prelude.{IfSome, Ok, slice_get, option_copied}
 use Rattle.std.specs.BTreeMap.{IsOrdered}
-use Rattle.dbl_table.specs.declared.row.Key.{Key}
-use Rattle.dbl_table.specs.declared.table.RawRow.{RawRow}
-use Rattle.dbl_table.specs.Keys.{key_cmp}
-use Rattle.dbl_history.specs.Fit.{IsKeyOf}
-use Rattle.dbl_serial.specs.Selects.{SelectsCommitted}
-use Rattle.dbl_rows.specs.declared.rows.Rows.{Rows}
-use Rattle.dbl_rows.specs.Views.{Slots, base_of}
-use Rattle.dbl_tables.specs.Shown.{is_behind, rows_behind}
+use Rattle.dbl_model_table.specs.declared.row.Key.{Key}
+use Rattle.dbl_model_table.specs.declared.table.RawRow.{RawRow}
+use Rattle.dbl_model_table.specs.Keys.{key_cmp}
+use Rattle.dbl_model_history.specs.Fit.{IsKeyOf}
+use Rattle.dbl_tables_rows.specs.Selects.{SelectsCommitted}
+use Rattle.dbl_tables_rows.specs.declared.rows.Rows.{Rows}
+use Rattle.dbl_tables_rows.specs.Views.{Slots, base_of}
+use Rattle.dbl_tables.specs.Shown.{comes_after, rows_after_key}
 use Rattle.dbl_tables.proofs.CutLemmas.{at_name}
 use Rattle.dbl_tables.proofs.StoreLemmas.{got, got_none}
 use Rattle.dbl_tables.proofs.SelectStands.{select_unknown, select_fails, select_none, select_rows, behind_is_above, above_is_behind}
@@ -36,8 +36,8 @@ returns-then-not-is_bound_of c tables past st =
     subst (λ (l : List RawRow). SelectsCommitted tables past c.args.table.now (option_copied c.args.above) c.args.limit (Ok l)) (sym (c.make.ensures ∙ c.new.ensures.items))
     (select_none tables past [] c.args.self.now st c.args.table.now c.in-Some.place (sym c.in-Some.ensures) (option_copied c.args.above) c.args.limit rows there other)
 
-pub returns-in_err-rows_behind : goal.returns-in_err-rows_behind
-returns-in_err-rows_behind c tables past st =
+pub returns-in_err-rows_after_key : goal.returns-in_err-rows_after_key
+returns-in_err-rows_after_key c tables past st =
     let p = err_from_is_err_and c.from_residual.result c.from_residual.ensures.1 in
     rw (p.1, p.2) (select_fails tables past [] c.args.self.now st c.args.table.now c.in-Some.place (sym c.in-Some.ensures) (option_copied c.args.above) c.args.limit)
 
@@ -47,7 +47,7 @@ returns c tables past st =
     let above : Option Key = option_copied c.args.above in
     let there : slice_get c.args.self.now.tables.items c.in-Some.place ≡ Some rows = got c.args.self.now.tables.items c.deref.result.now c.in-Some.place rows c.deref.ensures.value c.in-Some-get.ensures.lookup.0 c.in-Some-get.ensures.lookup.1 in
     let own : IfSome above (IsKeyOf rows.table.info) = c.is_bound_of.ensures.0 c.if-not-is_bound_of.false in
-    let shown : c.make-2.result ≡ rows_behind (base_of rows.cleared rows.slots) above c.args.limit = c.make-2.ensures ∙ (c.in_ok-rows_behind.ensures.rows ∙ ap (λ (s : Slots). rows_behind s above c.args.limit) c.base.ensures) in
-    let sorted : IsOrdered key_cmp (base_of rows.cleared rows.slots) = subst (IsOrdered key_cmp) c.base.ensures c.rows_behind.ensures.ordered in
+    let shown : c.make-2.result ≡ rows_after_key (base_of rows.cleared rows.slots) above c.args.limit = c.make-2.ensures ∙ (c.in_ok-rows_after_key.ensures.rows ∙ ap (λ (s : Slots). rows_after_key s above c.args.limit) c.base.ensures) in
+    let sorted : IsOrdered key_cmp (base_of rows.cleared rows.slots) = subst (IsOrdered key_cmp) c.base.ensures c.rows_after_key.ensures.ordered in
     subst (λ (l : List RawRow). SelectsCommitted tables past c.args.table.now above c.args.limit (Ok l)) (sym shown)
-    (select_rows tables past [] c.args.self.now st c.args.table.now c.in-Some.place (sym c.in-Some.ensures) above c.args.limit rows there (is_behind above) own sorted (behind_is_above above) (above_is_behind above))
+    (select_rows tables past [] c.args.self.now st c.args.table.now c.in-Some.place (sym c.in-Some.ensures) above c.args.limit rows there (comes_after above) own sorted (behind_is_above above) (above_is_behind above))

@@ -1,7 +1,7 @@
 use Rattle.std.proofs.Common.{List, subst}
 use Rattle.std.proofs.lemmas.Result.{err_from_is_err_and}
 use Rattle.std.specs.Prelude.{Err}
-use Rattle.dbl_table.specs.declared.table.TableName.{TableName}
+use Rattle.dbl_model_table.specs.declared.table.TableName.{TableName}
 use Rattle.dbl_tables.specs.Truncates.{IsCut, Cuts}
 use Rattle.dbl_tables.proofs.tables.Tables.truncate.Goals as goal
 

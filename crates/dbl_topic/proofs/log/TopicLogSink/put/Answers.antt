@@ -13,7 +13,7 @@ use Rattle.dbl_topic.specs.Sinks.{IsLeftByWhole}
 use Rattle.dbl_topic.proofs.HeldLaws.{leaves_any, leaves_put, left_by_put, some_left, still_there, too_long_of, failed_of_sink}
 use Rattle.dbl_journal.proofs.Growth.{comes_at}
 use Rattle.dbl_topic.proofs.LogLaws.{entries-push, size_of}
-use Rattle.dbl_base.specs.Streams.{Rose}
+use Rattle.dbl_base.specs.Streams.{FaultCounted}
 use Rattle.dbl_topic.specs.Faults.{sink_fault}
 use Rattle.dbl_topic.specs.declared.error.SinkError.TheVariants as sink
 use Rattle.dbl_topic.proofs.log.TopicLogSink.put.Goals as goal
@@ -182,7 +182,7 @@ returns-in_err-append_built-clause-puts g c =
       told = λ old told. c.append_built.ensures.puts.told old (ap (λ (log : OnDisk _). g.D.Disk.seen log.disk) c.self.view_is ∙ told);
       later = subst (λ (n : ℕ). n ≤ g.D.Disk.faults c.append_built.new.self.disk) (ap (λ (log : OnDisk _). g.D.Disk.faults log.disk) c.self.view_is) c.append_built.ensures.puts.later;
       cause = λ is.
-          subst (λ (n : ℕ). Rose n (g.D.Disk.faults c.append_built.new.self.disk)) (ap (λ (log : OnDisk _). g.D.Disk.faults log.disk) c.self.view_is) (c.in_err-append_built.ensures.puts.cause (ap (λ (e : JournalError). Err e) (on is)));
+          subst (λ (n : ℕ). FaultCounted n (g.D.Disk.faults c.append_built.new.self.disk)) (ap (λ (log : OnDisk _). g.D.Disk.faults log.disk) c.self.view_is) (c.in_err-append_built.ensures.puts.cause (ap (λ (e : JournalError). Err e) (on is)));
       dead = λ is. c.in_err-append_built.ensures.puts.dead (ap (λ (e : JournalError). Err e) (on is));
       steady = λ no old told.
           c.in_err-append_built.ensures.puts.steady (λ is. no (p.1 ∙ ap (λ (e : SinkError). Err e) (p.2 ∙ ap sink_fault (failure_is _ _ is)))) old (ap (λ (log : OnDisk _). g.D.Disk.seen log.disk) c.self.view_is ∙ told) ∙ ap (λ (log : OnDisk _). g.D.Disk.faults log.disk) c.self.view_is;

@@ -1,8 +1,8 @@
 use Rattle.std.proofs.Common.{List, ◌++◌, [], ◌∷◌, refl, sym, subst}
 use Rattle.dbl_txn.specs.declared.assembler.Assembler.{Assembler}
-use Rattle.dbl_table.specs.declared.change.Change.{Change}
-use Rattle.dbl_commit.specs.Stated.{open_changes}
-use Rattle.dbl_commit.proofs.Learning.{changes_learnt}
+use Rattle.dbl_model_table.specs.declared.change.Change.{Change}
+use Rattle.dbl_model_commit.specs.Stated.{open_changes}
+use Rattle.dbl_model_commit.proofs.Learning.{changes_learnt}
 use Rattle.dbl_txn.specs.Stands.{Stands}
 use Rattle.dbl_txn.proofs.Steps.{stands_learnt}
 use Rattle.dbl_txn.proofs.assembler.Assembler.learn.Goals as goal

@@ -1,6 +1,6 @@
 use Rattle.std.proofs.Common.{ℕ, List, subst}
 use Rattle.dbl_pgmsg.specs.declared.messages.Message.TheVariants as says
-use Rattle.dbl_commit.specs.Stated.{open_changes}
+use Rattle.dbl_model_commit.specs.Stated.{open_changes}
 use Rattle.dbl_txn.specs.Stands.{Takes}
 use Rattle.dbl_txn.proofs.Steps.{commit_taken, origin_taken}
 use Rattle.dbl_txn.proofs.assembler.Assembler.take.Goals as goal

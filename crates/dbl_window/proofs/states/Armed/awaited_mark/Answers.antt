@@ -1,5 +1,5 @@
 use Rattle.std.proofs.Common.{subst}
-use Rattle.dbl_event.specs.Snapshots.{FitsChunk}
+use Rattle.dbl_model_event.specs.Snapshots.{FitsChunk}
 use Rattle.dbl_window.specs.Plans.{Chunk}
 use Rattle.dbl_window.specs.Promise.{closed_of}
 use Rattle.dbl_window.proofs.states.Armed.awaited_mark.Goals as goal

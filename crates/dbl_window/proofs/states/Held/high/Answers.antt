@@ -1,12 +1,12 @@
 use Rattle.std.proofs.Common.{◌≡◌, ◌∙◌, List, ℕ, sym, ap, subst}
 use Rattle.std.specs.Prelude.{Err}
 use Rattle.std.proofs.lemmas.Result.{err_from_is_err_and}
-use Rattle.dbl_reading.specs.declared.error.SourceError.{SourceError}
-use Rattle.dbl_reading.specs.declared.error.SourceError.TheVariants as source
+use Rattle.dbl_source.specs.SourceLog.declared.error.SourceError.{SourceError}
+use Rattle.dbl_source.specs.SourceLog.declared.error.SourceError.TheVariants as source
 use Rattle.dbl_window.specs.declared.error.WindowError.TheVariants as window
-use Rattle.dbl_honest.specs.Standings.{Stood}
-use Rattle.dbl_honest.specs.Calls.{IsMarked}
-use Rattle.dbl_honest.specs.Leaves.{MayFollowMark}
+use Rattle.dbl_source.specs.SourceModel.Standings.{HasState}
+use Rattle.dbl_source.specs.SourceModel.Calls.{IsMarked}
+use Rattle.dbl_source.specs.SourceModel.Leaves.{MayFollowMark}
 use Rattle.dbl_window.proofs.SelectLemmas.{memory_was, still_led, still_dead}
 use Rattle.dbl_window.proofs.states.Held.high.Goals as goal
 
@@ -14,7 +14,7 @@ pub returns-in_err-mark-clause-left : goal.returns-in_err-mark-clause-left
 returns-in_err-mark-clause-left g c s l stands may = subst (λ (v : List ℕ). MayFollowMark v s l) c.high_mark.ensures.text (c.mark.ensures.left s l stands may)
 
 pub returns-clause-marks : goal.returns-clause-marks
-returns-clause-marks g c s stands = subst (λ (v : List ℕ). Stood g.S.Source.stands c.mark.new.self (IsMarked v s)) c.high_mark.ensures.text (c.in_ok-mark.ensures.marked s stands)
+returns-clause-marks g c s stands = subst (λ (v : List ℕ). HasState g.S.Source.stands c.mark.new.self (IsMarked v s)) c.high_mark.ensures.text (c.in_ok-mark.ensures.marked s stands)
 
 pub returns-clause-left : goal.returns-clause-left
 returns-clause-left g c s l stands may = subst (λ (v : List ℕ). MayFollowMark v s l) c.high_mark.ensures.text (c.mark.ensures.left s l stands may)

@@ -1,6 +1,6 @@
 use Rattle.std.proofs.Common.{◌≤◌, ℕ, List, length, sym, subst, arith}
-use Rattle.dbl_history.specs.MarkTexts.Side.{High}
-use Rattle.dbl_history.proofs.MarkLemmas.{marks_short}
+use Rattle.dbl_model_history.specs.MarkTexts.Side.{High}
+use Rattle.dbl_model_history.proofs.MarkLemmas.{marks_short}
 use Rattle.dbl_window.specs.Plans.{Chunk, IsFitChunk}
 use Rattle.dbl_window.proofs.FitLemmas.{chunk_fits}
 use Rattle.dbl_window.proofs.states.Held.high_mark.Goals as goal

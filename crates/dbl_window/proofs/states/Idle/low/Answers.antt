@@ -1,12 +1,12 @@
 use Rattle.std.proofs.Common.{◌≡◌, List, ℕ, ◌∙◌, inl, inr, sym, ap, subst}
 use Rattle.std.specs.Prelude.{Err}
 use Rattle.std.proofs.lemmas.Result.{err_from_is_err_and}
-use Rattle.dbl_reading.specs.declared.error.SourceError.{SourceError}
-use Rattle.dbl_reading.specs.declared.error.SourceError.TheVariants as source
+use Rattle.dbl_source.specs.SourceLog.declared.error.SourceError.{SourceError}
+use Rattle.dbl_source.specs.SourceLog.declared.error.SourceError.TheVariants as source
 use Rattle.dbl_window.specs.declared.error.WindowError.TheVariants as window
-use Rattle.dbl_honest.specs.Standings.{Standing, Stood, left_of}
-use Rattle.dbl_honest.specs.Calls.{IsMarked}
-use Rattle.dbl_honest.specs.Leaves.{MayFollowMark}
+use Rattle.dbl_source.specs.SourceModel.Standings.{SourceState, HasState, left_of}
+use Rattle.dbl_source.specs.SourceModel.Calls.{IsMarked}
+use Rattle.dbl_source.specs.SourceModel.Leaves.{MayFollowMark}
 use Rattle.dbl_window.specs.Plans.{low_text}
 use Rattle.dbl_window.proofs.SelectLemmas.{none_taken, memory_was, still_led, still_dead}
 use Rattle.dbl_window.proofs.states.Idle.low.Goals as goal
@@ -25,7 +25,7 @@ pub returns-in_err-marked-clause-taken : goal.returns-in_err-marked-clause-taken
 returns-in_err-marked-clause-taken g c = none_taken (g.S.Source.told c.args.src.now)
 
 pub returns-in_err-marked-clause-still : goal.returns-in_err-marked-clause-still
-returns-in_err-marked-clause-still g c s t before after = ap (λ (u : Standing). u.reading) (g.met.S.Source.one c.args.src.now t s after before)
+returns-in_err-marked-clause-still g c s t before after = ap (λ (u : SourceState). u.reading) (g.met.S.Source.one c.args.src.now t s after before)
 
 pub returns-in_err-marked-clause-comes : goal.returns-in_err-marked-clause-comes
 returns-in_err-marked-clause-comes g c = g.met.S.Source.comes_self c.args.src.now
@@ -38,7 +38,7 @@ returns-in_err-mark-clause-left g c s l stands may =
 pub returns-clause-marks : goal.returns-clause-marks
 returns-clause-marks g c s stands =
     let text = c.low_mark.ensures.text ∙ ap low_text c.in_ok-marked.ensures in
-    subst (λ (v : List ℕ). Stood g.S.Source.stands c.mark.new.self (IsMarked v s)) text (c.in_ok-mark.ensures.marked s stands)
+    subst (λ (v : List ℕ). HasState g.S.Source.stands c.mark.new.self (IsMarked v s)) text (c.in_ok-mark.ensures.marked s stands)
 
 pub returns-clause-left : goal.returns-clause-left
 returns-clause-left g c s l stands may =

@@ -1,9 +1,9 @@
 use Rattle.std.proofs.Common.{Option, subst}
-use Rattle.dbl_table.specs.declared.row.Key.{Key}
-use Rattle.dbl_history.specs.Fit.{IsKeyOf}
-use Rattle.dbl_honest.specs.Standings.{Stood}
-use Rattle.dbl_honest.specs.Calls.{Moved}
-use Rattle.dbl_honest.specs.Selected.{Selects}
+use Rattle.dbl_model_table.specs.declared.row.Key.{Key}
+use Rattle.dbl_model_history.specs.Fit.{IsKeyOf}
+use Rattle.dbl_source.specs.SourceModel.Standings.{HasState}
+use Rattle.dbl_source.specs.SourceModel.Calls.{Moved}
+use Rattle.dbl_source.specs.SourceModel.Selected.{Selects}
 use Rattle.std.specs.Prelude.{IfSome}
 use Rattle.dbl_window.specs.Plans.{Plan}
 use Rattle.dbl_window.proofs.SelectLemmas.{still_led, still_dead}
@@ -14,8 +14,8 @@ returns-clause-selected g c s stands =
     let src = c.select.new.self in
     let frame = c.self.inside.frame in
     let rows = c.in_ok-select.field-0.items in
-    subst (λ (p : Plan). Stood g.S.Source.stands src (λ t. Moved s t × (g.S.Source.honest src → Selects p.info.name p.above p.limit s.history t.history rows))) c.self.view_is
-    (subst (λ (above : Option Key). Stood g.S.Source.stands src (λ t. Moved s t × (g.S.Source.honest src → Selects frame.info.name above frame.limit s.history t.history rows))) c.bound.ensures
+    subst (λ (p : Plan). HasState g.S.Source.stands src (λ t. Moved s t × (g.S.Source.honest src → Selects p.info.name p.above p.limit s.history t.history rows))) c.self.view_is
+    (subst (λ (above : Option Key). HasState g.S.Source.stands src (λ t. Moved s t × (g.S.Source.honest src → Selects frame.info.name above frame.limit s.history t.history rows))) c.bound.ensures
     (c.in_ok-select.ensures.selected s stands))
 
 pub returns-clause-starts : goal.returns-clause-starts

@@ -1,6 +1,6 @@
 use Rattle.std.proofs.Common.{◌≤◌, ℕ, List, length, sym, subst, arith}
-use Rattle.dbl_history.specs.MarkTexts.Side.{Low}
-use Rattle.dbl_history.proofs.MarkLemmas.{marks_short}
+use Rattle.dbl_model_history.specs.MarkTexts.Side.{Low}
+use Rattle.dbl_model_history.proofs.MarkLemmas.{marks_short}
 use Rattle.dbl_window.proofs.states.Marked.low_mark.Goals as goal
 
 pub returns-clause-short : goal.returns-clause-short

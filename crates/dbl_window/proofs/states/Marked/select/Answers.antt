@@ -1,4 +1,4 @@
-use Rattle.dbl_honest.specs.Standings.{left_of}
+use Rattle.dbl_source.specs.SourceModel.Standings.{left_of}
 use Rattle.dbl_window.proofs.SelectLemmas.{on_ok, held_so, read_so, selects_so, never_so, cell_so}
 use Rattle.dbl_window.proofs.states.Marked.select.Goals as goal
 

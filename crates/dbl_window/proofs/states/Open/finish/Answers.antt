@@ -1,7 +1,7 @@
 use Rattle.std.proofs.Common.{◌≤◌, length, subst}
 use Rattle.std.specs.List.{AllByRecursion}
-use Rattle.dbl_history.specs.Fit.{IsKeyOf}
-use Rattle.dbl_event.specs.Snapshots.{FitsChunk}
+use Rattle.dbl_model_history.specs.Fit.{IsKeyOf}
+use Rattle.dbl_model_event.specs.Snapshots.{FitsChunk}
 use Rattle.dbl_window.specs.Plans.{Chunk}
 use Rattle.dbl_window.specs.Promise.{KeepsPromise}
 use Rattle.dbl_window.proofs.FitLemmas.{fits_chunk, fit_keys}

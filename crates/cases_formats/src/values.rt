@@ -1,0 +1,51 @@
+//! Cases of the values of columns: a text of a type is given by the type's OID and a JSON string.
+
+ghost use Rattle.dbl_value.specs.Values.{IsOf};
+
+use anyhow::{Result, bail};
+use cases_items::words;
+use dbl_base::Text;
+use dbl_value::{PgType, Val, json, json_tree, of, print, read, read_owned};
+use std::alloc::Global;
+
+/// Adds what a case of this family answers.
+pub fn answer(alloc: Global, shown: &mut String, call: &str, arguments: &str) -> Result<()> {
+    let (number, text) = words::split(arguments, " ");
+    match call {
+        "read" => show_read(alloc, shown, of(number.parse()?)?, text),
+        _ => bail!("no such call"),
+    }
+}
+
+// The value's text as a JSON string, the value in the change event, and the same as a JSON tree.
+fn show_read(alloc: Global, shown: &mut String, ty: PgType, text: &str) -> Result<()> {
+    show_owned(alloc, shown, ty, words::text(alloc, text)?)?;
+    show_tree_of(alloc, shown, ty, &words::text(alloc, text)?)
+}
+
+fn show_owned(alloc: Global, shown: &mut String, ty: PgType, text: Text) -> Result<()> {
+    match read_owned(alloc, ty, text) {
+        Ok(val) => show_printed(alloc, shown, ty, &val),
+        Err(error) => words::said(shown, &error),
+    }
+}
+
+fn show_printed(alloc: Global, shown: &mut String, ty: PgType, val: &Val) -> Result<()>
+    requires { IsOf ty val.now }
+{
+    show_json(alloc, shown, &Val::Text(print(alloc, ty, val)?))?;
+    words::add(shown, " | ")?;
+    show_json(alloc, shown, &val.copy(alloc)?)
+}
+
+fn show_json(alloc: Global, shown: &mut String, val: &Val) -> Result<()> {
+    words::add(shown, json(alloc, val)?.as_str())
+}
+
+fn show_tree_of(alloc: Global, shown: &mut String, ty: PgType, text: &Text) -> Result<()> {
+    words::add(shown, " | ")?;
+    match read(alloc, ty, text) {
+        Ok(val) => words::add(shown, json_tree(alloc, &val)?.to_string(alloc)?.as_str()),
+        Err(error) => words::said(shown, &error),
+    }
+}

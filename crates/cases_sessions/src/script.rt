@@ -1,0 +1,179 @@
+//! The source that plays the script of a case.
+//!
+//! After a call may stand what other clients commit at it, ` before ` it and ` inside ` of it: commits parted by ` + `, and their
+//! messages by `, `; `nothing` is a commit without one. After these stand the ` rows ` that a `select` answers, parted by `; `, with `~`
+//! for null.
+
+ghost use Rattle.std.specs.Prelude.{◌≡◌, ◌≢◌, ◌<◌, ◌^◌, [], length, map, IsTrue, IfOk};
+ghost use Rattle.std.specs.List.{AllByRecursion};
+ghost use Rattle.dbl_model_table.specs.Tables.{same_name, are_distinct};
+
+use anyhow::{Result, bail};
+use cases_items::{items, messages, words};
+use dbl_base::Seq;
+use dbl_model_table::{RawRow, RawTable};
+use dbl_pgmsg::Message;
+use dbl_source::{Move, ScriptedSource};
+use std::alloc::Global;
+
+// What an item has after a word, up to the words that may follow it.
+fn part<'a>(item: &'a str, word: &'a str, next: &'a str) -> &'a str {
+    let (front, _) = words::split(item, next);
+    let (_, part) = words::split(front, word);
+    part
+}
+
+/// The call of an item.
+pub fn call_of(item: &str) -> &str {
+    let (item, _) = words::split(item, " rows ");
+    let (item, _) = words::split(item, " inside ");
+    let (call, _) = words::split(item, " before ");
+    call
+}
+
+fn add_message(alloc: Global, word: &str, list: &mut Vec<Message>) -> Result<()> {
+    if word != "nothing" {
+        list.push(messages::message(alloc, word)?)?;
+    }
+    Ok(())
+}
+
+fn commit(alloc: Global, words: &str) -> Result<Seq<Message>> {
+    let mut list = Vec::new(alloc);
+    for word in words.split(", ") {
+        add_message(alloc, word, &mut list)?;
+    }
+    Ok(Seq::make(list))
+}
+
+fn commits(alloc: Global, words: &str) -> Result<Seq<Seq<Message>>> {
+    let mut list = Vec::new(alloc);
+    if !words.is_empty() {
+        for word in words.split(" + ") {
+            list.push(commit(alloc, word)?)?;
+        }
+    }
+    Ok(Seq::make(list))
+}
+
+fn next_move(alloc: Global, item: &str) -> Result<Move> {
+    let (without_rows, _) = words::split(item, " rows ");
+    let before = commits(alloc, part(without_rows, " before ", " inside "))?;
+    let inside = commits(alloc, part(without_rows, " inside ", " rows "))?;
+    Ok(Move { before, inside })
+}
+
+fn moves(alloc: Global, script: &str) -> Result<Vec<Move>> {
+    let mut list = Vec::new(alloc);
+    for item in script.split(" | ") {
+        list.push(next_move(alloc, item)?)?;
+    }
+    Ok(list)
+}
+
+fn add_row(alloc: Global, words: &str, rows: &mut Vec<RawRow>) -> Result<()> {
+    if !words.is_empty() {
+        rows.push(RawRow {
+            cells: Seq::make(words::all(alloc, words)?),
+        })?;
+    }
+    Ok(())
+}
+
+fn rows(alloc: Global, words: &str) -> Result<Vec<RawRow>> {
+    let mut list = Vec::new(alloc);
+    for row in words.split("; ") {
+        add_row(alloc, row, &mut list)?;
+    }
+    Ok(list)
+}
+
+// The rows of each select.
+fn selected_rows(alloc: Global, script: &str) -> Result<Vec<Vec<RawRow>>> {
+    let mut list = Vec::new(alloc);
+    for item in script.split(" | ") {
+        if item.starts_with("select/") {
+            let (_, words) = words::split(item, " rows ");
+            list.push(rows(alloc, words)?)?;
+        }
+    }
+    Ok(list)
+}
+
+/// The numbers of an item, as of the calls that fail; none without that item.
+pub fn numbers(alloc: Global, asked: &str, kind: &str) -> Result<Vec<u64>> {
+    let mut list = Vec::new(alloc);
+    let words = items::first_of(asked, kind).unwrap_or("");
+    for word in words.split_whitespace() {
+        list.push(word.parse()?)?;
+    }
+    Ok(list)
+}
+
+// A table of the catalogue has a schema.
+fn table(alloc: Global, fields: &str) -> Result<RawTable>
+    ensures { IfOk result (λ raw. raw.name.schema ≢ []) }
+{
+    let raw = items::raw_table(alloc, fields)?;
+    if raw.name.schema.as_str() == "" {
+        bail!("no schema");
+    }
+    Ok(raw)
+}
+
+fn one(alloc: Global, first: RawTable) -> Result<Vec<RawTable>>
+    requires { first.name.schema ≢ [] }
+    ensures few { IfOk result (λ tables. length tables.items < 2 ^ 31) }
+    ensures distinct { IfOk result (λ tables.
+        IsTrue (are_distinct same_name (map (λ raw. raw.name) tables.items))) }
+    ensures schemas { IfOk result (λ tables.
+        AllByRecursion (λ raw. raw.name.schema ≢ []) tables.items) }
+{
+    let mut list = Vec::new(alloc);
+    list.push(first)?;
+    Ok(list)
+}
+
+fn two(alloc: Global, first: RawTable, other: RawTable) -> Result<Vec<RawTable>>
+    requires first { first.name.schema ≢ [] }
+    requires other { other.name.schema ≢ [] }
+    ensures few { IfOk result (λ tables. length tables.items < 2 ^ 31) }
+    ensures distinct { IfOk result (λ tables.
+        IsTrue (are_distinct same_name (map (λ raw. raw.name) tables.items))) }
+    ensures schemas { IfOk result (λ tables.
+        AllByRecursion (λ raw. raw.name.schema ≢ []) tables.items) }
+{
+    if first.name == other.name {
+        bail!("no other table");
+    }
+    let mut list = Vec::new(alloc);
+    list.push(first)?;
+    list.push(other)?;
+    Ok(list)
+}
+
+// One or two.
+fn tables(alloc: Global, asked: &str) -> Result<Vec<RawTable>>
+    ensures few { IfOk result (λ tables. length tables.items < 2 ^ 31) }
+    ensures distinct { IfOk result (λ tables.
+        IsTrue (are_distinct same_name (map (λ raw. raw.name) tables.items))) }
+    ensures schemas { IfOk result (λ tables.
+        AllByRecursion (λ raw. raw.name.schema ≢ []) tables.items) }
+{
+    let first = table(alloc, items::first_of(asked, "t/").unwrap_or(""))?;
+    match items::first_of(asked, "u/") {
+        Some(other) => two(alloc, first, table(alloc, other)?),
+        None => one(alloc, first),
+    }
+}
+
+/// The source of a case, before its first call.
+pub fn source(alloc: Global, asked: &str, script: &str) -> Result<ScriptedSource>
+    ensures { IfOk result (λ source. IsTrue source.live) }
+{
+    let tables = tables(alloc, asked)?;
+    let moves = moves(alloc, script)?;
+    let rows = selected_rows(alloc, script)?;
+    let fails = numbers(alloc, asked, "fails/")?;
+    Ok(ScriptedSource::make(alloc, tables, moves, rows, fails)?)
+}

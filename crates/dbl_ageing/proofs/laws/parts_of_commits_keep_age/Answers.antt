@@ -1,5 +1,0 @@
-use Rattle.dbl_ageing.proofs.Changes.{parts_keep_age}
-use Rattle.dbl_ageing.proofs.laws.parts_of_commits_keep_age.Goals as goal
-
-pub returns : goal.returns
-returns c = parts_keep_age

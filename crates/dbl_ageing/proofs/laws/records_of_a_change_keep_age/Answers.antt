@@ -1,5 +1,0 @@
-use Rattle.dbl_ageing.proofs.Changes.{records_keep_age}
-use Rattle.dbl_ageing.proofs.laws.records_of_a_change_keep_age.Goals as goal
-
-pub returns : goal.returns
-returns c = records_keep_age

@@ -1,5 +1,0 @@
-use Rattle.dbl_ageing.proofs.Changes.{silent_commits_move_age}
-use Rattle.dbl_ageing.proofs.laws.silent_commits_move_age.Goals as goal
-
-pub returns : goal.returns
-returns c = silent_commits_move_age

@@ -1,5 +1,0 @@
-use Rattle.dbl_ageing.proofs.Moments.{events_stand}
-use Rattle.dbl_ageing.proofs.moment_laws.events_stand_for_changes.Goals as goal
-
-pub returns : goal.returns
-returns c = events_stand

@@ -1,5 +1,0 @@
-use Rattle.dbl_ageing.proofs.Commits.{fit_commits}
-use Rattle.dbl_ageing.proofs.moment_laws.fit_histories_have_fit_commits.Goals as goal
-
-pub returns : goal.returns
-returns c = fit_commits

@@ -1,5 +1,0 @@
-use Rattle.dbl_ageing.proofs.Moments.{later_places}
-use Rattle.dbl_ageing.proofs.moment_laws.later_places_stand_later.Goals as goal
-
-pub returns : goal.returns
-returns c = later_places

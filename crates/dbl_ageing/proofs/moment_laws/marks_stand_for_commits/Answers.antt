@@ -1,5 +1,0 @@
-use Rattle.dbl_ageing.proofs.Moments.{marks_stand}
-use Rattle.dbl_ageing.proofs.moment_laws.marks_stand_for_commits.Goals as goal
-
-pub returns : goal.returns
-returns c = marks_stand

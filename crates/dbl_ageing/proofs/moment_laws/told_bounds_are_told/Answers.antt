@@ -1,5 +1,0 @@
-use Rattle.dbl_ageing.proofs.KnownKeys.{told_bounds}
-use Rattle.dbl_ageing.proofs.moment_laws.told_bounds_are_told.Goals as goal
-
-pub returns : goal.returns
-returns c = told_bounds

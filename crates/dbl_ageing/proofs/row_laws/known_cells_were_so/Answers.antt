@@ -1,5 +1,0 @@
-use Rattle.dbl_ageing.proofs.Rows.{known_cells_were_so}
-use Rattle.dbl_ageing.proofs.row_laws.known_cells_were_so.Goals as goal
-
-pub returns : goal.returns
-returns c = known_cells_were_so

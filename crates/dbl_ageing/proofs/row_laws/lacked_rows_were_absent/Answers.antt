@@ -1,5 +1,0 @@
-use Rattle.dbl_ageing.proofs.Rows.{lacked_rows_were_absent}
-use Rattle.dbl_ageing.proofs.row_laws.lacked_rows_were_absent.Goals as goal
-
-pub returns : goal.returns
-returns c = lacked_rows_were_absent

@@ -1,5 +1,0 @@
-use Rattle.dbl_ageing.proofs.Named.{records_are_named}
-use Rattle.dbl_ageing.proofs.row_laws.records_of_histories_are_named.Goals as goal
-
-pub returns : goal.returns
-returns c = records_are_named

@@ -1,5 +1,0 @@
-use Rattle.dbl_ageing.proofs.Rows.{unknown_rows_were_there}
-use Rattle.dbl_ageing.proofs.row_laws.unknown_rows_were_there.Goals as goal
-
-pub returns : goal.returns
-returns c = unknown_rows_were_there

@@ -1,4 +1,0 @@
-mod ToldLemmas
-mod MomentLemmas
-mod WindowLemmas
-mod NamedLemmas

@@ -1,5 +1,0 @@
-use Rattle.dbl_ages.proofs.MomentLemmas.{IsFar}
-use Rattle.dbl_ages.proofs.moments.reach.Given as goal
-
-abbrev pub invariant-loop-item : goal.invariant-loop-item
-invariant-loop-item l = IsFar l.infos.items l.commits.items l.start l.records.items l.item-index l.far

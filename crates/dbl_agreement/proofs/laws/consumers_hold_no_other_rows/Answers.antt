@@ -1,5 +1,0 @@
-use Rattle.dbl_agreement.proofs.Named.{no_other_rows}
-use Rattle.dbl_agreement.proofs.laws.consumers_hold_no_other_rows.Goals as goal
-
-pub returns : goal.returns
-returns c = no_other_rows

@@ -1,5 +1,0 @@
-use Rattle.dbl_agreement.proofs.Cells.{cells_go_alone}
-use Rattle.dbl_agreement.proofs.record_laws.cells_go_alone.Goals as goal
-
-pub returns : goal.returns
-returns c = cells_go_alone

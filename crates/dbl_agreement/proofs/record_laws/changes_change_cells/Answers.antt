@@ -1,5 +1,0 @@
-use Rattle.dbl_agreement.proofs.CellEffects.{changes_change_cells}
-use Rattle.dbl_agreement.proofs.record_laws.changes_change_cells.Goals as goal
-
-pub returns : goal.returns
-returns c = changes_change_cells

@@ -1,5 +1,0 @@
-use Rattle.dbl_agreement.proofs.Letters.{events_have_letters}
-use Rattle.dbl_agreement.proofs.record_laws.events_have_letters.Goals as goal
-
-pub returns : goal.returns
-returns c = events_have_letters

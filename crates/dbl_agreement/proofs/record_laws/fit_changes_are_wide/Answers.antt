@@ -1,5 +1,0 @@
-use Rattle.dbl_agreement.proofs.Clashes.{fit_changes_are_wide}
-use Rattle.dbl_agreement.proofs.record_laws.fit_changes_are_wide.Goals as goal
-
-pub returns : goal.returns
-returns c = fit_changes_are_wide

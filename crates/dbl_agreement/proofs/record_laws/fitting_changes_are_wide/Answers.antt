@@ -1,5 +1,0 @@
-use Rattle.dbl_agreement.proofs.Clashes.{fitting_changes_are_wide}
-use Rattle.dbl_agreement.proofs.record_laws.fitting_changes_are_wide.Goals as goal
-
-pub returns : goal.returns
-returns c = fitting_changes_are_wide

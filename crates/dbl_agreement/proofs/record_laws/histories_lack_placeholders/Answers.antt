@@ -1,5 +1,0 @@
-use Rattle.dbl_agreement.proofs.Clashes.{histories_lack_placeholders}
-use Rattle.dbl_agreement.proofs.record_laws.histories_lack_placeholders.Goals as goal
-
-pub returns : goal.returns
-returns c = histories_lack_placeholders

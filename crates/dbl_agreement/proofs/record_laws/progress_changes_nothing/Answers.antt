@@ -1,5 +1,0 @@
-use Rattle.dbl_agreement.proofs.ReadRows.{progress_changes_nothing}
-use Rattle.dbl_agreement.proofs.record_laws.progress_changes_nothing.Goals as goal
-
-pub returns : goal.returns
-returns c = progress_changes_nothing

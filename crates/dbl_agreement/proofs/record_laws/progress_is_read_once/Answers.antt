@@ -1,5 +1,0 @@
-use Rattle.dbl_agreement.proofs.Prints.{progress_is_read_once}
-use Rattle.dbl_agreement.proofs.record_laws.progress_is_read_once.Goals as goal
-
-pub returns : goal.returns
-returns c = progress_is_read_once

@@ -1,5 +1,0 @@
-use Rattle.dbl_agreement.proofs.ReadRows.{read_rows_are_held}
-use Rattle.dbl_agreement.proofs.record_laws.read_rows_are_held.Goals as goal
-
-pub returns : goal.returns
-returns c = read_rows_are_held

@@ -1,5 +1,0 @@
-use Rattle.dbl_agreement.proofs.Prints.{records_tell_one_event}
-use Rattle.dbl_agreement.proofs.record_laws.records_tell_one_event.Goals as goal
-
-pub returns : goal.returns
-returns c = records_tell_one_event

@@ -1,5 +1,0 @@
-use Rattle.dbl_agreement.proofs.Prints.{table_topics_tell_none}
-use Rattle.dbl_agreement.proofs.record_laws.table_topics_tell_none.Goals as goal
-
-pub returns : goal.returns
-returns c = table_topics_tell_none

@@ -1,0 +1,143 @@
+-- Each window whose high mark was read was closed: what a window waits for wasn't read yet, and no mark of the next one is written before it.
+use Rattle.std.proofs.Common.{◌≡◌, ◌≢◌, ◌∙◌, ◌+◌, ◌≤◌, ◌<◌, ◌^◌, ℕ, Bool, Option, Some, List, ◌++◌, length, take, refl, sym, ap, ap₂, subst, arith, length-append}
+use Rattle.std.specs.Prelude.{slice_get}
+use Rattle.std.specs.List.{AllByRecursion}
+use Rattle.dbl_record.specs.declared.record.Record.{Record}
+use Rattle.dbl_model_table.specs.declared.change.Body.TheVariants.{Mark}
+use Rattle.dbl_model_table.specs.declared.change.Commit.{Commit}
+use Rattle.dbl_model_table.specs.declared.table.TableInfo.{TableInfo}
+use Rattle.dbl_model_table.proofs.Lists.{slice_get-lt}
+use Rattle.dbl_capture_work.specs.ModelHistory.History.{RawCommit}
+use Rattle.dbl_capture_work.specs.ModelHistory.History as raw
+use Rattle.dbl_capture_work.specs.ModelHistory.MarkTexts.{mark_text}
+use Rattle.dbl_capture_work.specs.ModelHistory.MarkTexts.Side.{High}
+use Rattle.dbl_capture_work.specs.ModelHistory.Typed.{typed_commit}
+use Rattle.dbl_capture_work.specs.ModelCommit.Stated.{commits_of}
+use Rattle.dbl_capture_work.specs.SourceModel.Standings.{Reading, SourceState}
+use Rattle.dbl_capture_work.specs.Offset.declared.offset.Offset.{Offset}
+use Rattle.dbl_capture_work.specs.Offset.Stores.{StoreOn}
+use Rattle.dbl_capture_work.proofs.FaithfulItems.{all_by_place, at_all, at_left, at_right, first_some, mapped, taken_at}
+use Rattle.dbl_capture_work.specs.Window.Plans.{Chunk, high_text}
+use Rattle.dbl_capture_work.specs.Follow.declared.window.Window.{Window}
+use Rattle.dbl_capture_work.specs.Follow.declared.window.Window.TheVariants.{Absent, Armed, Open}
+use Rattle.dbl_capture_work.specs.Follow.Followed.{Following}
+use Rattle.dbl_capture_work.specs.CaptureModel.Counted.{waiting}
+use Rattle.dbl_capture_work.specs.CaptureModel.Entries.{SessionStart, WasFaithful}
+use Rattle.dbl_capture_work.specs.CaptureModel.Going.{IsGoing, KeepsStage, IsPlacedInHistory}
+use Rattle.dbl_capture_work.specs.CaptureModel.Marked.{IsArmedBefore, IsAwaited, IsMarkAt, IsOpenBefore, IsOwnWindow}
+use Rattle.dbl_capture_work.specs.CaptureModel.Stages.{Stage, later_count, commits_at, read_at}
+use Rattle.dbl_capture_work.proofs.CaptureModelEnding.{stood_of}
+use Rattle.dbl_capture_work.proofs.CaptureModelWindowing.{raw_mark}
+use Rattle.dbl_capture_work.specs.declared.report.Report.{Report}
+use Rattle.dbl_capture_work.specs.declared.work.SessionState.{SessionState}
+use Rattle.dbl_capture_work.specs.Works.{next_offset_of}
+use Rattle.dbl_capture_laws.specs.Closed.{HasClosedRead, HasNoHigh}
+use Rattle.dbl_capture_laws.specs.Sessions.{InSession, state_at_stage}
+
+-- some first ones of a list are as all of it
+all_taken : (P : Commit → Type 0) (n : ℕ) (commits : List Commit) → AllByRecursion P commits → AllByRecursion P (take n commits)
+all_taken P n commits all = all_by_place P (take n commits) (λ k commit is. at_all P commits k commit all (taken_at n commits k commit is).1)
+
+no_more : (chunks number last : ℕ) → last ≡ chunks + 0 → chunks < number → number ≤ last → ⊥
+no_more chunks number last is subsequent le = omega (arith, is, subsequent, le)
+
+-- of one window more there is one number
+one_more : (chunks number last : ℕ) → last ≡ chunks + 1 → chunks < number → number ≤ last → last ≡ number
+one_more chunks number last is subsequent le = omega (arith, is, subsequent, le)
+
+not_behind : (place high read : ℕ) → place ≡ high → read ≤ high → place < read → ⊥
+not_behind place high read same le lt = omega (arith, same, le, lt)
+
+further : (a b c : ℕ) → a ≤ b → b < c → a ≤ c
+further a b c le lt = omega (arith, le, lt)
+
+under : (a b n m : ℕ) → n < b → m ≡ a + b → a + n < m
+under a b n m lt is = omega (arith, lt, is)
+
+module _ (entry : SessionStart) (stage : Stage) (faithful : WasFaithful entry) (going : IsGoing entry stage) (chunks : ℕ) (windows : stage.number ≡ chunks + waiting stage.following.window) (number : ℕ) (subsequent : chunks < number) where
+  abbrev placed : IsPlacedInHistory stage
+  placed = going.placed (stood_of entry faithful)
+
+  abbrev kept : KeepsStage entry stage (going.placed (stood_of entry faithful)).parts
+  kept = going.kept (stood_of entry faithful) faithful
+
+  abbrev old : List Commit
+  old = (going.placed (stood_of entry faithful)).parts.old
+
+  abbrev text : List ℕ
+  text = mark_text stage.first.incarnation number High
+
+  -- a commit that was read, as its high mark
+  module _ (n : ℕ) (commit : Commit) (is : slice_get (read_at stage) n ≡ Some commit) (high : commit.body ≡ Mark text) (small : number < 2 ^ 64) where
+    at_place : slice_get (commits_at stage) (length old + n) ≡ Some commit
+    at_place =
+        ap (λ (l : List Commit). slice_get l (length old + n)) placed.parts.spelled
+        ∙ at_left (old ++ read_at stage) placed.parts.later (length old + n) commit (at_right old (read_at stage) n commit is)
+
+    raw_at : (c : RawCommit) × (slice_get stage.history.commits (length old + n) ≡ Some c) × (commit ≡ typed_commit stage.first.infos c)
+    raw_at = mapped (typed_commit stage.first.infos) stage.history.commits (length old + n) commit at_place
+
+    raw_is : raw_at.0.body ≡ raw.Mark text
+    raw_is = raw_mark stage.first.infos raw_at.0.body text (sym (ap (λ (c : Commit). c.body) raw_at.2) ∙ high)
+
+    read_lt : length old + n < later_count placed.parts
+    read_lt = under (length old) (length (read_at stage)) n (later_count placed.parts) (slice_get-lt (read_at stage) n commit is) (length-append old (read_at stage))
+
+    -- no such mark stands behind those that were read
+    not_later : (place : ℕ) → IsMarkAt stage.history text place → later_count placed.parts ≤ place → ⊥
+    not_later place mark le =
+        not_behind (length old + n) place (later_count placed.parts)
+        (kept.own_marks.once (length old + n) place number High raw_at.0 mark.commit small raw_at.1 mark.stands raw_is mark.is_mark) le read_lt
+
+    not_above : number ≤ stage.number
+    not_above = (kept.own_marks.numbered (length old + n) number High raw_at.0 small raw_at.1 raw_is).0
+
+    -- that of a window that waits is this one
+    own_text : (chunk : Chunk) → (chunk.plan.incarnation ≡ stage.first.incarnation) × (chunk.plan.number ≡ stage.number) → stage.number ≡ chunks + 1 → high_text chunk.plan ≡ text
+    own_text chunk own last = ap₂ (λ (i m : ℕ). mark_text i m High) own.0 (own.1 ∙ one_more chunks number stage.number last subsequent not_above)
+
+    none_at : (w : Window) → stage.following.window ≡ w → ⊥
+    none_at Absent is_w =
+        no_more chunks number stage.number (windows ∙ ap (λ (x : Window). chunks + waiting x) is_w) subsequent not_above
+    none_at (Armed chunk) is_w =
+        let awaited : IsArmedBefore stage.history (later_count placed.parts) chunk = subst (IsAwaited stage.history (later_count placed.parts)) is_w placed.awaited in
+        let own : (chunk.plan.incarnation ≡ stage.first.incarnation) × (chunk.plan.number ≡ stage.number) = subst (IsOwnWindow stage.first.incarnation stage.number) is_w kept.own_window in
+        not_later awaited.high
+        (subst (λ (value : List ℕ). IsMarkAt stage.history value awaited.high) (own_text chunk own (windows ∙ ap (λ (x : Window). chunks + waiting x) is_w)) awaited.high_is)
+        (further (later_count placed.parts) awaited.low awaited.high awaited.not_yet awaited.order)
+    none_at (Open chunk) is_w =
+        let awaited : IsOpenBefore stage.history (later_count placed.parts) chunk = subst (IsAwaited stage.history (later_count placed.parts)) is_w placed.awaited in
+        let own : (chunk.plan.incarnation ≡ stage.first.incarnation) × (chunk.plan.number ≡ stage.number) = subst (IsOwnWindow stage.first.incarnation stage.number) is_w kept.own_window in
+        not_later awaited.high
+        (subst (λ (value : List ℕ). IsMarkAt stage.history value awaited.high) (own_text chunk own (windows ∙ ap (λ (x : Window). chunks + waiting x) is_w)) awaited.high_is)
+        awaited.not_yet
+
+  pub none_unclosed : number < 2 ^ 64 → HasNoHigh stage.first.incarnation number (read_at stage)
+  none_unclosed small =
+      all_by_place (λ (commit : Commit). commit.body ≢ Mark text) (read_at stage) (λ n commit is high. none_at n commit is high small stage.following.window refl)
+
+-- ---- where a session stands
+
+module _ {S K D : Type 0} {tell : Bool} {stands : S → SourceState → Type 0} {holds : K → List (List Record) → Type 0} {seen : D → Option (List ℕ)} {may_leave : D → List ℕ → Type 0} {entry : SessionStart} {work : SessionState} {src : S} {sink : K} {store : StoreOn D}
+    (s : InSession tell stands holds seen may_leave entry work src sink store) where
+  infos_are : (next_offset_of work).infos ≡ s.stage.first.infos
+  infos_are = ap (λ (o : Offset). o.infos) s.work_is.offset_is
+
+  incarnation_is : (next_offset_of work).incarnation ≡ s.stage.first.incarnation
+  incarnation_is = ap (λ (o : Offset). o.incarnation) s.work_is.offset_is
+
+  abbrev here : Reading
+  here = record { after = s.stage.first.lsn; messages = s.stage.messages }
+
+  -- what it has stored is its next offset
+  pub closed_read : WasFaithful entry → (stored : Option Offset) (report : Report) (t : SourceState) → stored ≡ Some (next_offset_of work) → t ≡ state_at_stage s.stage → work.number ≡ report.chunks + waiting work.follower.window → HasClosedRead stored report t
+  closed_read faithful stored report t is stood windows offset reading held reads number subsequent small =
+      let own : next_offset_of work ≡ offset = first_some (next_offset_of work) offset (sym is ∙ held) in
+      let same : here ≡ reading = first_some here reading (sym (ap (λ (x : SourceState). x.reading) stood) ∙ reads) in
+      subst (λ (r : Reading). HasNoHigh offset.incarnation number (take report.commits (commits_of offset.infos r.messages))) same
+      (subst (λ (o : Offset). HasNoHigh o.incarnation number (take report.commits (commits_of o.infos s.stage.messages))) own
+      (subst (λ (i : ℕ). HasNoHigh i number (take report.commits (commits_of (next_offset_of work).infos s.stage.messages))) (sym incarnation_is)
+      (subst (λ (l : List TableInfo). HasNoHigh s.stage.first.incarnation number (take report.commits (commits_of l s.stage.messages))) (sym infos_are)
+      (all_taken (λ (commit : Commit). commit.body ≢ Mark (mark_text s.stage.first.incarnation number High)) report.commits (read_at s.stage)
+      (none_unclosed entry s.stage faithful s.going report.chunks
+      (sym s.work_is.number_is ∙ (windows ∙ ap (λ (f : Following). report.chunks + waiting f.window) s.work_is.follower_is)) number subsequent small)))))

@@ -1,0 +1,29 @@
+-- Tables that can't be captured.
+use Rattle.std.specs.Prelude.{◌≡◌, ◌⊎◌, Contains, Option, None, Result, Ok, Err}
+use Rattle.std.specs.List.{AllByRecursion}
+use Rattle.dbl_model_table.specs.declared.config.Config.{Config}
+use Rattle.dbl_model_table.specs.declared.table.TableName.{TableName}
+use Rattle.dbl_capture_work.specs.ModelHistory.History.{History}
+use Rattle.dbl_capture_work.specs.Offset.declared.offset.Offset.{Offset}
+use Rattle.dbl_capture_work.specs.declared.halt.Halt.{Halt}
+use Rattle.dbl_capture_work.specs.declared.halt.Halt.TheVariants as halt
+use Rattle.dbl_capture_work.specs.Begins.{CanBeCaptured, IsAbsentHalt}
+
+-- The error is about a table, or memory ran out, or a call of the source failed.
+abbrev pub IsTableHalt : Halt → Type 0
+IsTableHalt halt.Memory = Unit {0}
+IsTableHalt halt.Source = Unit {0}
+IsTableHalt (halt.Model error) = Unit {0}
+IsTableHalt (halt.UnknownTable table) = Unit {0}
+IsTableHalt h = ⊥
+
+-- If no offset is stored, and a table can't be captured as the catalogue has it, a session stops with the error of the first such table,
+-- unless memory runs out or a call of its source fails.
+abbrev pub MustHaltAbsent : {A : Type 0} → Config → History → Option Offset → Result A Halt → Type 0
+MustHaltAbsent config history old result = old ≡ None → (name : TableName) → Contains config.tables name → (CanBeCaptured history name → ⊥)
+    → (h : Halt) × (result ≡ Err h) × IsTableHalt h × IsAbsentHalt config.tables history h
+
+-- Each table can be captured, or the session stops with the error of the first that can't.
+abbrev pub CapturesOrHalts : {A : Type 0} → Config → History → Result A Halt → Type 0
+CapturesOrHalts config history (Ok answer) = AllByRecursion (CanBeCaptured history) config.tables
+CapturesOrHalts config history (Err h) = AllByRecursion (CanBeCaptured history) config.tables ⊎ IsTableHalt h

@@ -1,0 +1,30 @@
+//! Why a session over a conforming source and faithful stores stops: theorems, as contracts of
+//! empty functions.
+
+ghost use Rattle.dbl_capture_laws.specs.Owned.{ClashesAreOwn, FirstLongOffsetsAreOwn, FirstOffsetsAreLong};
+ghost use Rattle.dbl_capture_laws.specs.Owned.{LongOffsetsAreOwn, LongRecordsAreOwn};
+
+/// A value equal to the placeholder is in the source's history.
+pub fn clashes_are_own()
+    ensures { ClashesAreOwn }
+{}
+
+/// A record that is too long comes from the source's history.
+pub fn long_records_are_own()
+    ensures { LongRecordsAreOwn }
+{}
+
+/// A next offset that is too long agrees with the stores.
+pub fn long_offsets_are_own()
+    ensures { LongOffsetsAreOwn }
+{}
+
+/// A first offset that is too long agrees with the stores.
+pub fn first_long_offsets_are_own()
+    ensures { FirstLongOffsetsAreOwn }
+{}
+
+/// A new connector's first offset that is too long follows from the source's catalogue.
+pub fn first_offsets_are_long()
+    ensures { FirstOffsetsAreLong }
+{}

@@ -1,0 +1,77 @@
+use Rattle.std.proofs.Common.{◌≡◌, ◌⊎◌, [], ◌∷◌, inr, sym, ap, subst}
+use Rattle.std.specs.Prelude.{Err}
+use Rattle.std.proofs.lemmas.Result.{IfErr-weaker, IfOk-weaker, err_from_is_err_and}
+use Rattle.dbl_source_model.specs.Calls.{IsMarked}
+use Rattle.dbl_source_model.specs.Standings.{HasState}
+use Rattle.dbl_window.specs.declared.error.WindowError.{WindowError}
+use Rattle.dbl_window.specs.declared.error.WindowError.TheVariants as window
+use Rattle.dbl_window.specs.Plans.{Chunk, Plan, high_text}
+use Rattle.dbl_capture_work.specs.Causes.{IsHonestFault, IsOfRows}
+use Rattle.dbl_capture_work.specs.Windowed.{MayHaveMarks, WasLooked}
+use Rattle.dbl_capture_work.specs.Works.{IsChunkOf}
+use Rattle.dbl_capture_work.proofs.Exits.{both_ok, rose_behind, taken_on, later_on}
+use Rattle.dbl_capture_work.proofs.Looking.{mark_left, moved_left, others_left, read_order, was_looked}
+use Rattle.dbl_capture_work.proofs.WindowFaults.{mark_fault, mark_honest, rows_fault, select_honest}
+use Rattle.dbl_capture_work.proofs.windows.select_and_mark_high.Goals as goal
+
+pub returns-in_err-held-clause-rows : goal.returns-in_err-held-clause-rows
+returns-in_err-held-clause-rows g c =
+    let p = err_from_is_err_and c.from_residual.result c.from_residual.ensures.1 in
+    rw (p.1, p.2) (rows_fault c.args.marked (g.S.Source.told c.select.new.src) c.in_err-held.field-0.0 c.in_err-held.ensures.chunk)
+
+pub returns-in_err-held-clause-never : goal.returns-in_err-held-clause-never
+returns-in_err-held-clause-never g c s infos stands honest captured =
+    let p = err_from_is_err_and c.from_residual.result c.from_residual.ensures.1 in
+    rw (p.1, p.2) (select_honest g.S.Source.stands c.select.new.src c.args.marked infos c.in_err-held.field-0.0
+    (λ row is. c.in_err-held.ensures.never s infos row stands honest captured (ap (λ (e : WindowError). Err e) is))
+    (λ name error is. c.in_err-held.ensures.cell s infos name error stands honest captured (ap (λ (e : WindowError). Err e) is)))
+
+pub returns-in_err-held-clause-left : goal.returns-in_err-held-clause-left
+returns-in_err-held-clause-left g c s l stands may = others_left (high_text c.args.marked ∷ []) s l (c.select.ensures.left s l stands may)
+
+pub returns-clause-looked : goal.returns-clause-looked
+returns-clause-looked g c s stands =
+    let stood = c.in_ok-held.ensures.held s stands in
+    let held = c.in_ok-held.held in
+    let mid = stood.standing in
+    let src = c.high.new.src in
+    let honest = g.S.Source.honest src in
+    both_ok c.high.result (λ (armed : Chunk). HasState g.S.Source.stands src (IsMarked (high_text held.plan) mid)) (λ (armed : Chunk). armed ≡ held) (λ (armed : Chunk). HasState g.S.Source.stands src (WasLooked honest c.args.marked armed s))
+    (λ armed marked same. record {
+      standing = marked.standing;
+      is = marked.is;
+      holds = was_looked honest (g.S.Source.honest c.select.new.src) c.args.marked held armed s mid marked.standing c.high.ensures.honest same c.in_ok-held.ensures.same stood.holds.0 stood.holds.1 marked.holds;
+    }) (c.high.ensures.marks mid stood.is) c.high.ensures.same
+
+pub returns-clause-chunk : goal.returns-clause-chunk
+returns-clause-chunk g c =
+    let held = c.in_ok-held.ensures in
+    IfOk-weaker c.high.result (λ (armed : Chunk). armed ≡ c.in_ok-held.held) (IsChunkOf c.args.marked)
+    (λ armed same. subst (IsChunkOf c.args.marked) (sym same) (record { plan_is = held.same; few = held.few; ordered = read_order c.args.marked _ c.in_ok-held.held.rows held.chunk; through = held.through; done = held.done })) c.high.ensures.same
+
+pub returns-clause-rows : goal.returns-clause-rows
+returns-clause-rows g c =
+    let told = g.S.Source.told c.high.new.src in
+    IfErr-weaker c.high.result (λ (e : WindowError). (e ≡ window.Failed) ⊎ (e ≡ window.Memory)) (λ (e : WindowError). (e ≡ window.Memory) ⊎ ((e ≡ window.Failed) ⊎ IsOfRows c.args.marked told e)) (mark_fault c.args.marked told) c.high.ensures.errors
+
+pub returns-clause-never : goal.returns-clause-never
+returns-clause-never g c s infos stands honest captured =
+    let stood = g.S.Source.stands c.high.new.src in
+    IfErr-weaker c.high.result (λ (e : WindowError). (e ≡ window.Failed) ⊎ (e ≡ window.Memory)) (IsHonestFault c.args.marked stood infos) (mark_honest c.args.marked stood infos) c.high.ensures.errors
+
+pub returns-clause-left : goal.returns-clause-left
+returns-clause-left g c s l stands may =
+    let stood = c.in_ok-held.ensures.held s stands in
+    let held = c.in_ok-held.held in
+    let values = high_text c.args.marked ∷ [] in
+    moved_left values s stood.standing l stood.holds.0
+    (subst (λ (p : Plan). MayHaveMarks (high_text p ∷ []) stood.standing l) c.in_ok-held.ensures.same (mark_left (high_text held.plan) [] stood.standing l (inr (c.high.ensures.left stood.standing l stood.is may))))
+
+pub returns-clause-taken : goal.returns-clause-taken
+returns-clause-taken g c = taken_on (g.S.Source.told c.args.src.now) (g.S.Source.told c.select.new.src) (g.S.Source.told c.high.new.src) c.select.ensures.taken c.high.ensures.taken
+
+pub returns-clause-told : goal.returns-clause-told
+returns-clause-told g c = c.high.ensures.told
+
+pub returns-clause-cause : goal.returns-clause-cause
+returns-clause-cause g c = record { later = later_on (g.S.Source.faults c.args.src.now) (g.S.Source.faults c.select.new.src) (g.S.Source.faults c.high.new.src) c.select.ensures.cause.later c.high.ensures.cause.later; cause = λ is. rose_behind (g.S.Source.faults c.args.src.now) (g.S.Source.faults c.select.new.src) (g.S.Source.faults c.high.new.src) c.select.ensures.cause.later (c.high.ensures.cause.cause is) }

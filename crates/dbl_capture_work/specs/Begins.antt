@@ -1,0 +1,130 @@
+-- What a session begins with.
+use Rattle.std.specs.Prelude.{◌≡◌, ◌⊎◌, ℕ, ◌+◌, ◌^◌, ◌<◌, ◌≤◌, Option, Some, None, List, ◌∷◌, ◌++◌, length, map}
+use Rattle.std.specs.List.{AllByRecursion}
+use Rattle.dbl_base.specs.declared.lsn.Lsn.{Lsn}
+use Rattle.dbl_journal.specs.Form.{entry_limit}
+use Rattle.dbl_model_table.specs.declared.config.Config.{Config}
+use Rattle.dbl_model_table.specs.declared.table.TableName.{TableName}
+use Rattle.dbl_model_table.specs.declared.table.RawTable.{RawTable}
+use Rattle.dbl_model_table.specs.declared.table.TableInfo.{TableInfo}
+use Rattle.dbl_model_table.specs.declared.error.ModelError.{ModelError}
+use Rattle.dbl_model_table.specs.Infos.{IsInfoOf}
+use Rattle.dbl_model_table.specs.Made.{table_fault}
+use Rattle.dbl_model_history.specs.declared.cursor.Cursor.{Cursor}
+use Rattle.dbl_model_history.specs.History.{History, entry_of}
+use Rattle.dbl_source_model.specs.Calls.{Moved}
+use Rattle.dbl_source_model.specs.Leaves.{MayFollow}
+use Rattle.dbl_source_model.specs.Standings.{SourceState, CrashState, left_of}
+use Rattle.dbl_source_model.specs.Trace.{Trace, Described}
+use Rattle.dbl_offset.specs.declared.offset.Offset.{Offset}
+use Rattle.dbl_offset.specs.Entries.{offset_bytes_form}
+use Rattle.dbl_offset.specs.Measures.{capped}
+use Rattle.dbl_capture_model.specs.Faithful.Lag.{IsUnread}
+use Rattle.dbl_capture_work.specs.declared.halt.Halt.{Halt}
+use Rattle.dbl_capture_work.specs.declared.halt.Halt.TheVariants as halt
+
+-- ---- descriptions of tables
+
+-- The catalogue has an entry of this table, which is captured as this description.
+pub record IsInfoAt (history : History) (info : TableInfo) : Type 0 where
+  pub raw : RawTable
+  pub entry : entry_of history info.name ≡ Some raw
+  pub is : IsInfoOf raw info
+
+-- Each of the descriptions agrees with an entry of the catalogue.
+abbrev pub AreInfosAt : History → List TableInfo → Type 0
+AreInfosAt history infos = AllByRecursion (IsInfoAt history) infos
+
+-- A call of the source returned this description of the named table, and others may have committed.
+abbrev pub IsDescribedAs : TableName → TableInfo → SourceState → SourceState → Type 0
+IsDescribedAs name info s t = Moved s t × (info.name ≡ name) × IsInfoAt s.history info
+
+-- The error for a table of which the catalogue has no entry, or this one, which can't be captured.
+abbrev pub IsFaultOf : TableName → Option RawTable → Halt → Type 0
+IsFaultOf name None h = h ≡ halt.UnknownTable name
+IsFaultOf name (Some raw) h = (error : ModelError) × (table_fault raw ≡ Some error) × (h ≡ halt.Model error)
+
+-- The error agrees with the entry that the source returned last, if known.
+pub record IsModelFault (name : TableName) (told : Option Trace) (h : Halt) : Type 0 where
+  pub entry : Option RawTable
+  pub is : IsFaultOf name entry h
+  pub tells : (t : Trace) → told ≡ Some t → t.answer ≡ Described entry
+
+-- The catalogue has an entry with this name that can be captured.
+pub record CanBeCaptured (history : History) (name : TableName) : Type 0 where
+  pub raw : RawTable
+  pub entry : entry_of history name ≡ Some raw
+  pub clean : table_fault raw ≡ None
+
+-- The named table is one of the list, and every table before it can be captured.
+pub record IsFirstAtFault (names : List TableName) (history : History) (name : TableName) : Type 0 where
+  pub before : List TableName
+  pub after : List TableName
+  pub parted : names ≡ before ++ name ∷ after
+  pub earlier : AllByRecursion (CanBeCaptured history) before
+
+-- The error names the first table of the list that the catalogue doesn't have, or whose entry can't be captured.
+abbrev pub IsAbsentHalt : List TableName → History → Halt → Type 0
+IsAbsentHalt names history (halt.UnknownTable name) = IsFirstAtFault names history name × (entry_of history name ≡ None)
+IsAbsentHalt names history (halt.Model error) =
+    (name : TableName) × (raw : RawTable) × IsFirstAtFault names history name × (entry_of history name ≡ Some raw) × (table_fault raw ≡ Some error)
+IsAbsentHalt names history h = Unit {0}
+
+-- The table that the source described last, if known, can be captured.
+pub record IsFaultless (name : TableName) (told : Option Trace) : Type 0 where
+  pub none : (t : Trace) (entry : Option RawTable) (h : Halt) → told ≡ Some t → t.answer ≡ Described entry → IsFaultOf name entry h → ⊥
+
+-- ---- the first offset
+
+-- The cursors of `count` tables, of which nothing was read.
+pub record AreUnread (count : ℕ) (cursors : List Cursor) : Type 0 where
+  pub many : length cursors ≡ count
+  pub each : AllByRecursion IsUnread cursors
+
+-- The first offset of the configured tables, at this head of the log.
+pub record IsFirstOffsetAtHead (config : Config) (infos : List TableInfo) (head : Lsn) (offset : Offset) : Type 0 where
+  pub identity : offset.identity ≡ config.identity
+  pub infos_are : offset.infos ≡ infos
+  pub incarnation : offset.incarnation ≡ 1
+  pub start : offset.start ≡ head
+  pub lsn : offset.lsn ≡ head
+  pub end_lsn : offset.end_lsn ≡ head
+  pub cursors : AreUnread (length infos) offset.cursors
+
+-- ---- a later offset
+
+-- The stored offset with the next incarnation, if one is stored.
+abbrev pub IsAgain : Option Offset → Option Offset → Type 0
+IsAgain None None = Unit {0}
+IsAgain None (Some offset) = ⊥
+IsAgain (Some stored) None = ⊥
+IsAgain (Some stored) (Some offset) = offset ≡ record stored { incarnation = stored.incarnation + 1 }
+
+-- The stored incarnation is the greatest that is possible.
+abbrev pub IsExhausted : Option Offset → Halt → Type 0
+IsExhausted None h = ⊥
+IsExhausted (Some stored) h = (2 ^ 63 ≤ stored.incarnation) × (h ≡ halt.Exhausted stored.incarnation)
+
+-- The offset that a session stores first: the stored one with the next incarnation, or else one of the configured tables with nothing read.
+abbrev pub IsOffsetFor : Config → Option Offset → Offset → Type 0
+IsOffsetFor config None offset = (offset.identity ≡ config.identity) × (map (λ info. info.name) offset.infos ≡ config.tables) × (offset.incarnation ≡ 1)
+    × (offset.lsn ≡ offset.start) × (offset.end_lsn ≡ offset.start) × AreUnread (length offset.infos) offset.cursors
+IsOffsetFor config (Some stored) offset = offset ≡ record stored { incarnation = stored.incarnation + 1 }
+
+-- ---- other errors
+
+-- The encoding of the offset is too long for an entry of the journal, and the error has its length.
+pub record IsTooLong (offset : Offset) (h : Halt) : Type 0 where
+  pub long : entry_limit < length (offset_bytes_form offset)
+  pub is : h ≡ halt.OffsetTooLong (capped (length (offset_bytes_form offset)))
+
+-- The error says that the log after this LSN is gone.
+pub record IsGoneFrom (after : Lsn) (h : Halt) : Type 0 where
+  pub first : Lsn
+  pub is : h ≡ halt.Gone after first
+
+-- ---- what may be left
+
+-- A call may leave the source unchanged, or with commits of others.
+abbrev pub MayRest : SourceState → CrashState → Type 0
+MayRest s l = (l ≡ left_of s) ⊎ MayFollow s l

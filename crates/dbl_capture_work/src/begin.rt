@@ -1,0 +1,246 @@
+//! How a session begins: with the first offset of a connector, or with the stored one.
+
+ghost use Rattle.std.specs.Prelude.{◌≡◌, ◌≢◌, ◌⊎◌, ◌^◌, ◌<◌, ◌≤◌, ◌∷◌, [], Contains, Option, None, Some, IfOk, IfErr};
+ghost use Rattle.std.specs.Prelude.{IfSome, IsTrue, OnOk, OnErr, length, map};
+ghost use Rattle.dbl_base.specs.Streams.{FailsOnlyIfCounted};
+ghost use Rattle.dbl_journal.specs.Form.{entry_limit};
+ghost use Rattle.dbl_model_table.specs.Configs.{IsGoodConfig};
+ghost use Rattle.dbl_model_history.specs.Fit.{AreInfosOf};
+ghost use Rattle.dbl_source_model.specs.Standings.{SourceState, MovesTo};
+ghost use Rattle.dbl_source_model.specs.Calls.{Moved, IsHead, IsBegun};
+ghost use Rattle.dbl_source_model.specs.Leaves.{Leaves, LeavesSome, MayFollow};
+ghost use Rattle.dbl_source_model.specs.Trace.{Began, Head, IsTakenBy, IsTakenAnew, LastAnswerIs};
+ghost use Rattle.dbl_offset.specs.declared.offset.Offset.{Offset as SpecOffset};
+ghost use Rattle.dbl_offset.specs.Entries.{offset_bytes_form};
+ghost use Rattle.dbl_offset.specs.Measures.{capped};
+ghost use Rattle.dbl_offset.specs.Offsets.{IsOffset};
+ghost use Rattle.dbl_offset.specs.Stores.{ExtendsOffsets, HoldsOffset, IsLive, LeavesOffset, disk_of};
+ghost use Rattle.dbl_capture_work.specs.Begins.{AreInfosAt, AreUnread, IsAbsentHalt, IsAgain, IsDescribedAs, IsExhausted};
+ghost use Rattle.dbl_capture_work.specs.Begins.{IsFaultless, IsFirstOffsetAtHead, IsGoneFrom, IsModelFault, IsOffsetFor, IsTooLong};
+ghost use Rattle.dbl_capture_work.specs.Begins.{MayRest};
+
+use crate::Halt;
+use dbl_base::{Lsn, Seq};
+use dbl_disk::Disk;
+use dbl_model_history::Cursor;
+use dbl_model_table::{Config, TableInfo, TableName};
+use dbl_offset::{Offset, OffsetStore};
+use dbl_source::Source;
+use dbl_source_model::Started;
+use std::alloc::{AllocError, Global};
+
+// Describes a table, as the catalogue has it.
+fn describe_table<S: Source>(
+    alloc: Global,
+    src: &mut S,
+    name: &TableName,
+) -> Result<TableInfo, Halt>
+    requires { IsTrue (S.is_live src.old) }
+    ensures described { MovesTo S.stands src.old src.new result (IsDescribedAs name.now) }
+    ensures named { IfOk result (λ info. info.name ≡ name.now) }
+    ensures faultless { OnOk result (IsFaultless name.now (S.told src.new)) }
+    ensures fault { IfErr result (λ h. (h ≡ Halt.Memory) ⊎ ((h ≡ Halt.Source)
+        ⊎ IsModelFault name.now (S.told src.new) h)) }
+    ensures absent { (s : SourceState) → S.stands src.old s →
+        IfErr result (IsAbsentHalt (name.now ∷ []) s.history) }
+    ensures left { Leaves S.stands S.may_leave src.old src.new MayFollow }
+    ensures some { LeavesSome S.stands S.may_leave src.old src.new }
+    ensures still { (s t : SourceState) → S.stands src.old s → S.stands src.new t →
+        t.reading ≡ s.reading }
+    ensures taken { IsTakenBy [] (S.told src.old) (S.told src.new) }
+    ensures live { OnOk result (IsTrue (S.is_live src.new)) }
+    ensures honest { S.honest src.new → S.honest src.old }
+    ensures comes { S.comes_of src.old src.new }
+    ensures cause { FailsOnlyIfCounted (result ≡ Err Halt.Source) (S.faults src.old) (S.faults src.new) }
+{
+    match src.describe(name)? {
+        Some(raw) => Ok(TableInfo::make(alloc, &raw)?),
+        None => Err(Halt::UnknownTable {
+            table: name.copy(alloc)?,
+        }),
+    }
+}
+
+// Describes each of the tables, in order.
+fn describe_tables<S: Source>(
+    alloc: Global,
+    src: &mut S,
+    names: &Vec<TableName>,
+) -> Result<Vec<TableInfo>, Halt>
+    requires { IsTrue (S.is_live src.old) }
+    ensures described { MovesTo S.stands src.old src.new result (λ infos s t. Moved s t
+        × AreInfosAt s.history infos.items) }
+    ensures named { IfOk result (λ infos. map (λ info. info.name) infos.items ≡ names.now.items) }
+    ensures fault { IfErr result (λ h. (h ≡ Halt.Memory) ⊎ ((h ≡ Halt.Source)
+        ⊎ ((name : _) × Contains names.now.items name × IsModelFault name (S.told src.new) h))) }
+    ensures absent { (s : SourceState) → S.stands src.old s →
+        IfErr result (IsAbsentHalt names.now.items s.history) }
+    ensures left { Leaves S.stands S.may_leave src.old src.new MayRest }
+    ensures some { LeavesSome S.stands S.may_leave src.old src.new }
+    ensures still { (s t : SourceState) → S.stands src.old s → S.stands src.new t →
+        t.reading ≡ s.reading }
+    ensures taken { IsTakenBy [] (S.told src.old) (S.told src.new) }
+    ensures live { OnOk result (IsTrue (S.is_live src.new)) }
+    ensures honest { S.honest src.new → S.honest src.old }
+    ensures comes { S.comes_of src.old src.new }
+    ensures cause { FailsOnlyIfCounted (result ≡ Err Halt.Source) (S.faults src.old) (S.faults src.new) }
+{
+    let mut infos = Vec::with_capacity(alloc, names.len())?;
+    'tables: for name in names {
+        infos.push(describe_table(alloc, src, name)?)?;
+    }
+    Ok(infos)
+}
+
+// Makes cursors of so many tables, of which nothing was read yet.
+fn unread_cursors(alloc: Global, count: usize) -> Result<Vec<Cursor>, AllocError>
+    ensures { IfOk result (λ cursors. AreUnread count cursors.items) }
+{
+    let mut cursors = Vec::with_capacity(alloc, count)?;
+    for _table in 0..count {
+        cursors.push(Cursor {
+            last: None,
+            done: false,
+        })?;
+    }
+    Ok(cursors)
+}
+
+// Makes a connector's first offset, at this head of the log.
+fn offset_at(
+    alloc: Global,
+    config: &Config,
+    infos: Vec<TableInfo>,
+    head: Lsn,
+) -> Result<Offset, AllocError>
+    ensures { IfOk result (IsFirstOffsetAtHead config.now infos.items head) }
+{
+    let cursors = unread_cursors(alloc, infos.len())?;
+    Ok(Offset {
+        identity: config.identity.copy(alloc)?,
+        incarnation: 1,
+        start: head,
+        lsn: head,
+        end_lsn: head,
+        infos: Seq::make(infos),
+        cursors: Seq::make(cursors),
+    })
+}
+
+/// Makes the first offset of a connector: describes each table, and then requests the head of the
+/// log.
+pub fn first_offset<S: Source>(alloc: Global, config: &Config, src: &mut S) -> Result<Offset, Halt>
+    requires live { IsTrue (S.is_live src.old) }
+    requires config { IsGoodConfig config.now }
+    ensures first { MovesTo S.stands src.old src.new result (λ offset s t. Moved s t
+        × ((infos : _) × (head : _) × IsFirstOffsetAtHead config.now infos head offset
+        × (map (λ info. info.name) infos ≡ config.now.tables) × AreInfosOf t.history infos
+        × IsHead head s t)) }
+    ensures of { IfOk result (IsOffsetFor config.now None) }
+    ensures asked { IfOk result IsOffset }
+    ensures headed { IfOk result (λ offset. LastAnswerIs (S.told src.new) (Head offset.start)) }
+    ensures fault { IfErr result (λ h. (h ≡ Halt.Memory) ⊎ ((h ≡ Halt.Source)
+        ⊎ ((name : _) × Contains config.now.tables name × IsModelFault name (S.told src.new) h))) }
+    ensures absent { (s : SourceState) → S.stands src.old s →
+        IfErr result (IsAbsentHalt config.now.tables s.history) }
+    ensures left { Leaves S.stands S.may_leave src.old src.new MayRest }
+    ensures some { LeavesSome S.stands S.may_leave src.old src.new }
+    ensures still { (s t : SourceState) → S.stands src.old s → S.stands src.new t →
+        t.reading ≡ s.reading }
+    ensures taken { IsTakenBy [] (S.told src.old) (S.told src.new) }
+    ensures live { OnOk result (IsTrue (S.is_live src.new)) }
+    ensures honest { S.honest src.new → S.honest src.old }
+    ensures comes { S.comes_of src.old src.new }
+    ensures cause { FailsOnlyIfCounted (result ≡ Err Halt.Source) (S.faults src.old) (S.faults src.new) }
+{
+    let infos = describe_tables(alloc, src, config.tables.items())?;
+    let head = src.head()?;
+    Ok(offset_at(alloc, config, infos, head)?)
+}
+
+/// Returns the stored offset with the next incarnation, or None if none is stored.
+pub fn next_incarnation<D: Disk>(
+    alloc: Global,
+    store: &OffsetStore<D>,
+) -> Result<Option<Offset>, Halt>
+    requires { IsLive store.now }
+    ensures again { IfOk result (IsAgain store.now.offset) }
+    ensures asked { IfOk result (λ offset. IfSome offset IsOffset) }
+    ensures exhausted { IfSome store.now.offset (λ stored. 2 ^ 63 ≤ stored.incarnation →
+        result ≡ Err (Halt.Exhausted stored.incarnation)) }
+    ensures halt { IfErr result (λ h. (h ≡ Halt.Memory) ⊎ IsExhausted store.now.offset h) }
+{
+    let Some(stored) = store.load() else {
+        return Ok(None);
+    };
+    if stored.incarnation >= 1 << 63 {
+        return Err(Halt::Exhausted {
+            incarnation: stored.incarnation,
+        });
+    }
+    let mut offset = stored.copy(alloc)?;
+    offset.incarnation += 1;
+    Ok(Some(offset))
+}
+
+/// Stores an offset.
+pub fn put_offset<D: Disk>(
+    alloc: Global,
+    store: &mut OffsetStore<D>,
+    offset: Offset,
+) -> Result<(), Halt>
+    requires live { IsLive store.old }
+    requires offset { IsOffset offset }
+    ensures stored { (old : Option SpecOffset) → HoldsOffset D.seen D.may_leave store.old old →
+        OnOk result (HoldsOffset D.seen D.may_leave store.new (Some offset)) }
+    ensures left { (old : Option SpecOffset) → HoldsOffset D.seen D.may_leave store.old old →
+        LeavesOffset D.may_leave (disk_of store.new) (λ left. (left ≡ old) ⊎ (left ≡ Some offset)) }
+    ensures comes { ExtendsOffsets D.seen D.may_leave store.old store.new }
+    ensures loads { OnOk result (store.new.offset ≡ Some offset) }
+    ensures kept { OnErr result (result ≢ Err Halt.Offsets → store.new ≡ store.old) }
+    ensures keeps { OnErr result (store.new.offset ≡ store.old.offset) }
+    ensures live { OnOk result (IsLive store.new) }
+    ensures halt { IfErr result (λ h. (h ≡ Halt.Memory) ⊎ ((h ≡ Halt.Offsets)
+        ⊎ IsTooLong offset h)) }
+    ensures long { entry_limit < length (offset_bytes_form offset) →
+        result ≡ Err (Halt.OffsetTooLong (capped (length (offset_bytes_form offset)))) }
+    ensures cause { FailsOnlyIfCounted (result ≡ Err Halt.Offsets)
+        (D.faults (disk_of store.old)) (D.faults (disk_of store.new)) }
+{
+    store.store(alloc, offset)?;
+    Ok(())
+}
+
+/// Starts reading after an LSN.
+pub fn start_reading<S: Source>(src: &mut S, after: Lsn) -> Result<(), Halt>
+    requires { IsTrue (S.is_live src.old) }
+    ensures started { MovesTo S.stands src.old src.new result (λ done. IsBegun after) }
+    ensures gone { (asked first : _) → result ≡ Err (Halt.Gone asked first) → (asked ≡ after)
+        × LastAnswerIs (S.told src.new) (Began (Started.Gone first)) }
+    ensures never { (s : SourceState) → S.stands src.old s → s.confirmed.0 ≤ after.0 →
+        (asked first : _) → result ≢ Err (Halt.Gone asked first) }
+    ensures gone_stood { (s : SourceState) → S.stands src.old s → (asked first : _) →
+        result ≡ Err (Halt.Gone asked first) → (after.0 < first.0) × (first.0 ≤ s.confirmed.0) }
+    ensures halt { IfErr result (λ h. (h ≡ Halt.Memory) ⊎ ((h ≡ Halt.Source)
+        ⊎ IsGoneFrom after h)) }
+    ensures reading { OnOk result (IsTrue (S.is_reading src.new)) }
+    ensures left { Leaves S.stands S.may_leave src.old src.new MayFollow }
+    ensures some { LeavesSome S.stands S.may_leave src.old src.new }
+    ensures unread { (s t : SourceState) → S.stands src.old s → S.stands src.new t →
+        IfSome t.reading (λ r. (r.after ≡ after) × (r.messages ≡ [])) }
+    ensures taken { OnOk result (IsTakenAnew (S.told src.old) (S.told src.new)) }
+    ensures fell { OnErr result (IsTakenBy [] (S.told src.old) (S.told src.new)
+        ⊎ IsTakenAnew (S.told src.old) (S.told src.new)) }
+    ensures live { OnOk result (IsTrue (S.is_live src.new)) }
+    ensures honest { S.honest src.new → S.honest src.old }
+    ensures comes { S.comes_of src.old src.new }
+    ensures cause { FailsOnlyIfCounted (result ≡ Err Halt.Source) (S.faults src.old) (S.faults src.new) }
+{
+    match src.start(after)? {
+        Started::Ready => Ok(()),
+        Started::Gone { first } => Err(Halt::Gone {
+            asked: after,
+            first,
+        }),
+    }
+}

@@ -1,5 +1,0 @@
-use Rattle.dbl_causes.proofs.Ended.{ends_are_stood}
-use Rattle.dbl_causes.proofs.carried_laws.ends_are_stood.Goals as goal
-
-pub returns : goal.returns
-returns c = ends_are_stood

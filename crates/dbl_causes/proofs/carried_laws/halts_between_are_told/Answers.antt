@@ -1,5 +1,0 @@
-use Rattle.dbl_causes.proofs.Ended.{halts_between_are_told}
-use Rattle.dbl_causes.proofs.carried_laws.halts_between_are_told.Goals as goal
-
-pub returns : goal.returns
-returns c = halts_between_are_told

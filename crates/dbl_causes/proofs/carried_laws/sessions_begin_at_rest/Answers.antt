@@ -1,5 +1,0 @@
-use Rattle.dbl_causes.proofs.Carried.{sessions_begin_at_rest}
-use Rattle.dbl_causes.proofs.carried_laws.sessions_begin_at_rest.Goals as goal
-
-pub returns : goal.returns
-returns c = sessions_begin_at_rest

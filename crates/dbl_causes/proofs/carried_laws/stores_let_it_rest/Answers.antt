@@ -1,5 +1,0 @@
-use Rattle.dbl_causes.proofs.Carried.{stores_let_it_rest}
-use Rattle.dbl_causes.proofs.carried_laws.stores_let_it_rest.Goals as goal
-
-pub returns : goal.returns
-returns c = stores_let_it_rest

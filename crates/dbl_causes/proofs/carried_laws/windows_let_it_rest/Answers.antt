@@ -1,5 +1,0 @@
-use Rattle.dbl_causes.proofs.Carried.{windows_let_it_rest}
-use Rattle.dbl_causes.proofs.carried_laws.windows_let_it_rest.Goals as goal
-
-pub returns : goal.returns
-returns c = windows_let_it_rest

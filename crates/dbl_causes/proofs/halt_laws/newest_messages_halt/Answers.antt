@@ -1,5 +1,0 @@
-use Rattle.dbl_causes.proofs.Musts.{newest_messages_halt}
-use Rattle.dbl_causes.proofs.halt_laws.newest_messages_halt.Goals as goal
-
-pub returns : goal.returns
-returns c = newest_messages_halt

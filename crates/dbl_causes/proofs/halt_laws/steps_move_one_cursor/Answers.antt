@@ -1,5 +1,0 @@
-use Rattle.dbl_causes.proofs.Moving.{steps_move_one_cursor}
-use Rattle.dbl_causes.proofs.halt_laws.steps_move_one_cursor.Goals as goal
-
-pub returns : goal.returns
-returns c = steps_move_one_cursor

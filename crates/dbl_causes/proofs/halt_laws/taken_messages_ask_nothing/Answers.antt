@@ -1,5 +1,0 @@
-use Rattle.dbl_causes.proofs.Musts.{taken_messages_ask_nothing}
-use Rattle.dbl_causes.proofs.halt_laws.taken_messages_ask_nothing.Goals as goal
-
-pub returns : goal.returns
-returns c = taken_messages_ask_nothing

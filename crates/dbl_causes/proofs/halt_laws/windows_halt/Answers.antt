@@ -1,5 +1,0 @@
-use Rattle.dbl_causes.proofs.Causes.{windows_halt}
-use Rattle.dbl_causes.proofs.halt_laws.windows_halt.Goals as goal
-
-pub returns : goal.returns
-returns c = windows_halt

@@ -1,5 +1,0 @@
-use Rattle.dbl_causes.proofs.Written.{few_marks_are_left}
-use Rattle.dbl_causes.proofs.mark_laws.few_marks_are_left.Goals as goal
-
-pub returns : goal.returns
-returns c = few_marks_are_left

@@ -1,5 +1,0 @@
-use Rattle.dbl_causes.proofs.Written.{marks_are_exact}
-use Rattle.dbl_causes.proofs.mark_laws.marks_are_exact.Goals as goal
-
-pub returns : goal.returns
-returns c = marks_are_exact

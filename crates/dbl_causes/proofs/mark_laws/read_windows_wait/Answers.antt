@@ -1,5 +1,0 @@
-use Rattle.dbl_causes.proofs.Written.{read_windows_wait}
-use Rattle.dbl_causes.proofs.mark_laws.read_windows_wait.Goals as goal
-
-pub returns : goal.returns
-returns c = read_windows_wait

@@ -1,5 +1,0 @@
-use Rattle.dbl_causes.proofs.Written.{steps_close_windows}
-use Rattle.dbl_causes.proofs.mark_laws.steps_close_windows.Goals as goal
-
-pub returns : goal.returns
-returns c = steps_close_windows

@@ -1,5 +1,0 @@
-use Rattle.dbl_causes.proofs.Gained.{commits_are_sent}
-use Rattle.dbl_causes.proofs.report_laws.commits_are_sent.Goals as goal
-
-pub returns : goal.returns
-returns c = commits_are_sent

@@ -1,5 +1,0 @@
-use Rattle.dbl_causes.proofs.Reported.{halts_at_messages}
-use Rattle.dbl_causes.proofs.report_laws.halts_at_messages.Goals as goal
-
-pub returns : goal.returns
-returns c = halts_at_messages

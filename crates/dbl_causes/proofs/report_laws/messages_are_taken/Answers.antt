@@ -1,5 +1,0 @@
-use Rattle.dbl_causes.proofs.Reported.{messages_are_taken}
-use Rattle.dbl_causes.proofs.report_laws.messages_are_taken.Goals as goal
-
-pub returns : goal.returns
-returns c = messages_are_taken

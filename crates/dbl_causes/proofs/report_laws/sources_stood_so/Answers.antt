@@ -1,5 +1,0 @@
-use Rattle.dbl_causes.proofs.Reported.{sources_stood_so}
-use Rattle.dbl_causes.proofs.report_laws.sources_stood_so.Goals as goal
-
-pub returns : goal.returns
-returns c = sources_stood_so

@@ -1,5 +1,0 @@
-use Rattle.dbl_causes.proofs.Ranged.{stated_commits_are_in_range}
-use Rattle.dbl_causes.proofs.report_laws.stated_commits_are_in_range.Goals as goal
-
-pub returns : goal.returns
-returns c = stated_commits_are_in_range

@@ -1,5 +1,0 @@
-use Rattle.dbl_causes.proofs.Reported.{stood_are_followed}
-use Rattle.dbl_causes.proofs.report_laws.stood_are_followed.Goals as goal
-
-pub returns : goal.returns
-returns c = stood_are_followed

@@ -1,5 +1,0 @@
-use Rattle.dbl_causes.proofs.Reported.{stops_are_followed}
-use Rattle.dbl_causes.proofs.report_laws.stops_are_followed.Goals as goal
-
-pub returns : goal.returns
-returns c = stops_are_followed

@@ -1,5 +1,0 @@
-use Rattle.dbl_changes.proofs.WriteLemmas.{IsHeldSoFar}
-use Rattle.dbl_changes.proofs.taking.hold_all.Given as goal
-
-abbrev pub invariant-loop-write : goal.invariant-loop-write
-invariant-loop-write l = IsHeldSoFar l.yielded l.initial.slots l.slots

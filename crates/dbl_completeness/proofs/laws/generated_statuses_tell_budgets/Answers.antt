@@ -1,5 +1,0 @@
-use Rattle.dbl_completeness.proofs.GeneratedLaws.{generated_statuses_tell_budgets}
-use Rattle.dbl_completeness.proofs.laws.generated_statuses_tell_budgets.Goals as goal
-
-pub returns : goal.returns
-returns g c = generated_statuses_tell_budgets g.W.Disk.seen g.W.Disk.may_leave g.T.Disk.seen g.T.Disk.may_leave g.F.Disk.seen g.F.Disk.may_leave

@@ -1,4 +1,0 @@
-pub mod Sessions
-pub mod Commands
-pub mod Budgets
-pub mod Laws

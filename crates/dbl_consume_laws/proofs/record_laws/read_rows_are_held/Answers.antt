@@ -1,0 +1,5 @@
+use Rattle.dbl_consume_laws.proofs.ReadRows.{read_rows_are_held}
+use Rattle.dbl_consume_laws.proofs.record_laws.read_rows_are_held.Goals as goal
+
+pub returns : goal.returns
+returns c = read_rows_are_held

@@ -1,9 +1,0 @@
-use Rattle.std.proofs.Common.{◌-◌, length}
-use Rattle.dbl_running.specs.Running.{IsReleasing}
-use Rattle.dbl_demo.proofs.source.DemoSource.release.Given as goal
-
-abbrev pub invariant-steps : goal.invariant-steps
-invariant-steps g l = IsReleasing g.D.Disk.seen g.D.Disk.may_leave g.D.Disk.faults l.fn.self l.self
-
-abbrev pub decreases-steps : goal.decreases-steps
-decreases-steps g l = length l.self.steps - l.self.done

@@ -1,0 +1,213 @@
+-- A reader that begins, that is told that its log is gone, and one that reads on: the source runs on behind it.
+use Rattle.std.proofs.Common.{◌≡◌, ◌∙◌, ◌⊎◌, ℕ, ◌≤◌, Bool, true, false, Option, None, Some, List, [], length, refl, sym, ap, subst, arith, inl, inr}
+use Rattle.std.specs.Prelude.{IsTrue, is_none, is_some, Result, Ok, Err}
+use Rattle.std.specs.List.{list_any}
+use Rattle.std.specs.Ordering.{nat_cmp}
+use Rattle.std.specs.BTreeMap.{is_at}
+use Rattle.std.specs.BTreeSet.{BTreeSet, IsEmpty, contains}
+use Rattle.dbl_base.specs.declared.lsn.Lsn.{Lsn}
+use Rattle.dbl_base.specs.Streams.{FaultCounted}
+use Rattle.dbl_journal.specs.Growth as journals
+use Rattle.dbl_source.specs.SourceLog.declared.logged.LogTable.{LogTable}
+use Rattle.dbl_source.specs.SourceLog.declared.logged.Logged.{Logged}
+use Rattle.dbl_source.specs.SourceLog.declared.place.Place.{Place}
+use Rattle.dbl_source.specs.SourceLog.Sent.{IsPlaceIn, told_at}
+use Rattle.dbl_source.proofs.SourceLogPlaceLemmas.{told_waiting}
+use Rattle.dbl_source.specs.SourceLog.declared.error.SourceError.{SourceError}
+use Rattle.dbl_source.specs.SourceLog.declared.error.SourceError.TheVariants.{Failed}
+use Rattle.dbl_source.specs.SourceLog.Readings.{Describes}
+use Rattle.dbl_demo_workload.specs.Script.declared.script.Step.{Step}
+use Rattle.dbl_demo_workload.specs.DemoWal.Groups.{ReadsOn}
+use Rattle.dbl_demo_workload.specs.DemoWal.Sound.{logged_in}
+use Rattle.dbl_demo_workload.specs.DemoWal.Wals.{Wal}
+use Rattle.dbl_demo_workload.specs.DemoWal.CrashState.{added_by, with_entries}
+use Rattle.dbl_source.specs.SourceModel.declared.started.Started.{Started}
+use Rattle.dbl_demo_laws.specs.Answers.{RunsStepsAndWrites, AddsRead, AnswersStart, ReadAfter, place_after}
+use Rattle.dbl_demo_laws.specs.Calls.{next_end, start_answer}
+use Rattle.dbl_demo_laws.specs.Demo.{Demo, IsReader, IsRunning}
+use Rattle.dbl_demo_laws.specs.Reading.{has_unread, LeavesReadRun, RanOn, ReadsNext}
+use Rattle.dbl_demo_laws.specs.Running.{IsRunOf}
+use Rattle.dbl_demo_laws.proofs.CallLemmas.{running_live}
+use Rattle.dbl_demo_laws.proofs.ExitLemmas.{Leaves, Runs, answers, within}
+
+-- nobody reads
+pub gone_reader : (tables : List LogTable) (log : List Logged) (described : BTreeSet ℕ) (held : Option Logged) → IsReader tables log None described held
+gone_reader tables log described held = record {
+  placed = λ p is. absurd (let wrong : None ≡ Some p = is in cc);
+  recalled = λ p is. absurd (let wrong : None ≡ Some p = is in cc);
+  held_is = λ p logged is holds. absurd (let wrong : None ≡ Some p = is in cc);
+}
+
+pub nothing_in : (described : BTreeSet ℕ) → IsEmpty described → (oid : ℕ) → contains nat_cmp described oid ≡ false
+nothing_in described empty oid = ap (λ (keys : List ℕ). list_any (is_at (nat_cmp oid)) keys) empty
+
+-- a reader begins, to which nothing was described
+pub begun_reader : (tables : List LogTable) (log : List Logged) (after : Lsn) (described : BTreeSet ℕ) → ((oid : ℕ) → contains nat_cmp described oid ≡ false)
+    → IsReader tables log (Some (record { after = after; commits = 0; begun = false; change = 0; table = 0 })) described None
+begun_reader tables log after described none =
+    let first : Place = record { after = after; commits = 0; begun = false; change = 0; table = 0 } in
+    let nothing : told_at tables log first ≡ [] = told_waiting tables log first refl in
+    record {
+      placed = λ p is. (
+          let same : first ≡ p = (let t : Some first ≡ Some p = is in cc) in
+          subst (IsPlaceIn log) same (record { few = omega arith; there = λ begun. absurd (let wrong : false ≡ true = begun in cc) }));
+      recalled = λ p is. (
+          let same : first ≡ p = (let t : Some first ≡ Some p = is in cc) in
+          subst (λ (q : Place). Describes described (told_at tables log q)) same (subst (Describes described) (sym nothing) none));
+      held_is = λ p logged is holds. absurd (let wrong : None ≡ Some logged = holds in cc);
+    }
+
+-- a source with another reader
+pub with_reader : {D : Type 0} (seen : D → Option (List ℕ)) (may_leave : D → List ℕ → Type 0) (wal : Wal) (demo : Demo D) (place : Option Place) (described : BTreeSet ℕ) (held : Option Logged) (ended live : Bool) → IsReader demo.tables (logged_in wal.entries) place described held
+    → IsRunning seen may_leave wal demo → IsRunning seen may_leave wal (record demo { place = place; described = described; held = held; ended = ended; live = live })
+with_reader seen may_leave wal demo place described held ended live reader r = record {
+  lists = r.lists;
+  is = r.is;
+  few = r.few;
+  names = r.names;
+  tables = r.tables;
+  steps = r.steps;
+  stands = r.stands;
+  silent = r.silent;
+  commits = r.commits;
+  confirmed = r.confirmed;
+  reader = reader;
+}
+
+-- ---- a reader that starts, behind the group
+
+module _ {D : Type 0} (seen : D → Option (List ℕ)) (may_leave : D → List ℕ → Type 0) (faults : D → ℕ) {parts whole : Demo D} (is : parts ≡ whole) (mid : Demo D) (left : Leaves seen may_leave faults parts (next_end parts) [] mid)
+    (come : journals.ExtendsJournal seen may_leave parts.journal mid.journal) (later : faults parts.journal.disk ≤ faults mid.journal.disk) (runs : Runs seen may_leave faults parts (next_end parts) [] mid) (done : mid.done ≡ next_end parts) where
+  abbrev pub starting : Option Place → BTreeSet ℕ → Demo D
+  starting place described = record mid { place = place; described = described; held = None; ended = false; live = true }
+
+  pub starts_from : (after : Lsn) (place : Option Place) (described : BTreeSet ℕ) (started : Started) → ((tables : List LogTable) (log : List Logged) → IsReader tables log place described None) → started ≡ start_answer after parts.confirmed
+      → place ≡ place_after after started → RunsStepsAndWrites seen may_leave faults (next_end whole) [] (AnswersStart after whole) whole (starting place described) (Ok started)
+  starts_from after place described started reader tells there =
+      subst (λ (s : Demo D). RunsStepsAndWrites seen may_leave faults (next_end s) [] (AnswersStart after s) s (starting place described) (Ok started)) is
+      (answers seen may_leave faults parts (next_end parts) [] (AnswersStart after parts) (starting place described) (Ok started) started refl
+      (λ wal of_old. (
+      let ran = runs wal (running_live seen may_leave wal parts false of_old.running) in
+      let subsequent : Wal = with_entries wal (added_by wal parts.done (next_end parts) []) in
+      record {
+        is = record {
+          live = refl;
+          running = with_reader seen may_leave subsequent mid place described None false true (reader mid.tables (logged_in subsequent.entries)) ran.running;
+          ended = λ told. absurd (let wrong : false ≡ true = told in cc);
+        };
+        done = ran.done;
+      }))
+      done left refl come later (record { is = tells; place = there; ended = refl }))
+
+-- ---- a read
+
+module _ {D : Type 0} (seen : D → Option (List ℕ)) (may_leave : D → List ℕ → Type 0) (faults : D → ℕ) {parts whole : Demo D} (is : parts ≡ whole) where
+  -- it failed while groups were run, or behind them
+  pub read_fails : (new : Demo D) (result : Result (Option (List ℕ)) SourceError) (e : SourceError) → result ≡ Err e
+      → ((wal : Wal) (place : Place) → IsRunning seen may_leave wal (within parts) → parts.place ≡ Some place → LeavesReadRun may_leave wal place (within parts) new) → new.live ≡ false
+      → journals.ExtendsJournal seen may_leave parts.journal new.journal → faults parts.journal.disk ≤ faults new.journal.disk → (e ≡ Failed → FaultCounted (faults parts.journal.disk) (faults new.journal.disk)) → is_some new.place ≡ is_some parts.place
+      → new.ended ≡ parts.ended → AddsRead seen may_leave faults whole new result
+  read_fails new result e told left dead come later failed reading still =
+      subst (λ (s : Demo D). AddsRead seen may_leave faults s new result) is
+      (subst (λ (r : Result (Option (List ℕ)) SourceError). AddsRead seen may_leave faults parts new r) (sym told) (record {
+        all = tt;
+        reads = λ wal place of_old there. tt;
+        first = λ wal place of_old there. left wal place (running_live seen may_leave wal parts false of_old.running) there;
+        live = tt;
+        dead = dead;
+        come = come;
+        later = later;
+        failed = λ same. failed (let inside : Err e ≡ Err Failed = same in cc);
+        reading = reading;
+        ended = tt;
+        still = still;
+      }))
+
+  -- it read this
+  pub read_answers : (new : Demo D) (read : Option (List ℕ)) → (read ≡ None → new.done ≡ length new.steps)
+      → ((wal : Wal) (place : Place) → IsRunning seen may_leave wal (within parts) → parts.place ≡ Some place → ReadAfter seen may_leave wal place parts new read)
+      → ((wal : Wal) (place : Place) → IsRunning seen may_leave wal (within parts) → parts.place ≡ Some place → LeavesReadRun may_leave wal place (within parts) new) → IsTrue new.live
+      → journals.ExtendsJournal seen may_leave parts.journal new.journal → faults parts.journal.disk ≤ faults new.journal.disk → is_some new.place ≡ is_some parts.place → new.ended ≡ is_none read → AddsRead seen may_leave faults whole new (Ok read)
+  read_answers new read all reads left live come later reading ended =
+      subst (λ (s : Demo D). AddsRead seen may_leave faults s new (Ok read)) is (record {
+        all = all;
+        reads = λ wal place of_old there. reads wal place (running_live seen may_leave wal parts false of_old.running) there;
+        first = λ wal place of_old there. left wal place (running_live seen may_leave wal parts false of_old.running) there;
+        live = live;
+        dead = tt;
+        come = come;
+        later = later;
+        failed = λ same. absurd (let wrong : Ok read ≡ Err Failed = same in cc);
+        reading = reading;
+        ended = ended;
+        still = tt;
+      })
+
+-- the next message behind the groups, as the source stands once it answers
+pub read_after : {D : Type 0} (seen : D → Option (List ℕ)) (may_leave : D → List ℕ → Type 0) (wal : Wal) (place : Place) (old mid new : Demo D) (read : Option (List ℕ)) (ended : Bool) → RanOn seen may_leave wal place old mid → new.done ≡ mid.done
+    → ReadsNext seen may_leave (with_entries wal (added_by wal old.done mid.done [])) place new read → ReadAfter seen may_leave wal place old (record new { ended = ended; live = true }) read
+read_after seen may_leave wal place old mid new read ended ran done next = record {
+  on = subst (λ (n : ℕ). ReadsOn wal.workload wal.entries place old.done n old.done) (sym done) ran.on;
+  next = subst (λ (n : ℕ). ReadsNext seen may_leave (with_entries wal (added_by wal old.done n [])) place (record new { ended = ended; live = true }) read) (sym done) (answers_live read next);
+}
+  where
+    subsequent : Wal
+    subsequent = with_entries wal (added_by wal old.done mid.done [])
+
+    live : IsRunning seen may_leave subsequent new → IsRunning seen may_leave subsequent (record new { ended = ended; live = true })
+    live r = with_reader seen may_leave subsequent new new.place new.described new.held ended true r.reader r
+
+    answers_live : (read : Option (List ℕ)) → ReadsNext seen may_leave subsequent place new read → ReadsNext seen may_leave subsequent place (record new { ended = ended; live = true }) read
+    answers_live None none = record { is = none.is; end = none.end; running = live none.running }
+    answers_live (Some bytes) one = record { next = one.next; is = one.is; same = one.same; message = one.message; spelled = one.spelled; told = one.told; running = live one.running }
+
+-- ---- the read itself, behind the groups
+
+-- it changes nothing but the journal and the reader
+abbrev pub IsReadOf : {D : Type 0} → Demo D → Demo D → Type 0
+IsReadOf old new = new ≡ record old { journal = new.journal; place = new.place; described = new.described; held = new.held }
+
+module _ {D : Type 0} (seen : D → Option (List ℕ)) (may_leave : D → List ℕ → Type 0) (faults : D → ℕ) {parts whole : Demo D} (is : parts ≡ whole) (mid new : Demo D) (same : IsRunOf (within parts) mid)
+    (left : (wal : Wal) (place : Place) → IsRunning seen may_leave wal (within parts) → parts.place ≡ Some place → LeavesReadRun may_leave wal place (within parts) mid)
+    (come : journals.ExtendsJournal seen may_leave parts.journal mid.journal) (later : faults parts.journal.disk ≤ faults mid.journal.disk)
+    (read_of : IsReadOf mid new) (crash : (crashed : List ℕ) → may_leave new.journal.disk crashed → may_leave mid.journal.disk crashed) (read_come : journals.ExtendsJournal seen may_leave mid.journal new.journal)
+    (read_later : faults mid.journal.disk ≤ faults new.journal.disk) (reading : is_some new.place ≡ is_some mid.place) where
+  left_read : (wal : Wal) (place : Place) → IsRunning seen may_leave wal (within parts) → parts.place ≡ Some place → LeavesReadRun may_leave wal place (within parts) new
+  left_read wal place r there crashed may = left wal place r there crashed (crash crashed may)
+
+  come_read : journals.ExtendsJournal seen may_leave parts.journal new.journal
+  come_read gate most h = read_come gate most (come gate most h)
+
+  reading_read : is_some new.place ≡ is_some parts.place
+  reading_read = reading ∙ ap (λ (d : Demo D). is_some d.place) same
+
+  done_read : new.done ≡ mid.done
+  done_read = ap (λ (d : Demo D). d.done) read_of
+
+  steps_read : new.steps ≡ mid.steps
+  steps_read = ap (λ (d : Demo D). d.steps) read_of
+
+  -- it failed
+  pub read_fails_there : (result : Result (Option (List ℕ)) SourceError) (e : SourceError) → result ≡ Err e → (e ≡ Failed → FaultCounted (faults mid.journal.disk) (faults new.journal.disk)) → AddsRead seen may_leave faults whole new result
+  read_fails_there result e told failed =
+      read_fails seen may_leave faults is new result e told left_read (ap (λ (d : Demo D). d.live) read_of ∙ ap (λ (d : Demo D). d.live) same) come_read (omega (arith, later, read_later)) (λ is. omega (arith, later, failed is)) reading_read
+      (ap (λ (d : Demo D). d.ended) read_of ∙ ap (λ (d : Demo D). d.ended) same)
+
+  -- it answers, and the source is live again
+  pub read_answers_there : (read : Option (List ℕ)) (ended : Bool) → ended ≡ is_none read → ((wal : Wal) (place : Place) → IsRunning seen may_leave wal (within parts) → parts.place ≡ Some place → RanOn seen may_leave wal place (within parts) mid)
+      → ((wal : Wal) (place : Place) → IsRunning seen may_leave wal mid → mid.place ≡ Some place → ReadsNext seen may_leave wal place new read) → (has_unread mid.place (length mid.commits) ≡ true) ⊎ (length mid.steps ≤ mid.done)
+      → (read ≡ None → has_unread mid.place (length mid.commits) ≡ false) → mid.done ≤ length mid.steps → AddsRead seen may_leave faults whole (record new { ended = ended; live = true }) (Ok read)
+  read_answers_there read ended tells ran next end none upto =
+      read_answers seen may_leave faults is (record new { ended = ended; live = true }) read (λ nothing. all_done nothing end)
+      (λ wal place r there. (
+      let on = ran wal place r there in
+      let one = next (with_entries wal (added_by wal parts.done mid.done [])) place on.running (ap (λ (d : Demo D). d.place) same ∙ there) in
+      let subsequent = read_after seen may_leave wal place (within parts) mid new read ended on done_read one in
+      record { on = subsequent.on; next = subsequent.next }))
+      left_read refl come_read (omega (arith, later, read_later)) reading_read tells
+    where
+      all_done : read ≡ None → (has_unread mid.place (length mid.commits) ≡ true) ⊎ (length mid.steps ≤ mid.done) → new.done ≡ length new.steps
+      all_done nothing (inl unread) = absurd (let wrong : true ≡ false = sym unread ∙ none nothing in cc)
+      all_done nothing (inr above) =
+          let all : mid.done ≡ length mid.steps = omega (arith, above, upto) in
+          done_read ∙ all ∙ ap (λ (l : List Step). length l) (sym steps_read)

@@ -1,0 +1,10 @@
+pub use Rattle.dbl_demo_workload.specs.DemoWal
+pub use Rattle.dbl_demo_workload.specs.TablesRows
+pub mod Demo
+pub mod Running
+pub mod Reading
+pub mod Made
+pub mod Calls
+pub mod Answers
+pub mod SourceLaws
+pub mod Laws

@@ -1,0 +1,24 @@
+use Rattle.dbl_demo_workload.proofs.WorkloadLemmas.{all_behind, all_fit, all_ran, get_there, runnable_at}
+use Rattle.dbl_demo_workload.proofs.running.run_next.Goals as goal
+
+pub run_step-requires : goal.run_step-requires
+run_step-requires c =
+    let step = c.index-steps-done in
+    runnable_at c.args.steps.now c.args.done c.args.store.now step.result c.requires.subsequent (get_there c.args.steps.now c.args.done step.result c.requires.left step.is)
+
+pub returns-clause-ran : goal.returns-clause-ran
+returns-clause-ran c = λ w are stands.
+    let step = c.index-steps-done in
+    all_ran c.args.steps.now c.args.done step.result c.run_step.new.store (get_there c.args.steps.now c.args.done step.result c.requires.left step.is) w are c.run_step.result (c.run_step.ensures.ran w.tables _ stands)
+
+pub returns-clause-fits : goal.returns-clause-fits
+returns-clause-fits c =
+    let step = c.index-steps-done in
+    let subsequent = c.requires.subsequent in
+    all_fit c.args.steps.now c.args.done step.result c.run_step.new.store (get_there c.args.steps.now c.args.done step.result c.requires.left step.is) c.args.store.now subsequent c.run_step.result (c.run_step.ensures.ran subsequent.w.tables _ subsequent.stands)
+
+pub returns-clause-subsequent : goal.returns-clause-subsequent
+returns-clause-subsequent c =
+    let step = c.index-steps-done in
+    let subsequent = c.requires.subsequent in
+    all_behind c.args.steps.now c.args.done step.result c.run_step.new.store (get_there c.args.steps.now c.args.done step.result c.requires.left step.is) c.args.store.now subsequent c.requires.left c.run_step.result (c.run_step.ensures.ran subsequent.w.tables _ subsequent.stands)

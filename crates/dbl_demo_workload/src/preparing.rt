@@ -1,0 +1,184 @@
+//! From a workload's bytes to its tables, its rows in the store, and its steps.
+
+ghost use Rattle.std.specs.Prelude.{◌≡◌, ◌⊎◌, ◌<◌, [], IfOk, IfErr, IfSome, OnOk, List, length};
+ghost use Rattle.dbl_script.specs.declared.script.ScriptRow.{ScriptRow};
+ghost use Rattle.dbl_script.specs.declared.script.ScriptTable.{ScriptTable};
+ghost use Rattle.dbl_demo_wal.specs.Contents.{HasFewTables};
+ghost use Rattle.dbl_tables_rows.specs.declared.demo_table.DemoTable.{DemoTable};
+ghost use Rattle.dbl_demo_wal.specs.Workloads.{IsWorkload, Workload};
+ghost use Rattle.dbl_demo_workload.specs.Preparing.{AreTablesRead, HasBadTableIn, HasRows, InsertsRows, IsReadyOf};
+ghost use Rattle.dbl_demo_workload.specs.Preparing.{IsRefusedBy, IsRowRefused, row_error};
+ghost use Rattle.dbl_demo_workload.specs.Ready.{IsReady};
+ghost use Rattle.dbl_demo_workload.specs.Refusals.{IsRefused};
+ghost use Rattle.dbl_demo_workload.specs.Steps.{FitAnEntry};
+ghost use Rattle.dbl_demo_wal.specs.TablesLaws.Reachable.{AreTables};
+ghost use Rattle.dbl_tables.specs.Stands.{IsAccepted, Stands};
+ghost use Rattle.dbl_tables_rows.specs.Acts.{Accepted};
+ghost use Rattle.dbl_tables_rows.specs.Steps.Step.{Begin};
+
+use crate::DemoError;
+use dbl_base::{Seq, Text};
+use dbl_model_table::{TableInfo, TableName};
+use dbl_pgmsg::Message;
+use dbl_script::{Script, ScriptError, ScriptRow, ScriptTable, Step, parse};
+use dbl_source_log::LogTable;
+use dbl_tables::Tables;
+use dbl_tables_rows::{DemoTable, StepError};
+use std::alloc::Global;
+
+/// A workload before its first step: the store has the initial rows, and `rows` are the changes
+/// that inserted them, if there are any.
+#[derive(Drop)]
+pub struct Prepared {
+    pub names: Vec<TableName>,
+    pub tables: Vec<LogTable>,
+    pub store: Tables,
+    pub steps: Vec<Step>,
+    pub rows: Option<Seq<Message>>,
+}
+
+// The tables in three forms: their names, those of the store, and those of the log.
+struct TablesRead {
+    names: Vec<TableName>,
+    demo: Vec<DemoTable>,
+    log: Vec<LogTable>,
+}
+
+fn read_tables(alloc: Global, lines: Vec<ScriptTable>) -> Result<TablesRead, DemoError>
+    ensures read { IfOk result (λ read.
+        AreTablesRead lines.items read.names.items read.demo.items read.log.items) }
+    ensures refused { IfErr result (λ e.
+        (e ≡ DemoError.Memory) ⊎ HasBadTableIn lines.items e) }
+{
+    let mut names = Vec::with_capacity(alloc, lines.len())?;
+    let mut demo = Vec::with_capacity(alloc, lines.len())?;
+    let mut log = Vec::with_capacity(alloc, lines.len())?;
+    for line in lines {
+        let ScriptTable {
+            raw,
+            full,
+            toast,
+            line: _,
+        } = line;
+        let info = TableInfo::make(alloc, &raw)?;
+        names.push(raw.name.copy(alloc)?)?;
+        demo.push(DemoTable { info, full, toast })?;
+        log.push(LogTable { raw, full })?;
+    }
+    Ok(TablesRead { names, demo, log })
+}
+
+fn row_error(error: StepError, line: u32) -> DemoError
+    ensures { result ≡ row_error error line }
+{
+    match error {
+        StepError::Memory => DemoError::Memory,
+        _ => DemoError::Script(ScriptError::BadLine { number: line }),
+    }
+}
+
+fn insert_row(store: &mut Tables, session: &Text, row: &ScriptRow) -> Result<(), DemoError>
+    ensures { IsRowRefused session.now row.now store.old store.new result }
+{
+    match store.insert(session, &row.table, row.cells.items()) {
+        Ok(()) => Ok(()),
+        Err(error) => Err(row_error(error, row.line)),
+    }
+}
+
+fn insert_each_row(store: &mut Tables, session: &Text, rows: &[ScriptRow]) -> Result<(), DemoError>
+    ensures { (tables : List DemoTable) (past : List Accepted) → Stands tables past store.old
+        → session.now ≡ [] → InsertsRows tables past rows.now store.new result }
+{
+    for row in rows {
+        insert_row(store, session, row)?;
+    }
+    Ok(())
+}
+
+fn begin_rows(store: &mut Tables, session: &Text) -> Result<(), DemoError>
+    ensures begun { (tables : List DemoTable) → Stands tables [] store.old
+        → OnOk result (IsAccepted tables [] (Begin session.now) store.new) }
+    ensures memory { IfErr result (λ e. e ≡ DemoError.Memory) }
+{
+    match store.begin(session) {
+        Ok(()) => Ok(()),
+        Err(_) => Err(DemoError::Memory),
+    }
+}
+
+// Commits the rows in one commit of a session without a name.
+fn commit_each_row(
+    alloc: Global,
+    store: &mut Tables,
+    rows: &[ScriptRow],
+) -> Result<Option<Seq<Message>>, DemoError>
+    requires { 0 < length rows.now }
+    ensures { HasRows rows.now store.old store.new result }
+{
+    let session = Text::of(alloc, "")?;
+    begin_rows(store, &session)?;
+    insert_each_row(store, &session, rows)?;
+    match store.commit(&session) {
+        Ok(messages) => Ok(Some(messages)),
+        Err(_) => Err(DemoError::Memory),
+    }
+}
+
+fn commit_rows(
+    alloc: Global,
+    store: &mut Tables,
+    rows: &[ScriptRow],
+) -> Result<Option<Seq<Message>>, DemoError>
+    ensures { HasRows rows.now store.old store.new result }
+{
+    match rows {
+        [] => Ok(None),
+        [_, ..] => commit_each_row(alloc, store, rows),
+    }
+}
+
+fn make_store(alloc: Global, tables: Vec<DemoTable>) -> Result<Tables, DemoError>
+    requires { AreTables tables.items }
+    ensures stands { IfOk result (Stands tables.items []) }
+    ensures memory { IfErr result (λ e. e ≡ DemoError.Memory) }
+{
+    match Tables::make(alloc, tables) {
+        Ok(store) => Ok(store),
+        Err(_) => Err(DemoError::Memory),
+    }
+}
+
+fn prepare_script(alloc: Global, script: Script) -> Result<Prepared, DemoError>
+    requires few { HasFewTables script }
+    ensures ready { IfOk result (IsReadyOf script) }
+    ensures refused { IfErr result (λ e. (e ≡ DemoError.Memory) ⊎ IsRefusedBy script e) }
+{
+    let Script {
+        tables,
+        rows,
+        steps,
+    } = script;
+    let read = read_tables(alloc, tables.into_items())?;
+    let TablesRead { names, demo, log } = read;
+    let mut store = make_store(alloc, demo)?;
+    let rows = commit_rows(alloc, &mut store, rows.items().as_slice())?;
+    Ok(Prepared {
+        names,
+        tables: log,
+        store,
+        steps: steps.into_items(),
+        rows,
+    })
+}
+
+/// Prepares the workload of some bytes. Errors of lines come first, then of tables, then of rows.
+pub fn prepare(alloc: Global, bytes: &[u8]) -> Result<Prepared, DemoError>
+    ensures ready { IfOk result (λ ready.
+        (w : Workload) × IsWorkload bytes.now w × IsReady w ready) }
+    ensures fits { IfOk result (λ ready. IfSome ready.rows FitAnEntry) }
+    ensures refused { IfErr result (λ e. (e ≡ DemoError.Memory) ⊎ IsRefused bytes.now e) }
+{
+    let script = parse(alloc, bytes)?;
+    prepare_script(alloc, script)
+}

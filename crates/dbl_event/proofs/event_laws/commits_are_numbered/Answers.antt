@@ -1,5 +1,0 @@
-use Rattle.dbl_event.proofs.EventLemmas.{commits_are_numbered}
-use Rattle.dbl_event.proofs.event_laws.commits_are_numbered.Goals as goal
-
-pub returns : goal.returns
-returns c = commits_are_numbered

@@ -1,5 +1,0 @@
-use Rattle.dbl_event.proofs.EventLemmas.{small_inserts_are}
-use Rattle.dbl_event.proofs.event_laws.small_inserts_are.Goals as goal
-
-pub returns : goal.returns
-returns c = small_inserts_are

@@ -1,7 +1,0 @@
-pub mod Events
-pub mod EventJson
-pub mod Clashes
-pub mod Snapshots
-pub mod EventLaws
-pub mod PlainEvents
-pub mod SnapshotLists

@@ -1,7 +1,0 @@
-use Rattle.std.proofs.Common.{append_assoc}
-use Rattle.dbl_event_text.specs.Layouts.{layout_of}
-use Rattle.dbl_event_text.proofs.layout.Layout.make.Goals as goal
-
-pub returns : goal.returns
-unfolding layout_of
-returns c = rw (c.make-topic.ensures, c.in_ok-format.ensures.ok, c.in_ok-columns.ensures, c.in_ok-key.ensures, c.in_ok-key_cells.ensures) (simp append_assoc)

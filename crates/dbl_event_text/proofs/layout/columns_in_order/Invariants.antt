@@ -1,6 +1,0 @@
-use Rattle.std.proofs.Common.{◌≡◌, drop}
-use Rattle.dbl_event_text.specs.Layouts.{sorted, column_names_from}
-use Rattle.dbl_event_text.proofs.layout.columns_in_order.Given as goal
-
-abbrev pub invariant-loop-index : goal.invariant-loop-index
-invariant-loop-index l = l.order.entries ≡ sorted (column_names_from l.index (drop l.index l.columns.items))

@@ -1,6 +1,0 @@
-use Rattle.std.proofs.Common.{◌≡◌, drop}
-use Rattle.dbl_event_text.specs.Layouts.{sorted, column_names_at}
-use Rattle.dbl_event_text.proofs.layout.key_in_order.Given as goal
-
-abbrev pub invariant-loop-at : goal.invariant-loop-at
-invariant-loop-at l = l.order.entries ≡ sorted (column_names_at l.columns.items (drop l.at l.key.items))

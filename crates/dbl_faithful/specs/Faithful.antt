@@ -1,0 +1,54 @@
+-- Faithful stores: the records of a log are true of the source, and a connector can restart from its offset. After the DBLog paper.
+use Rattle.std.specs.Prelude.{◌≡◌, Option, Some, None, List, []}
+use Rattle.std.specs.List.{AllByRecursion}
+use Rattle.dbl_base.specs.declared.lsn.Lsn.{Lsn}
+use Rattle.dbl_record.specs.declared.record.Record.{Record}
+use Rattle.dbl_model_table.specs.declared.change.Commit.{Commit}
+use Rattle.dbl_model_table.specs.Rows.{moment_at}
+use Rattle.dbl_consume_laws.specs.ModelHistory.History.{RawBody, History}
+use Rattle.dbl_consume_laws.specs.ModelHistory.History.RawBody.{Changes, Mark}
+use Rattle.dbl_consume_laws.specs.ModelHistory.Typed.{typed}
+use Rattle.dbl_offset.specs.declared.offset.Offset.{Offset}
+use Rattle.dbl_consume_laws.specs.Ages.{IsAged, HasNamedRows}
+use Rattle.dbl_faithful.specs.Agreements.{Agrees}
+use Rattle.dbl_faithful.specs.ToldEvents.{events_since}
+use Rattle.dbl_faithful.specs.ExactLogs.{IsLogExact}
+use Rattle.dbl_faithful.specs.RightSnapshots.{AreSnapshotsRight}
+use Rattle.dbl_faithful.specs.Stores.{Stores}
+use Rattle.dbl_faithful.specs.Lag.{IsBehind}
+
+-- The commits of the tables that an offset captures.
+abbrev pub captured_commits : History → Offset → List Commit
+captured_commits history offset = typed offset.infos history
+
+-- Faithful stores with an offset: a consumer agrees with the source at each first delivery; the log is exact and its snapshots right; each
+-- cell of a consumer is the source's at some point from the offset on; and a connector can restart from the offset.
+pub record IsFaithfulTo (history : History) (confirmed : Lsn) (records : List Record) (offset : Offset) : Type 0 where
+  pub agrees : Agrees offset.identity offset.infos (captured_commits history offset) (moment_at (captured_commits history offset) offset.start.0) records
+  pub exact : IsLogExact offset.identity offset.infos (captured_commits history offset) offset.start.0 records
+  pub snapshots : AreSnapshotsRight offset.identity offset.infos (captured_commits history offset)
+      (events_since offset.infos offset.start.0 (captured_commits history offset)) records
+  pub aged : IsAged offset.identity offset.infos (captured_commits history offset) (moment_at (captured_commits history offset) offset.start.0) records
+      (moment_at (captured_commits history offset) offset.lsn.0)
+  pub named : HasNamedRows offset.identity offset.infos records
+  pub subsequent : IsBehind history confirmed records offset
+
+-- Whether a commit's contents are no watermark.
+abbrev pub HasNoMark : RawBody → Type 0
+HasNoMark (Changes changes) = Unit {0}
+HasNoMark (Mark value) = ⊥
+
+-- Stores without an offset, on which no session has done anything: the log is empty, no watermark was written and nothing was confirmed.
+pub record IsUntouched (history : History) (confirmed : Lsn) (records : List Record) : Type 0 where
+  pub empty : records ≡ []
+  pub unmarked : AllByRecursion (λ commit. HasNoMark commit.body) history.commits
+  pub unconfirmed : confirmed.0 ≡ 0
+
+-- Whether stores are faithful, by whether an offset is stored.
+abbrev pub IsFaithful : History → Lsn → List Record → Option Offset → Type 0
+IsFaithful history confirmed records None = IsUntouched history confirmed records
+IsFaithful history confirmed records (Some offset) = IsFaithfulTo history confirmed records offset
+
+-- Whether a connector's stores are faithful.
+abbrev pub AreFaithful : Stores → Type 0
+AreFaithful stores = IsFaithful stores.history stores.confirmed stores.records stores.offset

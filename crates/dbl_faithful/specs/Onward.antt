@@ -1,0 +1,71 @@
+-- The changes that a session may make to the stores: they only advance.
+use Rattle.std.specs.Prelude.{◌≡◌, ◌⊎◌, ℕ, ◌+◌, ◌<◌, ◌≤◌, true, Option, Some, None, List, [], ◌∷◌, ◌++◌, map}
+use Rattle.std.specs.List.{AllByRecursion, AllZip}
+use Rattle.dbl_record.specs.declared.record.Record.{Record}
+use Rattle.dbl_record.specs.Places.{place_of, IsBefore}
+use Rattle.dbl_model_table.specs.declared.config.Config.{Config}
+use Rattle.dbl_model_table.specs.declared.row.Key.{Key}
+use Rattle.dbl_consume_laws.specs.ModelHistory.declared.cursor.Cursor.{Cursor}
+use Rattle.dbl_consume_laws.specs.ModelHistory.History.{History}
+use Rattle.dbl_consume_laws.specs.ModelHistory.KeyBounds.{IsUpTo}
+use Rattle.dbl_offset.specs.declared.offset.Offset.{Offset}
+use Rattle.dbl_faithful.specs.Stores.{Stores, IsPositionOf}
+
+-- Whether the old list is a prefix of the new one.
+pub record ExtendsList {A : Type 0} (old new : List A) : Type 0 where
+  pub more : List A
+  pub is : new ≡ old ++ more
+
+-- ---- advancing
+
+-- Whether no less was read of a table: each key up to which it was read still is one, and a table read to its end still is.
+pub record IsLaterCursor (old new : Cursor) : Type 0 where
+  pub last : (key : Key) → IsUpTo old.last key → IsUpTo new.last key
+  pub done : old.done ≡ true → new.done ≡ true
+
+-- Whether an offset of the same connector is a later one: not before the old one, in the log and in each table's snapshot, and of the same
+-- session or of the next.
+pub record IsLaterOffset (old new : Offset) : Type 0 where
+  pub identity : new.identity ≡ old.identity
+  pub infos : new.infos ≡ old.infos
+  pub start : new.start ≡ old.start
+  pub lsn : old.lsn.0 ≤ new.lsn.0
+  pub cursors : AllZip IsLaterCursor old.cursors new.cursors
+  pub incarnation : (new.incarnation ≡ old.incarnation) ⊎ (new.incarnation ≡ old.incarnation + 1)
+
+-- A first offset: of the session's configuration, and from a position of the history that isn't before its end when the session began.
+pub record IsFirstOffset (config : Config) (old new : History) (offset : Offset) : Type 0 where
+  pub identity : offset.identity ≡ config.identity
+  pub tables : map (λ info. info.name) offset.infos ≡ config.tables
+  pub start : IsPositionOf new offset.start.0
+  pub not_before : AllByRecursion (λ commit. commit.lsn.0 ≤ offset.start.0) old.commits
+  pub incarnation : offset.incarnation ≡ 1
+
+-- Whether a stored offset stays stored and only advances, and a first one is valid.
+abbrev pub OffsetGoesOn : Config → History → History → Option Offset → Option Offset → Type 0
+OffsetGoesOn config old new None None = Unit {0}
+OffsetGoesOn config old new None (Some offset) = IsFirstOffset config old new offset
+OffsetGoesOn config old new (Some offset) None = ⊥
+OffsetGoesOn config old new (Some before) (Some after) = IsLaterOffset before after
+
+-- Whether a session of this configuration only advances the stores from one state to another: nothing is taken back.
+pub record GoesOnward (config : Config) (old new : Stores) : Type 0 where
+  pub tables : new.history.tables ≡ old.history.tables
+  pub commits : ExtendsList old.history.commits new.history.commits
+  pub records : ExtendsList old.records new.records
+  pub offset : OffsetGoesOn config old.history new.history old.offset new.offset
+
+-- ---- only positions after the stored offset
+
+-- Whether each record's position is before those that follow.
+abbrev pub PlacesRise : List Record → Type 0
+PlacesRise [] = Unit {0}
+PlacesRise (item ∷ items) = AllByRecursion (λ later. IsBefore (place_of item) (place_of later)) items × PlacesRise items
+
+-- Whether the appended records are after a position, each after those before it. The position is the LSN that was stored when the session
+-- began, or its start if none was.
+pub record Adds (from : ℕ) (old new : List Record) : Type 0 where
+  pub more : List Record
+  pub is : new ≡ old ++ more
+  pub above : AllByRecursion (λ item. from < item.position) more
+  pub rise : PlacesRise more

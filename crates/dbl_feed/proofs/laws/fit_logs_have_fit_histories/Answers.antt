@@ -1,5 +1,0 @@
-use Rattle.dbl_feed.proofs.FitLogLemmas.{fit_histories}
-use Rattle.dbl_feed.proofs.laws.fit_logs_have_fit_histories.Goals as goal
-
-pub returns : goal.returns
-returns c = fit_histories

@@ -1,5 +1,0 @@
-use Rattle.dbl_feed.proofs.FitLogLemmas.{their_rows}
-use Rattle.dbl_feed.proofs.laws.fit_logs_have_their_rows.Goals as goal
-
-pub returns : goal.returns
-returns c = their_rows

@@ -1,6 +1,0 @@
-use Rattle.std.proofs.Common.{◌≡◌, map, take}
-use Rattle.dbl_feed.specs.Relations.{relation_column}
-use Rattle.dbl_feed.proofs.relations.relation_columns.Given as goal
-
-abbrev pub invariant-loop-column : goal.invariant-loop-column
-invariant-loop-column l = l.columns.items ≡ map (relation_column l.table) (take l.column-index l.column-items)

@@ -1,5 +1,0 @@
-pub mod GrowthLemmas
-pub mod ReadLemmas
-pub mod CallLemmas
-pub mod FitLemmas
-mod SelectLemmas

@@ -1,5 +1,0 @@
-use Rattle.dbl_honest.proofs.ReadLemmas.{all_stated}
-use Rattle.dbl_honest.proofs.laws.all_read_is_all_stated.Goals as goal
-
-pub returns : goal.returns
-returns c = all_stated

@@ -1,5 +1,0 @@
-use Rattle.dbl_honest.proofs.SelectLemmas.{one_answer}
-use Rattle.dbl_honest.proofs.laws.answers_at_a_place_are_one.Goals as goal
-
-pub returns : goal.returns
-returns c = one_answer

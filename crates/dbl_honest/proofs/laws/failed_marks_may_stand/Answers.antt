@@ -1,5 +1,0 @@
-use Rattle.dbl_honest.proofs.CallLemmas.{may_be_marked}
-use Rattle.dbl_honest.proofs.laws.failed_marks_may_stand.Goals as goal
-
-pub returns : goal.returns
-returns c = may_be_marked

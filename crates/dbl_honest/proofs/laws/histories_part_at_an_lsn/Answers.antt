@@ -1,5 +1,0 @@
-use Rattle.dbl_honest.proofs.ReadLemmas.{parts_at}
-use Rattle.dbl_honest.proofs.laws.histories_part_at_an_lsn.Goals as goal
-
-pub returns : goal.returns
-returns c = parts_at

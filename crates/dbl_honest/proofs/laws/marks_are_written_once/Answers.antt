@@ -1,5 +1,0 @@
-use Rattle.dbl_honest.proofs.GrowthLemmas.{one_mark_more}
-use Rattle.dbl_honest.proofs.laws.marks_are_written_once.Goals as goal
-
-pub returns : goal.returns
-returns c = one_mark_more

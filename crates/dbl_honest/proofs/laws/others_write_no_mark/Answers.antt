@@ -1,5 +1,0 @@
-use Rattle.dbl_honest.proofs.GrowthLemmas.{no_mark_more}
-use Rattle.dbl_honest.proofs.laws.others_write_no_mark.Goals as goal
-
-pub returns : goal.returns
-returns c = no_mark_more

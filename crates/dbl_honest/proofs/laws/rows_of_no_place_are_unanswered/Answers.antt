@@ -1,5 +1,0 @@
-use Rattle.dbl_honest.proofs.SelectLemmas.{no_place_no_row}
-use Rattle.dbl_honest.proofs.laws.rows_of_no_place_are_unanswered.Goals as goal
-
-pub returns : goal.returns
-returns c = no_place_no_row

@@ -1,9 +1,0 @@
-pub mod Standings
-pub mod Growth
-pub mod Stated
-pub mod Selected
-pub mod Calls
-pub mod Answered
-pub mod Leaves
-pub mod Told
-pub mod Laws

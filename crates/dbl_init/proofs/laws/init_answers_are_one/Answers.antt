@@ -1,5 +1,0 @@
-use Rattle.dbl_init.proofs.AnswerLaws.{one_answer}
-use Rattle.dbl_init.proofs.laws.init_answers_are_one.Goals as goal
-
-pub returns : goal.returns
-returns c = one_answer

@@ -1,6 +1,0 @@
-pub mod Errors
-pub mod Answers
-pub mod Disks
-pub mod Fresh
-pub mod Laws
-pub mod Turns

@@ -1,5 +1,0 @@
-use Rattle.dbl_isolation.proofs.FirstLemmas.{first_rows_one}
-use Rattle.dbl_isolation.proofs.laws.first_rows_are_one_list.Goals as goal
-
-pub returns : goal.returns
-returns c = first_rows_one

@@ -1,5 +1,0 @@
-use Rattle.dbl_isolation.proofs.AcceptedLemmas.{changes_fit}
-use Rattle.dbl_isolation.proofs.laws.open_changes_are_fit.Goals as goal
-
-pub returns : goal.returns
-returns c = changes_fit

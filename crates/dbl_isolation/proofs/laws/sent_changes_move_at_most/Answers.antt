@@ -1,5 +1,0 @@
-use Rattle.dbl_isolation.proofs.MovedLemmas.{changes_move}
-use Rattle.dbl_isolation.proofs.laws.sent_changes_move_at_most.Goals as goal
-
-pub returns : goal.returns
-returns c = changes_move

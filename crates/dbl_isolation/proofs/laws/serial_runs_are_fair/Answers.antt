@@ -1,5 +1,0 @@
-use Rattle.dbl_isolation.proofs.SendableLemmas.{runs_fair}
-use Rattle.dbl_isolation.proofs.laws.serial_runs_are_fair.Goals as goal
-
-pub returns : goal.returns
-returns c = runs_fair

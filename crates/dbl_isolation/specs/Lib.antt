@@ -1,2 +1,0 @@
-pub mod Reachable
-pub mod Laws

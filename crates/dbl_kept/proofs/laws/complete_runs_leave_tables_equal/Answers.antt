@@ -1,5 +1,0 @@
-use Rattle.dbl_kept.proofs.WholeLaws.{complete_runs_leave_tables_equal}
-use Rattle.dbl_kept.proofs.laws.complete_runs_leave_tables_equal.Goals as goal
-
-pub returns : goal.returns
-returns g c = complete_runs_leave_tables_equal g.D.Disk.seen g.D.Disk.may_leave

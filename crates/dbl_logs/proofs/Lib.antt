@@ -1,3 +1,0 @@
-pub mod EndLemmas
-pub mod ExampleLemmas
-pub mod LeftLemmas

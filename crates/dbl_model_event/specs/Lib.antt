@@ -1,0 +1,8 @@
+pub use Rattle.dbl_model_history.specs as ModelHistory
+pub mod Events
+pub mod EventJson
+pub mod Clashes
+pub mod Snapshots
+pub mod EventLaws
+pub mod PlainEvents
+pub mod SnapshotLists

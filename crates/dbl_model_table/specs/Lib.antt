@@ -1,0 +1,9 @@
+pub use Rattle.dbl_value.specs as Value
+pub mod Tables
+pub mod Identities
+pub mod Infos
+pub mod Keys
+pub mod Rows
+pub mod Made
+pub mod Laws
+pub mod Configs

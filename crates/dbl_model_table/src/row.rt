@@ -1,0 +1,59 @@
+ghost use Rattle.std.specs.Prelude.{◌≡◌, IfOk};
+ghost use Rattle.dbl_model_table.specs.Keys.{key_cmp};
+
+use dbl_base::Seq;
+use dbl_value::Val;
+use std::alloc::{AllocError, Global};
+use std::cmp::Ordering;
+
+/// The key of a row: its key columns' cells, in key order. Keys of one table are ordered by their
+/// cells from the first on, numbers by value and texts by bytes.
+#[derive(Debug, Drop, PartialEq, Eq, PartialOrd, Ord)]
+pub struct Key {
+    pub cells: Seq<Val>,
+}
+
+/// A row: one cell for each column of its table.
+#[derive(Debug, Drop)]
+pub struct Row {
+    pub cells: Seq<Val>,
+}
+
+fn copy_cells(alloc: Global, cells: &Seq<Val>) -> Result<Seq<Val>, AllocError>
+    ensures { IfOk result (λ copied. copied ≡ cells.now) }
+{
+    let mut copied = Vec::new(alloc);
+    for cell in cells.items() {
+        copied.push(cell.copy(alloc)?)?;
+    }
+    Ok(Seq::make(copied))
+}
+
+impl Key {
+    /// An equal key.
+    pub fn copy(&self, alloc: Global) -> Result<Key, AllocError>
+        ensures { IfOk result (λ key. key ≡ self.now) }
+    {
+        Ok(Key {
+            cells: copy_cells(alloc, &self.cells)?,
+        })
+    }
+}
+
+impl Row {
+    /// An equal row.
+    pub fn copy(&self, alloc: Global) -> Result<Row, AllocError>
+        ensures { IfOk result (λ row. row ≡ self.now) }
+    {
+        Ok(Row {
+            cells: copy_cells(alloc, &self.cells)?,
+        })
+    }
+}
+
+/// The order of two keys of one table. Takes no memory.
+pub fn compare(a: &Key, b: &Key) -> Ordering
+    ensures { result ≡ key_cmp a.now b.now }
+{
+    a.cmp(b)
+}

@@ -1,4 +1,0 @@
-//! What cases over a source are made of: a script, and the source that plays it.
-#![tactic(auto)]
-
-pub mod script;

@@ -1,5 +1,0 @@
-use Rattle.dbl_replay.proofs.CommitLaws.{commits_are_written}
-use Rattle.dbl_replay.proofs.laws.commits_are_written.Goals as goal
-
-pub returns : goal.returns
-returns c = commits_are_written

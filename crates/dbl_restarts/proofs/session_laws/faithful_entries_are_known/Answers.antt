@@ -1,5 +1,0 @@
-use Rattle.dbl_restarts.proofs.Going.{faithful_entries_are_known}
-use Rattle.dbl_restarts.proofs.session_laws.faithful_entries_are_known.Goals as goal
-
-pub returns : goal.returns
-returns c = faithful_entries_are_known

@@ -1,5 +1,0 @@
-use Rattle.dbl_restarts.proofs.Going.{runs_keep_going}
-use Rattle.dbl_restarts.proofs.session_laws.runs_keep_going.Goals as goal
-
-pub returns : goal.returns
-returns c = runs_keep_going

@@ -1,5 +1,0 @@
-use Rattle.dbl_restarts.proofs.Going.{stored_offsets_begin_again}
-use Rattle.dbl_restarts.proofs.session_laws.stored_offsets_begin_again.Goals as goal
-
-pub returns : goal.returns
-returns c = stored_offsets_begin_again

@@ -1,4 +1,0 @@
-pub mod SlotLemmas
-pub mod EndKeys
-pub mod RowLemmas
-pub mod LeastLemmas

@@ -1,5 +1,0 @@
-pub mod Views
-pub mod Holders
-pub mod Listed
-pub mod Changing
-pub mod Ends

@@ -1,6 +1,0 @@
-use Rattle.dbl_running.proofs.ReadLemmas.{demo_behind, lead_read}
-use Rattle.dbl_running.proofs.laws.reads_answer_as_promised.Goals as goal
-
-pub returns : goal.returns
-returns g c = λ old new wal place s read is there stands live ended behind.
-    lead_read g.D.Disk.seen g.D.Disk.may_leave old new wal place is there s stands read (demo_behind g.D.Disk.seen g.D.Disk.may_leave old new wal place is there live read ended behind) behind

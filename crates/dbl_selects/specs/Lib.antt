@@ -1,3 +1,0 @@
-pub mod Shown
-pub mod Laws
-pub mod Example

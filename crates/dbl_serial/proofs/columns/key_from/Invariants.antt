@@ -1,8 +1,0 @@
-use Rattle.std.proofs.Common.{◌≡◌, map, take}
-use Rattle.dbl_history.specs.Typed.{typed_cells}
-use Rattle.dbl_table.specs.Tables.{type_at}
-use Rattle.dbl_serial.proofs.columns.key_from.Given as goal
-
--- the types of the key's columns by their places; the catalogue's are the same (types_named)
-abbrev pub invariant-loop-i : goal.invariant-loop-i
-invariant-loop-i l = l.cells.items ≡ typed_cells (map (type_at l.info.columns) l.info.key) (take l.i l.texts)

@@ -1,5 +1,0 @@
-use Rattle.dbl_session.proofs.Counting.{few_marks_are_written}
-use Rattle.dbl_session.proofs.exit_laws.few_marks_are_written.Goals as goal
-
-pub returns : goal.returns
-returns c = few_marks_are_written

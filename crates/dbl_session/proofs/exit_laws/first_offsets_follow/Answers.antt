@@ -1,5 +1,0 @@
-use Rattle.dbl_session.proofs.Beginning.{first_offsets_follow}
-use Rattle.dbl_session.proofs.exit_laws.first_offsets_follow.Goals as goal
-
-pub returns : goal.returns
-returns c = first_offsets_follow

@@ -1,5 +1,0 @@
-use Rattle.dbl_session.proofs.Commits.{commits_keep_going}
-use Rattle.dbl_session.proofs.step_laws.commits_keep_going.Goals as goal
-
-pub returns : goal.returns
-returns c = commits_keep_going

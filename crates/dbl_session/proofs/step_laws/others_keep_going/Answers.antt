@@ -1,5 +1,0 @@
-use Rattle.dbl_session.proofs.Stepping.{others_keep_going}
-use Rattle.dbl_session.proofs.step_laws.others_keep_going.Goals as goal
-
-pub returns : goal.returns
-returns c = others_keep_going

@@ -1,5 +1,0 @@
-use Rattle.dbl_session.proofs.Arming.{windows_keep_going}
-use Rattle.dbl_session.proofs.step_laws.windows_keep_going.Goals as goal
-
-pub returns : goal.returns
-returns c = windows_keep_going

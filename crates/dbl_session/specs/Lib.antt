@@ -1,9 +1,0 @@
-pub mod Entries
-pub mod Stages
-pub mod Marked
-pub mod Counted
-pub mod Reports
-pub mod Going
-pub mod Outcomes
-pub mod Steps
-pub mod Exits

@@ -1,6 +1,0 @@
-use Rattle.std.proofs.Common.{◌∙◌, sym}
-use Rattle.dbl_session_runs.proofs.SessionLemmas.{ending_no_output}
-use Rattle.dbl_session_runs.proofs.sessions.say_report.Goals as goal
-
-pub write_text-requires : goal.write_text-requires
-write_text-requires g c = λ same. ending_no_output c.args.summary.ending (sym c.ending_status.ensures ∙ same)

@@ -1,8 +1,0 @@
-use Rattle.dbl_sound.proofs.FitLaws.{wal_is_fit, wal_has_fit_history}
-use Rattle.dbl_sound.proofs.laws.wals_are_fit.Goals as goal
-
-pub returns-clause-log : goal.returns-clause-log
-returns-clause-log c = wal_is_fit
-
-pub returns-clause-history : goal.returns-clause-history
-returns-clause-history c = wal_has_fit_history

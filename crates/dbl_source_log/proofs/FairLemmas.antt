@@ -1,0 +1,45 @@
+-- The first commits of a fair log are a fair log, and of a fit history a fit one.
+use Rattle.std.proofs.Common.{◌≡◌, ◌+◌, ◌≤◌, ℕ, List, ◌++◌, length, ap, subst, arith}
+use Rattle.std.specs.Prelude.{Option}
+use Rattle.std.specs.List.{AllByRecursion}
+use Rattle.dbl_pgmsg.specs.declared.messages.Message.{Message}
+use Rattle.dbl_model_table.specs.declared.row.Key.{Key}
+use Rattle.dbl_model_table.specs.declared.table.TableName.{TableName}
+use Rattle.dbl_model_table.specs.declared.table.RawRow.{RawRow}
+use Rattle.dbl_source_model.specs.ModelHistory.History.{RawCommit, History}
+use Rattle.dbl_source_model.specs.ModelHistory.Fit.{IsFitHistory}
+use Rattle.dbl_source_model.specs.Selected.{AreAnswered}
+use Rattle.dbl_source_model.proofs.FitLemmas.{all_front, fit_front, answered_front}
+use Rattle.dbl_source_log.specs.declared.logged.LogTable.{LogTable}
+use Rattle.dbl_source_log.specs.declared.logged.Logged.{Logged}
+use Rattle.dbl_source_log.specs.Relations.{catalogue}
+use Rattle.dbl_source_log.specs.TextRows.{no_text_rows}
+use Rattle.dbl_source_log.specs.Histories.{commits_from, text_rows_through, history_of}
+use Rattle.dbl_source_log.specs.Fair.{IsChangeOf, HasFewFaults, changes_given, IsFairLog}
+use Rattle.dbl_source_log.proofs.LogLemmas.{history_grown, length-history}
+
+module _ (tables : List LogTable) (log more : List Logged) where
+  abbrev later : List RawCommit
+  later = commits_from tables (text_rows_through tables no_text_rows log) (1 + length log) more
+
+  abbrev longer : History
+  longer = record { tables = catalogue tables; commits = (history_of tables log).commits ++ later }
+
+  longer_is : history_of tables (log ++ more) ≡ longer
+  longer_is = ap (λ (cs : List RawCommit). let h : History = record { tables = catalogue tables; commits = cs } in h) (history_grown tables log more)
+
+  pub fair_log_front : IsFairLog tables (log ++ more) → IsFairLog tables log
+  fair_log_front fair = record {
+    named = fair.named;
+    relations = fair.relations;
+    changes = all_front (λ (entry : Logged). AllByRecursion (λ (message : Message). IsChangeOf tables message × HasFewFaults tables message) (changes_given entry)) log more fair.changes;
+  }
+
+  pub fit_log_front : IsFitHistory (history_of tables (log ++ more)) → IsFitHistory (history_of tables log)
+  fit_log_front fit = fit_front (catalogue tables) (history_of tables log).commits later (subst IsFitHistory longer_is fit)
+
+  pub answered_log_front : (from upto : ℕ) (name : TableName) (above : Option Key) (limit : ℕ) (rows : List RawRow) → upto ≤ length log → AreAnswered (history_of tables (log ++ more)) from upto name above limit rows
+      → AreAnswered (history_of tables log) from upto name above limit rows
+  answered_log_front from upto name above limit rows le a =
+      answered_front (catalogue tables) (history_of tables log).commits later from upto name above limit rows (omega (arith, le, length-history tables log))
+      (subst (λ (h : History). AreAnswered h from upto name above limit rows) longer_is a)

@@ -1,0 +1,20 @@
+pub use Rattle.dbl_source_model.proofs.GrowthLemmas as SourceModelGrowthLemmas
+pub use Rattle.dbl_source_model.proofs.ModelHistoryBoundLemmas
+pub use Rattle.dbl_source_model.proofs.ModelHistoryRangeLemmas
+pub use Rattle.dbl_source_model.proofs.ModelHistoryRowKeys
+pub mod LogLemmas
+pub mod SentLemmas
+pub mod PlaceLemmas
+pub mod RelationLemmas
+pub mod CellTexts
+pub mod KeyTexts
+pub mod ThemselvesLemmas
+pub mod ChangeLemmas
+pub mod FairLemmas
+pub mod InsideLemmas
+pub mod ReaderLemmas
+pub mod RowTexts
+pub mod FitLogLemmas
+pub mod MarkLemmas
+pub mod ReadingLemmas
+pub mod DescribedLemmas

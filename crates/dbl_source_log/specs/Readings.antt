@@ -1,0 +1,58 @@
+-- The reading of one more message of a log.
+use Rattle.std.specs.Prelude.{◌≡◌, ◌⊎◌, ℕ, is_some, Option, MatchOption, Result, MatchResult, List, ◌∷◌, take}
+use Rattle.std.specs.Ordering.{nat_cmp}
+use Rattle.std.specs.BTreeSet.{BTreeSet, contains}
+use Rattle.dbl_pgmsg.specs.declared.messages.Message.{Message}
+use Rattle.dbl_pgmsg.specs.Grammar.{Fits, Spells}
+use Rattle.dbl_source_model.specs.ModelCommit.Past.{relation_of}
+use Rattle.dbl_source_log.specs.declared.logged.LogTable.{LogTable}
+use Rattle.dbl_source_log.specs.declared.logged.Logged.{Logged}
+use Rattle.dbl_source_log.specs.declared.place.Place.{Place}
+use Rattle.dbl_source_log.specs.Sent.{described_in, onto_relations, told_at, IsPlaceIn}
+use Rattle.dbl_source_log.specs.declared.error.SourceError.{SourceError}
+use Rattle.dbl_source_log.specs.declared.error.SourceError.TheVariants.{Failed, Memory}
+use Rattle.dbl_source_log.specs.declared.reading.Missing.{Missing}
+use Rattle.dbl_source_log.specs.declared.reading.Step.{Step}
+
+-- Whether the set has the OIDs of the tables that were described by these messages, those since the start.
+abbrev pub Describes : BTreeSet ℕ → List Message → Type 0
+Describes described past = (oid : ℕ) → contains nat_cmp described oid ≡ is_some (relation_of oid past)
+
+-- Whether the step reads the next message of a log for a reader at a position: its bytes are the message's, and its position is after that
+-- message.
+pub record IsNext (tables : List LogTable) (log : List Logged) (place : Place) (step : Step) : Type 0 where
+  pub message : Message
+  pub spelled : Spells step.bytes message
+  pub told : told_at tables log step.place ≡ message ∷ told_at tables log place
+  pub same : step.place.after ≡ place.after
+  pub placed : IsPlaceIn log step.place
+  pub described : step.described ≡ described_in message
+
+-- Whether the next message has no encoding.
+pub record HasUnfit (tables : List LogTable) (log : List Logged) (place : Place) : Type 0 where
+  pub message : Message
+  pub next : Place
+  pub same : next.after ≡ place.after
+  pub told : told_at tables log next ≡ message ∷ told_at tables log place
+  pub unfit : ¬ Fits message
+
+-- Whether one more message was read, or it has no encoding, or memory ran out.
+abbrev pub Steps : List LogTable → List Logged → Place → Result Step SourceError → Type 0
+Steps tables log place result = MatchResult result (IsNext tables log place) (λ e. (e ≡ Memory) ⊎ ((e ≡ Failed) × HasUnfit tables log place))
+
+-- ---- for private clauses
+
+-- Whether a table is the next of these, from an index on, that a Relation has to describe. The tables before that index were checked after
+-- `base`.
+pub record IsMissing (tables : List LogTable) (oids : List ℕ) (from : ℕ) (base : List Message) (next : Missing) : Type 0 where
+  pub told : onto_relations tables (take next.table oids) base ≡ next.relation ∷ onto_relations tables (take from oids) base
+
+-- Whether such a table was found, or none is left to be described.
+abbrev pub FindsMissingRelation : List LogTable → List ℕ → ℕ → List Message → Option Missing → Type 0
+FindsMissingRelation tables oids from base found = MatchOption found (onto_relations tables oids base ≡ onto_relations tables (take from oids) base) (IsMissing tables oids from base)
+
+-- Whether the step reads this message and leads to this position.
+pub record LeadsTo (message : Message) (place : Place) (step : Step) : Type 0 where
+  pub spelled : Spells step.bytes message
+  pub place_is : step.place ≡ place
+  pub described : step.described ≡ described_in message

@@ -1,0 +1,100 @@
+-- The messages as which a log is read. Lists of messages that were read have the newest first. PostgreSQL's "Logical Streaming Replication
+-- Protocol": a transaction is a Begin, its changes and a Commit, and a Relation precedes the first change of its table since reading began.
+use Rattle.std.specs.Prelude.{ℕ, ◌+◌, ◌-◌, ◌<◌, ◌≤◌, IsTrue, is_some, if◌then◌else◌, Option, Some, None, option_map, unwrap_or, slice_get, List, [], ◌∷◌, ◌++◌, length, take, drop, reverse}
+use Rattle.dbl_base.specs.declared.lsn.Lsn.{Lsn}
+use Rattle.dbl_pgmsg.specs.declared.messages.Message.{Message}
+use Rattle.dbl_pgmsg.specs.declared.messages.Message.TheVariants as says
+use Rattle.dbl_source_model.specs.ModelCommit.Past.{relation_of}
+use Rattle.dbl_source_model.specs.ModelCommit.Stated.{list_of}
+use Rattle.dbl_source_log.specs.declared.logged.LogTable.{LogTable}
+use Rattle.dbl_source_log.specs.declared.logged.Logged.{Logged}
+use Rattle.dbl_source_log.specs.declared.logged.Logged.TheVariants.{Changes, Mark}
+use Rattle.dbl_source_log.specs.declared.place.Place.{Place}
+use Rattle.dbl_source_log.specs.Numbers.{lsn_of, end_lsn_of, xid_of, time_of, commits_upto}
+use Rattle.dbl_source_log.specs.Relations.{relation_at, mark_message}
+
+-- The OIDs of the tables that a change names.
+abbrev pub oids_of : Message → List ℕ
+oids_of (says.Insert oid new) = oid ∷ []
+oids_of (says.Update oid before new) = oid ∷ []
+oids_of (says.Delete oid before) = oid ∷ []
+oids_of (says.Truncate options oids) = oids
+oids_of m = []
+
+-- The OID of the table that a message describes.
+abbrev pub described_in : Message → Option ℕ
+described_in (says.Relation oid namespace name identity columns) = Some oid
+described_in m = None
+
+-- The messages of a commit's changes; a watermark's is one Update.
+abbrev pub messages_in : Logged → List Message
+messages_in (Changes ms) = ms
+messages_in (Mark value) = mark_message value ∷ []
+
+-- The messages read so far with the Relation of a table, unless one of it was read already.
+abbrev pub onto_relation : List LogTable → ℕ → List Message → List Message
+onto_relation tables oid past = if is_some (relation_of oid past) then past else list_of (relation_at tables oid) ++ past
+
+-- The messages read so far with the Relations of some tables that were not read already.
+abbrev pub onto_relations : List LogTable → List ℕ → List Message → List Message
+onto_relations tables [] past = past
+onto_relations tables (oid ∷ oids) past = onto_relations tables oids (onto_relation tables oid past)
+
+-- The messages read so far with some changes, each preceded by the Relations of its tables.
+abbrev pub told_changes : List LogTable → List Message → List Message → List Message
+told_changes tables [] past = past
+told_changes tables (m ∷ ms) past = told_changes tables ms (m ∷ onto_relations tables (oids_of m) past)
+
+-- The Begin message of commit n.
+abbrev pub begin_message : ℕ → Message
+begin_message n = says.Begin (lsn_of n) (time_of n) (xid_of n)
+
+-- The Commit message of commit n.
+abbrev pub commit_message : ℕ → Message
+commit_message n = says.Commit 0 (lsn_of n) (end_lsn_of n) (time_of n)
+
+-- The messages read so far with those of commit n.
+abbrev pub told_commit : List LogTable → ℕ → Logged → List Message → List Message
+told_commit tables n entry past = commit_message n ∷ told_changes tables (messages_in entry) (begin_message n ∷ past)
+
+-- The messages read so far with those of the commits from n on.
+abbrev pub told_from : List LogTable → ℕ → List Logged → List Message → List Message
+told_from tables n [] past = past
+told_from tables n (entry ∷ log) past = told_from tables (n + 1) log (told_commit tables n entry past)
+
+-- All messages that are read of a log after an LSN, in order.
+abbrev pub sent_after : List LogTable → Lsn → List Logged → List Message
+sent_after tables after log = reverse (told_from tables (commits_upto after + 1) (drop (commits_upto after) log) [])
+
+-- ---- the position of a reader
+
+-- The messages of the whole commits that were read, the first ones after the start.
+abbrev pub told_whole : List LogTable → Lsn → ℕ → List Logged → List Message
+told_whole tables after commits log = told_from tables (commits_upto after + 1) (take commits (drop (commits_upto after) log)) []
+
+-- The index in the log of the commit that is being read or is next.
+abbrev pub index_of : Place → ℕ
+index_of place = commits_upto place.after + place.commits
+
+-- The OIDs that the change at an index of a commit names.
+abbrev pub oids_at : Logged → ℕ → List ℕ
+oids_at entry change = unwrap_or (option_map oids_of (slice_get (messages_in entry) change)) []
+
+-- The messages of an open commit: its Begin, the changes that were read, and the Relations of the checked tables of the next change.
+abbrev pub told_part : List LogTable → Place → Logged → List Message → List Message
+told_part tables place entry past =
+    onto_relations tables (take place.table (oids_at entry place.change)) (told_changes tables (take place.change (messages_in entry)) (begin_message (index_of place + 1) ∷ past))
+
+-- The messages read so far with those of the open commit, if there is one and its Begin was read.
+abbrev pub told_open : List LogTable → Place → Option Logged → List Message → List Message
+told_open tables place None past = past
+told_open tables place (Some entry) past = if place.begun then told_part tables place entry past else past
+
+-- The messages that a reader at this position has read, for any position.
+abbrev pub told_at : List LogTable → List Logged → Place → List Message
+told_at tables log place = told_open tables place (slice_get log (index_of place)) (told_whole tables place.after place.commits log)
+
+-- Whether the position is in the log or at its end. The messages read up to such a position stay the same when the log grows.
+pub record IsPlaceIn (log : List Logged) (place : Place) : Type 0 where
+  pub few : place.commits ≤ length log - commits_upto place.after
+  pub there : IsTrue place.begun → index_of place < length log

@@ -1,0 +1,19 @@
+use dbl_base::{Seq, Text};
+use dbl_model_table::RawTable;
+use dbl_pgmsg::Message;
+
+/// A table of a log. Its replica identity is full if `full` is set, otherwise the primary key.
+#[derive(Debug, Drop)]
+pub struct LogTable {
+    pub raw: RawTable,
+    pub full: bool,
+}
+
+/// The contents of one commit of a log.
+#[derive(Debug, Drop)]
+pub enum Logged {
+    /// The change messages, in order.
+    Changes(Seq<Message>),
+    /// The watermark got this value.
+    Mark(Text),
+}

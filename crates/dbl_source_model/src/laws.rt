@@ -1,0 +1,82 @@
+//! Theorems about histories that grow, and about what is read of them, as contracts of empty
+//! functions.
+
+ghost use Rattle.dbl_source_model.specs.Laws.{GrownHistoriesGrow, GrownHistoriesKeepRows, RowsUpToAreRows};
+ghost use Rattle.dbl_source_model.specs.Laws.{OthersWriteNoMark, MarksAreWrittenOnce, FailedMarksMayStand};
+ghost use Rattle.dbl_source_model.specs.Laws.{ReadMessagesAreBlocks, HistoriesPartAtAnLsn, ReadersGoOn, AllReadIsAllStated};
+ghost use Rattle.dbl_source_model.specs.Laws.{AnswersAtAPlaceAreOne, NoRowsBeforeTheFirstCommit, RowsOfNoPlaceAreUnanswered};
+ghost use Rattle.dbl_source_model.specs.Laws.{StandingRowsAreAnswered};
+
+/// Growth of a history is transitive.
+pub fn grown_histories_grow()
+    ensures { GrownHistoriesGrow }
+{}
+
+/// The rows at a position stay as they are when the history grows.
+pub fn grown_histories_keep_rows()
+    ensures { GrownHistoriesKeepRows }
+{}
+
+/// The rows after some number of commits are those at the point of the history after them.
+pub fn rows_up_to_are_rows()
+    ensures { RowsUpToAreRows }
+{}
+
+/// Other sessions add no watermark to a history.
+pub fn others_write_no_mark()
+    ensures { OthersWriteNoMark }
+{}
+
+/// Writing a watermark adds exactly this one to a history.
+pub fn marks_are_written_once()
+    ensures { MarksAreWrittenOnce }
+{}
+
+/// A failed write may leave its watermark once or not at all; a call that only reads leaves none.
+pub fn failed_marks_may_stand()
+    ensures { FailedMarksMayStand }
+{}
+
+/// Correctly read messages without an error are transactions that state the first commits, and
+/// possibly an unfinished one.
+pub fn read_messages_are_blocks()
+    ensures { ReadMessagesAreBlocks }
+{}
+
+/// The commits after an LSN are the last ones of a history, and those before them are the ones up
+/// to it.
+pub fn histories_part_at_an_lsn()
+    ensures { HistoriesPartAtAnLsn }
+{}
+
+/// Correctly read messages stay correct when the history grows.
+pub fn readers_go_on()
+    ensures { ReadersGoOn }
+{}
+
+/// A reader that has read all has read every commit that existed at the call.
+pub fn all_read_is_all_stated()
+    ensures { AllReadIsAllStated }
+{}
+
+/// At one position a select has only one correct answer, so that rows of two positions are none.
+pub fn answers_at_a_place_are_one()
+    ensures { AnswersAtAPlaceAreOne }
+{}
+
+/// Before the first commit no answer with a row of a captured table is correct.
+pub fn no_rows_before_the_first_commit()
+    ensures { NoRowsBeforeTheFirstCommit }
+{}
+
+/// A key without a row at every position between the call and the return has none in a correct
+/// answer.
+pub fn rows_of_no_place_are_unanswered()
+    ensures { RowsOfNoPlaceAreUnanswered }
+{}
+
+/// A key with the same row at every position between the call and the return has it in a correct
+/// answer that extends so far.
+pub fn standing_rows_are_answered()
+    ensures { StandingRowsAreAnswered }
+{}

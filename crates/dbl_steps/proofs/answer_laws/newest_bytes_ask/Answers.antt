@@ -1,5 +1,0 @@
-use Rattle.dbl_steps.proofs.Answered.{newest_bytes_ask}
-use Rattle.dbl_steps.proofs.answer_laws.newest_bytes_ask.Goals as goal
-
-pub returns : goal.returns
-returns c = newest_bytes_ask

@@ -1,5 +1,0 @@
-use Rattle.dbl_steps.proofs.Answered.{quiet_answers_ask_nothing}
-use Rattle.dbl_steps.proofs.answer_laws.quiet_answers_ask_nothing.Goals as goal
-
-pub returns : goal.returns
-returns c = quiet_answers_ask_nothing

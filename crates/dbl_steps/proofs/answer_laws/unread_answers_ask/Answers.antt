@@ -1,5 +1,0 @@
-use Rattle.dbl_steps.proofs.Answered.{unread_answers_ask}
-use Rattle.dbl_steps.proofs.answer_laws.unread_answers_ask.Goals as goal
-
-pub returns : goal.returns
-returns c = unread_answers_ask

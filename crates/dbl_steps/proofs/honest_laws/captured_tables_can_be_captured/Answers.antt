@@ -1,5 +1,0 @@
-use Rattle.dbl_steps.proofs.Honest.{captured_tables_can_be_captured}
-use Rattle.dbl_steps.proofs.honest_laws.captured_tables_can_be_captured.Goals as goal
-
-pub returns : goal.returns
-returns c = captured_tables_can_be_captured

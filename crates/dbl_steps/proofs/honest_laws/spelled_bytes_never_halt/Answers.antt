@@ -1,5 +1,0 @@
-use Rattle.dbl_steps.proofs.Honest.{spelled_bytes_never_halt}
-use Rattle.dbl_steps.proofs.honest_laws.spelled_bytes_never_halt.Goals as goal
-
-pub returns : goal.returns
-returns c = spelled_bytes_never_halt

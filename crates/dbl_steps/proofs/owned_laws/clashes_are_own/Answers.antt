@@ -1,5 +1,0 @@
-use Rattle.dbl_steps.proofs.Owned.{clashes_are_own}
-use Rattle.dbl_steps.proofs.owned_laws.clashes_are_own.Goals as goal
-
-pub returns : goal.returns
-returns c = clashes_are_own

@@ -1,5 +1,0 @@
-use Rattle.dbl_steps.proofs.Owned.{first_long_offsets_are_own}
-use Rattle.dbl_steps.proofs.owned_laws.first_long_offsets_are_own.Goals as goal
-
-pub returns : goal.returns
-returns c = first_long_offsets_are_own

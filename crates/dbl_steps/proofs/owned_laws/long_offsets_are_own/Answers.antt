@@ -1,5 +1,0 @@
-use Rattle.dbl_steps.proofs.Owned.{long_offsets_are_own}
-use Rattle.dbl_steps.proofs.owned_laws.long_offsets_are_own.Goals as goal
-
-pub returns : goal.returns
-returns c = long_offsets_are_own

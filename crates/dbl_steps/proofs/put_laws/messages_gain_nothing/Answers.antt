@@ -1,5 +1,0 @@
-use Rattle.dbl_steps.proofs.Puts.{messages_gain_nothing}
-use Rattle.dbl_steps.proofs.put_laws.messages_gain_nothing.Goals as goal
-
-pub returns : goal.returns
-returns c = messages_gain_nothing

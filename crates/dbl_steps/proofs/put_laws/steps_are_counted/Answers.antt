@@ -1,5 +1,0 @@
-use Rattle.dbl_steps.proofs.Puts.{steps_are_counted}
-use Rattle.dbl_steps.proofs.put_laws.steps_are_counted.Goals as goal
-
-pub returns : goal.returns
-returns c = steps_are_counted

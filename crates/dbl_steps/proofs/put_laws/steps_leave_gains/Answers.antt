@@ -1,5 +1,0 @@
-use Rattle.dbl_steps.proofs.Puts.{steps_leave_gains}
-use Rattle.dbl_steps.proofs.put_laws.steps_leave_gains.Goals as goal
-
-pub returns : goal.returns
-returns c = steps_leave_gains

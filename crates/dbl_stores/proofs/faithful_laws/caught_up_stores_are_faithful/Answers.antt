@@ -1,5 +1,0 @@
-use Rattle.dbl_stores.proofs.Faithful.{caught_up_stores_are_faithful}
-use Rattle.dbl_stores.proofs.faithful_laws.caught_up_stores_are_faithful.Goals as goal
-
-pub returns : goal.returns
-returns c = caught_up_stores_are_faithful

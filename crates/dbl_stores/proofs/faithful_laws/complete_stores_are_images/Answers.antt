@@ -1,5 +1,0 @@
-use Rattle.dbl_stores.proofs.Complete.{complete_stores_are_images}
-use Rattle.dbl_stores.proofs.faithful_laws.complete_stores_are_images.Goals as goal
-
-pub returns : goal.returns
-returns c = complete_stores_are_images

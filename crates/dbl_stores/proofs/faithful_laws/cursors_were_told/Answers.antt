@@ -1,5 +1,0 @@
-use Rattle.dbl_stores.proofs.Faithful.{cursors_were_told}
-use Rattle.dbl_stores.proofs.faithful_laws.cursors_were_told.Goals as goal
-
-pub returns : goal.returns
-returns c = cursors_were_told

@@ -1,5 +1,0 @@
-use Rattle.dbl_stores.proofs.Offsets.{later_sessions_stay_faithful}
-use Rattle.dbl_stores.proofs.kept_laws.later_sessions_stay_faithful.Goals as goal
-
-pub returns : goal.returns
-returns c = later_sessions_stay_faithful

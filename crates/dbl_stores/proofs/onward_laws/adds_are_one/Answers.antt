@@ -1,5 +1,0 @@
-use Rattle.dbl_stores.proofs.Onward.{adds_are_one}
-use Rattle.dbl_stores.proofs.onward_laws.adds_are_one.Goals as goal
-
-pub returns : goal.returns
-returns c = adds_are_one

@@ -1,5 +1,0 @@
-use Rattle.dbl_stores.proofs.Onward.{adds_go_on}
-use Rattle.dbl_stores.proofs.onward_laws.adds_go_on.Goals as goal
-
-pub returns : goal.returns
-returns c = adds_go_on

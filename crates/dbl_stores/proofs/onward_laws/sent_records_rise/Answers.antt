@@ -1,5 +1,0 @@
-use Rattle.dbl_stores.proofs.Onward.{sent_records_rise}
-use Rattle.dbl_stores.proofs.onward_laws.sent_records_rise.Goals as goal
-
-pub returns : goal.returns
-returns c = sent_records_rise

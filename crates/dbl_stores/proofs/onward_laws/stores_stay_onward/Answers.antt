@@ -1,5 +1,0 @@
-use Rattle.dbl_stores.proofs.Onward.{stores_stay_onward}
-use Rattle.dbl_stores.proofs.onward_laws.stores_stay_onward.Goals as goal
-
-pub returns : goal.returns
-returns c = stores_stay_onward

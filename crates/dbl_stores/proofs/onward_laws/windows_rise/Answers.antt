@@ -1,5 +1,0 @@
-use Rattle.dbl_stores.proofs.Onward.{windows_rise}
-use Rattle.dbl_stores.proofs.onward_laws.windows_rise.Goals as goal
-
-pub returns : goal.returns
-returns c = windows_rise

@@ -1,5 +1,0 @@
-use Rattle.dbl_stores.proofs.Positions.{empty_logs_have_no_lag}
-use Rattle.dbl_stores.proofs.store_laws.empty_logs_have_no_lag.Goals as goal
-
-pub returns : goal.returns
-returns c = empty_logs_have_no_lag

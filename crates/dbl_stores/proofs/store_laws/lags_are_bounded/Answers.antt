@@ -1,5 +1,0 @@
-use Rattle.dbl_stores.proofs.Positions.{lags_are_bounded}
-use Rattle.dbl_stores.proofs.store_laws.lags_are_bounded.Goals as goal
-
-pub returns : goal.returns
-returns c = lags_are_bounded

@@ -1,5 +1,0 @@
-use Rattle.dbl_stores.proofs.Positions.{later_offsets_lag_less}
-use Rattle.dbl_stores.proofs.store_laws.later_offsets_lag_less.Goals as goal
-
-pub returns : goal.returns
-returns c = later_offsets_lag_less

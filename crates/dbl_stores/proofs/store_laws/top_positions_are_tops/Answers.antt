@@ -1,5 +1,0 @@
-use Rattle.dbl_stores.proofs.Positions.{top_positions_are_tops}
-use Rattle.dbl_stores.proofs.store_laws.top_positions_are_tops.Goals as goal
-
-pub returns : goal.returns
-returns c = top_positions_are_tops

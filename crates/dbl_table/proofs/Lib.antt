@@ -1,7 +1,0 @@
-pub mod Lists
-pub mod Making
-pub mod KeyLemmas
-pub mod DerivedOrder
-pub mod InfoLemmas
-pub mod Capturable
-pub mod PartLemmas

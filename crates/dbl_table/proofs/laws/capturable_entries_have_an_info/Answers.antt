@@ -1,5 +1,0 @@
-use Rattle.dbl_table.proofs.Capturable.{capturable}
-use Rattle.dbl_table.proofs.laws.capturable_entries_have_an_info.Goals as goal
-
-pub returns : goal.returns
-returns c = capturable

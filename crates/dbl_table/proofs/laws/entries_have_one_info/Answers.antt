@@ -1,5 +1,0 @@
-use Rattle.dbl_table.proofs.InfoLemmas.{one_info}
-use Rattle.dbl_table.proofs.laws.entries_have_one_info.Goals as goal
-
-pub returns : goal.returns
-returns c = one_info

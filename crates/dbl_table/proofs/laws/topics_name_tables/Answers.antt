@@ -1,5 +1,0 @@
-use Rattle.dbl_table.proofs.InfoLemmas.{topic_one}
-use Rattle.dbl_table.proofs.laws.topics_name_tables.Goals as goal
-
-pub returns : goal.returns
-returns c = topic_one

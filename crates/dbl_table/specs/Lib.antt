@@ -1,8 +1,0 @@
-pub mod Tables
-pub mod Identities
-pub mod Infos
-pub mod Keys
-pub mod Rows
-pub mod Made
-pub mod Laws
-pub mod Configs

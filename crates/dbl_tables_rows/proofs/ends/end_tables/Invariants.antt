@@ -1,0 +1,8 @@
+use Rattle.std.specs.Prelude.{nat_lt}
+use Rattle.dbl_tables_rows.specs.Changing.{IsEnded}
+use Rattle.dbl_tables_rows.specs.Ends.{EachChanges}
+use Rattle.dbl_tables_rows.proofs.RowLemmas.{SoFar}
+use Rattle.dbl_tables_rows.proofs.ends.end_tables.Given as goal
+
+abbrev pub invariant-loop-rows : goal.invariant-loop-rows
+invariant-loop-rows l = EachChanges (λ p old new. SoFar (nat_lt p l.rows-index) (IsEnded l.session) old new) l.fn.tables.items l.rows-items

@@ -1,5 +1,0 @@
-use Rattle.dbl_work.specs.Begins.{AreUnread}
-use Rattle.dbl_work.proofs.begin.unread_cursors.Given as goal
-
-abbrev pub invariant-loop-table : goal.invariant-loop-table
-invariant-loop-table l = AreUnread l._table l.cursors.items

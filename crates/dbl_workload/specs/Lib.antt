@@ -1,8 +1,0 @@
-pub mod Errors
-pub mod Steps
-pub mod Ready
-pub mod Refusals
-pub mod Preparing
-pub mod Checking
-pub mod Logs
-pub mod Laws

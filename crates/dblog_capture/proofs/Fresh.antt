@@ -1,0 +1,136 @@
+-- Stores of a workload of which nothing was done are kept, and as the connector promises.
+use Rattle.std.proofs.Common.{◌≡◌, ◌∙◌, ℕ, ◌≤◌, Option, Some, None, IsSome, List, [], ◌∷◌, ◌++◌, length, refl, sym, ap, subst, arith, length-append}
+use Rattle.std.specs.List.{flat_map}
+use Rattle.dbl_journal.specs.Form.{IsClosed, frame, up_to_gate, magic}
+use Rattle.dbl_journal.proofs.Appends.{length-body, length-magic}
+use Rattle.dbl_model_table.specs.declared.config.Config.{Config}
+use Rattle.dbl_offset.specs.declared.offset.Offset.{Offset}
+use Rattle.dbl_offset.specs.Stores.{BeginsTorn, IsLastOf, IsStore}
+use Rattle.dblog_init.specs.DemoLaws.Made.{IsFreshWal}
+use Rattle.dblog_init.specs.Disks.{HasStoredBytes}
+use Rattle.dblog_init.specs.Fresh.{IsEmptyLog, IsEmptyStore}
+use Rattle.dblog_connect.specs.Promise.Contents.{Contents}
+use Rattle.dblog_connect.specs.Promise.Goes.{Advances}
+use Rattle.dblog_connect.specs.Promise.Headline.{Guarantees, GuaranteesAfterCrash}
+use Rattle.dblog_connect.specs.Promise.Kept.{AreKept, IsKept}
+use Rattle.dblog_connect.proofs.PromiseFreshLaws.{fresh_stores_are_kept}
+use Rattle.dblog_connect.proofs.PromiseKeptLaws.{kept_runs_are_promised, what_stays_goes_on}
+
+-- ---- what stays
+
+stays_gone : (asks : Option Config) (held : Contents) → Advances asks held held
+stays_gone None held = refl
+stays_gone (Some config) held = what_stays_goes_on config held
+
+nobody : Config
+nobody = record { identity = record { prefix = []; db = []; placeholder = [] }; tables = []; chunk = 0; every = 0; messages = 0 }
+
+promised_still : (complete : Type 0) (held : Contents) → (complete → ⊥) → IsKept held → Guarantees complete held held
+promised_still complete held none kept =
+    let promised = kept_runs_are_promised nobody held held kept (what_stays_goes_on nobody held) in
+    record { first_deliveries = promised.first_deliveries; snapshots = promised.snapshots; appends = promised.appends; tables = λ is. absurd (none is) }
+
+-- ---- fresh stores
+
+-- where nothing was captured yet
+pub fresh_promised : (complete : Type 0) (asks : Contents → Option Config) (workload w t f : List ℕ) → (complete → ⊥) → IsFreshWal workload w → IsEmptyLog t → IsEmptyStore f
+    → GuaranteesAfterCrash complete asks (IsFreshWal workload) IsEmptyLog IsEmptyStore w t f
+fresh_promised complete asks workload w t f none wal log store =
+    let fresh = fresh_stores_are_kept workload w t f wal log store in
+    record {
+      left = record {
+        held = fresh.0;
+        read = fresh.1.read;
+        kept = fresh.1.kept;
+        came = record {
+          wal = w;
+          topics = t;
+          offsets = f;
+          may_wal = wal;
+          may_topics = log;
+          may_offsets = store;
+          old = fresh.0;
+          read = fresh.1.read;
+          goes = stays_gone (asks fresh.0) fresh.0;
+        };
+      };
+      promised = promised_still complete fresh.0 none fresh.1.kept;
+    }
+
+module _ {W T F : Type 0} (seen_wal : W → Option (List ℕ)) (wals : W → List ℕ → Type 0) (seen_topics : T → Option (List ℕ)) (logs : T → List ℕ → Type 0) (seen_offsets : F → Option (List ℕ)) (stores : F → List ℕ → Type 0) where
+  pub made_kept : (workload : List ℕ) (w : W) (t : T) (f : F) → HasStoredBytes seen_wal wals (IsFreshWal workload) w → HasStoredBytes seen_topics logs IsEmptyLog t → HasStoredBytes seen_offsets stores IsEmptyStore f
+      → AreKept (seen_wal w) (seen_topics t) (seen_offsets f) (wals w) (logs t) (stores f)
+  made_kept workload w t f wal topics offsets = record {
+    wal = subst IsSome (sym wal.told) refl;
+    topics = subst IsSome (sym topics.told) refl;
+    offsets = subst IsSome (sym offsets.told) refl;
+    each = λ a b c may_a may_b may_c.
+        let fresh = fresh_stores_are_kept workload a b c (subst (IsFreshWal workload) (sym (wal.only a may_a)) wal.is) (subst IsEmptyLog (sym (topics.only b may_b)) topics.is) (subst IsEmptyStore (sym (offsets.only c may_c)) offsets.is) in
+        (fresh.0, fresh.1.read, fresh.1.kept);
+  }
+
+  -- the promise, from what was made: it is told of fresh stores alone
+  pub promised_fresh : (complete : Type 0) (asks : Contents → Option Config) (workload : List ℕ) (made_wal : W) (made_topics : T) (made_offsets : F) (w t f : List ℕ)
+      → HasStoredBytes seen_wal wals (IsFreshWal workload) made_wal → HasStoredBytes seen_topics logs IsEmptyLog made_topics → HasStoredBytes seen_offsets stores IsEmptyStore made_offsets
+      → GuaranteesAfterCrash complete asks (wals made_wal) (logs made_topics) (stores made_offsets) w t f → GuaranteesAfterCrash complete asks (IsFreshWal workload) IsEmptyLog IsEmptyStore w t f
+  promised_fresh complete asks workload made_wal made_topics made_offsets w t f wal topics offsets is =
+      let left = is.left in
+      let came = left.came in
+      record {
+        left = record {
+          held = left.held;
+          read = left.read;
+          kept = left.kept;
+          came = record {
+            wal = came.wal;
+            topics = came.topics;
+            offsets = came.offsets;
+            may_wal = subst (IsFreshWal workload) (sym (wal.only came.wal came.may_wal)) wal.is;
+            may_topics = subst IsEmptyLog (sym (topics.only came.topics came.may_topics)) topics.is;
+            may_offsets = subst IsEmptyStore (sym (offsets.only came.offsets came.may_offsets)) offsets.is;
+            old = came.old;
+            read = came.read;
+            goes = came.goes;
+          };
+        };
+        promised = is.promised;
+      }
+
+-- ---- bytes of an offset's disk that can be no store, or one without an offset alone
+
+closed_some : (first rest : List ℕ) → IsClosed rest → 1 ≤ length (first ++ rest)
+closed_some first [] closed = absurd closed
+closed_some first (gate ∷ rest) closed = omega (arith, length-append first (gate ∷ rest))
+
+pub nothing_is_no_store : (offset : Option Offset) → IsStore [] offset → ⊥
+nothing_is_no_store offset store =
+    let some = closed_some (up_to_gate store.entries) store.journal.rest store.journal.closed in
+    let none : 0 ≡ length (up_to_gate store.entries ++ store.journal.rest) = ap length store.journal.spelled in
+    omega (arith, some, none)
+
+-- an entry takes more bytes than a store without one
+entry_long : (entry : List ℕ) (entries : List (List ℕ)) → 10 ≤ length (up_to_gate (entry ∷ entries))
+unfolding up_to_gate
+entry_long entry entries =
+    omega (arith, length-append magic (flat_map frame (entry ∷ entries)), length-append (frame entry) (flat_map frame entries), length-body entry, length-magic)
+
+few_entries : (entries : List (List ℕ)) (rest bytes : List ℕ) → bytes ≡ up_to_gate entries ++ rest → length bytes ≤ 9 → entries ≡ []
+few_entries [] rest bytes is few = refl
+few_entries (entry ∷ entries) rest bytes is few =
+    let long = entry_long entry entries in
+    let sum = length-append (up_to_gate (entry ∷ entries)) rest in
+    let same = ap length is in
+    absurd (omega (arith, long, sum, same, few))
+
+unstored : (entries : List (List ℕ)) (offset : Option Offset) → entries ≡ [] → IsLastOf entries offset → offset ≡ None
+unstored entries None none last = refl
+unstored entries (Some offset) none last =
+    let same : [] ≡ last.before ++ last.entry ∷ [] = sym none ∙ last.last in
+    let many = ap length same in
+    absurd (omega (arith, many, length-append last.before (last.entry ∷ [])))
+
+pub torn_is_empty : (bytes : List ℕ) (offset : Option Offset) → BeginsTorn [] bytes → IsStore bytes offset → IsEmptyStore bytes
+torn_is_empty bytes offset torn store =
+    let few : length bytes ≤ 9 = torn.no_longer in
+    let none = few_entries store.entries store.journal.rest bytes store.journal.spelled few in
+    subst (IsStore bytes) (unstored store.entries offset none store.last) store

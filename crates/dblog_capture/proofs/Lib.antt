@@ -1,0 +1,13 @@
+pub use Rattle.dblog_connect.proofs.WindowHonestLemmas
+pub use Rattle.dblog_connect.proofs.PromiseTakenLaws
+pub use Rattle.dblog_connect.proofs.PromiseKeptLaws
+pub use Rattle.dblog_connect.proofs.PromiseFreshLaws
+pub use Rattle.dblog_connect.proofs.CaptureModelEnding
+pub use Rattle.dblog_connect.proofs.CaptureLawsKeeping
+pub use Rattle.dblog_connect.proofs.CaptureLawsAwaited
+pub mod SessionLemmas
+pub mod InitStatuses
+pub mod Statuses
+pub mod Fresh
+pub mod Plain
+pub mod Generating

@@ -1,0 +1,62 @@
+-- The status and the lines of a session's result.
+use Rattle.std.specs.Prelude.{◌≡◌, ◌⊎◌, ℕ, Option, Ok, Err, List, [], ◌∷◌, ◌++◌, codes, decimal}
+use Rattle.dbl_base.specs.Lines.{lines_text}
+use Rattle.dblog_init.specs.declared.error.Store.{Store}
+use Rattle.dblog_init.specs.declared.error.Store.TheVariants.{Wal, Topics, Offsets}
+use Rattle.dblog_init.specs.Errors.{store_name}
+use Rattle.dblog_connect.specs.declared.error.ConnectError.{ConnectError}
+use Rattle.dblog_connect.specs.declared.error.ConnectError.TheVariants as connect
+use Rattle.dblog_connect.specs.Ends.{ConnectEnd}
+use Rattle.dblog_capture.specs.Halts.{halt_line, halt_status}
+use Rattle.dblog_capture.specs.Reports.{ending_status, report_lines}
+use Rattle.dbl_lines.specs.declared.halt.Halt.TheVariants.{Memory}
+use Rattle.dbl_lines.specs.Faults.{status_of, fault_line}
+use Rattle.dbl_lines.specs.Says.{IsCutShort, Writes}
+
+-- The exit status of a failed disk.
+abbrev pub store_status : Store → ℕ
+store_status Wal = 7
+store_status Topics = 8
+store_status Offsets = 9
+
+-- The exit status of an error of the connector.
+abbrev pub connect_status : ConnectError → ℕ
+connect_status (connect.Failed store) = store_status store
+connect_status (connect.NotAStore store at) = 14
+connect_status (connect.BadEntry store index) = 14
+connect_status connect.AlreadyStarted = 4
+connect_status connect.NotStarted = 4
+connect_status (connect.Halted halt) = halt_status halt
+connect_status connect.Memory = status_of Memory
+
+-- The line of an error of the connector, without its newline.
+abbrev pub connect_line : ConnectError → List ℕ
+connect_line (connect.Failed Wal) = codes "dblog: source failed"
+connect_line (connect.Failed store) = codes "dblog: " ++ (store_name store ++ codes " failed")
+connect_line (connect.NotAStore store at) = codes "dblog: not a store: " ++ (store_name store ++ (codes " at " ++ decimal at))
+connect_line (connect.BadEntry store index) = codes "dblog: bad entry " ++ (decimal index ++ (codes " in " ++ store_name store))
+connect_line connect.AlreadyStarted = codes "dblog: already started"
+connect_line connect.NotStarted = codes "dblog: not started"
+connect_line (connect.Halted halt) = halt_line halt
+connect_line connect.Memory = fault_line Memory
+
+-- The exit status of a session.
+abbrev pub session_status : ConnectEnd → ℕ
+session_status (Ok summary) = ending_status summary.ending
+session_status (Err e) = connect_status e
+
+-- The lines of a session: its report, or the line of its error only.
+abbrev pub session_lines : ConnectEnd → List (List ℕ)
+session_lines (Ok summary) = report_lines summary.ending summary.report
+session_lines (Err e) = connect_line e ∷ []
+
+-- The lines of a session were to be written and its status returned, or those of out of memory.
+abbrev pub SaysSession : ConnectEnd → ℕ → Option (List ℕ) → Option (List ℕ) → Type 0
+SaysSession end status before after =
+    Writes (session_status end) (lines_text (session_lines end)) status before after
+    ⊎ Writes (status_of Memory) (lines_text (fault_line Memory ∷ [])) status before after
+
+-- The statuses of a session, for every behaviour of the disks and the output.
+abbrev pub IsSessionStatus : ℕ → Type 0
+IsSessionStatus status = (status ≡ 0) ⊎ ((status ≡ 3) ⊎ ((status ≡ 4) ⊎ ((status ≡ 5) ⊎ ((status ≡ 6) ⊎ ((status ≡ 14) ⊎ ((status ≡ 15)
+    ⊎ ((status ≡ store_status Wal) ⊎ (((status ≡ store_status Topics) ⊎ (status ≡ store_status Offsets)) ⊎ IsCutShort status))))))))

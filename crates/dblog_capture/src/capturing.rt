@@ -1,0 +1,129 @@
+ghost use Rattle.std.specs.Prelude.{◌≡◌, ◌≢◌, ◌≤◌, IfOk};
+ghost use Rattle.dbl_base.specs.Streams.{FaultCounted};
+ghost use Rattle.dbl_gen.specs.Workload.{workload};
+ghost use Rattle.dbl_lines.specs.Faults.{output_failed_status, status_of};
+ghost use Rattle.dblog_capture.specs.Generated.{IsGeneratedStatus, RunsGenerated, plain_capture};
+
+use crate::init_errors::say_init;
+use crate::sessions::run_session;
+use crate::workload_text::WorkloadText;
+use dbl_base::{Output, Seq, Text};
+use dbl_cli::CaptureOptions;
+use dbl_disk::Disk;
+use dbl_gen::script;
+use dbl_lines::{Finished, Halt, say};
+use dblog_connect::Asked;
+use dblog_init::{Begun, init};
+use std::alloc::{AllocError, Global};
+
+/// The workload of which a run makes its stores, and what it captures then.
+#[derive(Debug, Drop)]
+struct Plan {
+    workload: WorkloadText,
+    options: CaptureOptions,
+}
+
+/// Makes the stores of a number's workload, as `init` does, and then captures all of its tables, as
+/// `capture` does without arguments.
+pub fn run_generated<O: Output, W: Disk, T: Disk, F: Disk>(
+    alloc: Global,
+    number: u64,
+    rows: u32,
+    groups: u32,
+    now_ms: &i64,
+    output: &mut O,
+    wal: W,
+    topics: T,
+    offsets: F,
+) -> Finished<W, T, F>
+    requires rows { rows ≤ 400_000 }
+    requires groups { groups ≤ 90_000 }
+    ensures generated { RunsGenerated W.seen W.may_leave W.faults T.seen T.may_leave T.faults
+        F.seen F.may_leave F.faults (workload number rows groups) now_ms.now
+        wal result.wal topics result.topics offsets result.offsets
+        result.status (O.written output.old) (O.written output.new) }
+    ensures known { IsGeneratedStatus result.status }
+    ensures output_failed { result.status ≡ output_failed_status →
+        FaultCounted (O.faults output.old) (O.faults output.new) }
+    ensures not_input { result.status ≢ status_of Halt.InputFailed }
+{
+    match prepare(alloc, number, rows, groups) {
+        Ok(plan) => make_and_capture(alloc, plan, now_ms, output, wal, topics, offsets),
+        Err(_) => Finished {
+            status: say(alloc, Halt::Memory, output),
+            wal,
+            topics,
+            offsets,
+        },
+    }
+}
+
+fn prepare(alloc: Global, number: u64, rows: u32, groups: u32) -> Result<Plan, AllocError>
+    requires rows { rows ≤ 400_000 }
+    requires groups { groups ≤ 90_000 }
+    ensures workload { IfOk result (λ plan. plan.workload ≡ workload number rows groups) }
+    ensures options { IfOk result (λ plan. plan.options ≡ plain_capture) }
+{
+    let text = script(alloc, number, rows, groups)?;
+    Ok(Plan {
+        workload: WorkloadText::make(text),
+        options: plain_capture(alloc)?,
+    })
+}
+
+fn plain_capture(alloc: Global) -> Result<CaptureOptions, AllocError>
+    ensures { IfOk result (λ options. options ≡ plain_capture) }
+{
+    Ok(CaptureOptions {
+        prefix: Text::of(alloc, "demo")?,
+        db: Text::of(alloc, "demo")?,
+        placeholder: Text::of(alloc, "__debezium_unavailable_value")?,
+        chunk: 1_000,
+        every: 100,
+        messages: 999_999_999,
+        tables: Seq::make(Vec::new(alloc)),
+    })
+}
+
+fn make_and_capture<O: Output, W: Disk, T: Disk, F: Disk>(
+    alloc: Global,
+    plan: Plan,
+    now_ms: &i64,
+    output: &mut O,
+    wal: W,
+    topics: T,
+    offsets: F,
+) -> Finished<W, T, F>
+    requires { plan.options ≡ plain_capture }
+    ensures generated { RunsGenerated W.seen W.may_leave W.faults T.seen T.may_leave T.faults
+        F.seen F.may_leave F.faults plan.workload now_ms.now
+        wal result.wal topics result.topics offsets result.offsets
+        result.status (O.written output.old) (O.written output.new) }
+    ensures known { IsGeneratedStatus result.status }
+    ensures output_failed { result.status ≡ output_failed_status →
+        FaultCounted (O.faults output.old) (O.faults output.new) }
+{
+    let Plan {
+        mut workload,
+        options,
+    } = plan;
+    let begun = init(alloc, &mut workload, wal, topics, offsets);
+    let Begun {
+        wal,
+        topics,
+        offsets,
+        end,
+    } = begun;
+    match end {
+        Ok(()) => {
+            let asked = Asked::First { options };
+            run_session(alloc, asked, now_ms, output, wal, topics, offsets)
+        }
+        Err(error) => Finished {
+            status: say_init(alloc, error, output),
+            wal,
+            topics,
+            offsets,
+        },
+    }
+}

@@ -1,0 +1,135 @@
+ghost use Rattle.std.specs.Prelude.{◌≡◌, ◌≢◌, ◌∷◌, [], Ok, Err, IfOk};
+ghost use Rattle.std.specs.String.{string_bytes};
+ghost use Rattle.dbl_base.specs.Lines.{lines_text};
+ghost use Rattle.dbl_base.specs.Streams.{FaultCounted};
+ghost use Rattle.dblog_connect.specs.Asked.{IsAskedWithinLimits};
+ghost use Rattle.dbl_lines.specs.Faults.{output_failed_status, status_of};
+ghost use Rattle.dblog_capture.specs.Ends.{IsSessionStatus, SaysSession, connect_line, connect_status};
+ghost use Rattle.dblog_capture.specs.Runs.{RunsConnected};
+
+use crate::{ending_status, halt_line, halt_status, report_text};
+use dbl_base::Output;
+use dbl_disk::Disk;
+use dbl_lines::{Finished, Halt, OUT_OF_MEMORY, write_text};
+use dblog_connect::{Asked, ConnectError, Connected, Summary, connect};
+use dblog_init::Store;
+use std::alloc::{AllocError, Global};
+
+/// Runs a session over the disks, and writes its report, or the line of the error.
+pub fn run_session<O: Output, W: Disk, T: Disk, F: Disk>(
+    alloc: Global,
+    asked: Asked,
+    now_ms: &i64,
+    output: &mut O,
+    wal: W,
+    topics: T,
+    offsets: F,
+) -> Finished<W, T, F>
+    requires { IsAskedWithinLimits asked }
+    ensures connected { RunsConnected W.seen W.may_leave W.faults T.seen T.may_leave T.faults
+        F.seen F.may_leave F.faults asked now_ms.now wal result.wal topics result.topics
+        offsets result.offsets result.status (O.written output.old) (O.written output.new) }
+    ensures known { IsSessionStatus result.status }
+    ensures output_failed { result.status ≡ output_failed_status →
+        FaultCounted (O.faults output.old) (O.faults output.new) }
+    ensures not_input { result.status ≢ status_of Halt.InputFailed }
+{
+    let connected = connect(alloc, asked, *now_ms, wal, topics, offsets);
+    let Connected {
+        wal,
+        topics,
+        offsets,
+        end,
+    } = connected;
+    Finished {
+        status: finish_session(alloc, end, output),
+        wal,
+        topics,
+        offsets,
+    }
+}
+
+fn finish_session<O: Output>(
+    alloc: Global,
+    end: Result<Summary, ConnectError>,
+    output: &mut O,
+) -> u8
+    ensures says { SaysSession end result (O.written output.old) (O.written output.new) }
+    ensures output_failed { result ≡ output_failed_status →
+        FaultCounted (O.faults output.old) (O.faults output.new) }
+{
+    match end {
+        Ok(summary) => say_report(alloc, summary, output),
+        Err(error) => say_error(alloc, error, output),
+    }
+}
+
+fn say_report<O: Output>(alloc: Global, summary: Summary, output: &mut O) -> u8
+    ensures says { SaysSession (Ok summary) result (O.written output.old) (O.written output.new) }
+    ensures output_failed { result ≡ output_failed_status →
+        FaultCounted (O.faults output.old) (O.faults output.new) }
+{
+    let Summary { ending, report } = summary;
+    match report_text(alloc, ending, report) {
+        Ok(text) => write_text(text.as_str(), ending_status(ending), output),
+        Err(_) => write_text(OUT_OF_MEMORY, Halt::Memory.status(), output),
+    }
+}
+
+fn say_error<O: Output>(alloc: Global, error: ConnectError, output: &mut O) -> u8
+    ensures says { SaysSession (Err error) result (O.written output.old) (O.written output.new) }
+    ensures output_failed { result ≡ output_failed_status →
+        FaultCounted (O.faults output.old) (O.faults output.new) }
+{
+    let status = error_status(&error);
+    match error_text(alloc, error) {
+        Ok(text) => write_text(text.as_str(), status, output),
+        Err(_) => write_text(OUT_OF_MEMORY, Halt::Memory.status(), output),
+    }
+}
+
+fn error_status(error: &ConnectError) -> u8
+    ensures { result ≡ connect_status error.now }
+{
+    match error {
+        ConnectError::Failed { store: Store::Wal } => 7,
+        ConnectError::Failed {
+            store: Store::Topics,
+        } => 8,
+        ConnectError::Failed {
+            store: Store::Offsets,
+        } => 9,
+        ConnectError::NotAStore { .. } | ConnectError::BadEntry { .. } => 14,
+        ConnectError::AlreadyStarted | ConnectError::NotStarted => 4,
+        ConnectError::Halted { halt } => halt_status(halt),
+        ConnectError::Memory => 12,
+    }
+}
+
+fn error_text(alloc: Global, error: ConnectError) -> Result<String, AllocError>
+    ensures { IfOk result (λ text. string_bytes text ≡ lines_text (connect_line error ∷ [])) }
+{
+    let mut line = error_line(alloc, error)?;
+    line.push('\n')?;
+    Ok(line)
+}
+
+fn error_line(alloc: Global, error: ConnectError) -> Result<String, AllocError>
+    ensures { IfOk result (λ line. string_bytes line ≡ connect_line error) }
+{
+    let line = match error {
+        ConnectError::Failed { store: Store::Wal } => "dblog: source failed",
+        ConnectError::Failed { store } => return format!(in alloc; "dblog: {store} failed"),
+        ConnectError::NotAStore { store, at } => {
+            return format!(in alloc; "dblog: not a store: {store} at {at}");
+        }
+        ConnectError::BadEntry { store, index } => {
+            return format!(in alloc; "dblog: bad entry {index} in {store}");
+        }
+        ConnectError::AlreadyStarted => "dblog: already started",
+        ConnectError::NotStarted => "dblog: not started",
+        ConnectError::Halted { halt } => return halt_line(alloc, halt),
+        ConnectError::Memory => "dblog: out of memory",
+    };
+    String::from_str(alloc, line)
+}

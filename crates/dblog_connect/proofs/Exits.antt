@@ -1,0 +1,153 @@
+-- Where the session of a command isn't begun, and of which kind its errors are.
+use Rattle.std.proofs.Common.{◌≡◌, ◌∙◌, ◌⊎◌, inl, inr, ℕ, ◌<◌, ◌≤◌, Option, Some, None, List, length, Result, Ok, Err, refl, sym, ap, subst}
+use Rattle.std.specs.Prelude.{IsErrAnd}
+use Rattle.dbl_model_table.specs.declared.config.Config.{Config}
+use Rattle.dbl_model_table.specs.declared.table.TableName.{TableName}
+use Rattle.dbl_journal.specs.Stored.{OnDisk}
+use Rattle.dbl_offset.specs.declared.offset.Offset.{Offset}
+use Rattle.dbl_offset.specs.Stores.{ExtendsOffsets as StoreComesOf, StoreOn, disk_of}
+use Rattle.dbl_topic.specs.Held.{ExtendsTopics as LogComesOf}
+use Rattle.dbl_demo.specs.DemoLaws.Demo.{ExtendsDemo, Demo}
+use Rattle.dbl_capture.specs.CaptureWork.declared.halt.Halt.{Halt}
+use Rattle.dbl_capture.specs.CaptureWork.declared.halt.Halt.TheVariants as halt
+use Rattle.dbl_capture.specs.CaptureWork.declared.report.Ending.{Ending}
+use Rattle.dbl_capture.specs.CaptureWork.declared.report.Ending.TheVariants.{Budget, Complete}
+use Rattle.dbl_capture.specs.CaptureWork.declared.report.Report.{Report}
+use Rattle.dblog_init.specs.declared.error.Store.{Store}
+use Rattle.dblog_init.specs.declared.error.Store.TheVariants as store
+use Rattle.dblog_promise.specs.Bounds.{IsBounded}
+use Rattle.dblog_connect.specs.declared.asked.Asked.{Asked}
+use Rattle.dblog_connect.specs.declared.asked.Asked.TheVariants.{First, Again}
+use Rattle.dblog_connect.specs.declared.error.ConnectError.{ConnectError}
+use Rattle.dblog_connect.specs.declared.error.ConnectError.TheVariants as error
+use Rattle.dbl_capture.specs.CaptureLaws.Found.{IsOfConfig}
+use Rattle.dblog_connect.specs.Asked.{Refuses, asks_of, config_again}
+use Rattle.dblog_connect.specs.Ends.{IsRefused, IsSpent}
+use Rattle.dblog_connect.specs.Ends.IsRefused.{not_asked}
+use Rattle.dblog_connect.specs.Errors.{IsAfterOpening, IsConnectError, IsExternalConnectError, IsOwnHalt, IsConnectRefusal, halt_error}
+use Rattle.dblog_connect.specs.Steps.{IsOpenedLog, IsOpenedSource, IsOpenedStore}
+use Rattle.dblog_connect.proofs.Answered.{own_or}
+use Rattle.dblog_connect.proofs.Opened.{bounded_by, kept_source, log_come, read_of, store_come}
+use Rattle.dblog_connect.proofs.Stays.{IsUnhalted}
+
+-- what is said of an error is said of the result that a `?` makes of it
+pub residual : {A E : Type 0} (r : Result A E) (e : E) (Q : Result A E → Type 0) → IsErrAnd r (λ x. x ≡ e) → Q (Err e) → Q r
+residual (Ok x) e Q none q = absurd none
+residual {A} (Err d) e Q same q = subst (λ x. Q (Err x)) (sym same) q
+
+-- ---- the words don't ask for what is stored
+
+pub refused_is : (asked : Asked) (stored : Option Offset) (e : ConnectError) → (e ≡ error.Memory) ⊎ Refuses asked stored e → (e ≡ error.Memory) ⊎ ((e ≡ error.AlreadyStarted) ⊎ (e ≡ error.NotStarted))
+refused_is asked stored e (inl is) = inl is
+refused_is (First options) None e (inr refuses) = absurd refuses
+refused_is (First options) (Some offset) e (inr refuses) = inr (inl refuses)
+refused_is (Again chunk every messages) None e (inr refuses) = inr (inr refuses)
+refused_is (Again chunk every messages) (Some offset) e (inr refuses) = absurd refuses
+
+refused_as : (P : ConnectError → Type 0) → P error.Memory → P error.AlreadyStarted → P error.NotStarted → (asked : Asked) (stored : Option Offset) (e : ConnectError) → (e ≡ error.Memory) ⊎ Refuses asked stored e → P e
+refused_as P memory already not_yet asked stored e refused = by (refused_is asked stored e refused)
+  where
+    by : (e ≡ error.Memory) ⊎ ((e ≡ error.AlreadyStarted) ⊎ (e ≡ error.NotStarted)) → P e
+    by (inl is) = subst P (sym is) memory
+    by (inr (inl is)) = subst P (sym is) already
+    by (inr (inr is)) = subst P (sym is) not_yet
+
+pub refused_kind : (asked : Asked) (stored : Option Offset) (e : ConnectError) → (e ≡ error.Memory) ⊎ Refuses asked stored e → IsConnectError e
+refused_kind = refused_as IsConnectError tt tt tt
+
+pub refused_behind : (asked : Asked) (stored : Option Offset) (e : ConnectError) → (e ≡ error.Memory) ⊎ Refuses asked stored e → IsAfterOpening store.Offsets e
+refused_behind = refused_as (IsAfterOpening store.Offsets) tt tt tt
+
+pub refused_unhalted : (asked : Asked) (stored : Option Offset) (e : ConnectError) → (e ≡ error.Memory) ⊎ Refuses asked stored e → IsUnhalted e
+refused_unhalted = refused_as IsUnhalted tt tt tt
+
+pub refused_unfailed : (s : Store) (asked : Asked) (stored : Option Offset) (e : ConnectError) → (e ≡ error.Memory) ⊎ Refuses asked stored e → e ≡ error.Failed s → ⊥
+refused_unfailed s = refused_as (λ e. e ≡ error.Failed s → ⊥) (λ is. let i = is in cc) (λ is. let i = is in cc) (λ is. let i = is in cc)
+
+module _ {W T F : Type 0} (seen_w : W → Option (List ℕ)) (may_w : W → List ℕ → Type 0) (seen_t : T → Option (List ℕ)) (may_t : T → List ℕ → Type 0)
+    (seen_f : F → Option (List ℕ)) (may_f : F → List ℕ → Type 0) (so : Demo W) (lo : OnDisk T) (fo : StoreOn F)
+    (opened_w : IsOpenedSource seen_w may_w so) (opened_t : IsOpenedLog seen_t may_t lo) (opened_f : IsOpenedStore seen_f may_f fo) where
+  pub refused_ends : (asked : Asked) (stored : Option Offset) (e : ConnectError) → stored ≡ fo.offset → (e ≡ error.Memory) ⊎ Refuses asked stored e
+      → (w t f : List ℕ) → seen_w so.journal.disk ≡ Some w → seen_t lo.disk ≡ Some t → seen_f (disk_of fo) ≡ Some f → IsExternalConnectError e ⊎ IsRefused asked w t f e
+  refused_ends asked stored e same (inl is) w t f told_w told_t told_f = inl (subst IsExternalConnectError (sym is) tt)
+  refused_ends asked stored e same (inr refuses) w t f told_w told_t told_f =
+      inr (not_asked _ (read_of seen_w may_w seen_t may_t seen_f may_f w t f so lo fo (opened_w w told_w) (opened_t t told_t) (opened_f f told_f))
+      (subst (λ (o : Option Offset). Refuses asked o e) same refuses))
+
+  -- ---- lengths
+
+  pub source_bounded : (sn : Demo W) → ExtendsDemo seen_w may_w so sn → IsBounded (seen_w so.journal.disk) (seen_w sn.journal.disk)
+  source_bounded sn comes = bounded_by seen_w may_w so.journal.disk sn.journal
+      (λ bytes told. (let src = opened_w bytes told in (comes src.wal.script 0 (length bytes) (kept_source seen_w may_w bytes so src)).come))
+
+  pub log_bounded : (ln : OnDisk T) → LogComesOf seen_t may_t lo ln → IsBounded (seen_t lo.disk) (seen_t ln.disk)
+  log_bounded ln comes = bounded_by seen_t may_t lo.disk ln (λ bytes told. comes.journal 0 (length bytes) (log_come seen_t may_t bytes lo (opened_t bytes told)))
+
+  pub store_bounded : (fn : StoreOn F) → StoreComesOf seen_f may_f fo fn → IsBounded (seen_f (disk_of fo)) (seen_f (disk_of fn))
+  store_bounded fn comes = bounded_by seen_f may_f (disk_of fo) fn.journal (λ bytes told. comes 0 (length bytes) (store_come seen_f may_f bytes fo (opened_f bytes told)))
+
+-- ---- halts
+
+outside_kind : (e : ConnectError) → IsExternalConnectError e → IsConnectError e × IsAfterOpening store.Offsets e × (IsConnectRefusal e → ⊥)
+outside_kind (error.Failed s) outside = (tt, tt, λ refusal. refusal)
+outside_kind (error.NotAStore s at) outside = absurd outside
+outside_kind (error.BadEntry s index) outside = absurd outside
+outside_kind error.AlreadyStarted outside = absurd outside
+outside_kind error.NotStarted outside = absurd outside
+outside_kind (error.Halted h) outside = absurd outside
+outside_kind error.Memory outside = (tt, tt, λ refusal. refusal)
+
+pub halt_kind : (h : Halt) → IsConnectError (halt_error h) × IsAfterOpening store.Offsets (halt_error h) × (IsConnectRefusal (halt_error h) → ⊥)
+halt_kind h = by (own_or h)
+  where
+    by : IsExternalConnectError (halt_error h) ⊎ ((halt_error h ≡ error.Halted h) × IsOwnHalt h) → IsConnectError (halt_error h) × IsAfterOpening store.Offsets (halt_error h) × (IsConnectRefusal (halt_error h) → ⊥)
+    by (inl outside) = outside_kind (halt_error h) outside
+    by (inr own) = subst (λ (e : ConnectError). IsConnectError e × IsAfterOpening store.Offsets e × (IsConnectRefusal e → ⊥)) (sym own.0) (own.1, tt, λ refusal. refusal)
+
+-- the device of a disk
+abbrev pub halt_of : Store → Halt
+halt_of store.Wal = halt.Source
+halt_of store.Topics = halt.Sink
+halt_of store.Offsets = halt.Offsets
+
+pub halt_fails : (h : Halt) (s : Store) → halt_error h ≡ error.Failed s → h ≡ halt_of s
+halt_fails halt.Source s is = (let same : store.Wal ≡ s = (let i = is in cc) in subst (λ (x : Store). halt.Source ≡ halt_of x) same refl)
+halt_fails halt.Sink s is = (let same : store.Topics ≡ s = (let i = is in cc) in subst (λ (x : Store). halt.Sink ≡ halt_of x) same refl)
+halt_fails halt.Offsets s is = (let same : store.Offsets ≡ s = (let i = is in cc) in subst (λ (x : Store). halt.Offsets ≡ halt_of x) same refl)
+halt_fails halt.Memory s is = absurd (let i = is in cc)
+halt_fails (halt.Message number error) s is = absurd (let i = is in cc)
+halt_fails (halt.Txn number error) s is = absurd (let i = is in cc)
+halt_fails (halt.Chunk table row) s is = absurd (let i = is in cc)
+halt_fails (halt.Cell table column error) s is = absurd (let i = is in cc)
+halt_fails (halt.Clash table column) s is = absurd (let i = is in cc)
+halt_fails (halt.RecordTooLong len) s is = absurd (let i = is in cc)
+halt_fails (halt.OffsetTooLong len) s is = absurd (let i = is in cc)
+halt_fails (halt.Model error) s is = absurd (let i = is in cc)
+halt_fails (halt.UnknownTable table) s is = absurd (let i = is in cc)
+halt_fails (halt.Gone asked first) s is = absurd (let i = is in cc)
+halt_fails (halt.WatermarkMissing value at) s is = absurd (let i = is in cc)
+halt_fails (halt.Exhausted incarnation) s is = absurd (let i = is in cc)
+
+-- ---- budgets
+
+pub spent_of : (budget : ℕ) (config : Config) (ending : Ending) (report : Report) → config.messages ≡ budget → (ending ≡ Complete → report.messages < config.messages)
+    → (ending ≡ Budget → report.messages ≡ config.messages) → report.commits ≤ report.messages → IsSpent budget (record { ending = ending; report = report })
+spent_of budget config ending report same few spent commits = record {
+  complete = λ is. subst (λ (n : ℕ). report.messages < n) same (few is);
+  spent = λ is. spent is ∙ same;
+  commits = commits;
+}
+
+-- what is asked for, by what the calls answered
+pub asks_same : (asked : Asked) (names : List TableName) (stored : Option Offset) (all : List TableName) (found : Option Offset) (config : Config)
+    → all ≡ names → found ≡ stored → asks_of asked all found ≡ Some config → asks_of asked names stored ≡ Some config
+asks_same asked names stored all found config one two is =
+    subst (λ (o : Option Offset). asks_of asked names o ≡ Some config) two (subst (λ (n : List TableName). asks_of asked n found ≡ Some config) one is)
+
+-- where an offset is stored, its identity and its tables are those that are asked for
+pub asked_of : (asked : Asked) (all : List TableName) (stored : Option Offset) (config : Config) → asks_of asked all stored ≡ Some config → IsOfConfig config stored
+asked_of (First options) all None config is = tt
+asked_of (First options) all (Some offset) config is = absurd (let i = is in cc)
+asked_of (Again chunk every messages) all None config is = tt
+asked_of (Again chunk every messages) all (Some offset) config is =
+    (let same : config_again offset chunk every messages ≡ config = (let i = is in cc) in (ap (λ (c : Config). c.identity) same, ap (λ (c : Config). c.tables) same))

@@ -1,0 +1,195 @@
+-- What a command comes to that began no session: each disk tells what it told, and a crash leaves nothing of it that it couldn't leave before.
+use Rattle.std.proofs.Common.{◌≡◌, ◌∙◌, ◌⊎◌, inl, inr, ℕ, ℤ, Option, Some, None, List, [], Err, refl, sym, subst}
+use Rattle.std.specs.Prelude.{IsSome}
+use Rattle.dbl_model_table.specs.declared.config.Config.{Config}
+use Rattle.dbl_offset.specs.declared.offset.Offset.{Offset}
+use Rattle.dbl_offset.proofs.StoreLaws as store_laws
+use Rattle.dbl_demo.proofs.DemoWalWalLaws as wal_laws
+use Rattle.dbl_topic.proofs.LogLaws as log_laws
+use Rattle.dblog_promise.specs.Contents.{Contents, ReadAs}
+use Rattle.dblog_promise.specs.Goes.{Advances}
+use Rattle.dblog_promise.specs.Headline.{Guarantees}
+use Rattle.dblog_promise.specs.Kept.{AreKept, IsKept}
+use Rattle.dblog_promise.proofs.KeptLaws.{kept_runs_are_promised, what_stays_goes_on}
+use Rattle.dblog_init.specs.declared.error.Store.{Store}
+use Rattle.dblog_connect.specs.declared.asked.Asked.{Asked}
+use Rattle.dblog_connect.specs.declared.asked.Asked.TheVariants.{First, Again}
+use Rattle.dblog_connect.specs.declared.error.ConnectError.{ConnectError}
+use Rattle.dblog_connect.specs.declared.error.ConnectError.TheVariants.{AlreadyStarted, BadEntry, Failed, Halted, Memory, NotAStore, NotStarted}
+use Rattle.dblog_connect.specs.Asked.{Refuses, asks_in}
+use Rattle.dblog_connect.specs.Ends.{ConnectEnd, EndsBefore, IsKeptError, IsRefused}
+use Rattle.dblog_connect.specs.Ends.IsRefused.{no_source, no_log, no_offset, not_asked}
+use Rattle.dblog_connect.specs.Errors.{IsExternalConnectError}
+use Rattle.dblog_connect.specs.Steps.{AnswersConnect}
+
+-- it isn't a session's halt
+abbrev pub IsUnhalted : ConnectError → Type 0
+IsUnhalted (Halted h) = ⊥
+IsUnhalted e = Unit {0}
+
+-- some words, of which what stays has gone on
+some_config : Config
+some_config = record { identity = record { prefix = []; db = []; placeholder = [] }; tables = []; chunk = 1; every = 1; messages = 1 }
+
+stays_so : (asks : Option Config) (held : Contents) → Advances asks held held
+stays_so None held = refl
+stays_so (Some config) held = what_stays_goes_on config held
+
+same_promised : (held : Contents) → IsKept held → Guarantees ⊥ held held
+same_promised held kept = kept_runs_are_promised some_config held held kept (what_stays_goes_on some_config held)
+
+-- where the disks are read, none of them holds a wrong store
+unrefused : (asked : Asked) (w t f : List ℕ) (held : Contents) → ReadAs w t f held → (e : ConnectError)
+    → IsExternalConnectError e ⊎ IsRefused asked w t f e → ((store : Store) (at : ℕ) → e ≡ NotAStore store at → ⊥) × ((store : Store) (index : ℕ) → e ≡ BadEntry store index → ⊥)
+unrefused asked w t f held read e (inl outside) =
+    (λ store at is. absurd (subst IsExternalConnectError is outside), λ store index is. absurd (subst IsExternalConnectError is outside))
+unrefused asked w t f held read e (inr (no_source (inl fault))) = absurd (wal_laws.no_fault w held.wal fault.0 read.source fault.2)
+unrefused asked w t f held read e (inr (no_source (inr bad))) = absurd (wal_laws.not_bad w held.wal bad.0 read.source bad.2)
+unrefused asked w t f held read e (inr (no_log wal is (inl fault))) = absurd (log_laws.not_faulty t held.groups fault.0 read.log fault.2)
+unrefused asked w t f held read e (inr (no_log wal is (inr bad))) = absurd (log_laws.not_bad t held.groups bad.0 read.log bad.2)
+unrefused asked w t f held read e (inr (no_offset wal groups is log (inl fault))) = absurd (store_laws.no_fault f held.offset fault.0 read.store fault.2)
+unrefused asked w t f held read e (inr (no_offset wal groups is log (inr bad))) = absurd (store_laws.no_bad_offset f held.offset bad.0 read.store bad.2)
+unrefused asked w t f held read e (inr (not_asked other found refuses)) = unasked asked other.offset e refuses
+  where
+    unasked : (words : Asked) (stored : Option Offset) (error : ConnectError) → Refuses words stored error
+        → ((store : Store) (at : ℕ) → error ≡ NotAStore store at → ⊥) × ((store : Store) (index : ℕ) → error ≡ BadEntry store index → ⊥)
+    unasked (First options) None error refuses = absurd refuses
+    unasked (First options) (Some offset) error refuses =
+        (λ store at is. (let wrong : AlreadyStarted ≡ NotAStore store at = sym refuses ∙ is in cc), λ store index is. (let wrong : AlreadyStarted ≡ BadEntry store index = sym refuses ∙ is in cc))
+    unasked (Again chunk every messages) None error refuses =
+        (λ store at is. (let wrong : NotStarted ≡ NotAStore store at = sym refuses ∙ is in cc), λ store index is. (let wrong : NotStarted ≡ BadEntry store index = sym refuses ∙ is in cc))
+    unasked (Again chunk every messages) (Some offset) error refuses = absurd refuses
+
+never_so : (asked : Asked) (now : ℤ) (wals logs stores : List ℕ → Type 0) (w t f : List ℕ) (held : Contents) → ReadAs w t f held → (e : ConnectError)
+    → IsUnhalted e → IsExternalConnectError e ⊎ IsRefused asked w t f e → IsKeptError asked now wals logs stores w t f e
+never_so asked now wals logs stores w t f held read (Failed store) own ends = tt
+never_so asked now wals logs stores w t f held read (NotAStore store at) own ends = (unrefused asked w t f held read (NotAStore store at) ends).0 store at refl
+never_so asked now wals logs stores w t f held read (BadEntry store index) own ends = (unrefused asked w t f held read (BadEntry store index) ends).1 store index refl
+never_so asked now wals logs stores w t f held read AlreadyStarted own ends = tt
+never_so asked now wals logs stores w t f held read NotStarted own ends = tt
+never_so asked now wals logs stores w t f held read (Halted h) own ends = absurd own
+never_so asked now wals logs stores w t f held read Memory own ends = tt
+
+told_so : (asked : Asked) (now : ℤ) (wals logs stores : List ℕ → Type 0) (w t f : List ℕ) (e : ConnectError) → IsExternalConnectError e ⊎ IsRefused asked w t f e → EndsBefore asked now wals logs stores w t f e
+told_so asked now wals logs stores w t f e (inl outside) = inl outside
+told_so asked now wals logs stores w t f e (inr refused) = inr (inl refused)
+
+module _ {W T F : Type 0} (seen_w : W → Option (List ℕ)) (may_w : W → List ℕ → Type 0) (seen_t : T → Option (List ℕ)) (may_t : T → List ℕ → Type 0)
+    (seen_f : F → Option (List ℕ)) (may_f : F → List ℕ → Type 0)
+    (is_w : (disk : W) (bytes : List ℕ) → seen_w disk ≡ Some bytes → may_w disk bytes)
+    (is_t : (disk : T) (bytes : List ℕ) → seen_t disk ≡ Some bytes → may_t disk bytes)
+    (is_f : (disk : F) (bytes : List ℕ) → seen_f disk ≡ Some bytes → may_f disk bytes)
+    (wal0 wal1 : W) (topics0 topics1 : T) (offsets0 offsets1 : F)
+    (same_w : seen_w wal1 ≡ seen_w wal0) (same_t : seen_t topics1 ≡ seen_t topics0) (same_f : seen_f offsets1 ≡ seen_f offsets0)
+    (crash_w : (crashed : List ℕ) → may_w wal1 crashed → may_w wal0 crashed)
+    (crash_t : (crashed : List ℕ) → may_t topics1 crashed → may_t topics0 crashed)
+    (crash_f : (crashed : List ℕ) → may_f offsets1 crashed → may_f offsets0 crashed) where
+  pub answers_stay : (asked : Asked) (now : ℤ) (e : ConnectError) → IsUnhalted e
+      → ((w t f : List ℕ) → seen_w wal0 ≡ Some w → seen_t topics0 ≡ Some t → seen_f offsets0 ≡ Some f → IsExternalConnectError e ⊎ IsRefused asked w t f e)
+      → AnswersConnect seen_w may_w seen_t may_t seen_f may_f asked now wal0 wal1 topics0 topics1 offsets0 offsets1 (Err e)
+  answers_stay asked now e own ends = record {
+    headline = λ kept w t f mw mt mf. (
+        let here = kept.each w t f (crash_w w mw) (crash_t t mt) (crash_f f mf) in
+        let all = same_promised here.0 here.2 in
+        record {
+          left = record {
+            held = here.0;
+            read = here.1;
+            kept = here.2;
+            came = record {
+              wal = w;
+              topics = t;
+              offsets = f;
+              may_wal = crash_w w mw;
+              may_topics = crash_t t mt;
+              may_offsets = crash_f f mf;
+              old = here.0;
+              read = here.1;
+              goes = stays_so (asks_in asked here.0) here.0;
+            };
+          };
+          promised = all;
+        });
+    kept = λ kept. record {
+      wal = subst IsSome (sym same_w) kept.wal;
+      topics = subst IsSome (sym same_t) kept.topics;
+      offsets = subst IsSome (sym same_f) kept.offsets;
+      each = λ w t f mw mt mf. kept.each w t f (crash_w w mw) (crash_t t mt) (crash_f f mf);
+    };
+    report = λ kept w t f told_w told_t told_f. tt;
+    never = λ kept w t f told_w told_t told_f. (
+        let here = kept.each w t f (is_w wal0 w told_w) (is_t topics0 t told_t) (is_f offsets0 f told_f) in
+        never_so asked now (may_w wal1) (may_t topics1) (may_f offsets1) w t f here.0 here.1 e own (ends w t f told_w told_t told_f));
+    told = λ w t f told_w told_t told_f. told_so asked now (may_w wal1) (may_t topics1) (may_f offsets1) w t f e (ends w t f told_w told_t told_f);
+    gains = λ w t f told_w told_t told_f begun. record {
+      stored = begun.held.offset;
+      last = inl refl;
+      gains = λ bytes groups leaves is. inl (crash_t bytes leaves);
+    };
+    marks = λ w t f told_w told_t told_f begun tables bytes left leaves is. inl (crash_w bytes leaves);
+  }
+
+  -- so it is behind an opening: what is said of what it left is said of what was there before
+  before_kept : AreKept (seen_w wal0) (seen_t topics0) (seen_f offsets0) (may_w wal0) (may_t topics0) (may_f offsets0)
+      → AreKept (seen_w wal1) (seen_t topics1) (seen_f offsets1) (may_w wal1) (may_t topics1) (may_f offsets1)
+  before_kept kept = record {
+    wal = subst IsSome (sym same_w) kept.wal;
+    topics = subst IsSome (sym same_t) kept.topics;
+    offsets = subst IsSome (sym same_f) kept.offsets;
+    each = λ w t f mw mt mf. kept.each w t f (crash_w w mw) (crash_t t mt) (crash_f f mf);
+  }
+
+  pub answers_before : (asked : Asked) (now : ℤ) (wal2 : W) (topics2 : T) (offsets2 : F) (end : ConnectEnd)
+      → AnswersConnect seen_w may_w seen_t may_t seen_f may_f asked now wal1 wal2 topics1 topics2 offsets1 offsets2 end
+      → AnswersConnect seen_w may_w seen_t may_t seen_f may_f asked now wal0 wal2 topics0 topics2 offsets0 offsets2 end
+  answers_before asked now wal2 topics2 offsets2 end by = record {
+    headline = λ kept w t f mw mt mf. (
+        let here = by.headline (before_kept kept) w t f mw mt mf in
+        record {
+          left = record {
+            held = here.left.held;
+            read = here.left.read;
+            kept = here.left.kept;
+            came = record {
+              wal = here.left.came.wal;
+              topics = here.left.came.topics;
+              offsets = here.left.came.offsets;
+              may_wal = crash_w here.left.came.wal here.left.came.may_wal;
+              may_topics = crash_t here.left.came.topics here.left.came.may_topics;
+              may_offsets = crash_f here.left.came.offsets here.left.came.may_offsets;
+              old = here.left.came.old;
+              read = here.left.came.read;
+              goes = here.left.came.goes;
+            };
+          };
+          promised = here.promised;
+        });
+    kept = λ kept. by.kept (before_kept kept);
+    report = λ kept w t f told_w told_t told_f. by.report (before_kept kept) w t f (same_w ∙ told_w) (same_t ∙ told_t) (same_f ∙ told_f);
+    never = λ kept w t f told_w told_t told_f. by.never (before_kept kept) w t f (same_w ∙ told_w) (same_t ∙ told_t) (same_f ∙ told_f);
+    told = λ w t f told_w told_t told_f. by.told w t f (same_w ∙ told_w) (same_t ∙ told_t) (same_f ∙ told_f);
+    gains = λ w t f told_w told_t told_f begun. (
+        let here = by.gains w t f (same_w ∙ told_w) (same_t ∙ told_t) (same_f ∙ told_f) begun in
+        record {
+          stored = here.stored;
+          last = here.last;
+          gains = λ bytes groups leaves is. either (crash_t bytes) (here.gains bytes groups leaves is);
+        });
+    marks = λ w t f told_w told_t told_f begun tables bytes left leaves is.
+        either (crash_w bytes) (by.marks w t f (same_w ∙ told_w) (same_t ∙ told_t) (same_f ∙ told_f) begun tables bytes left leaves is);
+  }
+    where
+      either : {A B C : Type 0} → (A → B) → A ⊎ C → B ⊎ C
+      either f (inl a) = inl (f a)
+      either f (inr c) = inr c
+
+-- of the disks as they are taken out of their stores
+pub answers_moved : {W T F : Type 0} (seen_w : W → Option (List ℕ)) (may_w : W → List ℕ → Type 0) (seen_t : T → Option (List ℕ)) (may_t : T → List ℕ → Type 0)
+    (seen_f : F → Option (List ℕ)) (may_f : F → List ℕ → Type 0) (asked : Asked) (now : ℤ) (wal0 wal1 wal2 : W) (topics0 topics1 topics2 : T) (offsets0 offsets1 offsets2 : F) (end : ConnectEnd)
+    → wal2 ≡ wal1 → topics2 ≡ topics1 → offsets2 ≡ offsets1
+    → AnswersConnect seen_w may_w seen_t may_t seen_f may_f asked now wal0 wal1 topics0 topics1 offsets0 offsets1 end
+    → AnswersConnect seen_w may_w seen_t may_t seen_f may_f asked now wal0 wal2 topics0 topics2 offsets0 offsets2 end
+answers_moved {W} {T} {F} seen_w may_w seen_t may_t seen_f may_f asked now wal0 wal1 wal2 topics0 topics1 topics2 offsets0 offsets1 offsets2 end w t f by =
+    subst (λ (x : W). AnswersConnect seen_w may_w seen_t may_t seen_f may_f asked now wal0 x topics0 topics2 offsets0 offsets2 end) (sym w)
+    (subst (λ (x : T). AnswersConnect seen_w may_w seen_t may_t seen_f may_f asked now wal0 wal1 topics0 x offsets0 offsets2 end) (sym t)
+    (subst (λ (x : F). AnswersConnect seen_w may_w seen_t may_t seen_f may_f asked now wal0 wal1 topics0 topics1 offsets0 x end) (sym f) by))

@@ -1,0 +1,81 @@
+-- The session that the arguments of `capture` and `resume` request.
+use Rattle.std.specs.Prelude.{◌≡◌, ℕ, Option, Some, None, List, [], ◌∷◌, map}
+use Rattle.dbl_model_table.specs.declared.config.Config.{Config}
+use Rattle.dbl_model_table.specs.declared.table.TableInfo.{TableInfo}
+use Rattle.dbl_model_table.specs.declared.table.TableName.{TableName}
+use Rattle.dbl_cli.specs.declared.commands.CaptureOptions.{CaptureOptions}
+use Rattle.dbl_cli.specs.Limits.{AreGoodNames, AreGoodTables, IsGoodPace}
+use Rattle.dbl_offset.specs.declared.offset.Offset.{Offset}
+use Rattle.dbl_demo.specs.DemoWal.Wals.{Wal}
+use Rattle.dblog_promise.specs.Contents.{Contents}
+use Rattle.dblog_connect.specs.declared.asked.Asked.{Asked}
+use Rattle.dblog_connect.specs.declared.asked.Asked.TheVariants.{First, Again}
+use Rattle.dblog_connect.specs.declared.error.ConnectError.{ConnectError}
+use Rattle.dblog_connect.specs.declared.error.ConnectError.TheVariants.{AlreadyStarted, NotStarted}
+
+-- The arguments are within the limits.
+abbrev pub IsAskedWithinLimits : Asked → Type 0
+IsAskedWithinLimits (First options) =
+    AreGoodNames options.prefix options.db options.placeholder × IsGoodPace options.chunk options.every options.messages × AreGoodTables options.tables
+IsAskedWithinLimits (Again chunk every messages) = IsGoodPace chunk every messages
+
+-- ---- captured tables
+
+-- The names of some tables.
+abbrev pub names_of : List TableInfo → List TableName
+names_of infos = map (λ info. info.name) infos
+
+-- The names of a workload's tables, in the order of their lines.
+abbrev pub workload_tables : Wal → List TableName
+workload_tables wal = map (λ table. table.info.name) wal.workload.tables
+
+-- The tables that the arguments name, or all if they name none.
+abbrev pub tables_or : List TableName → List TableName → List TableName
+tables_or [] all = all
+tables_or (table ∷ tables) all = table ∷ tables
+
+-- ---- configuration
+
+-- The configuration of a first session, of a source with these tables.
+abbrev pub config_of : CaptureOptions → List TableName → Config
+config_of options all = record {
+  identity = record { prefix = options.prefix; db = options.db; placeholder = options.placeholder };
+  tables = tables_or options.tables all;
+  chunk = options.chunk;
+  every = options.every;
+  messages = options.messages;
+}
+
+-- The configuration of a later session, with the connector and the tables of the offset.
+abbrev pub config_again : Offset → ℕ → ℕ → ℕ → Config
+config_again offset chunk every messages = record {
+  identity = offset.identity;
+  tables = names_of offset.infos;
+  chunk = chunk;
+  every = every;
+  messages = messages;
+}
+
+-- The configuration of a session over a source with these tables, or none if it is refused: a first one requires that no offset is stored,
+-- a later one that one is.
+abbrev pub asks_of : Asked → List TableName → Option Offset → Option Config
+asks_of (First options) all None = Some (config_of options all)
+asks_of (First options) all (Some offset) = None
+asks_of (Again chunk every messages) all None = None
+asks_of (Again chunk every messages) all (Some offset) = Some (config_again offset chunk every messages)
+
+-- The error of a refused session: an offset is stored, or none is.
+abbrev pub Refuses : Asked → Option Offset → ConnectError → Type 0
+Refuses (First options) None e = ⊥
+Refuses (First options) (Some offset) e = e ≡ AlreadyStarted
+Refuses (Again chunk every messages) None e = e ≡ NotStarted
+Refuses (Again chunk every messages) (Some offset) e = ⊥
+
+-- How many messages the session may read.
+abbrev pub budget_of : Asked → ℕ
+budget_of (First options) = options.messages
+budget_of (Again chunk every messages) = messages
+
+-- The configuration of a session over disks with these contents, or none if it is refused.
+abbrev pub asks_in : Asked → Contents → Option Config
+asks_in asked held = asks_of asked (workload_tables held.wal) held.offset

@@ -1,0 +1,10 @@
+pub use Rattle.dblog_promise.specs as Promise
+pub use Rattle.dbl_capture.specs.CaptureLaws
+pub use Rattle.dbl_capture.specs.CaptureWork
+pub use Rattle.dbl_capture.specs.CaptureModel
+pub use Rattle.dbl_capture.specs.Window
+pub mod Errors
+pub mod Followed
+pub mod Asked
+pub mod Ends
+pub mod Steps

@@ -1,0 +1,153 @@
+//! The session that a command requests.
+
+ghost use Rattle.std.specs.Prelude.{◌≡◌, ◌⊎◌, Some, IfOk, IfErr, IfSome, option_map};
+ghost use Rattle.dbl_model_table.specs.Configs.{IsGoodConfig};
+ghost use Rattle.dbl_cli.specs.Limits.{AreGoodNames, AreGoodTables, IsGoodPace};
+ghost use Rattle.dbl_offset.specs.Offsets.{IsOffset};
+ghost use Rattle.dbl_demo.specs.DemoWorkload.Ready.{AreTableNames};
+ghost use Rattle.dblog_connect.specs.Asked.{IsAskedWithinLimits, Refuses, asks_of, config_again, config_of, names_of, tables_or};
+
+use crate::ConnectError;
+use dbl_base::Seq;
+use dbl_cli::CaptureOptions;
+use dbl_model_table::{Config, Identity, TableInfo, TableName};
+use dbl_offset::Offset;
+use std::alloc::{AllocError, Global};
+
+/// The session that a command's arguments request.
+#[derive(Debug, Drop)]
+pub enum Asked {
+    /// A first session, of these tables, or of all tables of the workload if none is named.
+    First {
+        options: CaptureOptions,
+    },
+    /// A later session, for the connector and the tables of the stored offset.
+    Again {
+        chunk: u32,
+        every: u32,
+        messages: u64,
+    },
+}
+
+fn copy_names(alloc: Global, names: &Vec<TableName>) -> Result<Vec<TableName>, AllocError>
+    ensures { IfOk result (λ copies. copies.items ≡ names.now.items) }
+{
+    let mut copies = Vec::with_capacity(alloc, names.len())?;
+    for name in names {
+        copies.push(name.copy(alloc)?)?;
+    }
+    Ok(copies)
+}
+
+fn names_of(alloc: Global, infos: &Vec<TableInfo>) -> Result<Vec<TableName>, AllocError>
+    ensures { IfOk result (λ names. names.items ≡ names_of infos.now.items) }
+{
+    let mut names = Vec::with_capacity(alloc, infos.len())?;
+    for info in infos {
+        names.push(info.name.copy(alloc)?)?;
+    }
+    Ok(names)
+}
+
+fn named_or(
+    alloc: Global,
+    named: Seq<TableName>,
+    all: &Vec<TableName>,
+) -> Result<Seq<TableName>, AllocError>
+    ensures { IfOk result (λ names. names ≡ tables_or named all.now.items) }
+{
+    if named.items().is_empty() {
+        Ok(Seq::make(copy_names(alloc, all)?))
+    } else {
+        Ok(named)
+    }
+}
+
+fn first_config(
+    alloc: Global,
+    options: CaptureOptions,
+    all: &Vec<TableName>,
+) -> Result<Config, AllocError>
+    requires tables { AreTableNames all.now.items }
+    requires names { AreGoodNames options.prefix options.db options.placeholder }
+    requires pace { IsGoodPace options.chunk options.every options.messages }
+    requires named { AreGoodTables options.tables }
+    ensures is { IfOk result (λ config. config ≡ config_of options all.now.items) }
+    ensures good { IfOk result IsGoodConfig }
+{
+    let CaptureOptions {
+        prefix,
+        db,
+        placeholder,
+        chunk,
+        every,
+        messages,
+        tables,
+    } = options;
+    let tables = named_or(alloc, tables, all)?;
+    Ok(Config {
+        identity: Identity {
+            prefix,
+            db,
+            placeholder,
+        },
+        tables,
+        chunk,
+        every,
+        messages,
+    })
+}
+
+fn later_config(
+    alloc: Global,
+    offset: &Offset,
+    chunk: u32,
+    every: u32,
+    messages: u64,
+) -> Result<Config, AllocError>
+    requires offset { IsOffset offset.now }
+    requires pace { IsGoodPace chunk every messages }
+    ensures is { IfOk result (λ config. config ≡ config_again offset.now chunk every messages) }
+    ensures good { IfOk result IsGoodConfig }
+{
+    Ok(Config {
+        identity: offset.identity.copy(alloc)?,
+        tables: Seq::make(names_of(alloc, offset.infos.items())?),
+        chunk,
+        every,
+        messages,
+    })
+}
+
+/// The configuration of a session over a store with this offset, of a source with these tables, or
+/// its refusal.
+pub(crate) fn config_for(
+    alloc: Global,
+    asked: Asked,
+    stored: Option<&Offset>,
+    all: &Vec<TableName>,
+) -> Result<Config, ConnectError>
+    requires within { IsAskedWithinLimits asked }
+    requires tables { AreTableNames all.now.items }
+    requires offset { IfSome stored (λ offset. IsOffset offset.now) }
+    ensures asks { IfOk result (λ config.
+        asks_of asked all.now.items (option_map (λ o. o.now) stored.entry) ≡ Some config) }
+    ensures good { IfOk result IsGoodConfig }
+    ensures refused { IfErr result (λ e. (e ≡ ConnectError.Memory)
+        ⊎ Refuses asked (option_map (λ o. o.now) stored.entry) e) }
+{
+    match asked {
+        Asked::First { options } => match stored {
+            Some(_) => Err(ConnectError::AlreadyStarted),
+            None => Ok(first_config(alloc, options, all)?),
+        },
+        Asked::Again {
+            chunk,
+            every,
+            messages,
+        } => match stored {
+            Some(offset) => Ok(later_config(alloc, offset, chunk, every, messages)?),
+            None => Err(ConnectError::NotStarted),
+        },
+    }
+}

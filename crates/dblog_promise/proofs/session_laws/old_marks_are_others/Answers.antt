@@ -1,0 +1,5 @@
+use Rattle.dblog_promise.proofs.Marks.{old_marks_are_others}
+use Rattle.dblog_promise.proofs.session_laws.old_marks_are_others.Goals as goal
+
+pub returns : goal.returns
+returns c = old_marks_are_others

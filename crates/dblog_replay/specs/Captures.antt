@@ -1,0 +1,84 @@
+-- The tables that `replay` captures: each at its first Relation, except that of the watermarks. PostgreSQL's "Logical Replication Message
+-- Formats", Relation. Lists of messages have the newest first.
+use Rattle.std.specs.Prelude.{◌≡◌, ℕ, ◌%◌, ◌==◌, ◌||◌, nat_lt, Bool, if◌then◌else◌, Option, Some, None, option_and_then, List, [], ◌∷◌, ◌++◌, length, map, filter}
+use Rattle.std.specs.List.{list_any}
+use Rattle.dbl_pgmsg.specs.declared.messages.Message.{Message}
+use Rattle.dbl_pgmsg.specs.declared.messages.Message.TheVariants as says
+use Rattle.dbl_pgmsg.specs.declared.messages.RelationColumn.{RelationColumn}
+use Rattle.dbl_model_table.specs.declared.error.ModelError.{ModelError}
+use Rattle.dbl_model_table.specs.declared.table.RawColumn.{RawColumn}
+use Rattle.dbl_model_table.specs.declared.table.RawTable.{RawTable}
+use Rattle.dbl_model_table.specs.declared.table.TableInfo.{TableInfo}
+use Rattle.dbl_model_table.specs.declared.table.TableKey.{TableKey}
+use Rattle.dbl_model_table.specs.declared.table.TableName.{TableName}
+use Rattle.dbl_model_table.specs.Tables.{same_name, is_watermark}
+use Rattle.dbl_model_table.specs.Infos.{catalogue_of}
+use Rattle.dbl_model_table.specs.Made.{table_fault}
+use Rattle.dbl_model_commit.specs.Past.{table_named}
+use Rattle.dbl_model_commit.specs.Stated.{list_of}
+use Rattle.dblog_replay.specs.declared.log_fault.LogFault.{LogFault}
+use Rattle.dblog_replay.specs.declared.log_fault.LogFault.TheVariants.{Table, TooManyTables}
+
+-- Whether a column is flagged as a key column: by the bit of value 1.
+abbrev pub is_key_flagged : RelationColumn → Bool
+is_key_flagged column = column.flags % 2 == 1
+
+-- The column of the catalogue that a Relation's column describes.
+abbrev pub raw_column_of : RelationColumn → RawColumn
+raw_column_of column = record { name = column.name; oid = column.oid }
+
+-- The names of the flagged columns, in order.
+abbrev pub flagged_names : List RelationColumn → List (List ℕ)
+flagged_names columns = map (λ column. column.name) (filter is_key_flagged columns)
+
+-- The key of a table in the options, or else its flagged columns in order.
+abbrev pub key_names_of : List TableKey → TableName → List RelationColumn → List (List ℕ)
+key_names_of [] name columns = flagged_names columns
+key_names_of (key ∷ keys) name columns = if same_name key.table name then key.columns else key_names_of keys name columns
+
+-- The catalogue's entry that a Relation describes, with the keys of the options.
+abbrev pub entry_of : List TableKey → TableName → List RelationColumn → RawTable
+entry_of keys name columns = record { name = name; columns = map raw_column_of columns; key = key_names_of keys name columns }
+
+-- Whether a table of the list has this name.
+abbrev pub is_among : TableName → List RawTable → Bool
+is_among name tables = list_any (λ table. same_name table.name name) tables
+
+-- The table if it is to be captured: not one of these, and not that of the watermarks.
+abbrev pub new_table : List RawTable → RawTable → Option RawTable
+new_table tables table = if is_watermark table.name || is_among table.name tables then None else Some table
+
+-- The table that a message is the first to describe, after these.
+abbrev pub table_told : List TableKey → List RawTable → Message → Option RawTable
+table_told keys tables (says.Relation oid namespace name identity columns) = new_table tables (entry_of keys (table_named namespace name) columns)
+table_told keys tables m = None
+
+-- The tables that messages describe, in the order of their first Relations.
+abbrev pub tables_in : List TableKey → List Message → List RawTable
+tables_in keys [] = []
+tables_in keys (m ∷ ms) = tables_in keys ms ++ list_of (table_told keys (tables_in keys ms) m)
+
+-- The infos are what is captured of the tables that the messages describe.
+abbrev pub AreCaptured : List TableKey → List Message → List TableInfo → Type 0
+AreCaptured keys ms infos = map catalogue_of infos ≡ tables_in keys ms
+
+-- The largest number of captured tables.
+abbrev pub table_limit : ℕ
+table_limit = 64
+
+-- The error of one table more than the limit.
+abbrev pub room_fault : ℕ → Option LogFault
+room_fault count = if nat_lt count table_limit then None else Some TooManyTables
+
+-- The error of the catalogue's entry of a table, or else of too many tables.
+abbrev pub entry_fault : ℕ → Option ModelError → Option LogFault
+entry_fault count (Some error) = Some (Table error)
+entry_fault count None = room_fault count
+
+-- Why a table can't be captured after so many others.
+abbrev pub capture_fault : ℕ → RawTable → Option LogFault
+capture_fault count table = entry_fault count (table_fault table)
+
+-- Why the table that a message is the first to describe can't be captured.
+abbrev pub told_fault : List TableKey → List RawTable → Message → Option LogFault
+told_fault keys tables m = option_and_then (capture_fault (length tables)) (table_told keys tables m)

@@ -1,0 +1,20 @@
+//! The commands `replay` and `apply --lines`: the lines of a log, and the rows of a consumer of
+//! lines.
+#![tactic(auto)]
+
+mod apply;
+mod capture;
+pub mod laws;
+mod lines;
+mod log;
+mod log_fault;
+mod options;
+mod printing;
+mod replay;
+
+pub use apply::{FaultAt, LineFault, consume};
+pub use dbl_lines::PrintError;
+pub use lines::{LineError, messages};
+pub use log::print_log;
+pub use log_fault::{LogFault, transaction_status};
+pub use options::ReplayOptions;

@@ -1,0 +1,167 @@
+//! The messages of a log, one after another: their commits, and the first error.
+
+ghost use Rattle.std.specs.Prelude.{◌≡◌, ◌+◌, ◌∷◌, ℕ, List, [], ◌++◌, length, IfOk, IfErr, OnOk, is_some};
+ghost use Rattle.dbl_pgmsg.specs.declared.messages.Message.{Message};
+ghost use Rattle.dbl_pgmsg.specs.declared.messages.Message.TheVariants as says;
+ghost use Rattle.dbl_pgmsg.specs.Grammar.{Spells};
+ghost use Rattle.dbl_model_table.specs.declared.table.TableInfo.{TableInfo};
+ghost use Rattle.dbl_model_commit.specs.Past.{begin_of, HasNoRelation};
+ghost use Rattle.dblog_replay.specs.declared.options.ReplayOptions.{ReplayOptions};
+ghost use Rattle.dblog_replay.specs.Following.{HasReplayed, FollowsMessages, ReadFails, Prepares, AppendsMessage, TakesMessage};
+
+use crate::capture::{capture_table, entry_of, is_new, schema_of};
+use crate::log_fault::LogFault;
+use crate::options::ReplayOptions;
+use dbl_base::{Lsn, Seq, Text};
+use dbl_envelope::EventWriter;
+use dbl_model_commit::TxnError;
+use dbl_model_table::{Commit, TableInfo, TableKey};
+use dbl_pgmsg::{Message, MsgError, RelationColumn, decode};
+use dbl_txn::Assembler;
+use std::alloc::{AllocError, Global};
+
+/// The state after the processed messages: the captured tables, and the open transaction.
+#[derive(Drop)]
+pub struct Replayer {
+    assembler: Assembler,
+    keys: Seq<TableKey>,
+    pub writer: EventWriter,
+}
+
+fn learn_in(writer: &mut EventWriter, alloc: Global, info: TableInfo) -> Result<(), LogFault>
+    ensures learnt { OnOk result
+        (writer.new ≡ record writer.old { infos = writer.old.infos ++ info ∷ [] }) }
+    ensures err { IfErr result (λ e. e ≡ LogFault.Memory) }
+{
+    match writer.learn(alloc, info) {
+        Ok(()) => Ok(()),
+        Err(_) => Err(LogFault::Memory),
+    }
+}
+
+fn decode_message(alloc: Global, number: u64, bytes: &[u8]) -> Result<Message, LogFault>
+    ensures spelled { IfOk result (Spells bytes.now) }
+    ensures refused { IfErr result (ReadFails number bytes.now) }
+{
+    match decode(alloc, bytes) {
+        Ok(message) => Ok(message),
+        Err(MsgError::Memory) => Err(LogFault::Memory),
+        Err(error) => Err(LogFault::Message { number, error }),
+    }
+}
+
+impl Replayer {
+    /// The state before any message.
+    pub fn make(alloc: Global, options: ReplayOptions) -> Result<Replayer, AllocError>
+        ensures { IfOk result (FollowsMessages options []) }
+    {
+        let ReplayOptions { identity, keys } = options;
+        let writer = match EventWriter::make(alloc, identity, Vec::new(alloc)) {
+            Ok(writer) => writer,
+            Err(_) => return Err(AllocError),
+        };
+        Ok(Replayer {
+            assembler: Assembler::make(alloc, Vec::new(alloc), Lsn(0)),
+            keys,
+            writer,
+        })
+    }
+
+    /// Whether a transaction is open. TakesMessage no memory.
+    pub fn inside(&self) -> bool
+        ensures { (options : ReplayOptions) (ms : List Message) → FollowsMessages options ms self.now →
+            result ≡ is_some (begin_of ms) }
+    {
+        self.assembler.inside()
+    }
+
+    fn add(&mut self, alloc: Global, info: TableInfo) -> Result<(), LogFault>
+        ensures added { (options : ReplayOptions) (infos : List TableInfo) (ms : List Message) →
+            HasReplayed options infos ms self.old → HasNoRelation info.name ms →
+            OnOk result (HasReplayed options (infos ++ info ∷ []) ms self.new) }
+        ensures err { IfErr result (λ e. e ≡ LogFault.Memory) }
+    {
+        let copied = info.copy(alloc)?;
+        match self.assembler.learn(info) {
+            Ok(()) => {
+                learn_in(&mut self.writer, alloc, copied)?;
+                Ok(())
+            }
+            Err(_) => Err(LogFault::Memory),
+        }
+    }
+
+    // Captures the table of a Relation, if it is the first one of the table.
+    fn learn(
+        &mut self,
+        alloc: Global,
+        namespace: &Text,
+        name: &Text,
+        columns: &Vec<RelationColumn>,
+    ) -> Result<(), LogFault>
+        ensures { (options : ReplayOptions) (ms : List Message) (oid identity : ℕ) →
+            FollowsMessages options ms self.old → Prepares options ms
+            (says.Relation oid namespace.now name.now identity columns.now.items) self.new result }
+    {
+        let schema = schema_of(namespace);
+        let name = name.as_str();
+        let infos = self.assembler.infos();
+        if !is_new(infos, schema, name) {
+            return Ok(());
+        }
+        let entry = entry_of(alloc, self.keys.items(), schema, name, columns)?;
+        let info = capture_table(alloc, infos.len(), &entry)?;
+        self.add(alloc, info)?;
+        Ok(())
+    }
+
+    fn prepare(&mut self, alloc: Global, message: &Message) -> Result<(), LogFault>
+        ensures { (options : ReplayOptions) (ms : List Message) → FollowsMessages options ms self.old →
+            Prepares options ms message.now self.new result }
+    {
+        match message {
+            Message::Relation {
+                oid: _,
+                namespace,
+                name,
+                identity: _,
+                columns,
+            } => self.learn(alloc, namespace, name, columns.items()),
+            _ => Ok(()),
+        }
+    }
+
+    // AppendsMessage a message after its table was captured, and returns the commit that it ends.
+    fn append(
+        &mut self,
+        alloc: Global,
+        number: u64,
+        message: Message,
+    ) -> Result<Option<Commit>, LogFault>
+        ensures { (options : ReplayOptions) (infos : List TableInfo) (ms : List Message) →
+            HasReplayed options infos ms self.old → number ≡ length ms + 1 →
+            AppendsMessage options infos ms message self.new result }
+    {
+        match self.assembler.take(alloc, message) {
+            Ok(ended) => Ok(ended),
+            Err(TxnError::Memory) => Err(LogFault::Memory),
+            Err(error) => Err(LogFault::Transaction { number, error }),
+        }
+    }
+
+    /// Processes the bytes of the next message, which has this number, and returns the commit that
+    /// it ends.
+    pub fn take(
+        &mut self,
+        alloc: Global,
+        number: u64,
+        bytes: &[u8],
+    ) -> Result<Option<Commit>, LogFault>
+        ensures { (options : ReplayOptions) (ms : List Message) → FollowsMessages options ms self.old →
+            number ≡ length ms + 1 → TakesMessage options ms bytes.now self.new result }
+    {
+        let message = decode_message(alloc, number, bytes)?;
+        self.prepare(alloc, &message)?;
+        self.append(alloc, number, message)
+    }
+}

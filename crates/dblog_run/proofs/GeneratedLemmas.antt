@@ -1,0 +1,84 @@
+-- A run of `gen --run`, among the commands, and one that ended before it began.
+use Rattle.std.proofs.Common.{◌≡◌, ◌⊎◌, inl, inr, ◌∙◌, ℕ, ◌^◌, ◌≤◌, Bool, true, false, Option, Some, List, [], length, refl, sym, ap, subst, arith}
+use Rattle.std.specs.Prelude.{max}
+use Rattle.dbl_cli.specs.declared.commands.Command.{Command}
+use Rattle.dbl_cli.specs.declared.commands.Command.TheVariants as command
+use Rattle.dbl_gen.specs.Workload.{workload}
+use Rattle.dblog_init.specs.declared.error.Store.TheVariants as store
+use Rattle.dblog_init.specs.Answers as inits
+use Rattle.dblog_init.specs.Disks.{HoldsBytes, IsAtMostMeasured}
+use Rattle.dblog_capture.specs.Generated.{HasMade, IsMadeShort}
+use Rattle.dblog_capture.proofs.Fresh.{nothing_is_no_store}
+use Rattle.dblog_run.specs.Inits.{IsDiskUntouched}
+use Rattle.dblog_run.specs.Means.{makes}
+use Rattle.dblog_run.proofs.InitEndLemmas.{untouched}
+use Rattle.dblog_run.proofs.StatusLemmas.{switched}
+
+-- the command is `gen --run`
+abbrev pub generates : Command → Bool
+generates (command.Gen number rows groups run) = run
+generates c = false
+
+pub ungenerated : (c : Command) (number rows groups : ℕ) → generates c ≡ false → c ≡ command.Gen number rows groups true → ⊥
+ungenerated c number rows groups none is = switched (sym (ap generates is) ∙ none)
+
+pub generating : {c : Command} {number rows groups : ℕ} {run : Bool} → c ≡ command.Gen number rows groups run → run ≡ true → c ≡ command.Gen number rows groups true
+generating {c} {number} {rows} {groups} {run} is runs = is ∙ ap (λ (b : Bool). command.Gen number rows groups b) runs
+
+-- one command is of one workload
+pub one_generated : {a b : ℕ} {c d : ℕ} {e f : ℕ} → command.Gen a c e true ≡ command.Gen b d f true → workload a c e ≡ workload b d f
+one_generated {a} {b} {c} {d} {e} {f} is =
+    let number : a ≡ b = cc in
+    let rows : c ≡ d = cc in
+    let groups : e ≡ f = cc in
+    ap (λ (n : ℕ). workload n c e) number ∙ ap (λ (n : ℕ). workload b n e) rows ∙ ap (λ (n : ℕ). workload b d n) groups
+
+-- it makes the stores: `init`, or `gen --run`
+pub makes_by : (c : Command) → makes c ≡ true → (c ≡ command.Init) ⊎ ((number rows groups : ℕ) × (c ≡ command.Gen number rows groups true))
+makes_by command.Init is = inl refl
+makes_by (command.Gen number rows groups true) is = inr (number, rows, groups, refl)
+makes_by (command.Gen number rows groups false) is = absurd (switched (sym is))
+makes_by command.Topics is = absurd (switched (sym is))
+makes_by command.Offsets is = absurd (switched (sym is))
+makes_by (command.Capture options) is = absurd (switched (sym is))
+makes_by (command.Resume chunk every messages) is = absurd (switched (sym is))
+makes_by (command.Apply lines placeholder) is = absurd (switched (sym is))
+makes_by (command.Replay prefix db placeholder keys) is = absurd (switched (sym is))
+
+-- what holds of both holds of a command that makes the stores
+pub made_by : (P : Type 0) (c : Command) → (c ≡ command.Init → P) → ((number rows groups : ℕ) → c ≡ command.Gen number rows groups true → P) → makes c ≡ true → P
+made_by P c init generated is = elim (makes_by c is) [ inl same ↦ init same | inr gen ↦ generated gen.0 gen.1 gen.2 gen.3 ]
+
+-- disks of which one holds a byte aren't written by it
+module _ {W T F : Type 0} (seen_wal : W → Option (List ℕ)) (wals : W → List ℕ → Type 0) (faults_wal : W → ℕ) (seen_topics : T → Option (List ℕ)) (logs : T → List ℕ → Type 0) (faults_topics : T → ℕ)
+    (seen_offsets : F → Option (List ℕ)) (stores : F → List ℕ → Type 0) (faults_offsets : F → ℕ) (wal new_wal : W) (topics new_topics : T) (offsets new_offsets : F) where
+  abbrev Full : Type 0
+  Full = HoldsBytes seen_wal wal ⊎ (HoldsBytes seen_topics topics ⊎ HoldsBytes seen_offsets offsets)
+
+  abbrev Untouched : Type 0
+  Untouched = IsDiskUntouched seen_wal wals wal new_wal × (IsDiskUntouched seen_topics logs topics new_topics × IsDiskUntouched seen_offsets stores offsets new_offsets)
+
+  abbrev Asked : Type 0
+  Asked = (end : inits.InitEnd) × (Full → IsAtMostMeasured seen_wal wals faults_wal store.Wal end wal new_wal
+      × (IsAtMostMeasured seen_topics logs faults_topics store.Topics end topics new_topics × IsAtMostMeasured seen_offsets stores faults_offsets store.Offsets end offsets new_offsets))
+
+  untouched_by : Asked → Full → Untouched
+  untouched_by asked full =
+      let each = asked.1 full in
+      (untouched seen_wal wals faults_wal store.Wal asked.0 wal new_wal each.0, (untouched seen_topics logs faults_topics store.Topics asked.0 topics new_topics each.1.0, untouched seen_offsets stores faults_offsets store.Offsets asked.0 offsets new_offsets each.1.1))
+
+  pub full_by : (c : Command) → (c ≡ command.Init → Full → Untouched) → ((number rows groups : ℕ) → c ≡ command.Gen number rows groups true → Asked) → makes c ≡ true → Full → Untouched
+  full_by c init generated = made_by (Full → Untouched) c init (λ number rows groups same. untouched_by (generated number rows groups same))
+
+pub same_short : (told : Option (List ℕ)) → IsMadeShort told told
+same_short told before now was is =
+    let same : Some now ≡ Some before = sym is ∙ was in
+    let bytes : now ≡ before = cc in
+    inl (subst (λ (b : List ℕ). length b ≤ max (length before) (2 ^ 30)) (sym bytes) (omega arith))
+
+-- a disk that wasn't touched is still empty, which is no store
+pub unmade : {W T F : Type 0} (seen_wal : W → Option (List ℕ)) (wals : W → List ℕ → Type 0) (seen_topics : T → Option (List ℕ)) (logs : T → List ℕ → Type 0) (seen_offsets : F → Option (List ℕ)) (stores : F → List ℕ → Type 0)
+    (wal : W) (topics : T) (offsets : F) → ((bytes : List ℕ) → seen_offsets offsets ≡ Some bytes → stores offsets bytes) → HasMade seen_wal wals seen_topics logs seen_offsets stores wal topics offsets offsets → ⊥
+unmade seen_wal wals seen_topics logs seen_offsets stores wal topics offsets crashed made =
+    let nothing = made.made [] (crashed [] made.offsets_empty.told) in
+    nothing_is_no_store nothing.0 nothing.1

@@ -1,0 +1,16 @@
+pub use Rattle.dblog_capture.specs as Capture
+pub use Rattle.dblog_replay.specs as Replay
+pub use Rattle.dblog_capture.specs.Connect
+pub use Rattle.dblog_capture.specs.Connect.Promise
+pub use Rattle.dblog_capture.specs.Connect.CaptureLaws
+pub use Rattle.dblog_capture.specs.Connect.CaptureWork
+pub use Rattle.dblog_capture.specs.Connect.CaptureModel
+pub use Rattle.dblog_init.specs as Init
+pub use Rattle.dblog_init.specs.DemoLaws
+pub use Rattle.dblog_capture.specs.Connect.Window
+pub mod Disks
+pub mod Inits
+pub mod Laws
+pub mod Means
+pub mod Run
+pub mod Sessions

@@ -1,0 +1,129 @@
+-- What a run of the program writes and returns.
+use Rattle.std.specs.Prelude.{◌≡◌, ◌⊎◌, ℕ, ℤ, ◌<◌, ◌≤◌, Option, Some, None, Ok, Err, List, [], ◌∷◌, ◌++◌, take, length, map}
+use Rattle.dbl_base.specs.Lines.{lines_of, lines_text}
+use Rattle.dbl_base.specs.Streams.{FaultCounted, input_limit}
+use Rattle.dbl_lines.specs.declared.halt.Halt.{Halt}
+use Rattle.dbl_lines.specs.declared.halt.Halt.TheVariants.{Usage, BadLine, InputTooLong, InputFailed, Memory}
+use Rattle.dbl_lines.specs.Faults.{status_of, fault_line, output_failed_status}
+use Rattle.dbl_lines.specs.Says.{Says, Writes}
+use Rattle.dbl_record.specs.Consumers.{HeldCells}
+use Rattle.dbl_consume.specs.Printing.{HeldRow, AreRowsOf, row_line}
+use Rattle.dblog_replay.specs.declared.apply.FaultAt.{FaultAt}
+use Rattle.dblog_replay.specs.Apply.{fault_text}
+use Rattle.dblog_replay.specs.Applied.{IsApplied}
+use Rattle.dblog_replay.specs.Lines.{message_bytes_in, first_bad_line}
+use Rattle.dblog_replay.specs.declared.log_fault.LogFault.{LogFault}
+use Rattle.dblog_replay.specs.declared.options.ReplayOptions.{ReplayOptions}
+use Rattle.dblog_replay.specs.Log.{LogWrites, end_status, end_lines}
+use Rattle.dblog_replay.specs.Replay.{IsReplayed}
+
+-- The answer of a command: a status, the lines that are written before it is returned, and those written one by one.
+pub record RunAnswer : Type 0 where
+  pub status : ℕ
+  pub lines : List (List ℕ)
+  pub one_by_one : List (List ℕ)
+
+-- The answer with status 0 and these lines, which are written one by one.
+abbrev pub done : List (List ℕ) → RunAnswer
+done lines = record { status = 0; lines = lines; one_by_one = lines }
+
+-- The answer of an error: its status and its line.
+abbrev pub fault : Halt → RunAnswer
+fault halt = record { status = status_of halt; lines = fault_line halt ∷ []; one_by_one = [] }
+
+-- The answer of a log with these lines and this error, or none.
+abbrev pub log_answer : List (List ℕ) → Option LogFault → RunAnswer
+log_answer lines end = record { status = end_status end; lines = lines ++ end_lines end; one_by_one = lines }
+
+-- The answer of `replay` with these options at a time for an input with these bytes.
+pub data Replays (options : ReplayOptions) (now : ℤ) (bytes : List ℕ) (answer : RunAnswer) : Type 0 where
+  too_long : input_limit < length bytes → answer ≡ fault InputTooLong → Replays options now bytes answer
+  bad_line : (number : ℕ) → length bytes ≤ input_limit → first_bad_line (lines_of bytes) ≡ Some number → answer ≡ fault (BadLine number) → Replays options now bytes answer
+  replayed : (lines : List (List ℕ)) (end : Option LogFault) → length bytes ≤ input_limit → first_bad_line (lines_of bytes) ≡ None → IsReplayed options now (message_bytes_in (lines_of bytes)) lines end → answer ≡ log_answer lines end → Replays options now bytes answer
+
+-- The answer of a line that isn't applied.
+abbrev pub line_fault : FaultAt → RunAnswer
+line_fault at = record { status = 13; lines = fault_text at ∷ []; one_by_one = [] }
+
+-- The answer of `apply --lines` with this placeholder: the rows in the state of the consumer of the input, or the first line that isn't
+-- applied.
+pub data Applies (placeholder bytes : List ℕ) (answer : RunAnswer) : Type 0 where
+  long_input : input_limit < length bytes → answer ≡ fault InputTooLong → Applies placeholder bytes answer
+  refused : (at : FaultAt) → length bytes ≤ input_limit → IsApplied placeholder (lines_of bytes) (Err at) → answer ≡ line_fault at → Applies placeholder bytes answer
+  applied : (rows : List HeldRow) → length bytes ≤ input_limit → IsApplied placeholder (lines_of bytes) (Ok rows) → answer ≡ done (map row_line rows) → Applies placeholder bytes answer
+
+-- The text and the status of a run with this answer, before the output may fail: the answer's own, or those of out of memory after some of
+-- the lines that are written one by one.
+pub data MayEnd (answer : RunAnswer) (status : ℕ) (text : List ℕ) : Type 0 where
+  whole : status ≡ answer.status → text ≡ lines_text answer.lines → MayEnd answer status text
+  out_of_memory : (n : ℕ) → status ≡ status_of Memory → text ≡ lines_text (take n answer.one_by_one) ++ lines_text (fault_line Memory ∷ []) → MayEnd answer status text
+
+-- The end of a run with this answer: its text, or a prefix if the output failed, and its status.
+pub record Ends (answer : RunAnswer) (status : ℕ) (before after : Option (List ℕ)) : Type 0 where
+  pub wanted : ℕ
+  pub text : List ℕ
+  pub may : MayEnd answer wanted text
+  pub writes : Writes wanted text status before after
+
+-- The statuses of a failed input, a failed output, and out of memory.
+abbrev pub IsExternalStatus : ℕ → Type 0
+IsExternalStatus status = (status ≡ status_of InputFailed) ⊎ ((status ≡ output_failed_status) ⊎ (status ≡ status_of Memory))
+
+-- The statuses of an answer of `replay` about the contents of its input.
+abbrev pub IsReplayAnswer : ℕ → Type 0
+IsReplayAnswer status = (status ≡ 0) ⊎ ((status ≡ 5) ⊎ ((status ≡ 6) ⊎ (status ≡ 13)))
+
+-- The statuses of `replay`, for every behaviour of the streams.
+abbrev pub IsReplayStatus : ℕ → Type 0
+IsReplayStatus status = IsReplayAnswer status ⊎ IsExternalStatus status
+
+-- The statuses of `apply --lines`, for every behaviour of the streams.
+abbrev pub IsApplyStatus : ℕ → Type 0
+IsApplyStatus status = (status ≡ 0) ⊎ ((status ≡ 13) ⊎ IsExternalStatus status)
+
+-- The end of a run whose input failed: that failure's line was to be written.
+pub record FailsReading (was now : ℕ) (status : ℕ) (before after : Option (List ℕ)) : Type 0 where
+  pub rose : FaultCounted was now
+  pub says : Says InputFailed status before after
+
+-- For private clauses: an error of `replay` is its answer for the bytes, unless it is a failure.
+abbrev pub HaltsReplaying : ReplayOptions → ℤ → List ℕ → Halt → Type 0
+HaltsReplaying options now bytes Usage = ⊥
+HaltsReplaying options now bytes InputFailed = Unit {0}
+HaltsReplaying options now bytes Memory = Unit {0}
+HaltsReplaying options now bytes (BadLine number) = Replays options now bytes (fault (BadLine number))
+HaltsReplaying options now bytes InputTooLong = Replays options now bytes (fault InputTooLong)
+
+-- For private clauses: the end of a run of `replay`.
+pub record RunsReplaying (options : ReplayOptions) (now : ℤ) (bytes : List ℕ) (status : ℕ) (before after : Option (List ℕ)) : Type 0 where
+  pub ended : (answer : RunAnswer) → Replays options now bytes answer → Ends answer status before after
+  pub meant : IsExternalStatus status ⊎ ((answer : RunAnswer) × Replays options now bytes answer × (answer.status ≡ status))
+
+-- For private clauses: an error of `apply --lines` is its answer for the bytes, unless it is a failure.
+abbrev pub HaltsApplying : List ℕ → List ℕ → Halt → Type 0
+HaltsApplying placeholder bytes Usage = ⊥
+HaltsApplying placeholder bytes InputFailed = Unit {0}
+HaltsApplying placeholder bytes Memory = Unit {0}
+HaltsApplying placeholder bytes (BadLine number) = ⊥
+HaltsApplying placeholder bytes InputTooLong = Applies placeholder bytes (fault InputTooLong)
+
+-- For private clauses: the end of a run of `apply --lines`.
+pub record RunsApplying (placeholder bytes : List ℕ) (status : ℕ) (before after : Option (List ℕ)) : Type 0 where
+  pub ended : (answer : RunAnswer) → Applies placeholder bytes answer → Ends answer status before after
+  pub meant : IsExternalStatus status ⊎ ((answer : RunAnswer) × Applies placeholder bytes answer × (answer.status ≡ status))
+
+-- For private clauses: the end of a run with this answer, with its status or that of a failure.
+pub record EndsAs (answer : RunAnswer) (status : ℕ) (before after : Option (List ℕ)) : Type 0 where
+  pub ended : Ends answer status before after
+  pub told : IsExternalStatus status ⊎ (answer.status ≡ status)
+
+-- For private clauses: the lines of the rows of this state were to be written.
+pub record PrintedAs (held : List ℕ → List ℕ → Option HeldCells) (status : ℕ) (before after : Option (List ℕ)) : Type 0 where
+  pub rows : List HeldRow
+  pub are : AreRowsOf held rows
+  pub ends : EndsAs (done (map row_line rows)) status before after
+
+-- For private clauses: the end of a run of these messages.
+pub record RunsLog (options : ReplayOptions) (now : ℤ) (bs : List (List ℕ)) (status : ℕ) (before after : Option (List ℕ)) : Type 0 where
+  pub ended : (lines : List (List ℕ)) (end : Option LogFault) → LogWrites options now [] bs lines end → Ends (log_answer lines end) status before after
+  pub meant : IsExternalStatus status ⊎ ((lines : List (List ℕ)) × (end : Option LogFault) × LogWrites options now [] bs lines end × (end_status end ≡ status))

@@ -1,0 +1,11 @@
+//! A run of the program `dblog` on its arguments, an input, an output and three disks.
+#![tactic(auto)]
+
+mod initializing;
+pub mod laws;
+mod program;
+mod stores;
+mod streams;
+
+pub use dbl_lines::{Finished, Halt, say};
+pub use program::run;

@@ -1,0 +1,66 @@
+-- What commands answer, by what was read.
+use Rattle.std.proofs.Common.{◌≡◌, ◌⊎◌, ℕ, Option, Some, None, Ok, Err, List, map, refl, sym, subst, inl, inr}
+use Rattle.dbl_record.specs.declared.record.Record.{Record}
+use Rattle.dbl_record.specs.Consumers.{consumer_of}
+use Rattle.dbl_record.specs.Cuts.{joined}
+use Rattle.dbl_consume.specs.Printing.{row_line}
+use Rattle.dbl_topic.specs.Logs.{IsLog}
+use Rattle.dbl_offset.specs.declared.offset.Offset.{Offset}
+use Rattle.dbl_offset.specs.Stores.{IsStore}
+use Rattle.dblog_stores.specs.declared.error.RunError.{RunError}
+use Rattle.dblog_stores.specs.declared.error.RunError.TheVariants.{NotStarted}
+use Rattle.dblog_stores.specs.Answers.{AnswersApply, AnswersOffsets, AnswersTopics, HasNoOffset, IsNoLog, first_refused, no_log, no_offset, offset_lines, refused, topic_lines}
+use Rattle.dblog_stores.specs.Applying.{AppliesStores, AppliesGroups, PrintedRows, TellsOffset, bad, printed, stopped}
+use Rattle.dblog_stores.specs.Consuming.{RefusesAt, readings_of}
+use Rattle.dblog_stores.specs.Ends.{CommandEnd, Ends, IsExternalRunError, Runs, answered, cut}
+
+-- ---- errors of opening
+
+pub no_topics_run : (bytes : List ℕ) (error : RunError) (before : Option (List ℕ)) → IsExternalRunError error ⊎ IsNoLog bytes error → Runs (AnswersTopics bytes) (Err error) before before
+no_topics_run bytes error before (inl outside) = cut outside refl
+no_topics_run bytes error before (inr why) = answered (Err error) why (refl, refl)
+
+pub no_offsets_run : (bytes : List ℕ) (error : RunError) (before : Option (List ℕ)) → IsExternalRunError error ⊎ HasNoOffset bytes error → Runs (AnswersOffsets bytes) (Err error) before before
+no_offsets_run bytes error before (inl outside) = cut outside refl
+no_offsets_run bytes error before (inr why) = answered (Err error) why (refl, refl)
+
+pub no_log_run : (topics offsets : List ℕ) (error : RunError) (before : Option (List ℕ)) → IsExternalRunError error ⊎ IsNoLog topics error → Runs (AnswersApply topics offsets) (Err error) before before
+no_log_run topics offsets error before (inl outside) = cut outside refl
+no_log_run topics offsets error before (inr why) = answered (Err error) (no_log why) (refl, refl)
+
+pub no_store_run : (topics offsets : List ℕ) (groups : List (List Record)) (error : RunError) (before : Option (List ℕ)) → IsLog topics groups → IsExternalRunError error ⊎ HasNoOffset offsets error → Runs (AnswersApply topics offsets) (Err error) before before
+no_store_run topics offsets groups error before log (inl outside) = cut outside refl
+no_store_run topics offsets groups error before log (inr why) = answered (Err error) (no_offset groups log why) (refl, refl)
+
+-- ---- what was read
+
+pub topics_run : (bytes : List ℕ) (groups : List (List Record)) (end : CommandEnd) (before after : Option (List ℕ)) → IsLog bytes groups → Ends (Ok (topic_lines groups)) end before after → Runs (AnswersTopics bytes) end before after
+topics_run bytes groups end before after log ends = answered (Ok (topic_lines groups)) (groups, log, refl) ends
+
+pub offset_run : (bytes : List ℕ) (stored : Option Offset) (end : CommandEnd) (before after : Option (List ℕ)) → IsStore bytes stored → TellsOffset stored end before after → Runs (AnswersOffsets bytes) end before after
+offset_run bytes None end before after store tells = subst (λ e. Runs (AnswersOffsets bytes) e before after) (sym tells.0) (answered (Err NotStarted) store (refl, tells.1))
+offset_run bytes (Some offset) end before after store tells = answered (Ok (offset_lines offset)) (offset, store, refl) tells
+
+groups_run : (topics offsets : List ℕ) (groups : List (List Record)) (offset : Offset) (end : CommandEnd) (before after : Option (List ℕ)) → IsLog topics groups → IsStore offsets (Some offset) → AppliesGroups offset.identity.placeholder groups end before after
+    → Runs (AnswersApply topics offsets) end before after
+groups_run topics offsets groups offset end before after log store (stopped outside same) = cut outside same
+groups_run topics offsets groups offset end before after log store (bad error is first same) =
+    subst (λ e. Runs (AnswersApply topics offsets) e before after) (sym is)
+    (answered (Err error) (refused (record { groups = groups; offset = offset; read = record { log = log; store = store }; index = first.index; first = first.first; error_is = first.error_is })) (refl, same))
+groups_run topics offsets groups offset end before after log store (printed none rows) =
+    answered (Ok (map row_line rows.rows)) (record { groups = groups; offset = offset; read = record { log = log; store = store }; taken = none; rows = rows.rows; are = rows.are; lines_are = refl }) rows.ends
+
+pub apply_run : (topics offsets : List ℕ) (groups : List (List Record)) (stored : Option Offset) (end : CommandEnd) (before after : Option (List ℕ)) → IsLog topics groups → IsStore offsets stored → AppliesStores groups stored end before after → Runs (AnswersApply topics offsets) end before after
+apply_run topics offsets groups None end before after log store applies =
+    subst (λ e. Runs (AnswersApply topics offsets) e before after) (sym applies.0) (answered (Err NotStarted) (no_offset groups log store) (refl, applies.1))
+apply_run topics offsets groups (Some offset) end before after log store applies = groups_run topics offsets groups offset end before after log store applies
+
+-- ---- groups that were consumed
+
+pub groups_refused : (placeholder : List ℕ) (groups : List (List Record)) (error : RunError) (before : Option (List ℕ)) → RefusesAt placeholder groups error → AppliesGroups placeholder groups (Err error) before before
+groups_refused placeholder groups error before (inl outside) = stopped outside refl
+groups_refused placeholder groups error before (inr first) = bad error refl first refl
+
+pub groups_printed : (placeholder held : List ℕ) (groups : List (List Record)) (end : CommandEnd) (before after : Option (List ℕ)) → first_refused placeholder groups ≡ None → held ≡ placeholder → PrintedRows (consumer_of held (readings_of (joined groups))) end before after
+    → AppliesGroups placeholder groups end before after
+groups_printed placeholder held groups end before after none same rows = printed none (subst (λ p. PrintedRows (consumer_of p (readings_of (joined groups))) end before after) same rows)

@@ -1,0 +1,10 @@
+pub mod CrashState
+pub mod Kept
+pub mod ErrorLaws
+pub mod Opened
+pub mod Writing
+pub mod Consumed
+pub mod Answering
+pub mod OnceLaws
+pub mod OffsetTexts
+pub mod StandLaws

@@ -1,0 +1,35 @@
+-- For private clauses: the steps of `offsets` and `apply` after the stores were opened.
+use Rattle.std.specs.Prelude.{◌≡◌, ℕ, Option, Some, None, Ok, Err, List, map}
+use Rattle.dbl_record.specs.declared.record.Record.{Record}
+use Rattle.dbl_record.specs.Consumers.{HeldCells, consumer}
+use Rattle.dbl_record.specs.Cuts.{joined}
+use Rattle.dbl_record.specs.Reading.{as_line}
+use Rattle.dbl_consume.specs.Printing.{HeldRow, AreRowsOf, row_line}
+use Rattle.dbl_offset.specs.declared.offset.Offset.{Offset}
+use Rattle.dblog_stores.specs.declared.error.RunError.{RunError}
+use Rattle.dblog_stores.specs.declared.error.RunError.TheVariants.{NotStarted}
+use Rattle.dblog_stores.specs.Answers.{first_refused, offset_lines}
+use Rattle.dblog_stores.specs.Consuming.{IsFirstBadGroup}
+use Rattle.dblog_stores.specs.Ends.{CommandEnd, Ends, EndsOutside}
+
+-- The text of this offset, if there is one, was to be written.
+abbrev pub TellsOffset : Option Offset → CommandEnd → Option (List ℕ) → Option (List ℕ) → Type 0
+TellsOffset None end before after = (end ≡ Err NotStarted) × (after ≡ before)
+TellsOffset (Some offset) end before after = Ends (Ok (offset_lines offset)) end before after
+
+-- The lines of the rows of this state were to be written.
+pub record PrintedRows (held : List ℕ → List ℕ → Option HeldCells) (end : CommandEnd) (before after : Option (List ℕ)) : Type 0 where
+  pub rows : List HeldRow
+  pub are : AreRowsOf held rows
+  pub ends : Ends (Ok (map row_line rows)) end before after
+
+-- The log of these groups was applied with this placeholder.
+pub data AppliesGroups (placeholder : List ℕ) (groups : List (List Record)) (end : CommandEnd) (before after : Option (List ℕ)) : Type 0 where
+  stopped : EndsOutside end → after ≡ before → AppliesGroups placeholder groups end before after
+  bad : (error : RunError) → end ≡ Err error → IsFirstBadGroup placeholder groups error → after ≡ before → AppliesGroups placeholder groups end before after
+  printed : first_refused placeholder groups ≡ None → PrintedRows (consumer placeholder (map as_line (joined groups))) end before after → AppliesGroups placeholder groups end before after
+
+-- The log of these groups was applied with the placeholder of an offset, if there is one.
+abbrev pub AppliesStores : List (List Record) → Option Offset → CommandEnd → Option (List ℕ) → Option (List ℕ) → Type 0
+AppliesStores groups None end before after = (end ≡ Err NotStarted) × (after ≡ before)
+AppliesStores groups (Some offset) end before after = AppliesGroups offset.identity.placeholder groups end before after

@@ -1,0 +1,153 @@
+//! `apply`: the rows of the state of a consumer of the topic log.
+ghost use Rattle.std.specs.Prelude.{◌≡◌, ◌≢◌, ◌⊎◌, ℕ, List, Ok, Err, Some, None, IfErr, IfSome, MatchResult, IsTrue, option_map, map};
+ghost use Rattle.dbl_base.specs.Streams.{FailsOnlyIfCounted};
+ghost use Rattle.dbl_record.specs.declared.record.Record.{Record};
+ghost use Rattle.dbl_record.specs.Acts.{Reading};
+ghost use Rattle.dbl_record.specs.Consumers.{consumer_of};
+ghost use Rattle.dbl_consume.specs.Holdings.{Took, placeholder_of};
+ghost use Rattle.dbl_topic.specs.Held.{HoldsGroups};
+ghost use Rattle.dbl_topic.specs.Logs.{IsLog};
+ghost use Rattle.dbl_offset.specs.declared.offset.Offset.{Offset};
+ghost use Rattle.dblog_stores.specs.Answers.{AnswersApply};
+ghost use Rattle.dblog_stores.specs.Applying.{AppliesStores, AppliesGroups, PrintedRows};
+ghost use Rattle.dblog_stores.specs.Ends.{HasOpenedOffset, IsAfterJournalOpening, IsErrorOf, IsRefusal, IsSynced, Runs};
+ghost use Rattle.dbl_journal.specs.Calls.{Keeps};
+
+use crate::consuming::consume;
+use crate::opening::{open_offsets, open_topics};
+use crate::{Applied, RunError, Store};
+use dbl_base::{Output, Text};
+use dbl_consume::Consumer;
+use dbl_disk::{Disk, Refused};
+use dbl_offset::Offset;
+use dbl_topic::TopicLog;
+use std::alloc::Global;
+
+/// Writes a line for each row in the state of the consumer of the topic log, with the placeholder
+/// of the stored offset. Syncs each disk that it opens, first the topic log's.
+pub fn apply<T: Disk, F: Disk, O: Output>(
+    alloc: Global,
+    topics: T,
+    offsets: F,
+    output: &mut O,
+) -> Applied<T, F>
+    // For disks with known contents, the output and the answer follow from these.
+    ensures told { (t f : List ℕ) → T.seen topics ≡ Some t → F.seen offsets ≡ Some f →
+        Runs (AnswersApply t f) result.end (O.written output.old) (O.written output.new) }
+
+    // If the topics disk has no valid log, that is the answer, and the offsets disk isn't called.
+    ensures no_log { (t f : List ℕ) → T.seen topics ≡ Some t →
+        ((groups : List (List Record)) → ¬ IsLog t groups) →
+        Runs (AnswersApply t f) result.end (O.written output.old) (O.written output.new) }
+    ensures unopened { (t : List ℕ) → T.seen topics ≡ Some t →
+        ((groups : List (List Record)) → ¬ IsLog t groups) → result.offsets ≡ offsets }
+    ensures no_store { (at : ℕ) → result.end ≡ Err (RunError.NotAStore Store.Topics at) →
+        result.offsets ≡ offsets }
+
+    // A disk that was opened was synced: a crash leaves only its known contents.
+    ensures topics_stable { result.end ≢ Err (RunError.Failed Store.Topics) →
+        IsSynced T.seen T.may_leave topics result.topics }
+    ensures offsets_stable { HasOpenedOffset result.end →
+        IsSynced F.seen F.may_leave offsets result.offsets }
+
+    // The disks are only read, for any contents.
+    ensures keeps_topics { Keeps T.seen T.may_leave T.faults
+        (result.end ≡ Err (RunError.Failed Store.Topics)) topics result.topics }
+    ensures keeps_offsets { Keeps F.seen F.may_leave F.faults
+        (result.end ≡ Err (RunError.Failed Store.Offsets)) offsets result.offsets }
+    ensures unwritten { IfErr result.end (λ error. IsRefusal error → output.new ≡ output.old) }
+    ensures output { FailsOnlyIfCounted (result.end ≡ Err RunError.OutputFailed)
+        (O.faults output.old) (O.faults output.new) }
+{
+    let mut log = match open_topics(alloc, topics) {
+        Ok(log) => log,
+        Err(Refused { disk, error }) => {
+            return Applied {
+                topics: disk,
+                offsets,
+                end: Err(error),
+            };
+        }
+    };
+    match open_offsets(alloc, offsets) {
+        Ok(store) => {
+            let end = print_consumer(alloc, &mut log, store.load(), output);
+            Applied {
+                topics: log.into_disk(),
+                offsets: store.into_disk(),
+                end,
+            }
+        }
+        Err(Refused { disk, error }) => Applied {
+            topics: log.into_disk(),
+            offsets: disk,
+            end: Err(error),
+        },
+    }
+}
+
+fn print_consumer<D: Disk, O: Output>(
+    alloc: Global,
+    log: &mut TopicLog<D>,
+    loaded: Option<&Offset>,
+    output: &mut O,
+) -> Result<(), RunError>
+    requires { IsTrue log.old.live }
+    ensures told { (groups : List (List Record)) → HoldsGroups D.seen D.may_leave log.old groups →
+        AppliesStores groups (option_map (λ offset. offset.now) loaded.entry) result
+        (O.written output.old) (O.written output.new) }
+    ensures keeps { Keeps D.seen D.may_leave D.faults
+        (result ≡ Err (RunError.Failed Store.Topics)) log.old.disk log.new.disk }
+    ensures kinds { IfErr result
+        (λ error. (error ≡ RunError.OutputFailed) ⊎
+        ((error ≡ RunError.NotStarted) ⊎ IsErrorOf Store.Topics error)) }
+    ensures a_store { IfErr result IsAfterJournalOpening }
+    ensures unwritten { IfErr result (λ error. IsRefusal error → output.new ≡ output.old) }
+    ensures output { FailsOnlyIfCounted (result ≡ Err RunError.OutputFailed)
+        (O.faults output.old) (O.faults output.new) }
+{
+    match loaded {
+        Some(offset) => print_groups(alloc, log, &offset.identity.placeholder, output),
+        None => Err(RunError::NotStarted),
+    }
+}
+
+fn print_groups<D: Disk, O: Output>(
+    alloc: Global,
+    log: &mut TopicLog<D>,
+    placeholder: &Text,
+    output: &mut O,
+) -> Result<(), RunError>
+    requires { IsTrue log.old.live }
+    ensures told { (groups : List (List Record)) → HoldsGroups D.seen D.may_leave log.old groups →
+        AppliesGroups placeholder.now groups result (O.written output.old) (O.written output.new) }
+    ensures keeps { Keeps D.seen D.may_leave D.faults
+        (result ≡ Err (RunError.Failed Store.Topics)) log.old.disk log.new.disk }
+    ensures kinds { IfErr result
+        (λ error. (error ≡ RunError.OutputFailed) ⊎ IsErrorOf Store.Topics error) }
+    ensures a_store { IfErr result IsAfterJournalOpening }
+    ensures unwritten { IfErr result (λ error. IsRefusal error → output.new ≡ output.old) }
+    ensures output { FailsOnlyIfCounted (result ≡ Err RunError.OutputFailed)
+        (O.faults output.old) (O.faults output.new) }
+{
+    match consume(alloc, log, placeholder) {
+        Ok(held) => print_rows(&held, output),
+        Err(error) => Err(error),
+    }
+}
+
+fn print_rows<O: Output>(held: &Consumer, output: &mut O) -> Result<(), RunError>
+    ensures told { (taken : List Reading) → Took taken held.now →
+        PrintedRows (consumer_of (placeholder_of held.now) taken) result
+        (O.written output.old) (O.written output.new) }
+    ensures kinds { IfErr result
+        (λ error. (error ≡ RunError.OutputFailed) ⊎ (error ≡ RunError.Memory)) }
+    ensures a_store { IfErr result IsAfterJournalOpening }
+    ensures output { FailsOnlyIfCounted (result ≡ Err RunError.OutputFailed)
+        (O.faults output.old) (O.faults output.new) }
+{
+    match held.print(output) {
+        Ok(()) => Ok(()),
+        Err(error) => Err(RunError::from(error)),
+    }
+}

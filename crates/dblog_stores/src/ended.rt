@@ -1,0 +1,17 @@
+use crate::RunError;
+
+/// The result of a command over one disk: the disk, and the error if its text isn't complete.
+#[derive(Debug, Drop)]
+pub struct Ended<D> {
+    pub disk: D,
+    pub end: Result<(), RunError>,
+}
+
+/// The result of a command over the disks of the topic log and the offset, and the error if its
+/// text isn't complete.
+#[derive(Debug, Drop)]
+pub struct Applied<T, F> {
+    pub topics: T,
+    pub offsets: F,
+    pub end: Result<(), RunError>,
+}

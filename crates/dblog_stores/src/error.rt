@@ -1,0 +1,159 @@
+ghost use Rattle.std.specs.Prelude.{◌≡◌, ◌∷◌, [], IfOk};
+ghost use Rattle.std.specs.String.{string_bytes};
+ghost use Rattle.dbl_base.specs.Lines.{lines_text};
+ghost use Rattle.dblog_stores.specs.Errors.{error_line, error_status};
+
+use dbl_journal::JournalError;
+use dbl_lines::PrintError;
+use dbl_offset::OffsetError;
+use dbl_topic::TopicError;
+use std::alloc::{AllocError, Global};
+use std::fmt;
+use thiserror::Error;
+
+/// A store of the program, each on a disk of its own.
+#[derive(Clone, Copy, Debug, PartialEq, Eq)]
+pub enum Store {
+    Topics,
+    Offsets,
+}
+
+impl fmt::Display for Store {
+    ghost use Rattle.std.specs.Prelude.{Some};
+    ghost use Rattle.dblog_stores.specs.Errors.{store_name};
+
+    ghost output = { λ store. Some (store_name store) };
+
+    fn fmt<W: fmt::Write>(&self, f: &mut fmt::Formatter<W>) -> fmt::Result {
+        match self {
+            Store::Topics => f.write_str("topics"),
+            Store::Offsets => f.write_str("offsets"),
+        }
+    }
+}
+
+/// Why a command over the stores writes no text, or not all of it.
+#[derive(Clone, Copy, Debug, PartialEq, Eq, Error)]
+pub enum RunError {
+    #[error("output failed")]
+    OutputFailed,
+    #[error("out of memory")]
+    Memory,
+    /// A disk failed.
+    #[error("{store} failed")]
+    Failed { store: Store },
+    /// No offset is stored.
+    #[error("not started")]
+    NotStarted,
+    /// The disk has no journal. `at` is the first wrong or missing byte of the magic, the missing
+    /// commit byte, or the commit byte of the entry that is torn or too long.
+    #[error("not a store: {store} at {at}")]
+    NotAStore { store: Store, at: u64 },
+    /// The number, counted from 0, of the first entry that isn't one of the store or is refused by
+    /// the consumer.
+    #[error("bad entry {index} in {store}")]
+    BadEntry { store: Store, index: u64 },
+}
+
+impl RunError {
+    /// The program's exit status.
+    pub fn status(self) -> u8
+        ensures { result ≡ error_status self }
+    {
+        match self {
+            RunError::OutputFailed => 11,
+            RunError::Memory => 12,
+            RunError::Failed {
+                store: Store::Topics,
+            } => 8,
+            RunError::Failed {
+                store: Store::Offsets,
+            } => 9,
+            RunError::NotStarted => 4,
+            RunError::NotAStore { .. } | RunError::BadEntry { .. } => 14,
+        }
+    }
+
+    /// The error's line with its newline. The line of a failed output can't be written.
+    pub fn text(self, alloc: Global) -> Result<String, AllocError>
+        ensures { IfOk result (λ text. string_bytes text ≡ lines_text (error_line self ∷ [])) }
+    {
+        let line = match self {
+            RunError::OutputFailed => "dblog: output failed\n",
+            RunError::Memory => "dblog: out of memory\n",
+            RunError::NotStarted => "dblog: not started\n",
+            RunError::Failed { store } => return format!(in alloc; "dblog: {store} failed\n"),
+            RunError::NotAStore { store, at } => return format!(in alloc;
+                "dblog: not a store: {store} at {at}\n"
+            ),
+            RunError::BadEntry { store, index } => return format!(in alloc;
+                "dblog: bad entry {index} in {store}\n"
+            ),
+        };
+        String::from_str(alloc, line)
+    }
+}
+
+impl From<AllocError> for RunError {
+    ghost use Rattle.std.specs.Prelude.{◌≡◌};
+    ghost use Rattle.dblog_stores.specs.declared.error.RunError.TheVariants.{Memory};
+
+    ghost from_gives = { λ _ e. e ≡ Memory };
+
+    fn from(_error: AllocError) -> RunError {
+        RunError::Memory
+    }
+}
+
+impl From<PrintError> for RunError {
+    ghost use Rattle.std.specs.Prelude.{◌≡◌};
+    ghost use Rattle.dblog_stores.specs.Errors.{print_error};
+
+    ghost from_gives = { λ e f. f ≡ print_error e };
+
+    fn from(error: PrintError) -> RunError {
+        match error {
+            PrintError::OutputFailed => RunError::OutputFailed,
+            PrintError::Memory => RunError::Memory,
+        }
+    }
+}
+
+impl From<TopicError> for RunError {
+    ghost use Rattle.std.specs.Prelude.{◌≡◌};
+    ghost use Rattle.dblog_stores.specs.Errors.{topic_error};
+
+    ghost from_gives = { λ e f. f ≡ topic_error e };
+
+    // Opening and reading a topic log have no other error.
+    fn from(error: TopicError) -> RunError {
+        let store = Store::Topics;
+        match error {
+            TopicError::Journal(JournalError::Failed) => RunError::Failed { store },
+            TopicError::Journal(JournalError::NotAJournal { at }) => RunError::NotAStore {
+                store,
+                at,
+            },
+            TopicError::BadEntry { index } => RunError::BadEntry { store, index },
+            TopicError::Journal(_) | TopicError::Memory => RunError::Memory,
+        }
+    }
+}
+
+impl From<OffsetError> for RunError {
+    ghost use Rattle.std.specs.Prelude.{◌≡◌};
+    ghost use Rattle.dblog_stores.specs.Errors.{offset_error};
+
+    ghost from_gives = { λ e f. f ≡ offset_error e };
+
+    // Opening an offset store has no other error.
+    fn from(error: OffsetError) -> RunError {
+        let store = Store::Offsets;
+        match error {
+            OffsetError::Failed => RunError::Failed { store },
+            OffsetError::NotAStore { at } => RunError::NotAStore { store, at },
+            OffsetError::BadOffset { index } => RunError::BadEntry { store, index },
+            OffsetError::TooLong { .. } | OffsetError::Memory => RunError::Memory,
+        }
+    }
+}

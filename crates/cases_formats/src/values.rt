@@ -19,12 +19,12 @@ pub fn answer(alloc: Global, shown: &mut String, call: &str, arguments: &str) ->
 
 // The value's text as a JSON string, the value in the change event, and the same as a JSON tree.
 fn show_read(alloc: Global, shown: &mut String, ty: PgType, text: &str) -> Result<()> {
-    show_owned(alloc, shown, ty, words::text(alloc, text)?)?;
+    show_owned(alloc, shown, ty, words::text(alloc, text)?.as_str())?;
     show_tree_of(alloc, shown, ty, &words::text(alloc, text)?)
 }
 
-fn show_owned(alloc: Global, shown: &mut String, ty: PgType, text: Text) -> Result<()> {
-    match read_owned(alloc, ty, text) {
+fn show_owned(alloc: Global, shown: &mut String, ty: PgType, text: &str) -> Result<()> {
+    match read_owned(alloc, ty, Text::of(alloc, text)?) {
         Ok(val) => show_printed(alloc, shown, ty, &val),
         Err(error) => words::said(shown, &error),
     }

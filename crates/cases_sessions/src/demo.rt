@@ -79,7 +79,7 @@ fn made(alloc: Global, groups: u64) -> Result<DemoSource<MemDisk>>
 fn run_groups(source: &mut DemoSource<MemDisk>, groups: u64) -> Result<()>
     requires { IsTrue source.old.live }
 {
-    for _ in 0..groups {
+    for _group in 0..groups {
         source.head()?;
     }
     Ok(())
